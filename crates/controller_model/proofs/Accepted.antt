@@ -1,10 +1,13 @@
--- What an accepted command of advertising tells.
+-- What an accepted command of advertising tells, and what one of counts leaves.
 use Rattle.std.proofs.Common.{◌≡◌, ℕ, suc, ◌≤◌, ◌==◌, Bool, true, false, List, inl, inr, cond, refl, arith}
 use Rattle.std.specs.Prelude.{nat_le, nat_lt, not}
 use Rattle.std.proofs.lemmas.Bool.{and_parts, leb-true}
 use Rattle.std.proofs.lemmas.Bool.Decides.{eqb_tells, nat_tests}
-use Rattle.hci_cmd.specs.declared.command.Command.TheVariants.{LeSetAdvParams, LeSetAdvData, LeSetScanResponse}
+use Rattle.arrayvec.specs.ArrayVec.{ArrayVec}
+use Rattle.hci_cmd.specs.declared.command.HandleCount.{HandleCount}
+use Rattle.hci_cmd.specs.declared.command.Command.TheVariants.{HostCompleted, LeSetAdvParams, LeSetAdvData, LeSetScanResponse}
 use Rattle.host_view.specs.View.{View}
+use Rattle.host_view.specs.Changes.{after_counts, view_after}
 use Rattle.host_view.specs.Status.{are_intervals}
 use Rattle.host_view.specs.Unbuilt.{or_unbuilt, status_of}
 use Rattle.scan_init.specs.Windows.{slots_of}
@@ -61,3 +64,15 @@ long_set view min max kind own peer_kind peer channels policy accepted =
     let off = row_passes view.advertising.on _ _ (table_accepts _ _ accepted) in
     let intervals = row_passes (not (are_intervals min max)) _ _ off.1 in
     long_interval min max (not_not (are_intervals min max) intervals.0)
+
+-- ---- counts of packets
+
+-- they change the links of the view and no other part of it
+pub same_after_counts : {A : Type 0} (part : View → A) (view : View) (counts : ArrayVec HandleCount)
+    → part (record view { links = after_counts view.links counts.items }) ≡ part view → part (view_after view (HostCompleted counts)) ≡ part view
+unfolding view_after
+same_after_counts {A} part view counts same = by view.flow.on
+  where
+    by : (on : Bool) → part (cond on (record view { links = after_counts view.links counts.items }) view) ≡ part view
+    by true = same
+    by false = refl

@@ -1,5 +1,5 @@
 -- While a controller initiates there is an access address for its next link.
-use Rattle.std.proofs.Common.{◌≡◌, ℕ, zero, suc, ◌+◌, ◌-◌, ◌%◌, ◌^◌, ◌<◌, ◌==◌, Bool, true, false, Option, Some, None, List, [], ◌∷◌, cond, refl, ap, sym, subst, ◌∙◌, arith}
+use Rattle.std.proofs.Common.{◌≡◌, ℕ, zero, suc, ◌+◌, ◌-◌, ◌%◌, ◌^◌, ◌<◌, ◌==◌, Bool, true, false, Option, Some, None, List, [], ◌∷◌, refl, ap, sym, subst, ◌∙◌, arith}
 use Rattle.std.specs.Prelude.{fold, is_some, ◌&&◌, option_and_then, ⊤}
 use Rattle.h4_frames.specs.declared.packet.HostPacket.TheVariants.{Command as HostCommand, Acl}
 use Rattle.h4_frames.specs.declared.packet.Fed.{Fed}
@@ -10,7 +10,7 @@ use Rattle.hci_cmd.specs.declared.command.CmdRead.{CmdRead}
 use Rattle.hci_cmd.specs.declared.command.CmdRead.TheVariants.{Known, UnknownOpcode, BadLength}
 use Rattle.hci_cmd.specs.Command.{command_of}
 use Rattle.host_view.specs.View.{View}
-use Rattle.host_view.specs.Changes.{after_counts, view_after}
+use Rattle.host_view.specs.Changes.{view_after}
 use Rattle.host_view.specs.Unbuilt.{status_of}
 use Rattle.host_view.proofs.TakenCommands.{connection_has_address}
 use Rattle.scan_init.specs.Access.{access_at, bit_count, is_valid_access, next_access_of, nth_access, valid_count}
@@ -34,21 +34,19 @@ use Rattle.controller_model.specs.Connecting.{SendsEach, SendsEachFrom, cuts_off
 use Rattle.controller_model.specs.Heard.{asks_if, has_room, heard, link_received, link_taken, opens, replies_in, reply_if, scanner_after, unheard, with_scanner}
 use Rattle.controller_model.specs.Outcome.{Outcome, facts_passed, goes_on}
 use Rattle.controller_model.specs.Side.{facts_after, facts_fed, facts_of, result_of, with_octet}
+use Rattle.controller_model.proofs.Accepted.{same_after_counts}
 use Rattle.controller_model.proofs.Always.{IsKept, IsKeptAtStarts, always, initiator_stopped, opening_passes, start_keeps}
-use Rattle.controller_model.proofs.FreeHandles.{MakesCentral, asks_central, begin_central, reply_central}
+use Rattle.controller_model.proofs.FreeHandles.{IsOfCentral}
+use Rattle.controller_model.proofs.ViewRoom.{Makes, asks_makes, begin_makes, reply_makes}
 use Rattle.controller_model.proofs.NoLinks.{MakesNone}
 use Rattle.controller_model.proofs.Phases.{EachOutcome, heard_is, unheard_is}
 
 -- ---- the view knows whether there is one
 
-same_address : (on : Bool) (one other : View) → other.has_address ≡ one.has_address → (cond on other one).has_address ≡ one.has_address
-same_address true one other same = same
-same_address false one other same = refl
-
 address_after : (view : View) (command : Command) → (view_after view command).has_address ≡ view.has_address
 unfolding view_after
 address_after view (HostCompleted counts) =
-    same_address view.flow.on view (record view { links = after_counts view.links counts.items }) refl
+    same_after_counts (λ (of : View). of.has_address) view counts refl
 address_after view other = refl
 
 abbrev KnowsAddress : Setup → Facts → Type 0
@@ -123,7 +121,7 @@ HasNext facts = is_some facts.initiator ≡ true → facts.view.has_address ≡ 
 
 -- unless a CONNECT_IND is to be sent, which is that of a central and takes an address
 record MayMake (facts : Facts) : Type 0 where
-  central : MakesCentral facts.turn.doing
+  central : Makes IsOfCentral facts.turn.doing
   has_next : MakesNone facts.turn.doing → HasNext facts
 
 -- an octet of the host
@@ -186,7 +184,7 @@ abbrev Anything : Facts → Type 0
 Anything facts = ⊤
 
 abbrev IsCentral : Facts → Type 0
-IsCentral facts = MakesCentral facts.turn.doing
+IsCentral facts = Makes IsOfCentral facts.turn.doing
 
 central_starts : IsKeptAtStarts Anything IsCentral
 central_starts = record {
@@ -196,11 +194,11 @@ central_starts = record {
   enters = λ slot facts any. tt;
   wins = λ slot activity facts any. tt;
   fixes = λ doing facts any. tt;
-  does = λ doing facts may any. begin_central doing may;
+  does = λ doing facts may any. begin_makes IsOfCentral doing may;
 }
 
 -- what comes of a phase
-may_make : (outcome : Outcome) → MakesCentral outcome.next → HasNext outcome.facts → MayMake (facts_passed outcome)
+may_make : (outcome : Outcome) → Makes IsOfCentral outcome.next → HasNext outcome.facts → MayMake (facts_passed outcome)
 may_make outcome central next = record { central = central; has_next = λ makes. next }
 
 phase_makes : (setup : Setup) (facts : Facts) → MakesNone facts.turn.doing → HasNext facts
@@ -216,15 +214,15 @@ phase_makes setup facts makes next = record {
       opening_passes MayMake (link_taken on.params.own pdu fields handle) facts (record { central = tt; has_next = λ makes so. next so });
   scanned = λ channel octets pdu on doing is_on hears.
       let asks = true && does_ask (scan_answer on.params facts.view.accepted on.recent pdu) in
-      may_make (goes_on (with_scanner (scanner_after on facts.view.accepted pdu) facts) (asks_if asks channel pdu)) (asks_central asks channel pdu) next;
+      may_make (goes_on (with_scanner (scanner_after on facts.view.accepted pdu) facts) (asks_if asks channel pdu)) (asks_makes IsOfCentral asks channel pdu) next;
   answered = λ channel octets pdu on doing is_on hears.
       let asks = false && does_ask (scan_answer on.params facts.view.accepted on.recent pdu) in
-      may_make (goes_on (with_scanner (scanner_after on facts.view.accepted pdu) facts) (asks_if asks channel pdu)) (asks_central asks channel pdu) next;
+      may_make (goes_on (with_scanner (scanner_after on facts.view.accepted pdu) facts) (asks_if asks channel pdu)) (asks_makes IsOfCentral asks channel pdu) next;
   connects = λ channel octets pdu on access handle doing is_on hears answers free_access free in_range.
       record { central = refl; has_next = λ makes. absurd makes };
   received = λ handle octets.
       let replies = replies_in (link_at handle facts.links) octets in
-      may_make (goes_on (link_received handle (has_room setup facts) octets facts) (reply_if replies handle)) (reply_central replies handle) next;
+      may_make (goes_on (link_received handle (has_room setup facts) octets facts) (reply_if replies handle)) (reply_makes IsOfCentral replies handle) next;
 }
 
 -- a CONNECT_IND that is sent: its controller initiates no more
@@ -251,13 +249,13 @@ unheard_by setup facts doing is may makes =
 
 heard_makes : (setup : Setup) (octets : List ℕ) (facts : Facts) (doing : Doing) → facts.turn.doing ≡ doing → MayMake facts
     → MayMake (facts_passed (heard setup doing octets facts))
-heard_makes setup octets facts (Connects channel link) is may = sent_makes channel link facts (subst MakesCentral is may.central)
+heard_makes setup octets facts (Connects channel link) is may = sent_makes channel link facts (subst (Makes IsOfCentral) is may.central)
 heard_makes setup octets facts (Advertises channel) is may = phase_by setup octets facts (Advertises channel) is may tt
 heard_makes setup octets facts other is may = phase_by setup octets facts other is may tt
 
 unheard_makes : (setup : Setup) (facts : Facts) (doing : Doing) → facts.turn.doing ≡ doing → MayMake facts
     → MayMake (facts_passed (unheard doing facts))
-unheard_makes setup facts (Connects channel link) is may = sent_makes channel link facts (subst MakesCentral is may.central)
+unheard_makes setup facts (Connects channel link) is may = sent_makes channel link facts (subst (Makes IsOfCentral) is may.central)
 unheard_makes setup facts (Advertises channel) is may = unheard_by setup facts (Advertises channel) is may tt
 unheard_makes setup facts other is may = unheard_by setup facts other is may tt
 

@@ -397,21 +397,26 @@ module _ (setup : Setup) (weak fact : Facts → Type 0) (kept : IsKeptInTurns se
   turn_keeps facts TurnEnds turn holds =
       kept.starts.does Rests (facts_ended_turn facts) tt (kept.reports facts (kept.starts.weakens facts holds))
 
--- ---- all steps
+-- ---- an octet of the host
 
-module _ (setup : Setup) (weak fact : Facts → Type 0) (kept : IsKept setup weak fact) where
+module _ (setup : Setup) (fact : Facts → Type 0)
+    (accepted : (facts : Facts) (opcode : ℕ) (octets : List ℕ) (command : Command) → command_of opcode octets ≡ Known command
+    → status_of facts.view command ≡ 0 → fact facts → fact (facts_accepted setup facts command))
+    (given : (facts : Facts) (handle count : ℕ) (start : Bool) (octets : List ℕ) → offer_of setup facts handle count ≡ Kept
+    → fact facts → fact (facts_given handle start octets facts))
+    (kept : (facts : Facts) (octet : ℕ) → fact facts → fact (with_octet octet facts)) where
   holds_read : (facts : Facts) (opcode : ℕ) (octets : List ℕ) (read : CmdRead) → command_of opcode octets ≡ read → fact facts
       → fact (facts_commanded setup facts read)
   holds_read facts opcode octets (Known command) is holds =
       let status = status_of facts.view command in
       holds_by setup fact (status == 0) facts command
-      (λ accepted. kept.accepted facts opcode octets command is (is_zero status accepted) holds) holds
+      (λ took. accepted facts opcode octets command is (is_zero status took) holds) holds
   holds_read facts opcode octets UnknownOpcode is holds = holds
   holds_read facts opcode octets BadLength is holds = holds
 
   holds_offered : (offer : Offer) (facts : Facts) (handle count : ℕ) (start : Bool) (octets : List ℕ) → offer_of setup facts handle count ≡ offer
       → fact facts → fact (facts_offered offer handle start octets facts)
-  holds_offered Kept facts handle count start octets is holds = kept.given facts handle count start octets is holds
+  holds_offered Kept facts handle count start octets is holds = given facts handle count start octets is holds
   holds_offered NoLink facts handle count start octets is holds = holds
   holds_offered Empty facts handle count start octets is holds = holds
   holds_offered Overflow facts handle count start octets is holds = holds
@@ -423,18 +428,32 @@ module _ (setup : Setup) (weak fact : Facts → Type 0) (kept : IsKept setup wea
   holds_fed facts LostSync holds = holds
   holds_fed facts More holds = holds
 
+  pub octet_keeps : (facts : Facts) (octet : ℕ) → fact facts → fact (facts_after setup facts (HostOctet octet))
+  octet_keeps facts octet holds =
+      kept (facts_fed setup facts (result_of facts.octets octet)) octet (holds_fed facts (result_of facts.octets octet) holds)
+
+-- ---- all steps
+
+-- a fact that each step keeps
+module _ (setup : Setup) (fact : Facts → Type 0) (keeps : (facts : Facts) (step : Step) → fact facts → fact (facts_after setup facts step)) where
+  pub kept_from : (facts : Facts) (past : List Step) → fact facts → fact (fold (facts_after setup) facts past)
+  kept_from facts [] holds = holds
+  kept_from facts (step ∷ past) holds = kept_from (facts_after setup facts step) past (keeps facts step holds)
+
+  pub kept_always : fact (first_facts setup) → (past : List Step) → fact (facts_of setup past)
+  unfolding facts_of
+  kept_always holds past = kept_from (first_facts setup) past holds
+
+module _ (setup : Setup) (weak fact : Facts → Type 0) (kept : IsKept setup weak fact) where
   pub holds_step : (facts : Facts) (step : Step) → fact facts → fact (facts_after setup facts step)
-  holds_step facts (HostOctet octet) holds =
-      kept.octet (facts_fed setup facts (result_of facts.octets octet)) octet (holds_fed facts (result_of facts.octets octet) holds)
+  holds_step facts (HostOctet octet) holds = octet_keeps setup fact kept.accepted kept.given kept.octet facts octet holds
   holds_step facts (TurnBegins slot on) holds = turn_keeps setup weak fact kept.turns facts (TurnBegins slot on) tt holds
   holds_step facts (PacketHeard octets) holds = turn_keeps setup weak fact kept.turns facts (PacketHeard octets) tt holds
   holds_step facts NothingHeard holds = turn_keeps setup weak fact kept.turns facts NothingHeard tt holds
   holds_step facts TurnEnds holds = turn_keeps setup weak fact kept.turns facts TurnEnds tt holds
 
   pub holds_from : (facts : Facts) (past : List Step) → fact facts → fact (fold (facts_after setup) facts past)
-  holds_from facts [] holds = holds
-  holds_from facts (step ∷ past) holds = holds_from (facts_after setup facts step) past (holds_step facts step holds)
+  holds_from facts past holds = kept_from setup fact holds_step facts past holds
 
   pub always : fact (first_facts setup) → (past : List Step) → fact (facts_of setup past)
-  unfolding facts_of
-  always holds past = holds_from (first_facts setup) past holds
+  always holds past = kept_always setup fact holds_step holds past

@@ -1,43 +1,39 @@
 -- The commands of a host are answered in order.
-use Rattle.std.proofs.Common.{◌≡◌, ℕ, ◌+◌, ◌*◌, ◌/◌, ◌%◌, ◌==◌, ◌||◌, Bool, true, false, Option, None, List, [], ◌∷◌, ◌++◌, map, cond, inl, inr, refl, ap, sym, ◌∙◌, subst, append-nil, arith}
-use Rattle.std.specs.Prelude.{◌&&◌, not, All}
+use Rattle.std.proofs.Common.{◌≡◌, ℕ, ◌+◌, ◌*◌, ◌/◌, ◌%◌, ◌==◌, ◌||◌, Bool, true, false, Option, None, List, [], ◌∷◌, ◌++◌, map, cond, inl, inr, refl, ap, sym, ◌∙◌, subst, arith}
+use Rattle.std.specs.Prelude.{◌&&◌, not}
 use Rattle.std.proofs.lemmas.Bool.Decides.{eqb_tells}
-use Rattle.std.proofs.lemmas.List.Elements.{All-head, All-tail}
 use Rattle.std.proofs.lemmas.List.Concat.{flat_map-append}
 use Rattle.wire_fields.specs.Field.{little_endian}
-use Rattle.ble_base.specs.Bits.{has_bit}
 use Rattle.ble_base.specs.declared.notes.Note.{Note}
 use Rattle.ble_base.specs.declared.notes.Note.TheVariants.{Up}
 use Rattle.h4_frames.specs.declared.packet.HostPacket.TheVariants.{Command as HostCommand, Acl}
 use Rattle.h4_frames.specs.declared.packet.Fed.{Fed}
 use Rattle.h4_frames.specs.declared.packet.Fed.TheVariants.{More, Packet, LostSync}
 use Rattle.hci_cmd.specs.declared.command.Command.{Command}
-use Rattle.hci_cmd.specs.declared.command.Command.TheVariants.{HostCompleted, LeCreateCancel, Reset}
+use Rattle.hci_cmd.specs.declared.command.Command.TheVariants.{HostCompleted}
 use Rattle.hci_cmd.specs.declared.command.CmdRead.{CmdRead}
 use Rattle.hci_cmd.specs.declared.command.CmdRead.TheVariants.{Known, UnknownOpcode, BadLength}
 use Rattle.hci_cmd.specs.Command.{command_of, layout_of, layouts}
 use Rattle.hci_evt.specs.Event.{written}
 use Rattle.hci_evt.specs.declared.event.Event.{Event}
-use Rattle.hci_evt.specs.declared.event.Event.TheVariants.{DisconnectionComplete, HardwareError, CompletedPackets, BufferOverflow, ConnectionComplete, AdvertisingReport, EnhancedConnection, ChannelSelection}
+use Rattle.hci_evt.specs.declared.event.Event.TheVariants.{CommandComplete, CommandStatus}
 use Rattle.host_view.specs.View.{View}
 use Rattle.host_view.specs.Unbuilt.{status_of}
-use Rattle.open_links.specs.OpenLinks.{OpenLink, handles_from, link_at}
+use Rattle.open_links.specs.OpenLinks.{OpenLink, link_at}
 use Rattle.controller_model.specs.Step.{Step, HostOctet, TurnBegins, PacketHeard, NothingHeard, TurnEnds}
 use Rattle.controller_model.specs.Facts.{Setup, Facts, first_facts}
 use Rattle.controller_model.specs.Answers.{accepted_answer, answer_to, complete_answer, has_status_answer, is_host_completed, refused_fields, returned, status_answer}
-use Rattle.controller_model.specs.Commands.{events_caused, notes_before, notes_commanded, notes_known}
+use Rattle.controller_model.specs.Commands.{notes_commanded}
 use Rattle.open_links.specs.declared.offers.Offer.{Offer}
-use Rattle.open_links.specs.declared.offers.Offer.TheVariants.{NoLink, Empty, Overflow, Kept}
 use Rattle.open_links.specs.Data.{offer_by}
 use Rattle.controller_model.specs.Data.{is_full, notes_offered, offer_of}
 use Rattle.controller_model.specs.Events.{notes_of_events}
-use Rattle.controller_model.specs.Links.{connection_failed, note_shut, wants_enhanced}
 use Rattle.controller_model.specs.Side.{facts_after, facts_of, notes_after, notes_fed, notes_from, notes_of, result_of}
 use Rattle.controller_model.specs.Host.{commands_after, commands_from, commands_in, commands_of, is_answered, opcodes_of, with_answer}
 use Rattle.controller_model.specs.Notes.{answers_among, answers_noted, as_two_octets, one_further}
 use Rattle.controller_model.proofs.Always.{IsInTurn, holds_step}
 use Rattle.controller_model.proofs.Handles.{HaveOwnHandles, handles_kept, own_handles}
-use Rattle.controller_model.proofs.TurnNotes.{EachNote, IsOfTurn, event_noted, turn_noted}
+use Rattle.controller_model.proofs.NoAnswers.{IsNoAnswer, IsNoPacket, ReadsAnswers, answer_alone, none_in_loss, none_in_turn, none_of_offers}
 
 two_octets_hold : (opcode : ℕ) → opcode % 256 + 256 * (opcode / 256 % 256) ≡ opcode % 65536
 two_octets_hold opcode = omega arith
@@ -139,113 +135,50 @@ read_says setup facts view opcode (Known command) starter =
     says_by ((status == 0x01) || has_status_answer opcode) (status == 0x00) setup facts view opcode status command
     (not_both (is_host_completed command) (status == 0x00) (status == 0x01) (has_status_answer opcode) (unknown_not_zero status) starter)
 
-loss_says : (passed : Bool)
-    → answers_among (map (λ event. Up (record { items = written event })) (cond passed (HardwareError 0x01 ∷ []) [])) ≡ []
-unfolding little_endian
-loss_says true = refl
-loss_says false = refl
-
--- ---- what is noted beside an answer says nothing
+-- ---- what is noted as well as an answer says nothing
 
 answers_among-append : (xs ys : List Note) → answers_among (xs ++ ys) ≡ answers_among xs ++ answers_among ys
 answers_among-append xs ys = flat_map-append answers_noted xs ys
 
-abbrev IsNoAnswer : Note → Type 0
-IsNoAnswer note = answers_noted note ≡ []
-
-none_among : (notes : List Note) → All IsNoAnswer notes → answers_among notes ≡ []
-none_among [] are = refl
-none_among (note ∷ notes) are =
-    λ i. All-head IsNoAnswer note notes are i ++ none_among notes (All-tail IsNoAnswer note notes are) i
-
-turn_event : (event : Event) → IsOfTurn event → answers_noted (Up (record { items = written event })) ≡ []
+-- of events by their code
+event_says : (event : Event) → IsNoAnswer event → answers_noted (Up (record { items = written event })) ≡ []
 unfolding little_endian
-turn_event (DisconnectionComplete status handle reason) is = refl
-turn_event (CompletedPackets handle count) is = refl
-turn_event (ConnectionComplete status handle role peer_kind peer interval latency timeout accuracy) is = refl
-turn_event (AdvertisingReport kind address_kind address report rssi) is = refl
-turn_event (EnhancedConnection status handle role peer_kind peer local other interval latency timeout accuracy) is = refl
-turn_event (ChannelSelection handle algorithm) is = refl
-turn_event other is = absurd is
+event_says (CommandComplete number opcode fields) is = absurd is
+event_says (CommandStatus status number opcode) is = absurd is
+event_says other is = refl
 
-each_silent : (most : ℕ) → EachNote most IsNoAnswer
-each_silent most = record {
-  up = turn_event;
-  received = λ piece. refl;
-  opened = λ link below. refl;
-  shut = λ handle reason below. refl;
-  entered = λ handle event channel below. refl;
-  sent = λ handle number llid octets below. refl;
-  took = λ handle number llid octets below. refl;
-}
+other_says : (note : Note) → IsNoPacket note → answers_noted note ≡ []
+other_says (Up packet) is = absurd is
+other_says other is = refl
 
-shut_say : (handles : List ℕ) → answers_among (map (λ handle. note_shut handle 0) handles) ≡ []
-shut_say [] = refl
-shut_say (handle ∷ handles) = shut_say handles
-
-before_says : (facts : Facts) (command : Command) → answers_among (notes_before facts command) ≡ []
-before_says facts Reset = shut_say (handles_from 0 facts.links)
-before_says facts other = refl
-
-failed_is : (enhanced : Bool) (status : ℕ) → IsOfTurn (connection_failed enhanced status)
-failed_is true status = tt
-failed_is false status = tt
-
-caused_says : (facts : Facts) (command : Command) → answers_among (notes_of_events facts.view (events_caused facts command)) ≡ []
-caused_says facts LeCreateCancel =
-    let event = connection_failed (wants_enhanced facts.view) 0x02 in
-    none_among (notes_of_events facts.view (event ∷ []))
-    (event_noted 0 IsNoAnswer (each_silent 0) facts.view event (failed_is (wants_enhanced facts.view) 0x02))
-caused_says facts other = refl
+reads_answers : ReadsAnswers (ℕ × ℕ) answers_noted
+reads_answers = record { event = event_says; received = λ piece. refl; other = other_says }
 
 -- ---- a packet of the host
-
-known_says : (accepted : Bool) (setup : Setup) (facts : Facts) (opcode : ℕ) (command : Command)
-    → answers_among (notes_known accepted setup facts opcode command)
-    ≡ answers_among (notes_of_events facts.view (answer_to setup facts opcode (Known command)))
-known_says false setup facts opcode command = refl
-known_says true setup facts opcode command =
-    let answer = notes_of_events facts.view (answer_to setup facts opcode (Known command)) in
-    let caused = notes_of_events facts.view (events_caused facts command) in
-    answers_among-append (notes_before facts command ++ answer) caused
-    ∙ (λ i. answers_among-append (notes_before facts command) answer i ++ caused_says facts command i)
-    ∙ (λ i. (before_says facts command i ++ answers_among answer) ++ [])
-    ∙ append-nil (answers_among answer)
 
 command_says : (setup : Setup) (facts : Facts) (opcode : ℕ) (read : CmdRead) → (has_status_answer opcode ≡ true → completes read ≡ false)
     → answers_among (notes_commanded setup facts opcode read) ≡ said ((opcode, is_answered facts read) ∷ [])
 command_says setup facts opcode (Known command) starter =
-    known_says (status_of facts.view command == 0) setup facts opcode command
+    answer_alone (ℕ × ℕ) answers_noted reads_answers (status_of facts.view command == 0) setup facts opcode command
     ∙ read_says setup facts facts.view opcode (Known command) starter
 command_says setup facts opcode UnknownOpcode starter = read_says setup facts facts.view opcode UnknownOpcode starter
 command_says setup facts opcode BadLength starter = read_says setup facts facts.view opcode BadLength starter
 
-overflow_says : (passed : Bool)
-    → answers_among (map (λ event. Up (record { items = written event })) (cond passed (BufferOverflow 1 ∷ []) [])) ≡ []
-unfolding little_endian
-overflow_says true = refl
-overflow_says false = refl
-
 pub offered_says : (view : View) (offer : Offer) (handle : ℕ) → answers_among (notes_offered view offer handle) ≡ []
-unfolding little_endian
-offered_says view NoLink handle = refl
-offered_says view Empty handle = refl
-offered_says view Overflow handle = overflow_says (has_bit view.mask 25)
-offered_says view Kept handle = refl
+offered_says = none_of_offers (ℕ × ℕ) answers_noted reads_answers
 
 fed_says : (setup : Setup) (facts : Facts) (fed : Fed) → answers_among (notes_fed setup facts fed) ≡ said (commands_in facts fed)
 fed_says setup facts (Packet (HostCommand opcode body)) =
     command_says setup facts opcode (command_of opcode body.items) (starts_other body.items opcode)
 fed_says setup facts (Packet (Acl handle start count body)) = offered_says facts.view (offer_of setup facts handle count) handle
-fed_says setup facts LostSync = loss_says (has_bit facts.view.mask 15)
+fed_says setup facts LostSync = none_in_loss (ℕ × ℕ) answers_noted reads_answers facts.view
 fed_says setup facts More = refl
 
 -- ---- all steps
 
 turn_says : (setup : Setup) (facts : Facts) (step : Step) → HaveOwnHandles setup facts → IsInTurn step
     → answers_among (notes_after setup facts step) ≡ []
-turn_says setup facts step own turn =
-    none_among (notes_after setup facts step) (turn_noted setup.links IsNoAnswer (each_silent setup.links) setup facts step refl own turn)
+turn_says = none_in_turn (ℕ × ℕ) answers_noted reads_answers
 
 step_says : (setup : Setup) (facts : Facts) (step : Step) → HaveOwnHandles setup facts
     → answers_among (notes_after setup facts step) ≡ said (commands_after facts step)

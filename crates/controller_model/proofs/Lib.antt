@@ -12,6 +12,7 @@ pub mod NotedLinks
 pub mod NoProcedures
 pub mod AnsweredOnce
 pub mod Feds
+pub mod NoAnswers
 pub mod InOrder
 pub mod Opcodes
 pub mod Rands
@@ -30,6 +31,8 @@ pub mod Lengths
 pub mod Requests
 pub mod OpenPlaces
 pub mod Room
+pub mod AdvertisersKnown
+pub mod ViewRoom
 pub mod FreeHandles
 pub mod AccessAddresses
 pub mod Answering

@@ -1,5 +1,5 @@
 -- The fields of each CONNECT_IND that an initiator may send are in range.
-use Rattle.std.proofs.Common.{◌≡◌, ℕ, ◌+◌, ◌%◌, ◌≤◌, Bool, true, false, Option, Some, None, List, cond, refl, sym, subst, arith}
+use Rattle.std.proofs.Common.{◌≡◌, ℕ, ◌+◌, ◌%◌, ◌≤◌, true, Option, Some, None, List, refl, sym, subst, arith}
 use Rattle.std.specs.Prelude.{⊤}
 use Rattle.ble_base.specs.ChannelMap.{IsMap}
 use Rattle.ble_base.specs.declared.roles.Role.{Role}
@@ -21,6 +21,7 @@ use Rattle.controller_model.specs.Facts.{Setup, Facts}
 use Rattle.controller_model.specs.Commands.{initiator_after}
 use Rattle.controller_model.specs.Heard.{fields_sent, link_taken}
 use Rattle.controller_model.specs.Side.{facts_of}
+use Rattle.controller_model.proofs.Accepted.{same_after_counts}
 use Rattle.controller_model.proofs.Always.{IsKept, always, initiator_stopped, opening_passes}
 use Rattle.controller_model.proofs.LinkFields.{test_of_range}
 
@@ -38,15 +39,11 @@ record MayAsk (facts : Facts) : Type 0 where
 
 -- ---- an accepted command
 
-map_same : (on : Bool) (one other : View) → other.map ≡ one.map → (cond on other one).map ≡ one.map
-map_same true one other same = same
-map_same false one other same = refl
-
 map_after : (view : View) (command : Command) → status_of view command ≡ 0 → IsMap view.map → IsMap (view_after view command).map
 unfolding view_after
 map_after view Reset accepted is = IsMap-all
 map_after view (LeSetChannels map) accepted is = takes_map view map accepted
-map_after view (HostCompleted counts) accepted is = subst IsMap (sym (map_same view.flow.on view _ refl)) is
+map_after view (HostCompleted counts) accepted is = subst IsMap (sym (same_after_counts (λ (of : View). of.map) view counts refl)) is
 map_after view other accepted is = is
 
 given_range : (interval max latency timeout : ℕ) → IsLinkRequest interval max latency timeout → IsUpdate 1 0 max latency timeout

@@ -1,38 +1,25 @@
 -- What accepted commands leave of the room for links, as the view of the host counts those that are open and those that
 -- may be opened.
-use Rattle.std.proofs.Common.{◌≡◌, ℕ, ◌+◌, ◌<◌, ◌≤◌, ◌==◌, Bool, true, false, Option, Some, None, List, cond, refl, ap, sym, subst, ◌∙◌, arith}
-use Rattle.std.specs.Prelude.{count_by, is_some, is_none, nat_le, nat_lt, not, ◌&&◌, ⊤}
+use Rattle.std.proofs.Common.{◌≡◌, ℕ, ◌+◌, ◌<◌, ◌≤◌, ◌==◌, Bool, true, false, Option, List, refl, ap, sym, subst, ◌∙◌, arith}
+use Rattle.std.specs.Prelude.{count_by, is_some, is_none, nat_le, nat_lt, not, ◌&&◌}
 use Rattle.std.proofs.lemmas.Bool.Decides.{nat_tests}
-use Rattle.ble_base.specs.declared.addresses.Address.{Address}
 use Rattle.hci_cmd.specs.declared.command.Command.{Command}
 use Rattle.hci_cmd.specs.declared.command.Command.TheVariants.{HostCompleted, Reset, LeSetAdvParams, LeSetAdvEnable, LeCreateConnection, LeCreateCancel}
 use Rattle.host_view.specs.declared.view.Advertising.{Advertising as ViewAdvertising}
 use Rattle.host_view.specs.View.{View}
-use Rattle.host_view.specs.Changes.{after_counts, view_after}
+use Rattle.host_view.specs.Changes.{view_after}
 use Rattle.host_view.specs.Refusals.{count_if, is_connectable, is_full, is_generated}
 use Rattle.host_view.specs.Status.{advertising_on_rows, if_turned_on}
 use Rattle.host_view.specs.Refusals.{first_refusal}
 use Rattle.host_view.specs.Unbuilt.{status_of}
 use Rattle.host_view.proofs.TakenCommands.{connection_has_room}
-use Rattle.advertise.specs.declared.params.AdvParams.{AdvParams}
-use Rattle.advertise.specs.Advertising.{AdvertiserFacts}
 use Rattle.scan_init.specs.Initiating.{InitiatorFacts}
-use Rattle.controller_model.specs.Facts.{Setup, Advertising}
-use Rattle.controller_model.specs.Commands.{advertiser_enabled, advertising_after, initiator_after, own_address}
-use Rattle.controller_model.proofs.Accepted.{row_passes, set_while_off, table_accepts}
+use Rattle.controller_model.specs.Facts.{Setup}
+use Rattle.controller_model.specs.Commands.{initiator_after}
+use Rattle.controller_model.proofs.Accepted.{row_passes, same_after_counts, set_while_off, table_accepts}
 use Rattle.controller_model.proofs.OpenPlaces.{many, count_many, opens, view_opens}
 
 -- ---- what the view tells
-
-abbrev pub OnKind : ℕ → Option AdvertiserFacts → Type 0
-OnKind kind None = ⊤
-OnKind kind (Some on) = on.params.kind ≡ kind
-
--- the view knows whether advertising is on, and its type
-pub record KnowsAdvertising (view : ViewAdvertising) (advertising : Advertising) : Type 0 where
-  pub on_is : view.on ≡ is_some advertising.on
-  pub kind_is : view.kind ≡ advertising.params.kind
-  pub on_kind : OnKind view.kind advertising.on
 
 -- whether advertising may open a link
 abbrev pub may_connect : ViewAdvertising → Bool
@@ -42,59 +29,7 @@ may_connect advertising = advertising.on && is_connectable advertising.kind
 abbrev pub HasRoom : (initiates : Bool) (opened : ℕ) → ViewAdvertising → (limit : ℕ) → Type 0
 HasRoom initiates opened advertising limit = initiates ≡ true → opened + count_if (may_connect advertising) + 1 ≤ limit
 
--- ---- an accepted command: advertising
-
-off_is : (on : Option AdvertiserFacts) (kind : ℕ) → is_some on ≡ false → OnKind kind on
-off_is None kind off = tt
-off_is (Some on) kind off = absurd (let h : true ≡ false = off in absurd cc)
-
-enabled_some : (value : Bool) (on : AdvertiserFacts) → value ≡ is_some (cond value (Some on) None)
-enabled_some true on = refl
-enabled_some false on = refl
-
-enabled_is : (own : Address) (slot : ℕ) (params : AdvParams) (value : ℕ) (on : Option AdvertiserFacts)
-    → (value == 1) ≡ is_some (advertiser_enabled own slot params value on)
-enabled_is own slot params value None = enabled_some (value == 1) _
-enabled_is own slot params value (Some on) = enabled_some (value == 1) on
-
-kind_if : (value : Bool) (kind : ℕ) (on : AdvertiserFacts) → on.params.kind ≡ kind → OnKind kind (cond value (Some on) None)
-kind_if true kind on is = is
-kind_if false kind on is = tt
-
-enabled_kind : (own : Address) (slot : ℕ) (params : AdvParams) (value kind : ℕ) (on : Option AdvertiserFacts) → kind ≡ params.kind
-    → OnKind kind on → OnKind kind (advertiser_enabled own slot params value on)
-enabled_kind own slot params value kind None is on_kind = kind_if (value == 1) kind _ (sym is)
-enabled_kind own slot params value kind (Some on) is on_kind = kind_if (value == 1) kind on on_kind
-
-same_advertising : (on : Bool) (one other : View) → other.advertising ≡ one.advertising → (cond on other one).advertising ≡ one.advertising
-same_advertising true one other same = same
-same_advertising false one other same = refl
-
-pub knows_after : (setup : Setup) (view : View) (slot : ℕ) (command : Command) (advertising : Advertising) → status_of view command ≡ 0
-    → KnowsAdvertising view.advertising advertising
-    → KnowsAdvertising (view_after view command).advertising (advertising_after setup view slot command advertising)
-unfolding view_after
-knows_after setup view slot Reset advertising accepted knows = record { on_is = refl; kind_is = refl; on_kind = tt }
-knows_after setup view slot (LeSetAdvParams min max kind own peer_kind peer channels policy) advertising accepted knows =
-    let off = set_while_off view min max kind own peer_kind peer channels policy accepted in
-    record { on_is = knows.on_is; kind_is = refl; on_kind = off_is advertising.on kind (sym knows.on_is ∙ off) }
-knows_after setup view slot (LeSetAdvEnable value) advertising accepted knows = record {
-  on_is = enabled_is (own_address setup view view.advertising.own) slot advertising.params value advertising.on;
-  kind_is = knows.kind_is;
-  on_kind = enabled_kind (own_address setup view view.advertising.own) slot advertising.params value view.advertising.kind advertising.on
-      knows.kind_is knows.on_kind;
-}
-knows_after setup view slot (HostCompleted counts) advertising accepted knows =
-    let same = same_advertising view.flow.on view (record view { links = after_counts view.links counts.items }) refl in
-    subst (λ (of : ViewAdvertising). KnowsAdvertising of advertising) (sym same) knows
-knows_after setup view slot other advertising accepted knows =
-    record { on_is = knows.on_is; kind_is = knows.kind_is; on_kind = knows.on_kind }
-
 -- ---- an accepted command: initiating
-
-same_initiating : (on : Bool) (one other : View) → other.initiating ≡ one.initiating → (cond on other one).initiating ≡ one.initiating
-same_initiating true one other same = same
-same_initiating false one other same = refl
 
 pub initiates_after : (setup : Setup) (view : View) (slot : ℕ) (command : Command) (initiator : Option InitiatorFacts)
     → is_some view.initiating ≡ is_some initiator
@@ -105,24 +40,20 @@ initiates_after setup view slot
     (LeCreateConnection interval window policy peer_kind peer own min max latency timeout lengths) initiator same = refl
 initiates_after setup view slot LeCreateCancel initiator same = refl
 initiates_after setup view slot (HostCompleted counts) initiator same =
-    ap is_some (same_initiating view.flow.on view (record view { links = after_counts view.links counts.items }) refl) ∙ same
+    same_after_counts (λ (of : View). is_some of.initiating) view counts refl ∙ same
 initiates_after setup view slot other initiator same = same
 
 -- ---- an accepted command: room
 
-same_limit : (on : Bool) (one other : View) → other.limit ≡ one.limit → (cond on other one).limit ≡ one.limit
-same_limit true one other same = same
-same_limit false one other same = refl
-
 pub limit_after : (view : View) (command : Command) → (view_after view command).limit ≡ view.limit
 unfolding view_after
-limit_after view (HostCompleted counts) = same_limit view.flow.on view (record view { links = after_counts view.links counts.items }) refl
+limit_after view (HostCompleted counts) = same_after_counts (λ (of : View). of.limit) view counts refl
 limit_after view other = refl
 
 not_full : (limit opened one two : ℕ) → nat_le limit (opened + one + two) ≡ false → opened + one + two < limit
 not_full limit opened one two is = grind (arith, nat_tests)
 
-room_of_view : (view : View) → is_full view ≡ false
+pub room_of_view : (view : View) → is_full view ≡ false
     → many (opens view.links) + count_if (may_connect view.advertising) + count_if (is_some view.initiating) < view.limit
 room_of_view view is =
     subst (λ (opened : ℕ). opened + count_if (may_connect view.advertising) + count_if (is_some view.initiating) < view.limit) (count_many view.links)
@@ -147,15 +78,6 @@ enable_passed : (view : View) (value : ℕ) → status_of view (LeSetAdvEnable v
 unfolding status_of
 enable_passed view value accepted = (row_passes (nat_lt 1 value) _ _ (table_accepts _ _ accepted)).1
 
--- by the value, whether it was on, and whether it is connectable
-room_enabled : (value on connectable : Bool) (opened limit : ℕ)
-    → ((value && not on) ≡ true → connectable ≡ true → opened + 0 + 1 < limit)
-    → opened + count_if (on && connectable) + 1 ≤ limit → opened + count_if (value && connectable) + 1 ≤ limit
-room_enabled false on connectable opened limit turned room = omega (arith, room)
-room_enabled true true connectable opened limit turned room = room
-room_enabled true false false opened limit turned room = room
-room_enabled true false true opened limit turned room = let more = turned refl refl in omega (arith, more)
-
 turned_rows : (turned : Bool) (rows : List (Bool × ℕ)) → turned ≡ true → first_refusal (if_turned_on turned rows) ≡ 0 → first_refusal rows ≡ 0
 turned_rows true rows is passed = passed
 turned_rows false rows is passed = absurd (let h : false ≡ true = is in absurd cc)
@@ -166,13 +88,25 @@ was_off true true is = absurd (let h : false ≡ true = is in absurd cc)
 was_off true false is = refl
 was_off false on is = absurd (let h : false ≡ true = is in absurd cc)
 
-room_off : (view : View) → view.advertising.on ≡ false → is_some view.initiating ≡ true → is_full view ≡ false
-    → many (opens view.links) + 0 + 1 < view.limit
-room_off view off initiates full =
-    let room = room_of_view view full in
+-- as connectable advertising is turned on there is room for its link, as well as for those that are open and for one that an
+-- initiator may open
+pub room_turned_on : (view : View) (value : ℕ) → status_of view (LeSetAdvEnable value) ≡ 0 → ((value == 1) && not view.advertising.on) ≡ true
+    → is_connectable view.advertising.kind ≡ true → many (opens view.links) + count_if (is_some view.initiating) < view.limit
+room_turned_on view value accepted turned connectable =
+    let passed = turned_rows ((value == 1) && not view.advertising.on) (advertising_on_rows view) turned (enable_passed view value accepted) in
+    let room = room_of_view view (turned_on_room view passed connectable) in
+    let off = was_off (value == 1) view.advertising.on turned in
     let none : count_if (may_connect view.advertising) ≡ 0 = ap (λ (on : Bool). count_if (on && is_connectable view.advertising.kind)) off in
-    let one : count_if (is_some view.initiating) ≡ 1 = ap count_if initiates in
-    omega (arith, room, none, one)
+    omega (arith, room, none)
+
+-- by the value, whether it was on, and whether it is connectable
+room_enabled : (value on connectable : Bool) (opened limit : ℕ)
+    → ((value && not on) ≡ true → connectable ≡ true → opened + 0 + 1 < limit)
+    → opened + count_if (on && connectable) + 1 ≤ limit → opened + count_if (value && connectable) + 1 ≤ limit
+room_enabled false on connectable opened limit turned room = omega (arith, room)
+room_enabled true true connectable opened limit turned room = room
+room_enabled true false false opened limit turned room = room
+room_enabled true false true opened limit turned room = let more = turned refl refl in omega (arith, more)
 
 no_others : (view : View) (kind : ℕ) → view.advertising.on ≡ false → count_if (view.advertising.on && is_connectable kind) ≡ 0
 no_others view kind off = ap (λ (on : Bool). count_if (on && is_connectable kind)) off
@@ -204,15 +138,15 @@ room_after setup view slot (LeSetAdvParams min max kind own peer_kind peer chann
 room_after setup view slot (LeSetAdvEnable value) initiator accepted same room = λ so.
     room_enabled (value == 1) view.advertising.on (is_connectable view.advertising.kind) (many (opens view.links)) view.limit
     (λ turned connectable.
-    room_off view (was_off (value == 1) view.advertising.on turned) (same ∙ so)
-    (turned_on_room view
-    (turned_rows ((value == 1) && not view.advertising.on) (advertising_on_rows view) turned (enable_passed view value accepted)) connectable))
+    let left = room_turned_on view value accepted turned connectable in
+    let one : count_if (is_some view.initiating) ≡ 1 = ap count_if (same ∙ so) in
+    omega (arith, left, one))
     (room so)
 room_after setup view slot (HostCompleted counts) initiator accepted same room =
-    let other = record view { links = after_counts view.links counts.items } in
-    room_same (is_some initiator) (many (opens view.links)) (many (opens (cond view.flow.on other view).links)) view.advertising
-    (cond view.flow.on other view).advertising view.limit (cond view.flow.on other view).limit
-    (ap many (view_opens view (HostCompleted counts) refl)) (same_advertising view.flow.on view other refl) (same_limit view.flow.on view other refl) room
+    let after = view_after view (HostCompleted counts) in
+    room_same (is_some initiator) (many (opens view.links)) (many (opens after.links)) view.advertising after.advertising view.limit after.limit
+    (ap many (view_opens view (HostCompleted counts) refl)) (same_after_counts (λ (of : View). of.advertising) view counts refl)
+    (limit_after view (HostCompleted counts)) room
 room_after setup view slot other initiator accepted same room =
     let opened = ap many (view_opens view other refl) in
     λ so. let enough = room so in omega (arith, enough, opened)

@@ -44,7 +44,7 @@ use Rattle.controller_model.proofs.DataChannels.{link_channel}
 use Rattle.controller_model.proofs.LinkFields.{connection_fits}
 use Rattle.controller_model.proofs.Phases.{EachOutcome}
 use Rattle.controller_model.proofs.Places.{at_changed}
-use Rattle.controller_model.proofs.Accepted.{data_short, response_short}
+use Rattle.controller_model.proofs.Accepted.{data_short, response_short, same_after_counts}
 use Rattle.controller_model.proofs.SixOctets.{SixOf, six_heard, six_known}
 
 -- ---- what it needs to send
@@ -245,15 +245,11 @@ sends_doing doing facts can fits = record {
 
 -- ---- an accepted command
 
-random_same : (on : Bool) (one other : View) → other.random ≡ one.random → (cond on other one).random ≡ one.random
-random_same true one other same = same
-random_same false one other same = refl
-
 six_view : (view : View) (command : Command) → SixOf command → SixHeld view.random → SixHeld (view_after view command).random
 unfolding view_after
 six_view view Reset is held = tt
 six_view view (LeSetRandomAddress address) is held = is
-six_view view (HostCompleted counts) is held = subst SixHeld (sym (random_same view.flow.on view _ refl)) held
+six_view view (HostCompleted counts) is held = subst SixHeld (sym (same_after_counts (λ (of : View). of.random) view counts refl)) held
 six_view view other is held = held
 
 six_own : (setup : Setup) (chosen : Option (List ℕ)) → length setup.public ≡ 6 → SixHeld chosen → length (random_or_public setup.public chosen).octets ≡ 6

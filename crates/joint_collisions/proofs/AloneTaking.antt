@@ -33,7 +33,7 @@ use Rattle.collisions.specs.CentralTable
 use Rattle.collision_steps.specs.CentralPart.{answer_to, central_of, step_of_read}
 use Rattle.control_model.specs.Control.{Control, Takes, after}
 use Rattle.phased_control.specs.Phased.{Phased, is_quiet_now}
-use Rattle.phased_control.specs.Taken.{Takes as takes_end, TakesData, answered_if_quiet, answered_kept, ciphered, ciphered_at, ciphered_at_central, does_keep, ended_with, handed_on, is_allowed, keeping, keeps_class, knowing, lacks_room_now, moved_to, phased_after, refused_by, role_now, seen_if, took_allowed, with_phase_taking}
+use Rattle.phased_control.specs.Taken.{Response, Takes as takes_end, TakesData, answered_if_quiet, answered_kept, ciphered, ciphered_at, ciphered_at_central, does_keep, ended_with, handed_on, is_allowed, keeping, keeps_class, knowing, lacks_room_now, moved_to, phased_after, refused_by, role_now, seen_if, took_allowed, with_phase_taking}
 use Rattle.joint_controls.specs.Ends.{IsSentAs}
 use Rattle.joint_controls.specs.Joint.{is_terminate}
 use Rattle.joint_controls.proofs.Keeping.{ciphered_keeps}
@@ -131,7 +131,7 @@ module _ (t : Phased) (quiet : is_quiet_now t ≡ true) where
 -- ---- a PDU is taken
 
 module _ (s : Phased) (x : Central) (is : s.control.table.progress ≡ central x) (lasts : s.control.ends ≡ None) (alone : AloneIf s) (outgoing : Outgoing) (ctrl : Ctrl)
-    (slot : ℕ) (response : Ctrl) (sent : IsSentAs outgoing ctrl) (fits : fits_up outgoing ≡ true) (live : is_terminate ctrl ≡ false) where
+    (slot : ℕ) (response : Response) (sent : IsSentAs outgoing ctrl) (fits : fits_up outgoing ≡ true) (live : is_terminate ctrl ≡ false) where
   abbrev read : CtrlRead
   read = Known ctrl
 

@@ -34,7 +34,7 @@ use Rattle.control_model.proofs.Calls.{open_step}
 use Rattle.control_model.specs.Waits.{EndsByCollision, last_instant_of}
 use Rattle.phased_control.specs.Phased.{Phased, is_quiet_now}
 use Rattle.phased_control.specs.Taken.{Enters, SeesAcknowledged, Sends, Takes, TakesData, ended_with, phased_after}
-use Rattle.joint_controls.specs.Joint.{CentralAcked, CentralEnters, CentralHost, CentralSends, CentralSendsData, CentralTakes, Clear, Control as control_item, Data, Fixed, HostStep, Item, Joint, OnAir, Taken, Way, act, central_takes as joint_takes, host_step, is_clear, is_free, is_same_event, is_taken, is_terminate, item_by, item_on_air, may, may_act, may_transmit, next_item, next_out, on_air, sends_data, taking}
+use Rattle.joint_controls.specs.Joint.{CentralAcked, CentralEnters, CentralHost, CentralSends, CentralSendsData, CentralTakes, Clear, Control as control_item, Data, Fixed, HostStep, Item, Joint, OnAir, Taken, Way, act, central_takes as joint_takes, host_step, is_clear, is_free, is_same_event, is_taken, is_terminate, item_by, item_on_air, may, may_act, may_transmit, next_item, next_out, no_response, on_air, sends_data, taking}
 use Rattle.joint_controls.specs.Ends.{IsSentOn, outgoing_in, outgoing_on}
 use Rattle.joint_controls.proofs.EachEnd.{HasLast, enters_kept, hosts_kept, last_kept, takes_kept}
 use Rattle.joint_controls.proofs.Keeping.{choice}
@@ -219,10 +219,10 @@ module _ (s : Joint) (b : Before s) where
   terminate_is (TerminateInd code) is = (code, refl)
   terminate_is ctrl is = absurd (cc)
 
-  taken_after : (item : Item) (slot : ℕ) → InstantOn s.down (passed_from (phased_after (taking item slot (TerminateInd 0)) s.central).control.table.progress)
+  taken_after : (item : Item) (slot : ℕ) → InstantOn s.down (passed_from (phased_after (taking item slot no_response) s.central).control.table.progress)
   taken_after item slot =
-      instant_stays (phased_after (taking item slot (TerminateInd 0)) s.central) s.down
-      (takes_kept (HasLast last) (last_kept last) item slot (TerminateInd 0) s.central refl) b.holds.instant
+      instant_stays (phased_after (taking item slot no_response) s.central) s.down
+      (takes_kept (HasLast last) (last_kept last) item slot no_response s.central refl) b.holds.instant
 
   up_seen : (item : Item) (sealed : Bool) → s.up ≡ OnAir item sealed
       → SeenAt s.peripheral.control (way_part outgoing_part s.down) (way_if (λ q. on_air_pdu q) (item_part pdu_of_outgoing item)) (kept_part s.central.kept) s.central.control
@@ -239,28 +239,28 @@ module _ (s : Joint) (b : Before s) where
 
   control_goes : (outgoing : Outgoing) (ctrl : Ctrl) (slot : ℕ) (sealed : Bool) → s.up ≡ OnAir (control_item outgoing ctrl) sealed → is_terminate ctrl ≡ false
       → is_taken s.down ≡ false → is_same_event s ≡ true
-      → GoesAs s.peripheral.control (way_part outgoing_part s.down) (way_if (λ q. pdu_taken q) (pdu_of_outgoing outgoing)) (phased_after (Takes (Known ctrl) slot (TerminateInd 0)) s.central)
+      → GoesAs s.peripheral.control (way_part outgoing_part s.down) (way_if (λ q. pdu_taken q) (pdu_of_outgoing outgoing)) (phased_after (Takes (Known ctrl) slot no_response) s.central)
   control_goes outgoing ctrl slot sealed is live free same =
       let x = is_central s.central.control.table.progress b.indicates.role in
-      going (GoesAs s.peripheral.control (way_part outgoing_part s.down) (way_if (λ q. pdu_taken q) (pdu_of_outgoing outgoing))) (Takes (Known ctrl) slot (TerminateInd 0)) s.central b.goes.central
-      (central_took s.peripheral.control (way_part outgoing_part s.down) s.central outgoing ctrl slot (TerminateInd 0) x.0 x.1 b.goes.central (known s b)
+      going (GoesAs s.peripheral.control (way_part outgoing_part s.down) (way_if (λ q. pdu_taken q) (pdu_of_outgoing outgoing))) (Takes (Known ctrl) slot no_response) s.central b.goes.central
+      (central_took s.peripheral.control (way_part outgoing_part s.down) s.central outgoing ctrl slot no_response x.0 x.1 b.goes.central (known s b)
       (subst IsSentOn is b.tied.sent_up) (subst (λ (w : Way). fits_if fits_up (item_on_air w) ≡ true) is b.facts.up) live (untaken_way outgoing_part s.down free) (same_event same)
       (up_seen (control_item outgoing ctrl) sealed is))
 
   control_alone : (outgoing : Outgoing) (ctrl : Ctrl) (slot : ℕ) (sealed : Bool) → s.up ≡ OnAir (control_item outgoing ctrl) sealed → is_terminate ctrl ≡ false
-      → (phased_after (Takes (Known ctrl) slot (TerminateInd 0)) s.central).control.ends ≡ None → AloneIf (phased_after (Takes (Known ctrl) slot (TerminateInd 0)) s.central)
+      → (phased_after (Takes (Known ctrl) slot no_response) s.central).control.ends ≡ None → AloneIf (phased_after (Takes (Known ctrl) slot no_response) s.central)
   control_alone outgoing ctrl slot sealed is live =
       let x = is_central s.central.control.table.progress b.indicates.role in
-      takes_alone s.central x.0 x.1 b.goes.central b.holds.alone outgoing ctrl slot (TerminateInd 0) (subst IsSentOn is b.tied.sent_up)
+      takes_alone s.central x.0 x.1 b.goes.central b.holds.alone outgoing ctrl slot no_response (subst IsSentOn is b.tied.sent_up)
       (subst (λ (w : Way). fits_if fits_up (item_on_air w) ≡ true) is b.facts.up) live
 
   -- LL_TERMINATE_IND stops the run
-  stops : (ctrl : Ctrl) (slot : ℕ) → is_terminate ctrl ≡ true → EndsByCollision (phased_after (Takes (Known ctrl) slot (TerminateInd 0)) s.central).control.ends → ⊥
+  stops : (ctrl : Ctrl) (slot : ℕ) → is_terminate ctrl ≡ true → EndsByCollision (phased_after (Takes (Known ctrl) slot no_response) s.central).control.ends → ⊥
   stops ctrl slot is =
       let t = terminate_is ctrl is in
-      subst (λ (c : Ctrl). EndsByCollision (phased_after (Takes (Known c) slot (TerminateInd 0)) s.central).control.ends → ⊥) (sym t.1)
-      (going (λ (p : Phased). EndsByCollision p.control.ends → ⊥) (Takes (Known (TerminateInd t.0)) slot (TerminateInd 0)) s.central b.goes.central
-      (terminated_never s.central b.goes.central (quiet_keeps_none s.central (known s b)) slot t.0 (TerminateInd 0)))
+      subst (λ (c : Ctrl). EndsByCollision (phased_after (Takes (Known c) slot no_response) s.central).control.ends → ⊥) (sym t.1)
+      (going (λ (p : Phased). EndsByCollision p.control.ends → ⊥) (Takes (Known (TerminateInd t.0)) slot no_response) s.central b.goes.central
+      (terminated_never s.central b.goes.central (quiet_keeps_none s.central (known s b)) slot t.0 no_response))
 
   takes_by : (way : Way) (slot : ℕ) → s.up ≡ way → is_some (item_on_air way) ≡ true → is_taken s.down ≡ false → is_same_event s ≡ true → After (joint_takes way slot s)
   takes_by Clear slot is comes free same = absurd (cc)
@@ -271,15 +271,15 @@ module _ (s : Joint) (b : Before s) where
   takes_by (OnAir (control_item outgoing ctrl) sealed) slot is comes free same = by (is_terminate ctrl) refl
     where
       by : (last_one : Bool) → is_terminate ctrl ≡ last_one
-          → After (record s { central = phased_after (Takes (Known ctrl) slot (TerminateInd 0)) s.central; up = Taken (control_item outgoing ctrl); stopped = is_terminate ctrl })
+          → After (record s { central = phased_after (Takes (Known ctrl) slot no_response) s.central; up = Taken (control_item outgoing ctrl); stopped = is_terminate ctrl })
       by false live =
-          after_central s b (phased_after (Takes (Known ctrl) slot (TerminateInd 0)) s.central) s.down (Taken (control_item outgoing ctrl)) (is_terminate ctrl)
+          after_central s b (phased_after (Takes (Known ctrl) slot no_response) s.central) s.down (Taken (control_item outgoing ctrl)) (is_terminate ctrl)
           (control_goes outgoing ctrl slot sealed is live free same) (taken_after (control_item outgoing ctrl) slot) (control_alone outgoing ctrl slot sealed is live)
       by true ends =
           record {
             goes =
                 λ runs.
-                let g = goes_on (record s { central = phased_after (Takes (Known ctrl) slot (TerminateInd 0)) s.central; up = Taken (control_item outgoing ctrl); stopped = is_terminate ctrl }) runs in
+                let g = goes_on (record s { central = phased_after (Takes (Known ctrl) slot no_response) s.central; up = Taken (control_item outgoing ctrl); stopped = is_terminate ctrl }) runs in
                 absurd (let no : true ≡ false = sym ends ∙ g.stopped in cc);
             central_never = stops ctrl slot ends;
             peripheral_never = λ met. subst EndsByCollision b.goes.peripheral met;

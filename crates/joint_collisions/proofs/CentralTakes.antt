@@ -32,7 +32,7 @@ use Rattle.control_model.specs.Control.{Control, Owes, Takes, after}
 use Rattle.control_model.specs.Waits.{EndsByCollision}
 use Rattle.control_model.proofs.Calls.{open_step}
 use Rattle.phased_control.specs.Phased.{Phased, is_quiet_now, with_owed}
-use Rattle.phased_control.specs.Taken.{answered_if_quiet, answered_kept, ciphered, does_keep, ended_with, handed_on, is_allowed, keeping, keeps_class, knowing, lacks_room_now, seen_if, took, took_allowed, with_phase_taking}
+use Rattle.phased_control.specs.Taken.{Response, answered_if_quiet, answered_kept, ciphered, does_keep, ended_with, handed_on, is_allowed, keeping, keeps_class, knowing, lacks_room_now, seen_if, took, took_allowed, with_phase_taking}
 use Rattle.joint_controls.specs.Ends.{IsSentAs}
 use Rattle.joint_controls.specs.Joint.{is_terminate}
 use Rattle.joint_controls.proofs.Keeping.{choice, ciphered_keeps_end}
@@ -132,7 +132,7 @@ module _ (p : Control) (down up : Way) where
         seen = owes p down up (kept_part kept) ctrl s.control h.seen;
       }
 
-  ciphered_stays : (kept : Option Ctrl) (response : Ctrl) (read : CtrlRead) (s : Phased) → Stays kept s → Stays kept (ciphered response read s)
+  ciphered_stays : (kept : Option Ctrl) (response : Response) (read : CtrlRead) (s : Phased) → Stays kept s → Stays kept (ciphered response read s)
   ciphered_stays kept response read s h =
       ciphered_keeps_end (Stays kept) (owes_stays kept) (λ phase t k. record { lasts = k.lasts; same = k.same; seen = k.seen })
       (λ asks t k. record { lasts = k.lasts; same = k.same; seen = k.seen }) (λ request t k. record { lasts = k.lasts; same = k.same; seen = k.seen })
@@ -178,7 +178,7 @@ keeping_of Request central_role false is = record { request = refl; central = re
 keeping_of Request peripheral_role quiet is = absurd (cc)
 keeping_of pdu role quiet is = absurd (cc)
 
-module _ (p : Control) (down : Way) (s : Phased) (outgoing : Outgoing) (ctrl : Ctrl) (slot : ℕ) (response : Ctrl) (x : Central) (is : s.control.table.progress ≡ central x)
+module _ (p : Control) (down : Way) (s : Phased) (outgoing : Outgoing) (ctrl : Ctrl) (slot : ℕ) (response : Response) (x : Central) (is : s.control.table.progress ≡ central x)
     (lasts : s.control.ends ≡ None) (facts : CentralKnown s) (sent : IsSentAs outgoing ctrl) (fits : fits_up outgoing ≡ true) (live : is_terminate ctrl ≡ false)
     (free : is_taken down ≡ false) (same : event_of s.control.track ≡ event_of p.track)
     (seen : SeenAt p down (way_if (λ q. OnAir q) (pdu_of_outgoing outgoing)) (kept_part s.kept) s.control) where

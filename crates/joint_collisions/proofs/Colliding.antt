@@ -5,7 +5,6 @@ use Rattle.ble_base.specs.ErrorCodes.{memory_capacity_exceeded, mic_failure}
 use Rattle.ble_base.specs.declared.roles.Role.{Role}
 use Rattle.ble_base.specs.declared.roles.Role.TheVariants.{Central as central_role, Peripheral as peripheral_role}
 use Rattle.data_pdu.specs.declared.ctrl.Ctrl.{Ctrl}
-use Rattle.data_pdu.specs.declared.ctrl.Ctrl.TheVariants.{TerminateInd}
 use Rattle.data_pdu.specs.declared.ctrl.CtrlRead.{CtrlRead}
 use Rattle.data_pdu.specs.declared.ctrl.CtrlRead.TheVariants.{Known}
 use Rattle.enc_phase.specs.declared.classes.PduClass.{PduClass}
@@ -41,9 +40,9 @@ use Rattle.collisions.specs.Meaning.{central_reads, is_ready}
 use Rattle.collision_steps.specs.CentralPart.{answer_to, central_of, step_of_read}
 use Rattle.control_model.specs.Control.{Control, Takes, after}
 use Rattle.phased_control.specs.Phased.{Phased, is_quiet_now}
-use Rattle.phased_control.specs.Taken.{Takes as takes_end, answered_if_quiet, answered_kept, ciphered, ciphered_at, does_keep, ended_with, handed_on, is_allowed, keeping, keeps_class, knowing, lacks_room_now, phased_after, role_now, seen_if, took, took_allowed, with_phase_taking}
+use Rattle.phased_control.specs.Taken.{Response, Takes as takes_end, answered_if_quiet, answered_kept, ciphered, ciphered_at, does_keep, ended_with, handed_on, is_allowed, keeping, keeps_class, knowing, lacks_room_now, phased_after, role_now, seen_if, took, took_allowed, with_phase_taking}
 use Rattle.joint_controls.specs.Ends.{IsSentAs, IsSentOn}
-use Rattle.joint_controls.specs.Joint.{Joint, Way, is_terminate, item_on_air}
+use Rattle.joint_controls.specs.Joint.{Joint, Way, is_terminate, item_on_air, no_response}
 use Rattle.joint_collisions.specs.Arrivals.{Collides}
 use Rattle.joint_collisions.specs.Facts.{fits_if, fits_up}
 use Rattle.joint_collisions.specs.Views.{link_of}
@@ -59,7 +58,7 @@ use Rattle.joint_collisions.proofs.Meanings.{same_ctrl, up_means}
 
 -- the procedures alone see it
 pub record IsFirst (ctrl : Ctrl) : Type 0 where
-  pub plain : (role : Role) (response : Ctrl) (t : Phased) → ciphered_at role response ctrl t ≡ t
+  pub plain : (role : Role) (response : Response) (t : Phased) → ciphered_at role response ctrl t ≡ t
   pub live : is_terminate ctrl ≡ false
   pub class : ctrl_class ctrl ≡ request_class
 
@@ -70,12 +69,12 @@ begins_one (Some pdu) = is_some (first_kind pdu)
 first_draft : (draft : Draft) (event latency : ℕ) → begins_one (pdu_of_draft draft) ≡ true → IsFirst (ctrl_of_draft draft event latency)
 first_draft (request_draft min max latency_asked timeout) event latency first = record { plain = by; live = refl; class = refl }
   where
-    by : (role : Role) (response : Ctrl) (t : Phased) → ciphered_at role response (ctrl_of_draft (request_draft min max latency_asked timeout) event latency) t ≡ t
+    by : (role : Role) (response : Response) (t : Phased) → ciphered_at role response (ctrl_of_draft (request_draft min max latency_asked timeout) event latency) t ≡ t
     by central_role response t = refl
     by peripheral_role response t = refl
 first_draft phy_draft event latency first = record { plain = by; live = refl; class = refl }
   where
-    by : (role : Role) (response : Ctrl) (t : Phased) → ciphered_at role response (ctrl_of_draft phy_draft event latency) t ≡ t
+    by : (role : Role) (response : Response) (t : Phased) → ciphered_at role response (ctrl_of_draft phy_draft event latency) t ≡ t
     by central_role response t = refl
     by peripheral_role response t = refl
 first_draft draft event latency first = absurd (cc)
@@ -102,7 +101,7 @@ still_quiet (HalfClear kept) is = absurd (cc)
 
 -- ---- what the central makes of it
 
-module _ (s : Phased) (lasts : s.control.ends ≡ None) (quiet : is_quiet_now s ≡ true) (none : s.kept ≡ None) (ctrl : Ctrl) (first : IsFirst ctrl) (slot : ℕ) (response : Ctrl) where
+module _ (s : Phased) (lasts : s.control.ends ≡ None) (quiet : is_quiet_now s ≡ true) (none : s.kept ≡ None) (ctrl : Ctrl) (first : IsFirst ctrl) (slot : ℕ) (response : Response) where
   abbrev read : CtrlRead
   read = Known ctrl
 
@@ -189,7 +188,7 @@ ready_is pdu q l first reads = absurd (cc)
 
 module _ (s : Joint) (b : Before s) (p q : Exclusive) (outgoing : Outgoing) (ctrl : Ctrl) (c : Collides s p q outgoing ctrl) where
   abbrev t : Phased
-  t = phased_after (takes_end (Known ctrl) c.takes.slot (TerminateInd 0)) s.central
+  t = phased_after (takes_end (Known ctrl) c.takes.slot no_response) s.central
 
   abbrev old : CentralPdus
   old = central_of s.central.control.table
@@ -214,8 +213,8 @@ module _ (s : Joint) (b : Before s) (p q : Exclusive) (outgoing : Outgoing) (ctr
   first : IsFirst ctrl
   first = first_of outgoing ctrl sent begins
 
-  becomes : t.control.ends ≡ None → t ≡ handed s.central b.goes.central quiet (quiet_keeps_none s.central (known s b) quiet) ctrl first c.takes.slot (TerminateInd 0)
-  becomes = takes_becomes s.central b.goes.central quiet (quiet_keeps_none s.central (known s b) quiet) ctrl first c.takes.slot (TerminateInd 0)
+  becomes : t.control.ends ≡ None → t ≡ handed s.central b.goes.central quiet (quiet_keeps_none s.central (known s b) quiet) ctrl first c.takes.slot no_response
+  becomes = takes_becomes s.central b.goes.central quiet (quiet_keeps_none s.central (known s b) quiet) ctrl first c.takes.slot no_response
 
   abbrev unknown_now : Bool
   unknown_now = is_unknown s.central.phase (role_of s.central.control.table.progress) (ctrl_class ctrl)

@@ -2,7 +2,6 @@
 use Rattle.std.proofs.Common.{◌≡◌, Bool, true, false, not, ◌&&◌, if◌then◌else◌, List, [], ◌∷◌, ◌++◌, None, refl, sym, ap, ◌∙◌}
 use Rattle.std.proofs.lemmas.Bool.{and_parts}
 use Rattle.data_pdu.specs.declared.ctrl.Ctrl.{Ctrl}
-use Rattle.data_pdu.specs.declared.ctrl.Ctrl.TheVariants.{TerminateInd}
 use Rattle.data_pdu.specs.declared.ctrl.CtrlRead.TheVariants.{Known}
 use Rattle.exclusive_stages.specs.declared.pdus.Exclusive.{Exclusive}
 use Rattle.exclusive_stages.specs.declared.pdus.Pdu.{Pdu}
@@ -25,7 +24,7 @@ use Rattle.collision_steps.specs.Parts.{rejections_part}
 use Rattle.collision_steps.proofs.CentralTaking.{over}
 use Rattle.phased_control.specs.Phased.{Phased, is_open_now, is_quiet_now}
 use Rattle.phased_control.specs.Taken.{Takes as takes_end, phased_after}
-use Rattle.joint_controls.specs.Joint.{CentralTakes, Joint, JointStep, Way, after_all, central_takes, is_running, may_act, next_out}
+use Rattle.joint_controls.specs.Joint.{CentralTakes, Joint, JointStep, Way, after_all, central_takes, is_running, may_act, next_out, no_response}
 use Rattle.joint_controls.proofs.Running.{goes_on}
 use Rattle.joint_collisions.specs.Arrivals.{Collides, RejectsNext, collided, is_silent}
 use Rattle.joint_collisions.specs.Facts.{CentralFacts, IsState}
@@ -68,7 +67,7 @@ module _ (s : Joint) (p q : Exclusive) (outgoing : Outgoing) (ctrl : Ctrl) (c : 
   b = before_of s state (and_parts (is_running s) (may_act (CentralTakes c.takes.slot) s) c.takes.comes).0
 
   abbrev after_taking : Phased
-  after_taking = phased_after (takes_end (Known ctrl) c.takes.slot (TerminateInd 0)) s.central
+  after_taking = phased_after (takes_end (Known ctrl) c.takes.slot no_response) s.central
 
   taking_is : (collided s p q outgoing ctrl c).central ≡ after_taking
   taking_is = ap (λ (w : Way). (central_takes w c.takes.slot s).central) c.takes.on_air

@@ -26,7 +26,7 @@ use Rattle.collision_steps.specs.CentralPart.{passed_from, passed_from_of}
 use Rattle.collision_steps.specs.Parts.{outgoing_part, param_request_opcode, phy_request_opcode, reason_part}
 use Rattle.control_model.specs.Waits.{EndsByCollision, last_event_of}
 use Rattle.phased_control.specs.Phased.{Phased}
-use Rattle.phased_control.specs.Taken.{Enters, SeesAcknowledged, Sends, Takes, TakesData, ended_with, phased_after}
+use Rattle.phased_control.specs.Taken.{Response, Enters, SeesAcknowledged, Sends, Takes, TakesData, ended_with, phased_after}
 use Rattle.joint_controls.specs.Joint.{Clear, Control as control_item, Data, Fixed, HostStep, Item, Joint, OnAir, PeripheralAcked, PeripheralEnters, PeripheralFixes, PeripheralFixesData, PeripheralHost, PeripheralSends, PeripheralTakes, Taken, Way, act, fixed, has_passed, host_step, is_clear, is_fixed, is_free, is_indication, is_item, is_late, is_near, is_same_event, is_supervised, is_taken, is_terminate, item_by, item_on_air, last_change, may_act, next_item, next_out, peripheral_takes as joint_takes, sends_data, sent_up}
 use Rattle.joint_controls.specs.Ends.{IsSentOn, outgoing_in, outgoing_on}
 use Rattle.joint_controls.proofs.Keeping.{choice}
@@ -255,7 +255,7 @@ module _ (s : Joint) (b : Before s) where
       (record { goes = λ lasts. down_seen Data sealed is; never = λ met. subst EndsByCollision b.goes.peripheral met })
       (ended_forged s.central.control no_pdu up kept s.peripheral))
 
-  control_goes : (outgoing : Outgoing) (ctrl : Ctrl) (slot : ℕ) (response : Ctrl) (sealed : Bool) → s.down ≡ OnAir (control_item outgoing ctrl) sealed
+  control_goes : (outgoing : Outgoing) (ctrl : Ctrl) (slot : ℕ) (response : Response) (sealed : Bool) → s.down ≡ OnAir (control_item outgoing ctrl) sealed
       → is_terminate ctrl ≡ false → is_taken s.up ≡ false → (is_same_event s || is_late s) ≡ true → is_supervised s ≡ true
       → GoesAs s.central.control (way_if (λ q. pdu_taken q) (outgoing_part outgoing)) up kept (phased_after (Takes (Known ctrl) slot response) s.peripheral)
   control_goes outgoing ctrl slot response sealed is live free time near =
@@ -269,14 +269,14 @@ module _ (s : Joint) (b : Before s) where
       (subst (λ (w : Way). InstantOn w over_event) is b.holds.instant) (λ timed. near_of near (on_way timed))
       (down_seen (control_item outgoing ctrl) sealed is))
 
-  stops : (ctrl : Ctrl) (slot : ℕ) (response : Ctrl) → is_terminate ctrl ≡ true → EndsByCollision (phased_after (Takes (Known ctrl) slot response) s.peripheral).control.ends → ⊥
+  stops : (ctrl : Ctrl) (slot : ℕ) (response : Response) → is_terminate ctrl ≡ true → EndsByCollision (phased_after (Takes (Known ctrl) slot response) s.peripheral).control.ends → ⊥
   stops ctrl slot response is =
       let t = terminate_is ctrl is in
       subst (λ (c : Ctrl). EndsByCollision (phased_after (Takes (Known c) slot response) s.peripheral).control.ends → ⊥) (sym t.1)
       (going (λ (p : Phased). EndsByCollision p.control.ends → ⊥) (Takes (Known (TerminateInd t.0)) slot response) s.peripheral b.goes.peripheral
       (terminated_never s.peripheral b.goes.peripheral (λ quiet. b.facts.peripheral.kept) slot t.0 response))
 
-  takes_by : (way : Way) (slot : ℕ) (response : Ctrl) → s.down ≡ way → is_some (item_on_air way) ≡ true → is_taken s.up ≡ false → (is_same_event s || is_late s) ≡ true
+  takes_by : (way : Way) (slot : ℕ) (response : Response) → s.down ≡ way → is_some (item_on_air way) ≡ true → is_taken s.up ≡ false → (is_same_event s || is_late s) ≡ true
       → is_supervised s ≡ true → After (joint_takes way slot response s)
   takes_by Clear slot response is comes free time near = absurd (cc)
   takes_by (Fixed item sealed) slot response is comes free time near = absurd (cc)
@@ -300,7 +300,7 @@ module _ (s : Joint) (b : Before s) where
             peripheral_never = stops ctrl slot response ends;
           }
 
-  pub peripheral_takes : (slot : ℕ) (response : Ctrl) → may_act (PeripheralTakes slot response) s ≡ true → After (act (PeripheralTakes slot response) s)
+  pub peripheral_takes : (slot : ℕ) (response : Response) → may_act (PeripheralTakes slot response) s ≡ true → After (act (PeripheralTakes slot response) s)
   peripheral_takes slot response may =
       let parts = and_parts (is_some (item_on_air s.down)) (not (is_taken s.up) && ((is_same_event s || is_late s) && is_supervised s)) may in
       let rest = and_parts (not (is_taken s.up)) ((is_same_event s || is_late s) && is_supervised s) parts.1 in

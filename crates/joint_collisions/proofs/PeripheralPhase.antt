@@ -32,7 +32,7 @@ use Rattle.control_model.specs.Control.{Control, Owes, Takes, after, indicated_b
 use Rattle.control_model.specs.Waits.{EndsByCollision}
 use Rattle.control_model.proofs.Calls.{open_step}
 use Rattle.phased_control.specs.Phased.{Phased, is_quiet_now, with_owed}
-use Rattle.phased_control.specs.Taken.{answered_if_quiet, answered_kept, ciphered, does_keep, ended_with, handed_on, is_allowed, keeping, keeps_class, knowing, lacks_room_now, seen_if, took, took_allowed, with_phase_taking}
+use Rattle.phased_control.specs.Taken.{Response, answered_if_quiet, answered_kept, ciphered, does_keep, ended_with, handed_on, is_allowed, keeping, keeps_class, knowing, lacks_room_now, seen_if, took, took_allowed, with_phase_taking}
 use Rattle.joint_controls.specs.Ends.{IsSentAs}
 use Rattle.joint_controls.specs.Joint.{is_terminate}
 use Rattle.joint_controls.proofs.Keeping.{choice, ciphered_keeps_end}
@@ -78,7 +78,7 @@ module _ (c : Control) (down up : Way) (kept : Option Pdu) where
         seen = owes c down up kept ctrl s.control h.seen;
       }
 
-  ciphered_stays : (response : Ctrl) (read : CtrlRead) (s : Phased) → Stays c down up kept s → Stays c down up kept (ciphered response read s)
+  ciphered_stays : (response : Response) (read : CtrlRead) (s : Phased) → Stays c down up kept s → Stays c down up kept (ciphered response read s)
   ciphered_stays response read s h =
       ciphered_keeps_end (Stays c down up kept) owes_stays (λ phase t k. record { lasts = k.lasts; none = k.none; seen = k.seen })
       (λ asks t k. record { lasts = k.lasts; none = k.none; seen = k.seen }) (λ request t k. record { lasts = k.lasts; none = k.none; seen = k.seen })
@@ -97,7 +97,7 @@ module _ (c : Control) (down up : Way) (kept : Option Pdu) where
 
 -- ---- the whole of a PDU
 
-module _ (c : Control) (up : Way) (kept : Option Pdu) (s : Phased) (outgoing : Outgoing) (ctrl : Ctrl) (slot : ℕ) (response : Ctrl) (x : Peripheral)
+module _ (c : Control) (up : Way) (kept : Option Pdu) (s : Phased) (outgoing : Outgoing) (ctrl : Ctrl) (slot : ℕ) (response : Response) (x : Peripheral)
     (is : s.control.table.progress ≡ peripheral x) (lasts : s.control.ends ≡ None) (none : s.kept ≡ None) (sent : IsSentAs outgoing ctrl)
     (fits : fits_down outgoing ≡ true) (live : is_terminate ctrl ≡ false) (free : is_taken up ≡ false)
     (time : IsInTime c (way_if (λ q. OnAir q) (outgoing_part outgoing)) s.control)

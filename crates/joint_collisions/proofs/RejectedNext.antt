@@ -2,8 +2,6 @@
 use Rattle.std.proofs.Common.{◌≡◌, ℕ, Bool, true, false, not, ◌&&◌, if◌then◌else◌, List, [], ◌∷◌, ◌++◌, Option, Some, None, is_some, Result, Ok, Err, ap}
 use Rattle.std.proofs.lemmas.Bool.{and_parts}
 use Rattle.ble_base.specs.declared.error_codes.ErrCode.{ErrCode}
-use Rattle.data_pdu.specs.declared.ctrl.Ctrl.{Ctrl}
-use Rattle.data_pdu.specs.declared.ctrl.Ctrl.TheVariants.{TerminateInd}
 use Rattle.instants.specs.declared.indications.Indication.{Indication}
 use Rattle.instants.specs.Track.{event_of, next_number}
 use Rattle.procedure_values.specs.declared.asks.Ask.{Ask}
@@ -26,8 +24,9 @@ use Rattle.procedures.specs.Table.{TableFacts}
 use Rattle.procedures.specs.Taking.{facts_with, outcome_of}
 use Rattle.control_model.specs.Control.{Answers, Asks, Control, Disconnects, Enters, Owes, SeesAcknowledged, Takes, indicated_by, is_to_come, table_if, taken}
 use Rattle.control_model.proofs.Calls.{any_step, either_way, took_by}
+use Rattle.phased_control.specs.Taken.{Response}
 use Rattle.phased_control.specs.Phased.{is_quiet_now}
-use Rattle.joint_controls.specs.Joint.{CentralAcked, CentralEnters, CentralHost, CentralSends, CentralSendsData, CentralTakes, Clear, Fixed, Joint, JointStep, OnAir, PeripheralAcked, PeripheralEnters, PeripheralFixes, PeripheralFixesData, PeripheralHost, PeripheralSends, PeripheralTakes, Shuts, Taken, Way, act, after_all, central_takes, next_out, peripheral_takes}
+use Rattle.joint_controls.specs.Joint.{CentralAcked, CentralEnters, CentralHost, CentralSends, CentralSendsData, CentralTakes, Clear, Fixed, Joint, JointStep, OnAir, PeripheralAcked, PeripheralEnters, PeripheralFixes, PeripheralFixesData, PeripheralHost, PeripheralSends, PeripheralTakes, Shuts, Taken, Way, act, after_all, central_takes, next_out, no_response, peripheral_takes}
 use Rattle.joint_controls.specs.Joint as joint
 use Rattle.joint_controls.proofs.EachEnd.{Keeps, acks_kept, enters_kept, hosts_kept, takes_kept}
 use Rattle.joint_controls.proofs.Running.{after_one}
@@ -119,10 +118,10 @@ module _ (x : TheRejection) where
   up_kept : (way : Way) (slot : ℕ) (s : Joint) → J s → J (central_takes way slot s)
   up_kept Clear slot s h = h
   up_kept (Fixed item sealed) slot s h = h
-  up_kept (OnAir item sealed) slot s h = takes_kept P head_kept item slot (TerminateInd 0) s.central h
+  up_kept (OnAir item sealed) slot s h = takes_kept P head_kept item slot no_response s.central h
   up_kept (Taken item) slot s h = h
 
-  down_kept : (way : Way) (slot : ℕ) (response : Ctrl) (s : Joint) → J s → J (peripheral_takes way slot response s)
+  down_kept : (way : Way) (slot : ℕ) (response : Response) (s : Joint) → J s → J (peripheral_takes way slot response s)
   down_kept Clear slot response s h = h
   down_kept (Fixed item sealed) slot response s h = h
   down_kept (OnAir item sealed) slot response s h = h

@@ -19,7 +19,7 @@ use Rattle.control_model.specs.Control.{Control, Takes, after, indicated_by, tak
 use Rattle.control_model.specs.Waits.{EndsByCollision}
 use Rattle.control_model.proofs.Calls.{open_step}
 use Rattle.phased_control.specs.Phased.{Phased, is_quiet_now}
-use Rattle.phased_control.specs.Taken.{answered_if_quiet, answered_kept, ciphered, ciphered_at, does_keep, ended_with, goes_on, handed_on, is_allowed, keeping, knowing, lacks_room_now, role_now, seen_if, took, took_allowed, took_data, with_phase_taking}
+use Rattle.phased_control.specs.Taken.{Response, answered_if_quiet, answered_kept, ciphered, ciphered_at, does_keep, ended_with, goes_on, handed_on, is_allowed, keeping, knowing, lacks_room_now, role_now, seen_if, took, took_allowed, took_data, with_phase_taking}
 use Rattle.joint_controls.proofs.Keeping.{choice}
 use Rattle.joint_collisions.proofs.CentralTakes.{not_forged, not_room}
 
@@ -36,7 +36,7 @@ terminate_known Secure Central = refl
 terminate_known Secure Peripheral = refl
 terminate_known phase role = refl
 
-module _ (s : Phased) (lasts : s.control.ends ≡ None) (free : is_quiet_now s ≡ true → s.kept ≡ None) (slot code : ℕ) (response : Ctrl) where
+module _ (s : Phased) (lasts : s.control.ends ≡ None) (free : is_quiet_now s ≡ true → s.kept ≡ None) (slot code : ℕ) (response : Response) where
   abbrev read : CtrlRead
   read = Known (TerminateInd code)
 

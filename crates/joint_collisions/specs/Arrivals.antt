@@ -12,12 +12,13 @@ use Rattle.procedure_stages.specs.Collisions.{collision_code}
 use Rattle.procedure_stages.specs.Exclusive.{pdu_of_outgoing}
 use Rattle.procedure_stages.specs.Opcodes.{opcode_of_kind}
 use Rattle.collision_steps.specs.CentralPart.{central_of}
+use Rattle.phased_control.specs.Taken.{Response}
 use Rattle.joint_controls.specs.Joint.{CentralSends, CentralTakes, Control, Joint, JointStep, OnAir, PeripheralTakes, act, may, next_out}
 
 -- the peripheral may take this PDU, which the central sent as `outgoing`
 pub record PeripheralMayTake (s : Joint) (outgoing : Outgoing) (ctrl : Ctrl) : Type 0 where
   pub slot : ℕ
-  pub response : Ctrl
+  pub response : Response
   pub sealed : Bool
   pub comes : may (PeripheralTakes slot response) s ≡ true
   pub on_air : s.down ≡ OnAir (Control outgoing ctrl) sealed

@@ -12,7 +12,7 @@ use Rattle.control_model.proofs.Central.{indicates}
 use Rattle.control_model.proofs.Indicating.{Indicates}
 use Rattle.control_model.proofs.Waiting.{Awaits, awaits}
 use Rattle.phased_control.specs.Phased.{Phased, is_quiet_now}
-use Rattle.phased_control.specs.Taken.{Enters as enters, PhasedStep, SeesAcknowledged as sees_acknowledged, Sends as sends, phased_after, phased_moved}
+use Rattle.phased_control.specs.Taken.{PhasedStep, Response, Enters as enters, SeesAcknowledged as sees_acknowledged, Sends as sends, phased_after, phased_moved}
 use Rattle.joint_controls.specs.Joint.{AnswersRequest, AsksFor, CentralAcked, CentralEnters, CentralHost, CentralSends, CentralSendsData, CentralTakes, Clear, Control as control_item, Data, Ends, Fixed, HasKey, HasNoKey, HostStep, Item, Joint, JointStep, OnAir, PeripheralAcked, PeripheralEnters, PeripheralFixes, PeripheralFixesData, PeripheralHost, PeripheralSends, PeripheralTakes, Shuts, Taken, Way, act, beginning, central_takes, host_step, may, peripheral_takes, taking}
 use Rattle.joint_controls.specs.Joint as joint
 use Rattle.joint_controls.specs.Ends.{AreStepsInRange, IsHostInRange, IsStepInRange}
@@ -92,12 +92,12 @@ module _ (first : Control) where
   acked_end s =
       one sees_acknowledged s (λ h. asking_keeps Lasting owes_keeps _ _ (steps_on SeesAcknowledged s.control tt h))
 
-  took_item : (item : Item) (slot : ℕ) (response : Ctrl) (s : Phased) → LastingP s → LastingP (phased_moved (taking item slot response) s)
+  took_item : (item : Item) (slot : ℕ) (response : Response) (s : Phased) → LastingP s → LastingP (phased_moved (taking item slot response) s)
   took_item Data slot response s h = data_keeps Lasting owes_keeps takes_keeps ended_keeps s h
   took_item (control_item outgoing ctrl) slot response s h =
       took_keeps Lasting owes_keeps takes_keeps ended_keeps slot response (Known ctrl) s h
 
-  takes_end : (item : Item) (slot : ℕ) (response : Ctrl) (s : Phased) → Keeps (taking item slot response) s
+  takes_end : (item : Item) (slot : ℕ) (response : Response) (s : Phased) → Keeps (taking item slot response) s
   takes_end item slot response s = one (taking item slot response) s (took_item item slot response s)
 
 -- ---- both ends
@@ -114,7 +114,7 @@ module _ (first second : Control) where
   up_taken (OnAir item sealed) slot s r =
       record { central = takes_end first item slot _ s.central r.central; peripheral = r.peripheral }
 
-  down_taken : (way : Way) (slot : ℕ) (response : Ctrl) (s : Joint) → AreRuns first second s → AreRuns first second (peripheral_takes way slot response s)
+  down_taken : (way : Way) (slot : ℕ) (response : Response) (s : Joint) → AreRuns first second s → AreRuns first second (peripheral_takes way slot response s)
   down_taken Clear slot response s r = r
   down_taken (Fixed item sealed) slot response s r = r
   down_taken (Taken item) slot response s r = r

@@ -25,7 +25,7 @@ use Rattle.control_model.specs.Waits.{last_instant_of}
 use Rattle.control_model.proofs.Calls.{acked_same, answered_same, any_step, begun_same, either_way, given_same, held_over, took_by}
 use Rattle.control_model.proofs.Outcomes.{Hands, fits}
 use Rattle.phased_control.specs.Phased.{Phased, is_quiet_now}
-use Rattle.phased_control.specs.Taken.{Enters as enters, PhasedStep, SeesAcknowledged as sees_acknowledged, phased_after, phased_moved}
+use Rattle.phased_control.specs.Taken.{PhasedStep, Response, Enters as enters, SeesAcknowledged as sees_acknowledged, phased_after, phased_moved}
 use Rattle.joint_controls.specs.Joint.{AnswersRequest, AsksFor, Control as control_item, Data, Ends, HasKey, HasNoKey, HostStep, Item, host_step, taking}
 use Rattle.joint_controls.proofs.Keeping.{asking_keeps, choice, data_keeps, encrypting_if_keeps, given_keeps, lacking_keeps, took_keeps}
 
@@ -64,11 +64,11 @@ module _ (P : Control → Type 0) (k : Keeps P) where
   pub acks_kept : (s : Phased) → PP s → PP (phased_after sees_acknowledged s)
   acks_kept s = one sees_acknowledged s (λ h. asking_keeps P k.owes _ _ (k.acks s.control h))
 
-  took_item : (item : Item) (slot : ℕ) (response : Ctrl) (s : Phased) → PP s → PP (phased_moved (taking item slot response) s)
+  took_item : (item : Item) (slot : ℕ) (response : Response) (s : Phased) → PP s → PP (phased_moved (taking item slot response) s)
   took_item Data slot response s h = data_keeps P k.owes k.takes k.ends s h
   took_item (control_item outgoing ctrl) slot response s h = took_keeps P k.owes k.takes k.ends slot response (Known ctrl) s h
 
-  pub takes_kept : (item : Item) (slot : ℕ) (response : Ctrl) (s : Phased) → PP s → PP (phased_after (taking item slot response) s)
+  pub takes_kept : (item : Item) (slot : ℕ) (response : Response) (s : Phased) → PP s → PP (phased_after (taking item slot response) s)
   takes_kept item slot response s = one (taking item slot response) s (took_item item slot response s)
 
 -- ---- the last Instant that a central knows

@@ -1,11 +1,9 @@
 -- Each end of a joint run takes steps of its own from the beginning of the link.
 use Rattle.std.proofs.Common.{◌≡◌, ℕ, Bool, true, false, if◌then◌else◌, List, [], ◌∷◌, ◌++◌, refl, sym, ap, ◌∙◌}
 use Rattle.phased_control.specs.Phased.{Phased}
-use Rattle.phased_control.specs.Taken.{PhasedStep, phased_after, phased_after_all}
-use Rattle.joint_controls.specs.Joint.{CentralAcked, CentralEnters, CentralHost, CentralSends, CentralSendsData, CentralTakes, Clear, Fixed, Joint, JointStep, OnAir, PeripheralAcked, PeripheralEnters, PeripheralFixes, PeripheralFixesData, PeripheralHost, PeripheralSends, PeripheralTakes, Shuts, Taken, Way, act, after, after_all, central_takes, item_on_air, may, peripheral_takes}
+use Rattle.phased_control.specs.Taken.{PhasedStep, Response, phased_after, phased_after_all}
+use Rattle.joint_controls.specs.Joint.{CentralAcked, CentralEnters, CentralHost, CentralSends, CentralSendsData, CentralTakes, Clear, Fixed, Joint, JointStep, OnAir, PeripheralAcked, PeripheralEnters, PeripheralFixes, PeripheralFixesData, PeripheralHost, PeripheralSends, PeripheralTakes, Shuts, Taken, Way, act, after, after_all, central_takes, item_on_air, may, no_response, peripheral_takes}
 use Rattle.joint_controls.specs.Ends.{central_does, peripheral_does, steps_of_central, steps_of_peripheral, takes_if}
-use Rattle.data_pdu.specs.declared.ctrl.Ctrl.{Ctrl}
-use Rattle.data_pdu.specs.declared.ctrl.Ctrl.TheVariants.{TerminateInd}
 
 pub phased-append : (steps more : List PhasedStep) (s : Phased)
     → phased_after_all (steps ++ more) s ≡ phased_after_all more (phased_after_all steps s)
@@ -15,7 +13,7 @@ phased-append (step ∷ steps) more s = phased-append steps more (phased_after s
 -- ---- one step
 
 up_central : (way : Way) (slot : ℕ) (s : Joint)
-    → (central_takes way slot s).central ≡ phased_after_all (takes_if (item_on_air way) slot (TerminateInd 0)) s.central
+    → (central_takes way slot s).central ≡ phased_after_all (takes_if (item_on_air way) slot no_response) s.central
 up_central Clear slot s = refl
 up_central (Fixed item sealed) slot s = refl
 up_central (OnAir item sealed) slot s = refl
@@ -27,14 +25,14 @@ up_peripheral (Fixed item sealed) slot s = refl
 up_peripheral (OnAir item sealed) slot s = refl
 up_peripheral (Taken item) slot s = refl
 
-down_peripheral : (way : Way) (slot : ℕ) (response : Ctrl) (s : Joint)
+down_peripheral : (way : Way) (slot : ℕ) (response : Response) (s : Joint)
     → (peripheral_takes way slot response s).peripheral ≡ phased_after_all (takes_if (item_on_air way) slot response) s.peripheral
 down_peripheral Clear slot response s = refl
 down_peripheral (Fixed item sealed) slot response s = refl
 down_peripheral (OnAir item sealed) slot response s = refl
 down_peripheral (Taken item) slot response s = refl
 
-down_central : (way : Way) (slot : ℕ) (response : Ctrl) (s : Joint) → (peripheral_takes way slot response s).central ≡ s.central
+down_central : (way : Way) (slot : ℕ) (response : Response) (s : Joint) → (peripheral_takes way slot response s).central ≡ s.central
 down_central Clear slot response s = refl
 down_central (Fixed item sealed) slot response s = refl
 down_central (OnAir item sealed) slot response s = refl

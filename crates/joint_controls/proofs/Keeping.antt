@@ -17,7 +17,7 @@ use Rattle.enc_phase.specs.declared.facts.Transition.TheVariants.{Ask as AskTran
 use Rattle.enc_phase.specs.Taking.{ctrl_class}
 use Rattle.control_model.specs.Control.{Control, Owes, Takes, after, ended}
 use Rattle.phased_control.specs.Phased.{Phased, asking_if, encrypting, encrypting_if, if_key_asked, is_open_now, key_given, key_lacking, refused_if, with_owed, with_owed_if}
-use Rattle.phased_control.specs.Taken.{answered_if_quiet, answered_kept, asked, ciphered, ciphered_at, ciphered_at_central, ciphered_at_peripheral, goes_on, moved_if, moved_to, refused_by, started, took, took_allowed, took_data}
+use Rattle.phased_control.specs.Taken.{Response, answered_if_quiet, answered_kept, asked, ciphered, ciphered_at, ciphered_at_central, ciphered_at_peripheral, goes_on, moved_if, moved_to, refused_by, response_ctrl, started, took, took_allowed, took_data}
 
 pub choice : {A : Type 0} (P : A → Type 0) (b : Bool) (x y : A) → P x → P y → P (if b then x else y)
 choice P true x y hx hy = hx
@@ -68,10 +68,10 @@ module _ (Q : Phased → Type 0)
   started_keeps : (s : Phased) → Q s → Q (started s)
   started_keeps s h = choice Q _ _ s (owes StartEncRsp _ (phases _ s h)) h
 
-  asked_keeps : (response : Ctrl) (s : Phased) → Q s → Q (asked response s)
+  asked_keeps : (response : Response) (s : Phased) → Q s → Q (asked response s)
   asked_keeps response s h =
-      choice Q _ (moved_to AskTransition (Some response) (record s { asks_key = is_open_now s })) s
-      (moved_keeps AskTransition (Some response) _ (keys _ s h)) h
+      choice Q _ (moved_to AskTransition (Some (response_ctrl response)) (record s { asks_key = is_open_now s })) s
+      (moved_keeps AskTransition (Some (response_ctrl response)) _ (keys _ s h)) h
 
   refused_by_keeps : (pdu : PduClass) (s : Phased) → Q s → Q (refused_by pdu s)
   refused_by_keeps Refusal s h = choice Q _ s _ h (phases _ s h)
@@ -83,18 +83,18 @@ module _ (Q : Phased → Type 0)
   at_central_keeps PauseEncRsp s h = moved_if_keeps Unlock (Some PauseEncRsp) s h
   at_central_keeps ctrl s h = refused_by_keeps (ctrl_class ctrl) s h
 
-  at_peripheral_keeps : (response ctrl : Ctrl) (s : Phased) → Q s → Q (ciphered_at_peripheral response ctrl s)
+  at_peripheral_keeps : (response : Response) (ctrl : Ctrl) (s : Phased) → Q s → Q (ciphered_at_peripheral response ctrl s)
   at_peripheral_keeps response (EncReq rand ediv skd_m iv_m) s h = asked_keeps response s h
   at_peripheral_keeps response PauseEncReq s h = moved_if_keeps Pause (Some PauseEncRsp) s h
   at_peripheral_keeps response StartEncRsp s h = moved_if_keeps Confirm (Some StartEncRsp) s h
   at_peripheral_keeps response PauseEncRsp s h = moved_if_keeps Unlock None s h
   at_peripheral_keeps response ctrl s h = h
 
-  ciphered_at_keeps : (role : Role) (response ctrl : Ctrl) (s : Phased) → Q s → Q (ciphered_at role response ctrl s)
+  ciphered_at_keeps : (role : Role) (response : Response) (ctrl : Ctrl) (s : Phased) → Q s → Q (ciphered_at role response ctrl s)
   ciphered_at_keeps Central response ctrl s h = at_central_keeps ctrl s h
   ciphered_at_keeps Peripheral response ctrl s h = at_peripheral_keeps response ctrl s h
 
-  pub ciphered_keeps_end : (response : Ctrl) (read : CtrlRead) (s : Phased) → Q s → Q (ciphered response read s)
+  pub ciphered_keeps_end : (response : Response) (read : CtrlRead) (s : Phased) → Q s → Q (ciphered response read s)
   ciphered_keeps_end response (Known ctrl) s h = ciphered_at_keeps _ response ctrl s h
   ciphered_keeps_end response (Unknown opcode) s h = h
   ciphered_keeps_end response Bare s h = h
@@ -119,7 +119,7 @@ module _ (P : Control → Type 0) (owes : (ctrl : Ctrl) (c : Control) → P c �
   pub lacking_keeps : (s : Phased) → Q s → Q (if_key_asked (key_lacking s) s)
   lacking_keeps = lacking_keeps_end Q (λ ctrl s. owes ctrl s.control) (λ phase s h. h) (λ asks s h. h) (λ request s h. h)
 
-  pub ciphered_keeps : (response : Ctrl) (read : CtrlRead) (s : Phased) → Q s → Q (ciphered response read s)
+  pub ciphered_keeps : (response : Response) (read : CtrlRead) (s : Phased) → Q s → Q (ciphered response read s)
   ciphered_keeps = ciphered_keeps_end Q (λ ctrl s. owes ctrl s.control) (λ phase s h. h) (λ asks s h. h) (λ request s h. h)
 
 -- ---- a PDU of the peer, whole
@@ -138,16 +138,16 @@ module _ (P : Control → Type 0)
   answered_if_keeps : (slot : ℕ) (s : Phased) → R s → R (answered_if_quiet slot s)
   answered_if_keeps slot s h = choice R _ (answered_kept slot s.kept s) s (answered_keeps slot s.kept s h) h
 
-  goes_keeps : (slot : ℕ) (response : Ctrl) (read : CtrlRead) (s : Phased) → R s → R (goes_on slot response read s)
+  goes_keeps : (slot : ℕ) (response : Response) (read : CtrlRead) (s : Phased) → R s → R (goes_on slot response read s)
   goes_keeps slot response read s h =
       choice R _ (answered_if_quiet slot (ciphered response read s)) s
       (answered_if_keeps slot (ciphered response read s) (ciphered_keeps P owes response read s h)) h
 
-  allowed_keeps : (slot : ℕ) (response : Ctrl) (read : CtrlRead) (s : Phased) → R s → R (took_allowed slot response read s)
+  allowed_keeps : (slot : ℕ) (response : Response) (read : CtrlRead) (s : Phased) → R s → R (took_allowed slot response read s)
   allowed_keeps slot response read s h =
       choice R _ _ _ h (choice R _ _ _ (ends _ s.control h) (goes_keeps slot response read _ (takes _ slot _ s.control h)))
 
-  pub took_keeps : (slot : ℕ) (response : Ctrl) (read : CtrlRead) (s : Phased) → R s → R (took slot response read s)
+  pub took_keeps : (slot : ℕ) (response : Response) (read : CtrlRead) (s : Phased) → R s → R (took slot response read s)
   took_keeps slot response read s h =
       choice R _ (took_allowed slot response read s) _ (allowed_keeps slot response read s h) (ends _ s.control h)
 

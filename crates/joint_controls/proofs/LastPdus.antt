@@ -24,7 +24,7 @@ use Rattle.procedures.specs.Table.{TableFacts}
 use Rattle.control_model.specs.Control.{Control, Answers, Asks, Disconnects, Enters, Owes, SeesAcknowledged, Sends, Takes, after, ended, following, taken, table_if, went}
 use Rattle.control_model.proofs.Calls.{any_step, either_way, open_step, took_by}
 use Rattle.phased_control.specs.Phased.{Phased, entered as phased_entered, is_quiet_now}
-use Rattle.phased_control.specs.Taken.{Enters as enters, PhasedStep, SeesAcknowledged as sees_acknowledged, Sends as sends, Takes as takes, phased_after, phased_moved}
+use Rattle.phased_control.specs.Taken.{PhasedStep, Response, Enters as enters, SeesAcknowledged as sees_acknowledged, Sends as sends, Takes as takes, phased_after, phased_moved}
 use Rattle.joint_controls.specs.Joint.{AnswersRequest, AsksFor, CentralAcked, CentralEnters, CentralHost, CentralSends, CentralSendsData, CentralTakes, Clear, Control as control_item, Data, Ends, Fixed, HasKey, HasNoKey, HostStep, Item, Joint, JointStep, OnAir, PeripheralAcked, PeripheralEnters, PeripheralFixes, PeripheralFixesData, PeripheralHost, PeripheralSends, PeripheralTakes, Shuts, Taken, Way, act, after_all, beginning, central_takes, fixed, host_step, is_clear, is_fixed, is_free, item_by, may, may_transmit, next_item, next_out, on_air, peripheral_takes, sent_up, sends_data, taking}
 use Rattle.joint_controls.specs.Ends.{IsSentOn, outgoing_on}
 use Rattle.joint_controls.proofs.Keeping.{asking_keeps, choice, data_keeps, encrypting_if_keeps, given_keeps, lacking_keeps, took_keeps}
@@ -107,14 +107,14 @@ module _ (out : Outgoing) where
   pub hosts_end : (step : HostStep) (s : Phased) → Keeps (host_step step) s
   hosts_end step s h = choice (HasP out) _ (phased_moved (host_step step) s) s (hosted step s h) h
 
-  takes_read : (ctrl response : Ctrl) (slot : ℕ) (s : Phased) → HasP out s → HasP out (phased_moved (takes (Known ctrl) slot response) s)
+  takes_read : (ctrl : Ctrl) (response : Response) (slot : ℕ) (s : Phased) → HasP out s → HasP out (phased_moved (takes (Known ctrl) slot response) s)
   takes_read ctrl response slot s h = took_keeps (Has out) owes_keeps takes_keeps ended_keeps slot response (Known ctrl) s h
 
-  took_item : (item : Item) (slot : ℕ) (response : Ctrl) (s : Phased) → HasP out s → HasP out (phased_moved (taking item slot response) s)
+  took_item : (item : Item) (slot : ℕ) (response : Response) (s : Phased) → HasP out s → HasP out (phased_moved (taking item slot response) s)
   took_item Data slot response s h = data_keeps (Has out) owes_keeps takes_keeps ended_keeps s h
   took_item (control_item outgoing ctrl) slot response s h = takes_read ctrl response slot s h
 
-  pub takes_end : (item : Item) (slot : ℕ) (response : Ctrl) (s : Phased) → Keeps (taking item slot response) s
+  pub takes_end : (item : Item) (slot : ℕ) (response : Response) (s : Phased) → Keeps (taking item slot response) s
   takes_end item slot response s h = choice (HasP out) _ (phased_moved (taking item slot response) s) s (took_item item slot response s h) h
 
 -- ---- what is sent is out
@@ -211,7 +211,7 @@ sent_up_sent (OnAir item sealed) seals h = h
 sent_up_sent (Taken item) seals h = h
 
 module _ (s : Joint) (t : Tied s) where
-  taken_down : (way : Way) (slot : ℕ) (response : Ctrl) → s.down ≡ way → Tied (peripheral_takes way slot response s)
+  taken_down : (way : Way) (slot : ℕ) (response : Response) → s.down ≡ way → Tied (peripheral_takes way slot response s)
   taken_down Clear slot response is = t
   taken_down (Fixed item sealed) slot response is = t
   taken_down (Taken item) slot response is = t

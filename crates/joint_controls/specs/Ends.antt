@@ -1,17 +1,16 @@
 -- What each end does in a joint run, as steps of that end alone, and its last PDU as its table has it (our choice).
-use Rattle.std.specs.Prelude.{◌≡◌, ℕ, Bool, true, false, List, [], ◌∷◌, ◌++◌, Option, Some, None, Ok, if◌then◌else◌, ⊤}
+use Rattle.std.specs.Prelude.{◌≡◌, ℕ, List, [], ◌∷◌, ◌++◌, Option, Some, None, Ok, if◌then◌else◌, ⊤}
 use Rattle.data_pdu.specs.declared.ctrl.Ctrl.{Ctrl}
-use Rattle.data_pdu.specs.declared.ctrl.Ctrl.TheVariants.{EncRsp, TerminateInd}
 use Rattle.procedure_values.specs.declared.drafts.Outgoing.{Outgoing}
 use Rattle.procedure_values.specs.declared.drafts.Outgoing.TheVariants.{Nothing}
 use Rattle.procedure_values.specs.Drafts.{ctrl_of_outgoing}
 use Rattle.procedure_values.specs.Wants.{IsAsk}
-use Rattle.phased_control.specs.Taken.{PhasedStep, Enters, SeesAcknowledged, Sends}
-use Rattle.joint_controls.specs.Joint.{AnswersRequest, AsksFor, CentralAcked, CentralEnters, CentralHost, CentralSends, CentralTakes, Clear, Control, Data, Fixed, HostStep, Item, Joint, JointStep, OnAir, PeripheralAcked, PeripheralEnters, PeripheralFixes, PeripheralHost, PeripheralTakes, Taken, Way, after, host_step, item_on_air, may, taking}
+use Rattle.phased_control.specs.Taken.{PhasedStep, Response, Enters, SeesAcknowledged, Sends}
+use Rattle.joint_controls.specs.Joint.{AnswersRequest, AsksFor, CentralAcked, CentralEnters, CentralHost, CentralSends, CentralTakes, Clear, Control, Data, Fixed, HostStep, Item, Joint, JointStep, OnAir, PeripheralAcked, PeripheralEnters, PeripheralFixes, PeripheralHost, PeripheralTakes, Taken, Way, after, host_step, item_on_air, may, no_response, taking}
 
 -- ---- the steps of each end alone
 
-abbrev pub takes_if : Option Item → ℕ → Ctrl → List PhasedStep
+abbrev pub takes_if : Option Item → ℕ → Response → List PhasedStep
 takes_if None slot response = []
 takes_if (Some item) slot response = taking item slot response ∷ []
 
@@ -21,7 +20,7 @@ central_does (CentralEnters slot) s = Enters slot ∷ []
 central_does (CentralHost step) s = host_step step ∷ []
 central_does (CentralSends slot) s = Sends slot ∷ []
 central_does CentralAcked s = SeesAcknowledged ∷ []
-central_does (CentralTakes slot) s = takes_if (item_on_air s.up) slot (TerminateInd 0)
+central_does (CentralTakes slot) s = takes_if (item_on_air s.up) slot no_response
 central_does step s = []
 
 abbrev pub peripheral_does : JointStep → Joint → List PhasedStep
@@ -43,11 +42,7 @@ steps_of_peripheral [] s = []
 steps_of_peripheral (step ∷ steps) s =
     (if may step s then peripheral_does step s else []) ++ steps_of_peripheral steps (after step s)
 
--- ---- what the hosts ask is in its range, and LL_ENC_REQ is answered with LL_ENC_RSP
-
-abbrev pub is_enc_rsp : Ctrl → Bool
-is_enc_rsp (EncRsp skd_s iv_s) = true
-is_enc_rsp ctrl = false
+-- ---- what the hosts ask is in its range
 
 abbrev pub IsHostInRange : HostStep → Type 0
 IsHostInRange (AsksFor ask) = IsAsk ask
@@ -57,7 +52,6 @@ IsHostInRange step = ⊤
 abbrev pub IsStepInRange : JointStep → Type 0
 IsStepInRange (CentralHost step) = IsHostInRange step
 IsStepInRange (PeripheralHost step) = IsHostInRange step
-IsStepInRange (PeripheralTakes slot response) = is_enc_rsp response ≡ true
 IsStepInRange step = ⊤
 
 abbrev pub AreStepsInRange : List JointStep → Type 0

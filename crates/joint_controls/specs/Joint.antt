@@ -32,7 +32,7 @@ use Rattle.procedure_values.specs.Drafts.{ctrl_of_outgoing, indication_of}
 use Rattle.procedures.specs.Beginning.{may_ask_of}
 use Rattle.procedures.specs.Queue.{next_of}
 use Rattle.phased_control.specs.Phased.{Phased, first_phased, is_open_now, is_quiet_now}
-use Rattle.phased_control.specs.Taken.{PhasedStep, Answers, Asks, Disconnects, Enters, GivesKey, LacksKey, SeesAcknowledged, Sends, Takes, TakesData, phased_after}
+use Rattle.phased_control.specs.Taken.{PhasedStep, Response, Answers, Asks, Disconnects, Enters, GivesKey, LacksKey, SeesAcknowledged, Sends, Takes, TakesData, phased_after}
 
 -- ---- what is on its way
 
@@ -120,8 +120,8 @@ pub data JointStep : Type 0 where
   PeripheralFixesData : JointStep
   PeripheralSends : JointStep
   PeripheralAcked : JointStep
-  -- with the LL_ENC_RSP with which it would answer LL_ENC_REQ
-  PeripheralTakes : (slot : ℕ) → (response : Ctrl) → JointStep
+  -- with what it would draw to answer LL_ENC_REQ
+  PeripheralTakes : (slot : ℕ) → (response : Response) → JointStep
   -- an end is shut, for whatever reason
   Shuts : JointStep
 
@@ -260,16 +260,20 @@ abbrev pub is_last : Item → Bool
 is_last Data = false
 is_last (Control outgoing ctrl) = is_terminate ctrl
 
-abbrev pub taking : Item → ℕ → Ctrl → PhasedStep
+abbrev pub taking : Item → ℕ → Response → PhasedStep
 taking Data slot response = TakesData
 taking (Control outgoing ctrl) slot response = Takes (Known ctrl) slot response
 
+-- a central answers no LL_ENC_REQ
+abbrev pub no_response : Response
+no_response = record { skd_s = 0; iv_s = 0 }
+
 abbrev pub central_takes : Way → ℕ → Joint → Joint
 central_takes (OnAir item sealed) slot s =
-    record (with_central (taking item slot (TerminateInd 0)) s) { up = Taken item; stopped = is_last item }
+    record (with_central (taking item slot no_response) s) { up = Taken item; stopped = is_last item }
 central_takes way slot s = s
 
-abbrev pub peripheral_takes : Way → ℕ → Ctrl → Joint → Joint
+abbrev pub peripheral_takes : Way → ℕ → Response → Joint → Joint
 peripheral_takes (OnAir item sealed) slot response s =
     record (with_peripheral (taking item slot response) s) { down = Taken item; stopped = is_last item }
 peripheral_takes way slot response s = s

@@ -2,8 +2,8 @@
 use Rattle.std.specs.Prelude.{List, [], ◌∷◌, ◌++◌, replicate}
 use Rattle.ble_base.specs.declared.channel_map.ChannelMap.{ChannelMap}
 use Rattle.control_model.specs.Worked.{six_slots}
-use Rattle.data_pdu.specs.declared.ctrl.Ctrl.TheVariants.{EncRsp}
 use Rattle.procedure_values.specs.declared.asks.Ask.TheVariants.{Encrypt, Map, Request}
+use Rattle.phased_control.specs.Worked.{zero_response}
 use Rattle.joint_controls.specs.Joint.{Joint, JointStep, AsksFor, CentralAcked, CentralEnters, CentralHost, CentralSends, CentralTakes, HasKey, PeripheralAcked, PeripheralEnters, PeripheralFixes, PeripheralHost, PeripheralSends, PeripheralTakes, after_all, beginning}
 
 abbrev pub link_after : ChannelMap → List JointStep → Joint
@@ -15,7 +15,7 @@ enter = CentralEnters 0 ∷ PeripheralEnters 0 ∷ []
 
 -- the central sends a PDU, and the peripheral takes it
 abbrev pub goes_down : List JointStep
-goes_down = CentralSends 0 ∷ PeripheralTakes 0 (EncRsp 0 0) ∷ []
+goes_down = CentralSends 0 ∷ PeripheralTakes 0 zero_response ∷ []
 
 -- the peripheral sends a PDU, and the central takes it, with its own PDU acknowledged before
 abbrev pub goes_up : List JointStep
@@ -23,7 +23,7 @@ goes_up = PeripheralFixes 0 ∷ PeripheralSends ∷ CentralAcked ∷ CentralTake
 
 -- and sees the peripheral's acknowledged with its next one
 abbrev pub goes_down_again : List JointStep
-goes_down_again = CentralSends 0 ∷ PeripheralAcked ∷ PeripheralTakes 0 (EncRsp 0 0) ∷ []
+goes_down_again = CentralSends 0 ∷ PeripheralAcked ∷ PeripheralTakes 0 zero_response ∷ []
 
 -- the central's host asks for encryption, and that of the peripheral has the key: LL_ENC_REQ, LL_ENC_RSP,
 -- LL_START_ENC_REQ, LL_START_ENC_RSP both ways

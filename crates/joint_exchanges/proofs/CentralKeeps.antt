@@ -1,5 +1,5 @@
 -- What a central keeps of the peripheral in each state of a joint run, by its phase of encryption.
-use Rattle.std.proofs.Common.{◌≡◌, ℕ, Bool, true, false, not, List, [], ◌∷◌, Option, Some, None, is_some, refl, sym, ◌∙◌, subst}
+use Rattle.std.proofs.Common.{◌≡◌, ℕ, Bool, true, false, not, List, Option, Some, None, is_some, refl, sym, ◌∙◌, subst}
 use Rattle.ble_base.specs.declared.procedure_kinds.Kind.TheVariants.{Encrypt}
 use Rattle.ble_base.specs.declared.roles.Role.TheVariants.{Central as central_role}
 use Rattle.enc_phase.specs.declared.classes.PduClass.TheVariants.{Request}
@@ -15,7 +15,7 @@ use Rattle.procedure_stages.specs.declared.stages.Progress.TheVariants.{Central 
 use Rattle.procedure_stages.specs.Awaited.{is_own_encryption}
 use Rattle.procedure_stages.specs.Kinds.{kind_at_central, own_kind, role_of}
 use Rattle.table_laws.specs.Encrypting.{has_encryption}
-use Rattle.phased_control.specs.Ends.{AllMayRespond, is_half_keyed, says_kept}
+use Rattle.phased_control.specs.Ends.{is_half_keyed, says_kept}
 use Rattle.phased_control.specs.Phased.{Phased, first_phased, is_quiet_now}
 use Rattle.phased_control.specs.Taken.{PhasedStep, phased_after_all}
 use Rattle.phased_control.proofs.Agreeing.{agrees_now}
@@ -61,15 +61,11 @@ says_none HalfKeyed quiet is = absurd (cc)
 says_none Clear quiet is = absurd (cc)
 says_none Secure quiet is = absurd (cc)
 
-responds_all : (steps : List PhasedStep) → AllMayRespond central_role steps
-responds_all [] = tt
-responds_all (step ∷ steps) = (tt, responds_all steps)
-
 keeps_by : (max_rx : ℕ) (first : Params) (slot : ℕ) (steps : List PhasedStep) → KeepsForLater (phased_after_all steps (first_phased central_role max_rx first slot))
 keeps_by max_rx first slot steps =
     record {
       encrypts = λ quiet. encrypts_by s.control.table.progress (keeps_role central_role max_rx first slot steps)
-          (not_false (has_encryption s.control.table.progress) (sym quiet ∙ agrees_now central_role max_rx first slot steps (responds_all steps)));
+          (not_false (has_encryption s.control.table.progress) (sym quiet ∙ agrees_now central_role max_rx first slot steps));
       quiet = none_quietly central_role max_rx first slot steps;
       once = λ quiet lets. let says = says_none s.phase quiet lets in none_by s.kept (said_now central_role max_rx first slot steps says.0 ∙ says.1);
     }

@@ -4,7 +4,7 @@ use Rattle.std.proofs.Common.{◌≡◌, Bool, true, false, if◌then◌else◌,
 use Rattle.ble_base.specs.declared.roles.Role.{Role}
 use Rattle.ble_base.specs.declared.roles.Role.TheVariants.{Central, Peripheral}
 use Rattle.data_pdu.specs.declared.ctrl.Ctrl.{Ctrl}
-use Rattle.data_pdu.specs.declared.ctrl.Ctrl.TheVariants.{EncReq, EncRsp, PauseEncReq, PauseEncRsp, StartEncReq, StartEncRsp}
+use Rattle.data_pdu.specs.declared.ctrl.Ctrl.TheVariants.{EncReq, PauseEncReq, PauseEncRsp, StartEncReq, StartEncRsp}
 use Rattle.data_pdu.specs.declared.ctrl.CtrlRead.{CtrlRead}
 use Rattle.data_pdu.specs.declared.ctrl.CtrlRead.TheVariants.{Bare, Known, Unknown}
 use Rattle.enc_phase.specs.declared.classes.PduClass.{PduClass}
@@ -16,9 +16,8 @@ use Rattle.enc_phase.specs.Phases.{is_asked, may_follow, phase_after, phase_star
 use Rattle.enc_phase.specs.Taking.{ctrl_class}
 use Rattle.table_laws.specs.Encrypting.{has_encryption}
 use Rattle.exchange_steps.specs.Steps.{step_of_given}
-use Rattle.phased_control.specs.Ends.{IsResponse}
 use Rattle.phased_control.specs.Phased.{Phased, is_open_now, with_owed}
-use Rattle.phased_control.specs.Taken.{ciphered, ciphered_at, ciphered_at_central, ciphered_at_peripheral, moved_if, moved_to, refused_by, role_now}
+use Rattle.phased_control.specs.Taken.{Response, ciphered, ciphered_at, ciphered_at_central, ciphered_at_peripheral, moved_if, moved_to, refused_by, response_ctrl, role_now}
 use Rattle.joint_exchanges.specs.SentByRole.{is_cipher_of}
 
 pub choice : {A : Type 0} (P : A → Type 0) (b : Bool) (x y : A) → P x → P y → P (if b then x else y)
@@ -53,31 +52,22 @@ central_keeps P k StartEncRsp s h = moved_if_keeps Central P k Confirm None s tt
 central_keeps P k PauseEncRsp s h = moved_if_keeps Central P k Unlock (Some PauseEncRsp) s (refl, refl) h
 central_keeps P k ctrl s h = refused_keeps Central P k (ctrl_class ctrl) s h
 
-response_of : (response : Ctrl) → IsResponse response → (is_cipher_of Peripheral response ≡ true) × (step_of_given response ≡ None)
-response_of (EncRsp skd_s iv_s) is = (refl, refl)
-response_of response is = absurd is
+peripheral_keeps : (P : Phased → Type 0) → Steady Peripheral P → (response : Response) (ctrl : Ctrl) (s : Phased) → P s → P (ciphered_at_peripheral response ctrl s)
+peripheral_keeps P k response (EncReq rand ediv skd_m iv_m) s h =
+    choice P (may_follow AskTransition s.phase) (moved_to AskTransition (Some (response_ctrl response)) (record s { asks_key = is_open_now s })) s
+    (moved_keeps Peripheral P k AskTransition (Some (response_ctrl response)) (record s { asks_key = is_open_now s }) (refl, refl) (k.keys refl _ s h)) h
+peripheral_keeps P k response PauseEncReq s h = moved_if_keeps Peripheral P k Pause (Some PauseEncRsp) s (refl, refl) h
+peripheral_keeps P k response StartEncRsp s h = moved_if_keeps Peripheral P k Confirm (Some StartEncRsp) s (refl, refl) h
+peripheral_keeps P k response PauseEncRsp s h = moved_if_keeps Peripheral P k Unlock None s tt h
+peripheral_keeps P k response ctrl s h = h
 
-peripheral_keeps : (P : Phased → Type 0) → Steady Peripheral P → (response ctrl : Ctrl) (s : Phased) → IsResponse response → P s → P (ciphered_at_peripheral response ctrl s)
-peripheral_keeps P k response (EncReq rand ediv skd_m iv_m) s is h =
-    choice P (may_follow AskTransition s.phase) (moved_to AskTransition (Some response) (record s { asks_key = is_open_now s })) s
-    (moved_keeps Peripheral P k AskTransition (Some response) (record s { asks_key = is_open_now s }) (response_of response is) (k.keys refl _ s h)) h
-peripheral_keeps P k response PauseEncReq s is h = moved_if_keeps Peripheral P k Pause (Some PauseEncRsp) s (refl, refl) h
-peripheral_keeps P k response StartEncRsp s is h = moved_if_keeps Peripheral P k Confirm (Some StartEncRsp) s (refl, refl) h
-peripheral_keeps P k response PauseEncRsp s is h = moved_if_keeps Peripheral P k Unlock None s tt h
-peripheral_keeps P k response ctrl s is h = h
+at_keeps : (role : Role) (P : Phased → Type 0) → Steady role P → (response : Response) (ctrl : Ctrl) (s : Phased) → P s → P (ciphered_at role response ctrl s)
+at_keeps Central P k response ctrl s h = central_keeps P k ctrl s h
+at_keeps Peripheral P k response ctrl s h = peripheral_keeps P k response ctrl s h
 
--- the answer matters at a peripheral alone
-abbrev pub RespondsAt : Role → Ctrl → Type 0
-RespondsAt Central response = Unit {0}
-RespondsAt Peripheral response = IsResponse response
-
-at_keeps : (role : Role) (P : Phased → Type 0) → Steady role P → (response ctrl : Ctrl) (s : Phased) → RespondsAt role response → P s → P (ciphered_at role response ctrl s)
-at_keeps Central P k response ctrl s is h = central_keeps P k ctrl s h
-at_keeps Peripheral P k response ctrl s is h = peripheral_keeps P k response ctrl s is h
-
-pub ciphered_keeps : (role : Role) (P : Phased → Type 0) → Steady role P → (response : Ctrl) (read : CtrlRead) (s : Phased) → role_now s ≡ role
-    → RespondsAt role response → P s → P (ciphered response read s)
-ciphered_keeps role P k response (Known ctrl) s r is h =
-    subst (λ (x : Role). P (ciphered_at x response ctrl s)) (sym r) (at_keeps role P k response ctrl s is h)
-ciphered_keeps role P k response (Unknown opcode) s r is h = h
-ciphered_keeps role P k response Bare s r is h = h
+pub ciphered_keeps : (role : Role) (P : Phased → Type 0) → Steady role P → (response : Response) (read : CtrlRead) (s : Phased) → role_now s ≡ role
+    → P s → P (ciphered response read s)
+ciphered_keeps role P k response (Known ctrl) s r h =
+    subst (λ (x : Role). P (ciphered_at x response ctrl s)) (sym r) (at_keeps role P k response ctrl s h)
+ciphered_keeps role P k response (Unknown opcode) s r h = h
+ciphered_keeps role P k response Bare s r h = h

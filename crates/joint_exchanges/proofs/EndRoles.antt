@@ -36,10 +36,10 @@ use Rattle.table_laws.proofs.Begun.{begins_of}
 use Rattle.control_model.specs.Control.{Control, Step, Answers as control_answers, Asks as control_asks, Disconnects as control_disconnects, Enters as control_enters, Owes, SeesAcknowledged as control_acked, Sends as control_sends, Takes as control_takes, after, following, goes_out, indicated_by, is_to_come, moved, taken, went}
 use Rattle.control_model.proofs.Calls.{any_step, either_way}
 use Rattle.phased_control.specs.Phased.{Phased, acknowledged, ask_begun, asking_if, asks_again, encrypting, encrypting_if, entered, if_key_asked, is_encrypt, is_open_now, is_quiet_now, key_given, key_lacking, refused_if, request_of, table_entered, with_owed_if, with_step}
-use Rattle.phased_control.specs.Taken.{Answers, Asks, Disconnects, Enters, GivesKey, LacksKey, PhasedStep, SeesAcknowledged, Sends, Takes, TakesData, answered_kept, ciphered, class_of_read, ctrl_in, ended_with, keeps_class, knowing, phased_after, phased_moved, role_now, seen_as, seen_if, took, took_data}
+use Rattle.phased_control.specs.Taken.{PhasedStep, Response, Answers, Asks, Disconnects, Enters, GivesKey, LacksKey, SeesAcknowledged, Sends, Takes, TakesData, answered_kept, ciphered, class_of_read, ctrl_in, ended_with, keeps_class, knowing, phased_after, phased_moved, role_now, seen_as, seen_if, took, took_data}
 use Rattle.phased_control.proofs.Unknown.{MayBeUnknown, unknown_is}
 use Rattle.joint_exchanges.specs.SentByRole.{AsksAt, IsEndOf, IsKeptBy, IsRequestBy, IsTableOf, is_cipher_of, is_cipher_opcode}
-use Rattle.joint_exchanges.proofs.Ciphered.{RespondsAt, Steady, choice, ciphered_keeps}
+use Rattle.joint_exchanges.proofs.Ciphered.{Steady, choice, ciphered_keeps}
 use Rattle.joint_exchanges.proofs.EndSteps.{IsRequest, is_request_of}
 use Rattle.joint_exchanges.proofs.Took.{TookAs, handed, hands, keeps, took_as}
 use Rattle.joint_exchanges.proofs.TableRoles.{IsKnownAt, IsKnownRead, acked_keeps, answers_keeps, asks_keeps, begins_keeps, entered_keeps, owes_keeps, sends_keeps, takes_keeps, terminates_keeps}
@@ -244,7 +244,7 @@ kept_first role quiet Bare is = tt
 abbrev pub Means : Bool → CtrlRead → Phased → Type 0
 Means unknowns read s = is_unknown s.phase (role_now s) (class_of_read read) ≡ true → unknowns ≡ true
 
-module _ (unknowns : Bool) (role : Role) (slot : ℕ) (response : Ctrl) (read : CtrlRead) (s : Phased) (e : IsEndOf unknowns role s)
+module _ (unknowns : Bool) (role : Role) (slot : ℕ) (response : Response) (read : CtrlRead) (s : Phased) (e : IsEndOf unknowns role s)
     (is : IsKnownRead unknowns role read) (means : Means unknowns read s) where
   pub handed_end : IsEndOf unknowns role (handed slot read s)
   handed_end =
@@ -252,12 +252,12 @@ module _ (unknowns : Bool) (role : Role) (slot : ℕ) (response : Ctrl) (read : 
       (step_keeps unknowns role (control_takes (seen_as read s) slot (is_quiet_now s)) (knowing read s) (seen_known unknowns role _ read means (unknown_is s.phase (role_now s) read) is)
       (record { table = e.table; request = e.request; kept = e.kept; asks = e.asks }))
 
-  pub ciphered_end : RespondsAt role response → IsEndOf unknowns role (ciphered response read (handed slot read s))
-  ciphered_end responds =
-      ciphered_keeps role (λ x. IsEndOf unknowns role x) (steady unknowns role) response read (handed slot read s) handed_end.table.same_role responds handed_end
+  pub ciphered_end : IsEndOf unknowns role (ciphered response read (handed slot read s))
+  ciphered_end =
+      ciphered_keeps role (λ x. IsEndOf unknowns role x) (steady unknowns role) response read (handed slot read s) handed_end.table.same_role handed_end
 
-  took_by : (t : Phased) → RespondsAt role response → TookAs slot response read s t → IsEndOf unknowns role t
-  took_by t responds (keeps kept allowed same) =
+  took_by : (t : Phased) → TookAs slot response read s t → IsEndOf unknowns role t
+  took_by t (keeps kept allowed same) =
       subst (λ (x : Phased). IsEndOf unknowns role x) (sym same)
       (record {
         table = e.table;
@@ -265,14 +265,14 @@ module _ (unknowns : Bool) (role : Role) (slot : ℕ) (response : Ctrl) (read : 
         kept = kept_first role (is_quiet_now s) read (subst (λ (r : Role). keeps_class (class_of_read read) r (is_quiet_now s) ≡ true) e.table.same_role kept);
         asks = e.asks;
       })
-  took_by t responds (hands kept lasts same) =
+  took_by t (hands kept lasts same) =
       let v = ciphered response read (handed slot read s) in
-      let h = ciphered_end responds in
+      let h = ciphered_end in
       subst (λ (x : Phased). IsEndOf unknowns role x) (sym same)
       (choice (λ x. IsEndOf unknowns role x) (is_quiet_now v) (answered_kept slot v.kept v) v (answered_keeps unknowns role slot v.kept v h.kept h) h)
 
-  took_end : RespondsAt role response → (took slot response read s).control.ends ≡ None → IsEndOf unknowns role (took slot response read s)
-  took_end responds lasts = took_by (took slot response read s) responds (took_as slot response read s lasts)
+  took_end : (took slot response read s).control.ends ≡ None → IsEndOf unknowns role (took slot response read s)
+  took_end lasts = took_by (took slot response read s) (took_as slot response read s lasts)
 
 data_end : (unknowns : Bool) (role : Role) (s : Phased) → IsEndOf unknowns role s → (took_data s).control.ends ≡ None → IsEndOf unknowns role (took_data s)
 data_end unknowns role s e lasts = by (allows s.phase (role_now s) Data) lasts
@@ -284,7 +284,7 @@ data_end unknowns role s e lasts = by (allows s.phase (role_now s) Data) lasts
 -- ---- each step of an end after which the link has not ended
 
 abbrev pub Comes : Bool → Role → PhasedStep → Phased → Type 0
-Comes unknowns role (Takes read slot response) s = IsKnownRead unknowns role read × (Means unknowns read s × RespondsAt role response)
+Comes unknowns role (Takes read slot response) s = IsKnownRead unknowns role read × Means unknowns read s
 Comes unknowns role step s = ⊤
 
 moved_end : (unknowns : Bool) (role : Role) (step : PhasedStep) (s : Phased) → Comes unknowns role step s → IsEndOf unknowns role s → (phased_moved step s).control.ends ≡ None
@@ -297,7 +297,7 @@ moved_end unknowns role LacksKey s comes e lasts = if_asked_keeps unknowns role 
 moved_end unknowns role (Disconnects reason) s comes e lasts = step_keeps unknowns role (control_disconnects reason) s tt e
 moved_end unknowns role (Sends slot) s comes e lasts = step_keeps unknowns role (control_sends slot (is_quiet_now s)) s tt e
 moved_end unknowns role SeesAcknowledged s comes e lasts = acked_end unknowns role s e
-moved_end unknowns role (Takes read slot response) s comes e lasts = took_end unknowns role slot response read s e comes.0 comes.1.0 comes.1.1 lasts
+moved_end unknowns role (Takes read slot response) s comes e lasts = took_end unknowns role slot response read s e comes.0 comes.1 lasts
 moved_end unknowns role TakesData s comes e lasts = data_end unknowns role s e lasts
 
 pub step_end : (unknowns : Bool) (role : Role) (step : PhasedStep) (s : Phased) → Comes unknowns role step s → IsEndOf unknowns role s → (phased_after step s).control.ends ≡ None

@@ -24,11 +24,11 @@ use Rattle.exchange_steps.specs.Steps.{after_steps, step_of_ctrl, step_of_read, 
 use Rattle.exchange_steps.proofs.Calls.{each_call}
 use Rattle.control_model.specs.Control.{Control, Sends as control_sends, Takes as control_takes, after, ended, following, goes_out, indicated_by, is_to_come, moved, taken, went}
 use Rattle.phased_control.specs.Phased.{Phased, is_quiet_now, with_step}
-use Rattle.phased_control.specs.Taken.{answered_kept, ciphered, ended_with, is_version as is_version_read, role_now, seen_as, seen_if, took_data}
+use Rattle.phased_control.specs.Taken.{Response, answered_kept, ciphered, ended_with, is_version as is_version_read, role_now, seen_as, seen_if, took_data}
 use Rattle.joint_controls.specs.Joint.{next_out}
 use Rattle.joint_exchanges.specs.Moves.{is_some_version}
 use Rattle.joint_exchanges.specs.Parts.{AnyPdu, exchanges_at, pdu_of_first, pdu_of_outgoing}
-use Rattle.joint_exchanges.proofs.Ciphered.{RespondsAt, ciphered_keeps}
+use Rattle.joint_exchanges.proofs.Ciphered.{ciphered_keeps}
 use Rattle.joint_exchanges.proofs.EndSteps.{Makes, after_is, makes_none, owed_none, then_none}
 use Rattle.joint_exchanges.proofs.Reading.{IsRead, after_taking}
 use Rattle.joint_exchanges.proofs.Took.{handed}
@@ -111,7 +111,7 @@ seen_steps : (f : TableFacts) (outgoing : Outgoing) (ctrl : Ctrl) (b : Bool) →
 seen_steps f outgoing ctrl true read none = ap (λ x. after_taking x (ends_of f)) (sym (none refl))
 seen_steps f outgoing ctrl false read none = read.steps
 
-module _ (role : Role) (slot : ℕ) (response ctrl : Ctrl) (outgoing : Outgoing) (s : Phased) where
+module _ (role : Role) (slot : ℕ) (response : Response) (ctrl : Ctrl) (outgoing : Outgoing) (s : Phased) where
   abbrev h : Phased
   h = handed slot (Known ctrl) s
 
@@ -124,15 +124,15 @@ module _ (role : Role) (slot : ℕ) (response ctrl : Ctrl) (outgoing : Outgoing)
       }
 
   -- the phase adds nothing to the exchanges
-  pub ciphered_none : role_now h ≡ role → RespondsAt role response → Makes None h (ciphered response (Known ctrl) h)
-  ciphered_none r responds =
+  pub ciphered_none : role_now h ≡ role → Makes None h (ciphered response (Known ctrl) h)
+  ciphered_none r =
       ciphered_keeps role (λ t. Makes None h t)
       (record {
         owes = λ owed t is none m. then_none None h t _ m (owed_none owed t none);
         phases = λ phase t m. record { ends = m.ends; knows = m.knows; kept = m.kept };
         keys = λ is asks t m. record { ends = m.ends; knows = m.knows; kept = m.kept };
       })
-      response (Known ctrl) h r responds (makes_none h)
+      response (Known ctrl) h r (makes_none h)
 
 -- ---- what was kept is taken
 

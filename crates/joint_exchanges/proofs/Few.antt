@@ -122,13 +122,13 @@ module _ (central_rx peripheral_rx : ℕ) (first : Params) (slot : ℕ) (steps :
 
   pub all_roles : AreOfRoles true s
   all_roles =
-      run_roles true steps (beginning central_rx peripheral_rx first slot) (first_roles true central_rx peripheral_rx first slot) run_on.responds
-      (never_asked steps (beginning central_rx peripheral_rx first slot)) run_on.goes
+      run_roles true steps (beginning central_rx peripheral_rx first slot) (first_roles true central_rx peripheral_rx first slot)
+      (never_asked steps (beginning central_rx peripheral_rx first slot)) run_on
 
   pub meant_roles : AllBefore HaveMeaning steps (beginning central_rx peripheral_rx first slot) → AreOfRoles false s
   meant_roles means =
-      run_roles false steps (beginning central_rx peripheral_rx first slot) (first_roles false central_rx peripheral_rx first slot) run_on.responds
-      (always_means steps (beginning central_rx peripheral_rx first slot) means) run_on.goes
+      run_roles false steps (beginning central_rx peripheral_rx first slot) (first_roles false central_rx peripheral_rx first slot)
+      (always_means steps (beginning central_rx peripheral_rx first slot) means) run_on
 
   -- no LL_UNKNOWN_RSP, where all that came had a meaning
   pub unknown_none : AllBefore HaveMeaning steps (beginning central_rx peripheral_rx first slot) → (role : Role) → waiting is_unknown_rsp (end_at role s) ≡ 0

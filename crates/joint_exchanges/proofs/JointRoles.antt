@@ -3,15 +3,14 @@ use Rattle.std.proofs.Common.{◌≡◌, ℕ, Bool, true, false, Option, Some, N
 use Rattle.ble_base.specs.declared.roles.Role.{Role}
 use Rattle.ble_base.specs.declared.roles.Role.TheVariants.{Central, Peripheral}
 use Rattle.data_pdu.specs.declared.ctrl.Ctrl.{Ctrl}
-use Rattle.data_pdu.specs.declared.ctrl.Ctrl.TheVariants.{TerminateInd}
 use Rattle.data_pdu.specs.declared.ctrl.CtrlRead.TheVariants.{Known}
 use Rattle.enc_phase.specs.Taking.{ctrl_class, is_unknown}
 use Rattle.procedure_values.specs.declared.drafts.Outgoing.{Outgoing}
 use Rattle.procedure_values.specs.Drafts.{ctrl_of_outgoing}
 use Rattle.phased_control.specs.Phased.{Phased, is_quiet_now}
-use Rattle.phased_control.specs.Taken.{Enters, SeesAcknowledged, Sends, Takes, TakesData, role_now}
-use Rattle.joint_controls.specs.Joint.{AnswersRequest, AsksFor, CentralAcked, CentralEnters, CentralHost, CentralSends, CentralSendsData, CentralTakes, Clear, Control, Data, Ends, Fixed, HasKey, HasNoKey, HostStep, Joint, JointStep, OnAir, PeripheralAcked, PeripheralEnters, PeripheralFixes, PeripheralFixesData, PeripheralHost, PeripheralSends, PeripheralTakes, Shuts, Taken, Way, act, event_now, fixed, host_step, item_by, latency_now, next_out, on_air, sent_up}
-use Rattle.joint_exchanges.specs.SentByRole.{AreOfRoles, HasMeaning, HaveMeaning, IsEndOf, IsWayOf, Responds, is_outgoing_of}
+use Rattle.phased_control.specs.Taken.{Response, Enters, SeesAcknowledged, Sends, Takes, TakesData, role_now}
+use Rattle.joint_controls.specs.Joint.{AnswersRequest, AsksFor, CentralAcked, CentralEnters, CentralHost, CentralSends, CentralSendsData, CentralTakes, Clear, Control, Data, Ends, Fixed, HasKey, HasNoKey, HostStep, Joint, JointStep, OnAir, PeripheralAcked, PeripheralEnters, PeripheralFixes, PeripheralFixesData, PeripheralHost, PeripheralSends, PeripheralTakes, Shuts, Taken, Way, act, event_now, fixed, host_step, item_by, latency_now, next_out, no_response, on_air, sent_up}
+use Rattle.joint_exchanges.specs.SentByRole.{AreOfRoles, HasMeaning, HaveMeaning, IsEndOf, IsWayOf, is_outgoing_of}
 use Rattle.joint_exchanges.proofs.EndRoles.{Comes, Means, step_end}
 use Rattle.joint_exchanges.proofs.JointSteps.{Runs}
 use Rattle.joint_exchanges.proofs.Known.{sent_known}
@@ -62,7 +61,7 @@ module _ (unknowns : Bool) (s : Joint) (r : AreOfRoles unknowns s) where
       record { central = step_end unknowns Central TakesData s.central tt r.central runs.central; peripheral = r.peripheral; down = r.down; up = tt }
   takes_up (OnAir (Control outgoing ctrl) sealed) slot of means runs =
       record {
-        central = step_end unknowns Central (Takes (Known ctrl) slot (TerminateInd 0)) s.central (sent_known unknowns Peripheral outgoing ctrl of, (means_at unknowns Central ctrl s.central r.central.table.same_role means, tt)) r.central runs.central;
+        central = step_end unknowns Central (Takes (Known ctrl) slot no_response) s.central (sent_known unknowns Peripheral outgoing ctrl of, means_at unknowns Central ctrl s.central r.central.table.same_role means) r.central runs.central;
         peripheral = r.peripheral;
         down = r.down;
         up = of;
@@ -71,51 +70,51 @@ module _ (unknowns : Bool) (s : Joint) (r : AreOfRoles unknowns s) where
   takes_up (Fixed item sealed) slot of means runs = record { central = r.central; peripheral = r.peripheral; down = r.down; up = of }
   takes_up (Taken item) slot of means runs = record { central = r.central; peripheral = r.peripheral; down = r.down; up = of }
 
-  takes_down : (way : Way) (slot : ℕ) (response : Ctrl) → Responds (PeripheralTakes slot response) → IsWayOf unknowns Central way
+  takes_down : (way : Way) (slot : ℕ) (response : Response) → IsWayOf unknowns Central way
       → (unknowns ≡ false → HasMeaning Peripheral s.peripheral way) → Runs (act (PeripheralTakes slot response) (record s { down = way })) → AreOfRoles unknowns (act (PeripheralTakes slot response) (record s { down = way }))
-  takes_down (OnAir Data sealed) slot response responds of means runs =
+  takes_down (OnAir Data sealed) slot response of means runs =
       record { central = r.central; peripheral = step_end unknowns Peripheral TakesData s.peripheral tt r.peripheral runs.peripheral; down = tt; up = r.up }
-  takes_down (OnAir (Control outgoing ctrl) sealed) slot response responds of means runs =
+  takes_down (OnAir (Control outgoing ctrl) sealed) slot response of means runs =
       record {
         central = r.central;
-        peripheral = step_end unknowns Peripheral (Takes (Known ctrl) slot response) s.peripheral (sent_known unknowns Central outgoing ctrl of, (means_at unknowns Peripheral ctrl s.peripheral r.peripheral.table.same_role means, responds)) r.peripheral runs.peripheral;
+        peripheral = step_end unknowns Peripheral (Takes (Known ctrl) slot response) s.peripheral (sent_known unknowns Central outgoing ctrl of, means_at unknowns Peripheral ctrl s.peripheral r.peripheral.table.same_role means) r.peripheral runs.peripheral;
         down = of;
         up = r.up;
       }
-  takes_down Clear slot response responds of means runs = record { central = r.central; peripheral = r.peripheral; down = tt; up = r.up }
-  takes_down (Fixed item sealed) slot response responds of means runs = record { central = r.central; peripheral = r.peripheral; down = of; up = r.up }
-  takes_down (Taken item) slot response responds of means runs = record { central = r.central; peripheral = r.peripheral; down = of; up = r.up }
+  takes_down Clear slot response of means runs = record { central = r.central; peripheral = r.peripheral; down = tt; up = r.up }
+  takes_down (Fixed item sealed) slot response of means runs = record { central = r.central; peripheral = r.peripheral; down = of; up = r.up }
+  takes_down (Taken item) slot response of means runs = record { central = r.central; peripheral = r.peripheral; down = of; up = r.up }
 
-pub roles_after : (unknowns : Bool) (step : JointStep) (s : Joint) → AreOfRoles unknowns s → Responds step → (unknowns ≡ false → HaveMeaning s) → Runs (act step s) → AreOfRoles unknowns (act step s)
-roles_after unknowns (CentralEnters slot) s r responds means runs =
+pub roles_after : (unknowns : Bool) (step : JointStep) (s : Joint) → AreOfRoles unknowns s → (unknowns ≡ false → HaveMeaning s) → Runs (act step s) → AreOfRoles unknowns (act step s)
+roles_after unknowns (CentralEnters slot) s r means runs =
     record { central = step_end unknowns Central (Enters slot) s.central tt r.central runs.central; peripheral = r.peripheral; down = r.down; up = r.up }
-roles_after unknowns (CentralHost step) s r responds means runs =
+roles_after unknowns (CentralHost step) s r means runs =
     record { central = step_end unknowns Central (host_step step) s.central (host_comes unknowns Central step s.central) r.central runs.central; peripheral = r.peripheral; down = r.down; up = r.up }
-roles_after unknowns (CentralSends slot) s r responds means runs =
+roles_after unknowns (CentralSends slot) s r means runs =
     record {
       central = step_end unknowns Central (Sends slot) s.central tt r.central runs.central;
       peripheral = r.peripheral;
       down = sent_way unknowns Central (next_out s.central) _ (event_now s.central) (latency_now s.central) _ (next_right unknowns Central s.central r.central) refl;
       up = r.up;
     }
-roles_after unknowns CentralSendsData s r responds means runs = record { central = r.central; peripheral = r.peripheral; down = tt; up = r.up }
-roles_after unknowns CentralAcked s r responds means runs =
+roles_after unknowns CentralSendsData s r means runs = record { central = r.central; peripheral = r.peripheral; down = tt; up = r.up }
+roles_after unknowns CentralAcked s r means runs =
     record { central = step_end unknowns Central SeesAcknowledged s.central tt r.central runs.central; peripheral = r.peripheral; down = tt; up = r.up }
-roles_after unknowns (CentralTakes slot) s r responds means runs = takes_up unknowns s r s.up slot r.up (λ no. (means no).central) runs
-roles_after unknowns (PeripheralEnters slot) s r responds means runs =
+roles_after unknowns (CentralTakes slot) s r means runs = takes_up unknowns s r s.up slot r.up (λ no. (means no).central) runs
+roles_after unknowns (PeripheralEnters slot) s r means runs =
     record { central = r.central; peripheral = step_end unknowns Peripheral (Enters slot) s.peripheral tt r.peripheral runs.peripheral; down = r.down; up = r.up }
-roles_after unknowns (PeripheralHost step) s r responds means runs =
+roles_after unknowns (PeripheralHost step) s r means runs =
     record { central = r.central; peripheral = step_end unknowns Peripheral (host_step step) s.peripheral (host_comes unknowns Peripheral step s.peripheral) r.peripheral runs.peripheral; down = r.down; up = r.up }
-roles_after unknowns (PeripheralFixes slot) s r responds means runs =
+roles_after unknowns (PeripheralFixes slot) s r means runs =
     record {
       central = r.central;
       peripheral = step_end unknowns Peripheral (Sends slot) s.peripheral tt r.peripheral runs.peripheral;
       down = r.down;
       up = fixed_way unknowns Peripheral (next_out s.peripheral) _ (event_now s.peripheral) (latency_now s.peripheral) (next_right unknowns Peripheral s.peripheral r.peripheral) refl;
     }
-roles_after unknowns PeripheralFixesData s r responds means runs = record { central = r.central; peripheral = r.peripheral; down = r.down; up = tt }
-roles_after unknowns PeripheralSends s r responds means runs = record { central = r.central; peripheral = r.peripheral; down = r.down; up = sent_up_of unknowns s.up _ r.up }
-roles_after unknowns PeripheralAcked s r responds means runs =
+roles_after unknowns PeripheralFixesData s r means runs = record { central = r.central; peripheral = r.peripheral; down = r.down; up = tt }
+roles_after unknowns PeripheralSends s r means runs = record { central = r.central; peripheral = r.peripheral; down = r.down; up = sent_up_of unknowns s.up _ r.up }
+roles_after unknowns PeripheralAcked s r means runs =
     record { central = r.central; peripheral = step_end unknowns Peripheral SeesAcknowledged s.peripheral tt r.peripheral runs.peripheral; down = r.down; up = tt }
-roles_after unknowns (PeripheralTakes slot response) s r responds means runs = takes_down unknowns s r s.down slot response responds r.down (λ no. (means no).peripheral) runs
-roles_after unknowns Shuts s r responds means runs = record { central = r.central; peripheral = r.peripheral; down = r.down; up = r.up }
+roles_after unknowns (PeripheralTakes slot response) s r means runs = takes_down unknowns s r s.down slot response r.down (λ no. (means no).peripheral) runs
+roles_after unknowns Shuts s r means runs = record { central = r.central; peripheral = r.peripheral; down = r.down; up = r.up }

@@ -10,10 +10,9 @@ use Rattle.enc_phase.specs.declared.classes.PduClass.TheVariants.{Request}
 use Rattle.enc_phase.specs.Taking.{allows, ctrl_class}
 use Rattle.procedure_values.specs.declared.drafts.Outgoing.{Outgoing}
 use Rattle.exchange_pairs.specs.Exchange.{Question}
-use Rattle.phased_control.specs.Ends.{IsResponse}
 use Rattle.phased_control.specs.Phased.{Phased, is_quiet_now}
-use Rattle.phased_control.specs.Taken.{Takes, TakesData, answered_if_quiet, answered_kept, ciphered, does_keep, is_allowed, keeping, keeps_class, phased_after, role_now, took}
-use Rattle.joint_controls.specs.Joint.{Clear, Control, Data, Fixed, Joint, OnAir, Taken, Way, CentralTakes, PeripheralTakes, act, is_terminate, item_on_air}
+use Rattle.phased_control.specs.Taken.{Response, Takes, TakesData, answered_if_quiet, answered_kept, ciphered, does_keep, is_allowed, keeping, keeps_class, phased_after, role_now, took}
+use Rattle.joint_controls.specs.Joint.{Clear, Control, Data, Fixed, Joint, OnAir, Taken, Way, CentralTakes, PeripheralTakes, act, is_terminate, item_on_air, no_response}
 use Rattle.joint_exchanges.specs.JointMoves
 use Rattle.joint_exchanges.specs.JointMoves.{keeps as keeps_moves, kept_taken, moves_of, takes}
 use Rattle.joint_exchanges.specs.Moves.{IsFirst}
@@ -140,28 +139,28 @@ module _ (s : Joint) (slot : ℕ) (outgoing : Outgoing) (ctrl : Ctrl) (sealed : 
 
   goes_handed : (t : Phased) → IsEndOf true Central s.central → IsSentBy true Peripheral outgoing ctrl → IsRead s.central.control.table outgoing ctrl
       → s.central.control.ends ≡ None → (read s.central).control.ends ≡ None
-      → t ≡ answered_if_quiet slot (ciphered (TerminateInd 0) (Known ctrl) (read s.central)) → t.control.ends ≡ None → Goes s.central.kept t
+      → t ≡ answered_if_quiet slot (ciphered no_response (Known ctrl) (read s.central)) → t.control.ends ≡ None → Goes s.central.kept t
   goes_handed t e sent is open_now lasts same goes =
       subst (λ (x : Phased). Goes s.central.kept x) (sym same)
       (goes_on_by v (record { ends = none.ends ∙ h.ends; knows = none.knows ∙ h.knows }) none.kept (is_quiet_now v) v.kept refl
-      (ciphered_end true Central slot (TerminateInd 0) (Known ctrl) s.central e known (λ is. refl) tt)
+      (ciphered_end true Central slot no_response (Known ctrl) s.central e known (λ is. refl))
       (ap (λ (x : Phased). x.control.ends) (sym same) ∙ goes))
     where
       v : Phased
-      v = ciphered (TerminateInd 0) (Known ctrl) (read s.central)
+      v = ciphered no_response (Known ctrl) (read s.central)
 
       known : IsKnownAt Central ctrl
       known = sent_known true Peripheral outgoing ctrl sent
 
       h : TakesOf pdu s.central (read s.central)
-      h = handed_takes Central slot (TerminateInd 0) ctrl outgoing s.central is open_now lasts
+      h = handed_takes Central slot no_response ctrl outgoing s.central is open_now lasts
 
       none : Makes None (read s.central) v
       none =
-          ciphered_none Central slot (TerminateInd 0) ctrl outgoing s.central
-          (handed_end true Central slot (TerminateInd 0) (Known ctrl) s.central e known (λ is. refl)).table.same_role tt
+          ciphered_none Central slot no_response ctrl outgoing s.central
+          (handed_end true Central slot no_response (Known ctrl) s.central e known (λ is. refl)).table.same_role
 
-  goes_as : (t : Phased) → TookAs slot (TerminateInd 0) (Known ctrl) s.central t → KeepsForLater s.central → IsEndOf true Central s.central → IsSentBy true Peripheral outgoing ctrl
+  goes_as : (t : Phased) → TookAs slot no_response (Known ctrl) s.central t → KeepsForLater s.central → IsEndOf true Central s.central → IsSentBy true Peripheral outgoing ctrl
       → (IsTerminate ctrl → ⊥) → s.central.control.ends ≡ None → t.control.ends ≡ None → Goes s.central.kept t
   goes_as t (keeps kept allowed same) k e sent lasting open_now goes =
       goes_kept t kept allowed same k (read_as_sent true s.central.control.table Peripheral outgoing ctrl e.table.same_role sent lasting)
@@ -193,16 +192,16 @@ module _ (s : Joint) (slot : ℕ) where
       (sym (data_moves s.central.kept)) (unmoved _ _ refl))
 
   central_takes_ctrl : (outgoing : Outgoing) (ctrl : Ctrl) (sealed : Bool) → KeepsForLater s.central → IsEndOf true Central s.central → IsSentBy true Peripheral outgoing ctrl
-      → is_terminate ctrl ≡ false → s.central.control.ends ≡ None → (phased_after (Takes (Known ctrl) slot (TerminateInd 0)) s.central).control.ends ≡ None
+      → is_terminate ctrl ≡ false → s.central.control.ends ≡ None → (phased_after (Takes (Known ctrl) slot no_response) s.central).control.ends ≡ None
       → IsMoved (moves_of (CentralTakes slot) (record s { up = OnAir (Control outgoing ctrl) sealed })) (parts_of (record s { up = OnAir (Control outgoing ctrl) sealed }))
       (parts_of (act (CentralTakes slot) (record s { up = OnAir (Control outgoing ctrl) sealed })))
   central_takes_ctrl outgoing ctrl sealed k e sent lasting lasts goes =
-      let same = phased_is (Takes (Known ctrl) slot (TerminateInd 0)) s.central lasts in
-      let goes_on : (took slot (TerminateInd 0) (Known ctrl) s.central).control.ends ≡ None = ap (λ (x : Phased). x.control.ends) (sym same) ∙ goes in
+      let same = phased_is (Takes (Known ctrl) slot no_response) s.central lasts in
+      let goes_on : (took slot no_response (Known ctrl) s.central).control.ends ≡ None = ap (λ (x : Phased). x.control.ends) (sym same) ∙ goes in
       subst (λ (x : Phased). IsMoved (JointMoves.central_takes (pdu_of_outgoing outgoing) s.central.kept x.kept) (parts_of (record s { up = OnAir (Control outgoing ctrl) sealed }))
       (record (parts_of (record s { up = OnAir (Control outgoing ctrl) sealed })) { central = exchanges_at x; central_knows = x.knows_version; up = None; kept = pdu_kept x.kept }))
       (sym same)
-      (goes_as s slot outgoing ctrl sealed (took slot (TerminateInd 0) (Known ctrl) s.central) (took_as slot (TerminateInd 0) (Known ctrl) s.central goes_on)
+      (goes_as s slot outgoing ctrl sealed (took slot no_response (Known ctrl) s.central) (took_as slot no_response (Known ctrl) s.central goes_on)
       k e sent (terminate_is ctrl lasting) lasts goes_on)
 
   pub central_takes_way : (way : Way) → is_some (item_on_air way) ≡ true → IsWayOf true Peripheral way → KeepsForLater s.central → IsEndOf true Central s.central
@@ -216,7 +215,7 @@ module _ (s : Joint) (slot : ℕ) where
 
 -- ---- the peripheral takes what is on its way
 
-module _ (s : Joint) (slot : ℕ) (response : Ctrl) where
+module _ (s : Joint) (slot : ℕ) (response : Response) where
   peripheral_takes_data : (sealed : Bool) → s.peripheral.control.ends ≡ None → (phased_after TakesData s.peripheral).control.ends ≡ None
       → IsMoved [] (parts_of (record s { down = OnAir Data sealed })) (parts_of (act (PeripheralTakes slot response) (record s { down = OnAir Data sealed })))
   peripheral_takes_data sealed lasts goes =
@@ -236,7 +235,7 @@ module _ (s : Joint) (slot : ℕ) (response : Ctrl) where
   answered_none false kept v is = refl
 
   module _ (outgoing : Outgoing) (ctrl : Ctrl) (sealed : Bool) (e : IsEndOf true Peripheral s.peripheral) (sent : IsSentBy true Central outgoing ctrl)
-      (responds : IsResponse response) (open_now : s.peripheral.control.ends ≡ None) (lasting : IsTerminate ctrl → ⊥) where
+      (open_now : s.peripheral.control.ends ≡ None) (lasting : IsTerminate ctrl → ⊥) where
     abbrev joint_p : Joint
     joint_p = record s { down = OnAir (Control outgoing ctrl) sealed }
 
@@ -255,7 +254,7 @@ module _ (s : Joint) (slot : ℕ) (response : Ctrl) where
         v = ciphered response (Known ctrl) (handed slot (Known ctrl) s.peripheral)
 
         v_end : IsEndOf true Peripheral v
-        v_end = ciphered_end true Peripheral slot response (Known ctrl) s.peripheral e known_p (λ is. refl) responds
+        v_end = ciphered_end true Peripheral slot response (Known ctrl) s.peripheral e known_p (λ is. refl)
 
         h : TakesOf (pdu_of_outgoing outgoing) s.peripheral (handed slot (Known ctrl) s.peripheral)
         h =
@@ -265,7 +264,7 @@ module _ (s : Joint) (slot : ℕ) (response : Ctrl) where
         none : Makes None (handed slot (Known ctrl) s.peripheral) v
         none =
             ciphered_none Peripheral slot response ctrl outgoing s.peripheral
-            (handed_end true Peripheral slot response (Known ctrl) s.peripheral e known_p (λ is. refl)).table.same_role responds
+            (handed_end true Peripheral slot response (Known ctrl) s.peripheral e known_p (λ is. refl)).table.same_role
 
     peripheral_takes_ctrl : (phased_after (Takes (Known ctrl) slot response) s.peripheral).control.ends ≡ None
         → IsMoved (takes Peripheral (pdu_of_outgoing outgoing)) (parts_of joint_p) (parts_of (act (PeripheralTakes slot response) joint_p))
@@ -277,13 +276,13 @@ module _ (s : Joint) (slot : ℕ) (response : Ctrl) where
         ((λ i. parts_of (record s { peripheral = same i; down = Clear }))
         ∙ (λ i. record (parts_of joint_p) { peripheral = one.ends i; peripheral_knows = one.knows i; down = None }))
 
-  pub peripheral_takes_way : (way : Way) → is_some (item_on_air way) ≡ true → IsWayOf true Central way → IsEndOf true Peripheral s.peripheral → IsResponse response
+  pub peripheral_takes_way : (way : Way) → is_some (item_on_air way) ≡ true → IsWayOf true Central way → IsEndOf true Peripheral s.peripheral
       → s.peripheral.control.ends ≡ None → Runs (act (PeripheralTakes slot response) (record s { down = way }))
       → IsMoved (moves_of (PeripheralTakes slot response) (record s { down = way })) (parts_of (record s { down = way }))
       (parts_of (act (PeripheralTakes slot response) (record s { down = way })))
-  peripheral_takes_way (OnAir Data sealed) some of e responds lasts runs = peripheral_takes_data sealed lasts runs.peripheral
-  peripheral_takes_way (OnAir (Control outgoing ctrl) sealed) some of e responds lasts runs =
-      peripheral_takes_ctrl outgoing ctrl sealed e of responds lasts (terminate_is ctrl runs.goes) runs.peripheral
-  peripheral_takes_way Clear some of e responds lasts runs = absurd (cc)
-  peripheral_takes_way (Fixed item sealed) some of e responds lasts runs = absurd (cc)
-  peripheral_takes_way (Taken item) some of e responds lasts runs = absurd (cc)
+  peripheral_takes_way (OnAir Data sealed) some of e lasts runs = peripheral_takes_data sealed lasts runs.peripheral
+  peripheral_takes_way (OnAir (Control outgoing ctrl) sealed) some of e lasts runs =
+      peripheral_takes_ctrl outgoing ctrl sealed e of lasts (terminate_is ctrl runs.goes) runs.peripheral
+  peripheral_takes_way Clear some of e lasts runs = absurd (cc)
+  peripheral_takes_way (Fixed item sealed) some of e lasts runs = absurd (cc)
+  peripheral_takes_way (Taken item) some of e lasts runs = absurd (cc)

@@ -11,7 +11,7 @@ use Rattle.joint_controls.specs.Joint.{Joint, JointStep, after_all, beginning, i
 use Rattle.joint_exchanges.specs.Machines.{SentMaxima, events_of, features_event, features_link, lengths_event, lengths_link, maxima_after, maxima_after_all, none_sent, versions_event, versions_link}
 use Rattle.joint_exchanges.specs.Moves.{Does, Keeps, MayMoveAll, Move, Sends, Takes, TakesKept, after_move, after_moves}
 use Rattle.joint_exchanges.specs.Parts.{ExchangeParts, of_lengths, parts_of}
-use Rattle.joint_exchanges.specs.Runs.{AllRespond, moves_in}
+use Rattle.joint_exchanges.specs.Runs.{moves_in}
 use Rattle.joint_exchanges.proofs.CentralKeeps.{central_keeps}
 use Rattle.joint_exchanges.proofs.Features.{each_features}
 use Rattle.joint_exchanges.proofs.JointRuns.{first_roles, run_moves}
@@ -81,9 +81,9 @@ module _ (central_rx peripheral_rx : ℕ) (first : Params) (slot : ℕ) (steps :
   abbrev moves : List Move
   moves = moves_in steps start
 
-  module _ (responds : AllRespond steps) (goes : is_running now ≡ true) where
+  module _ (goes : is_running now ≡ true) where
     pub moved : IsMoved moves (parts_of start) (parts_of now)
-    moved = run_moves steps start (first_roles true central_rx peripheral_rx first slot) (central_keeps central_rx peripheral_rx first slot) responds goes
+    moved = run_moves steps start (first_roles true central_rx peripheral_rx first slot) (central_keeps central_rx peripheral_rx first slot) goes
 
     pub features_now : features_link (parts_of now) ≡ run exchanges (events_of features_event moves)
     features_now = ap features_link moved.goes ∙ features_run moves (parts_of start) moved.may

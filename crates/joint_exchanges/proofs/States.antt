@@ -50,10 +50,10 @@ module _ (central_rx peripheral_rx : ℕ) (first : Params) (slot : ℕ) (steps :
     -- ---- an exchange of a question and an answer
 
     asked_run : (asked : Asked) → (events : List ExchangeEvent) × (asked_link asked s ≡ run exchanges events)
-    asked_run Features = (events_of features_event moves, features_now central_rx peripheral_rx first slot steps run_on.responds run_on.goes)
+    asked_run Features = (events_of features_event moves, features_now central_rx peripheral_rx first slot steps run_on)
     asked_run Lengths =
         let part = parts central_rx peripheral_rx (events_of lengths_event moves) in
-        (part.0, ap exchange_link (lengths_now central_rx peripheral_rx first slot steps run_on.responds run_on.goes) ∙ part.1)
+        (part.0, ap exchange_link (lengths_now central_rx peripheral_rx first slot steps run_on) ∙ part.1)
 
     stage_is : (asked : Asked) (role : Role) → (ExchangeRun.end_of role (asked_link asked s)).own ≡ stage_at asked (end_at role s)
     stage_is Features Central = refl
@@ -145,7 +145,7 @@ module _ (central_rx peripheral_rx : ℕ) (first : Params) (slot : ℕ) (steps :
     version_events = events_of versions_event moves
 
     version_path : versions_link (parts_of s) ≡ run versions (events_of versions_event moves)
-    version_path = versions_now central_rx peripheral_rx first slot steps run_on.responds run_on.goes
+    version_path = versions_now central_rx peripheral_rx first slot steps run_on
 
     count_same : (b : Bool) → count_if b ≡ Waiting.count_if b
     count_same true = refl
@@ -250,7 +250,7 @@ module _ (central_rx peripheral_rx : ℕ) (first : Params) (slot : ℕ) (steps :
 
     await_now : Await (parts_of s)
     await_now =
-        let m = moved central_rx peripheral_rx first slot steps run_on.responds run_on.goes in
+        let m = moved central_rx peripheral_rx first slot steps run_on in
         subst (λ (p : ExchangeParts). Await p) (sym m.goes)
         (moves_await moves (parts_of (beginning central_rx peripheral_rx first slot)) m.may
         (record { central = λ is unknown. absurd (cc); peripheral = λ is unknown. absurd (cc) }))
@@ -263,7 +263,7 @@ module _ (central_rx peripheral_rx : ℕ) (first : Params) (slot : ℕ) (steps :
     -- while an own exchange runs, and once the other's version is known, the own PDU was queued
     used_now : AreUsed (parts_of s)
     used_now =
-        let m = moved central_rx peripheral_rx first slot steps run_on.responds run_on.goes in
+        let m = moved central_rx peripheral_rx first slot steps run_on in
         subst (λ (p : ExchangeParts). AreUsed p) (sym m.goes)
         (moves_used moves (parts_of (beginning central_rx peripheral_rx first slot)) m.may (record { central = λ is. absurd (cc); peripheral = λ is. absurd (cc) }))
 
@@ -337,7 +337,7 @@ module _ (central_rx peripheral_rx : ℕ) (first : Params) (slot : ℕ) (steps :
     -- ---- the exchange of lengths
 
     length_path : lengths_link (maxima_after_all moves none_sent) (parts_of s) ≡ run (length_exchanges central_rx peripheral_rx) (events_of lengths_event moves)
-    length_path = lengths_now central_rx peripheral_rx first slot steps run_on.responds run_on.goes
+    length_path = lengths_now central_rx peripheral_rx first slot steps run_on
 
     pub length_stays : (role : Role) → (end_at role s).control.table.lengths.own_rx ≡ first_rx_at role central_rx peripheral_rx
     length_stays Central = ap (λ (l : LengthLink). l.central.lengths.own_rx) length_path ∙ stays central_rx peripheral_rx (events_of lengths_event moves) Central (none_ever moves)

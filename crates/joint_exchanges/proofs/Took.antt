@@ -1,17 +1,16 @@
 -- In which two ways an end takes a PDU after which the link has not ended: it is kept, or the procedures see it.
 use Rattle.std.proofs.Common.{◌≡◌, ℕ, Bool, true, false, if◌then◌else◌, Option, Some, None, is_none, refl}
 use Rattle.ble_base.specs.ErrorCodes.{memory_capacity_exceeded, mic_failure}
-use Rattle.data_pdu.specs.declared.ctrl.Ctrl.{Ctrl}
 use Rattle.data_pdu.specs.declared.ctrl.CtrlRead.{CtrlRead}
 use Rattle.control_model.specs.Control.{Takes as control_takes}
 use Rattle.phased_control.specs.Phased.{Phased, is_quiet_now, with_step}
-use Rattle.phased_control.specs.Taken.{answered_if_quiet, ciphered, does_keep, ended_with, handed_on, is_allowed, keeping, knowing, lacks_room_now, seen_as, took, took_allowed, with_phase_taking}
+use Rattle.phased_control.specs.Taken.{Response, answered_if_quiet, ciphered, does_keep, ended_with, handed_on, is_allowed, keeping, knowing, lacks_room_now, seen_as, took, took_allowed, with_phase_taking}
 
 -- after the procedures have seen it
 abbrev pub handed : ℕ → CtrlRead → Phased → Phased
 handed slot read s = with_phase_taking read (with_step (control_takes (seen_as read s) slot (is_quiet_now s)) (knowing read s))
 
-pub data TookAs (slot : ℕ) (response : Ctrl) (read : CtrlRead) (s t : Phased) : Type 0 where
+pub data TookAs (slot : ℕ) (response : Response) (read : CtrlRead) (s t : Phased) : Type 0 where
   keeps : does_keep read s ≡ true → is_allowed read s ≡ true → t ≡ keeping read s → TookAs slot response read s t
   hands : does_keep read s ≡ false → (handed slot read s).control.ends ≡ None
       → t ≡ answered_if_quiet slot (ciphered response read (handed slot read s)) → TookAs slot response read s t
@@ -24,7 +23,7 @@ not_none : {X : Type 0} (o : Option X) → is_none o ≡ false → o ≡ None �
 not_none None a b = cc
 not_none (Some x) a b = cc
 
-module _ (slot : ℕ) (response : Ctrl) (read : CtrlRead) (s : Phased) where
+module _ (slot : ℕ) (response : Response) (read : CtrlRead) (s : Phased) where
   abbrev h : Phased
   h = handed slot read s
 

@@ -4,7 +4,6 @@ use Rattle.std.specs.Prelude.{◌≡◌, ⊤, true, List, [], ◌∷◌, ◌++�
 use Rattle.joint_controls.specs.Joint.{Joint, JointStep, after, after_all, is_running, may}
 use Rattle.joint_exchanges.specs.JointMoves.{moves_of}
 use Rattle.joint_exchanges.specs.Moves.{Move}
-use Rattle.joint_exchanges.specs.SentByRole.{Responds}
 
 -- a step that may not come is none
 abbrev pub moves_in : List JointStep → Joint → List Move
@@ -16,12 +15,6 @@ abbrev pub AllBefore : (Joint → Type 0) → List JointStep → Joint → Type 
 AllBefore P [] s = ⊤
 AllBefore P (step ∷ steps) s = (is_running s ≡ true → P s) × AllBefore P steps (after step s)
 
--- a peripheral would answer LL_ENC_REQ with LL_ENC_RSP
-abbrev pub AllRespond : List JointStep → Type 0
-AllRespond [] = ⊤
-AllRespond (step ∷ steps) = Responds step × AllRespond steps
-
--- a run from a state up to one in which it goes on: what it may rely on
-pub record GoesOn (steps : List JointStep) (s : Joint) : Type 0 where
-  pub responds : AllRespond steps
-  pub goes : is_running (after_all steps s) ≡ true
+-- the run goes on after these steps from a state
+abbrev pub GoesOn : List JointStep → Joint → Type 0
+GoesOn steps s = is_running (after_all steps s) ≡ true

@@ -19,9 +19,8 @@ use Rattle.procedure_values.specs.Drafts.{ctrl_of_outgoing}
 use Rattle.procedure_stages.specs.Kinds.{role_of}
 use Rattle.procedure_stages.specs.Opcodes.{connection_param_req_opcode, enc_req_opcode, enc_rsp_opcode, pause_enc_req_opcode, phy_req_opcode, start_enc_req_opcode}
 use Rattle.procedures.specs.Table.{TableFacts}
-use Rattle.phased_control.specs.Ends.{IsResponse}
 use Rattle.phased_control.specs.Phased.{Phased}
-use Rattle.joint_controls.specs.Joint.{Clear, Control, Data, Fixed, Item, Joint, JointStep, OnAir, PeripheralTakes, Taken, Way}
+use Rattle.joint_controls.specs.Joint.{Clear, Control, Data, Fixed, Item, Joint, OnAir, Taken, Way}
 
 -- ---- what waits
 
@@ -137,9 +136,3 @@ HasMeaning role s way = ⊤
 pub record HaveMeaning (s : Joint) : Type 0 where
   pub central : HasMeaning Central s.central s.up
   pub peripheral : HasMeaning Peripheral s.peripheral s.down
-
--- ---- a step: a peripheral would answer LL_ENC_REQ with LL_ENC_RSP
-
-abbrev pub Responds : JointStep → Type 0
-Responds (PeripheralTakes slot response) = IsResponse response
-Responds step = ⊤

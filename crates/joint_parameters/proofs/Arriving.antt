@@ -15,7 +15,7 @@ use Rattle.control_model.specs.Control.{Control}
 use Rattle.control_model.proofs.Sending.{may_of}
 use Rattle.control_model.specs.Waits.{kind_awaited, kind_waiting}
 use Rattle.phased_control.specs.Phased.{Phased, is_quiet_now}
-use Rattle.phased_control.specs.Taken.{phased_after}
+use Rattle.phased_control.specs.Taken.{Response, phased_after}
 use Rattle.joint_controls.specs.Joint.{CentralSends, Clear, Control as control_item, Data, Fixed, Item, Joint, JointStep, OnAir, PeripheralTakes, Taken, Way, after, after_all, beginning, event_now, has_passed, instant_now, is_indication, is_item, is_late, is_running, item_by, item_on_air, last_change, latency_now, may, may_act, next_item, next_out, peripheral_takes, taking}
 use Rattle.joint_controls.specs.Ends.{AreStepsInRange, steps_of_central}
 use Rattle.joint_controls.proofs.ControlRuns.{peripheral_awaits}
@@ -101,7 +101,7 @@ module _ (central_rx peripheral_rx : ℕ) (first : Params) (slot : ℕ) (steps :
   free_at_central now comes is =
       ap (λ (o : Option Change). is_none o) (free_if_over first slot s.central.control.sent s.central.control.track k.central (sends_own now comes is))
 
-  module _ (now : ℕ) (response : Ctrl) (change : Change) (comes : may (PeripheralTakes now response) s ≡ true) (is : instant_now s ≡ Some change) where
+  module _ (now : ℕ) (response : Response) (change : Change) (comes : may (PeripheralTakes now response) s ≡ true) (is : instant_now s ≡ Some change) where
     m : Meets taken (view s)
     m = meets (running_now (PeripheralTakes now response) comes)
 

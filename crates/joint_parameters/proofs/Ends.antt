@@ -30,7 +30,7 @@ use Rattle.control_model.specs.Control.{Answers as control_answers, Asks as cont
 use Rattle.control_model.proofs.Calls.{any_step, either_way}
 use Rattle.control_model.proofs.Moving.{central_takes, enters_track, peripheral_sends, sends_all, sends_track, table_alone}
 use Rattle.phased_control.specs.Phased.{is_open_now, Phased, is_quiet_now}
-use Rattle.phased_control.specs.Taken.{is_answered_at, PhasedStep, Answers, Asks, Disconnects, Enters, GivesKey, LacksKey, SeesAcknowledged, Sends, Takes, TakesData, class_of_read, ciphered, does_keep, is_allowed, keeps_class, lacks_room_now, phased_after, role_now, seen_as, seen_if}
+use Rattle.phased_control.specs.Taken.{PhasedStep, Response, Answers, Asks, Disconnects, Enters, GivesKey, LacksKey, SeesAcknowledged, Sends, Takes, TakesData, ciphered, class_of_read, does_keep, is_allowed, is_answered_at, keeps_class, lacks_room_now, phased_after, role_now, seen_as, seen_if}
 use Rattle.phased_control.specs.Steps.{code_if, control_steps, end_by_phase, ended_if, kept_steps, later_steps, owed_entering, read_answer, owed_steps, seen_by_procedures}
 use Rattle.phased_control.proofs.Moving.{moves_by_steps}
 use Rattle.phased_control.proofs.Tables.{same_role}
@@ -176,12 +176,12 @@ module _ (s : Phased) where
   kept_apart slot None = tt
   kept_apart slot (Some ctrl) = (refl, tt)
 
-  handed_apart : (slot : ℕ) (response : Ctrl) (read : CtrlRead) (t : Phased) → AreApart Central (later_steps slot response read t)
+  handed_apart : (slot : ℕ) (response : Response) (read : CtrlRead) (t : Phased) → AreApart Central (later_steps slot response read t)
   handed_apart slot response read t =
       both_apart Central (owed_steps (read_answer (role_now t) response read t.phase)) _ (owed_apart Central _)
       (apart_if Central (is_quiet_now (ciphered response read t)) _ (kept_apart slot t.kept))
 
-  taken_apart : (slot : ℕ) (response : Ctrl) (read : CtrlRead) → AreApart Central (control_steps (Takes read slot response) s)
+  taken_apart : (slot : ℕ) (response : Response) (read : CtrlRead) → AreApart Central (control_steps (Takes read slot response) s)
   taken_apart slot response read =
       apart_if Central (is_allowed read s) _ (by (does_keep read s) (lacks_room_now read s))
     where
@@ -322,7 +322,7 @@ module _ (s : Phased) (lasts : s.control.ends ≡ None) (at : role_now s ≡ Per
   none_if true xs are = are
   none_if false xs are = tt
 
-  module _ (slot : ℕ) (response : Ctrl) (read : CtrlRead) where
+  module _ (slot : ℕ) (response : Response) (read : CtrlRead) where
     abbrev then_seen : Phased
     then_seen = seen_by_procedures read slot s
 
@@ -368,7 +368,7 @@ module _ (s : Phased) (lasts : s.control.ends ≡ None) (at : role_now s ≡ Per
         (subst (λ (role : Role). TakenAs (indication_by role (seen_as read s)) s.control (after taking s.control)) at
         (takes_as s.control (seen_as read s) slot (is_quiet_now s) lasts)))
 
-  pub takes_one : (slot : ℕ) (response ctrl : Ctrl) → TakenAs (indication_in ctrl) s.control (phased_after (Takes (Known ctrl) slot response) s).control
+  pub takes_one : (slot : ℕ) (response : Response) (ctrl : Ctrl) → TakenAs (indication_in ctrl) s.control (phased_after (Takes (Known ctrl) slot response) s).control
   takes_one slot response ctrl =
       subst (TakenAs (indication_in ctrl) s.control) (sym (moves_by_steps (Takes (Known ctrl) slot response) s lasts))
       (by_phase slot response (Known ctrl) (indication_in ctrl) (seen_indication s.phase (role_now s) ctrl) (is_allowed (Known ctrl) s) (does_keep (Known ctrl) s)
@@ -406,7 +406,7 @@ module _ (s : Phased) (lasts : s.control.ends ≡ None) (at : role_now s ≡ Per
       ap (λ (b : Bool). is_open_now s && (nat_le 16 (waiting_in s.control.table.queue) && b)) (no_answer ctrl (role_now s) s.phase over)
       ∙ and_no (is_open_now s) (nat_le 16 (waiting_in s.control.table.queue))
 
-  pub late_one : (slot : ℕ) (response ctrl : Ctrl) → is_over s.control.track (indication_in ctrl) ≡ true
+  pub late_one : (slot : ℕ) (response : Response) (ctrl : Ctrl) → is_over s.control.track (indication_in ctrl) ≡ true
       → EndsLate (phased_after (Takes (Known ctrl) slot response) s).control.ends
   late_one slot response ctrl over =
       subst (λ (c : Control). EndsLate c.ends) (sym (moves_by_steps (Takes (Known ctrl) slot response) s lasts))

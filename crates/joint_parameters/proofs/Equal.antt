@@ -2,7 +2,6 @@
 use Rattle.std.proofs.Common.{◌≡◌, ℕ, ◌≤◌, Bool, true, false, if◌then◌else◌, List, [], ◌∷◌, ◌++◌, take, Option, Some, None, option_to_list, refl, sym, ap, subst, ◌∙◌, arith, append_assoc}
 use Rattle.std.proofs.lemmas.List.{append-nil}
 use Rattle.ble_base.specs.declared.roles.Role.TheVariants.{Central}
-use Rattle.data_pdu.specs.declared.ctrl.Ctrl.TheVariants.{TerminateInd}
 use Rattle.instants.specs.declared.indications.Indication.{Indication}
 use Rattle.instants.specs.declared.indications.Params.{Params}
 use Rattle.instants.specs.declared.track.Change.{Change}
@@ -12,7 +11,7 @@ use Rattle.two_tracks.specs.TwoEnds.{TwoEnds}
 use Rattle.two_tracks.specs.TwoEnds as two_ends
 use Rattle.phased_control.specs.Phased.{Phased}
 use Rattle.phased_control.specs.Taken.{Enters, PhasedStep, SeesAcknowledged, Sends, phased_after, phased_after_all, role_now}
-use Rattle.joint_controls.specs.Joint.{CentralAcked, CentralEnters, CentralHost, CentralSends, CentralSendsData, CentralTakes, Item, Joint, JointStep, PeripheralAcked, PeripheralEnters, PeripheralFixes, PeripheralFixesData, PeripheralHost, PeripheralSends, PeripheralTakes, Shuts, act, after, after_all, beginning, event_now, host_step, is_same_event, item_on_air, may, taking}
+use Rattle.joint_controls.specs.Joint.{CentralAcked, CentralEnters, CentralHost, CentralSends, CentralSendsData, CentralTakes, Item, Joint, JointStep, PeripheralAcked, PeripheralEnters, PeripheralFixes, PeripheralFixesData, PeripheralHost, PeripheralSends, PeripheralTakes, Shuts, act, after, after_all, beginning, event_now, host_step, is_same_event, item_on_air, may, no_response, taking}
 use Rattle.joint_controls.specs.Ends.{AreStepsInRange, central_does, takes_if}
 use Rattle.joint_controls.proofs.EndSteps.{central_acts}
 use Rattle.joint_controls.proofs.Running.{GoesOn, comes_on}
@@ -59,9 +58,9 @@ module _ (s : Joint) (f : Facts s) (g : GoesOn s) where
   one_grows : (step : PhasedStep) → Grows s.central (phased_after_all (step ∷ []) s.central)
   one_grows step = grows step s.central g.central f.central.role
 
-  takes_grows : (o : Option Item) (now : ℕ) → Grows s.central (phased_after_all (takes_if o now (TerminateInd 0)) s.central)
+  takes_grows : (o : Option Item) (now : ℕ) → Grows s.central (phased_after_all (takes_if o now no_response) s.central)
   takes_grows None now = same_front s.central.control.sent _ refl
-  takes_grows (Some item) now = one_grows (taking item now (TerminateInd 0))
+  takes_grows (Some item) now = one_grows (taking item now no_response)
 
   does_grow : (step : JointStep) → Grows s.central (phased_after_all (central_does step s) s.central)
   does_grow (CentralEnters now) = one_grows (Enters now)

@@ -2,7 +2,6 @@
 use Rattle.std.proofs.Common.{◌≡◌, inl, inr, ℕ, ◌==◌, Bool, true, false, not, ◌||◌, if◌then◌else◌, List, [], ◌∷◌, ◌++◌, Option, Some, None, is_some, option_map, refl, sym, ap, subst, ◌∙◌}
 use Rattle.std.proofs.lemmas.Bool.{and_from}
 use Rattle.ble_base.specs.declared.error_codes.ErrCode.{ErrCode}
-use Rattle.data_pdu.specs.declared.ctrl.Ctrl.{Ctrl}
 use Rattle.instants.specs.declared.indications.Indication.{Indication}
 use Rattle.instants.specs.declared.track.Change.{Change}
 use Rattle.instants.specs.Track.{TrackFacts, event_of, track_after_take}
@@ -10,7 +9,7 @@ use Rattle.control_model.specs.Control.{Control}
 use Rattle.two_tracks.specs.TwoEnds.{LastPdu, Untaken, Acknowledged, TwoEnds, after_indication, after_pdu, heard_by_peripheral, last_after_reply}
 use Rattle.two_tracks.specs.TwoEnds as two_ends
 use Rattle.two_tracks.specs.Reached.{untaken}
-use Rattle.phased_control.specs.Taken.{SeesAcknowledged, phased_after}
+use Rattle.phased_control.specs.Taken.{Response, SeesAcknowledged, phased_after}
 use Rattle.joint_controls.specs.Joint.{CentralAcked, CentralTakes, Clear, Control as control_item, Data, Fixed, Item, Joint, JointStep, OnAir, PeripheralAcked, PeripheralTakes, Taken, Way, act, central_takes, has_passed, is_free, is_last, is_late, is_near, is_running, is_same_event, is_taken, item_on_air, may, peripheral_takes, taking}
 use Rattle.joint_controls.proofs.Running.{GoesOn, goes_on}
 use Rattle.joint_parameters.specs.Indications.{indication_of_item, indication_read}
@@ -141,7 +140,7 @@ module _ (taken : List Change) (t : TwoEnds) (s : Joint) (f : Facts s) (running 
   goes : GoesOn s
   goes = goes_on s running
 
-  abbrev taken_then : Item → ℕ → Ctrl → Joint
+  abbrev taken_then : Item → ℕ → Response → Joint
   taken_then item now response =
       record s { peripheral = phased_after (taking item now response) s.peripheral; down = Taken item; stopped = is_last item }
 
@@ -154,7 +153,7 @@ module _ (taken : List Change) (t : TwoEnds) (s : Joint) (f : Facts s) (running 
         subst (λ (way : Way). indication_read (item_on_air way) ≡ option_map (λ (change : Change). change.indication) (change_on_air (view s))) on_air m.read
         ∙ ap (λ (o : Option Change). option_map (λ (change : Change). change.indication) o) (sym p.coming)
 
-    pub takes_then : (now : ℕ) (response : Ctrl) (room : Bool) → takes_item room (Some item) ≡ true → is_running (taken_then item now response) ≡ true
+    pub takes_then : (now : ℕ) (response : Response) (room : Bool) → takes_item room (Some item) ≡ true → is_running (taken_then item now response) ≡ true
         → IsPairedWith (after_pdu (room || not (is_free s.down)) t.last (heard_by_peripheral t)) (view (taken_then item now response))
     takes_then now response room takes still = by (taken_as s f goes item now response)
       where
@@ -232,7 +231,7 @@ module _ (taken : List Change) (t : TwoEnds) (s : Joint) (f : Facts s) (facts_ne
   abbrev hears : Bool → TwoEnds
   hears room = after_pdu (room || not (is_free s.down)) t.last (heard_by_peripheral t)
 
-  abbrev steps : Bool → ℕ → Ctrl → List JointStep
+  abbrev steps : Bool → ℕ → Response → List JointStep
   steps room now response = step_if (is_taken s.up) PeripheralAcked ++ step_if (takes_item room (item_on_air s.down)) (PeripheralTakes now response)
 
   same_down : a.to.down ≡ s.down
@@ -250,7 +249,7 @@ module _ (taken : List Change) (t : TwoEnds) (s : Joint) (f : Facts s) (facts_ne
   some_air room (Fixed item sealed) takes = absurd (cc)
   some_air room (Taken item) takes = absurd (cc)
 
-  comes_then : (room : Bool) (now : ℕ) (response : Ctrl) → takes_item room (item_on_air s.down) ≡ true → may (PeripheralTakes now response) a.to ≡ true
+  comes_then : (room : Bool) (now : ℕ) (response : Response) → takes_item room (item_on_air s.down) ≡ true → may (PeripheralTakes now response) a.to ≡ true
   comes_then room now response takes =
       may_now (PeripheralTakes now response) a.to a.running
       (and_from (is_some (item_on_air a.to.down)) _ (some_air room a.to.down (subst (λ (way : Way). takes_item room (item_on_air way) ≡ true) (sym same_down) takes))
@@ -258,7 +257,7 @@ module _ (taken : List Change) (t : TwoEnds) (s : Joint) (f : Facts s) (facts_ne
       (and_from (is_same_event a.to || is_late a.to) _ (subst (λ (v : View). meets_rule v ≡ true) (sym a.same) rule)
       (subst (λ (v : View). near_rule v ≡ true) (sym a.same) near))))
 
-  takes_any : (room : Bool) (now : ℕ) (response : Ctrl) (way : Way) → a.to.down ≡ way → takes_item room (item_on_air way) ≡ true
+  takes_any : (room : Bool) (now : ℕ) (response : Response) (way : Way) → a.to.down ≡ way → takes_item room (item_on_air way) ≡ true
       → is_running (peripheral_takes way now response a.to) ≡ true
       → IsPairedWith (after_pdu (room || not (is_free way)) t.last (heard_by_peripheral t)) (view (peripheral_takes way now response a.to))
   takes_any room now response Clear is takes still = absurd (cc)
@@ -268,7 +267,7 @@ module _ (taken : List Change) (t : TwoEnds) (s : Joint) (f : Facts s) (facts_ne
       subst (λ (way : Way). IsPairedWith (after_pdu (room || not (is_free way)) t.last (heard_by_peripheral t)) (view (peripheral_takes (OnAir item sealed) now response a.to)))
       is (takes_then taken t a.to a.facts a.running meets_to paired_to item sealed is now response room takes still)
 
-  pub is_heard : (room : Bool) (now : ℕ) (response : Ctrl) → Together (steps room now response) (hears room) s
+  pub is_heard : (room : Bool) (now : ℕ) (response : Response) → Together (steps room now response) (hears room) s
   is_heard room now response = by (takes_item room (item_on_air s.down)) refl
     where
       by : (b : Bool) → takes_item room (item_on_air s.down) ≡ b

@@ -216,7 +216,7 @@ module _ (central_rx peripheral_rx : ℕ) (first : Params) (slot : ℕ) (latency
   range_of SendsData l is = (tt, tt)
   range_of SendsEmpty l is = tt
   range_of (IsHeard room now response) l is =
-      range_joined (step_if (is_taken l.joint.up) PeripheralAcked) _ (range_if _ PeripheralAcked tt) (range_if _ (PeripheralTakes now response) is)
+      range_joined (step_if (is_taken l.joint.up) PeripheralAcked) _ (range_if _ PeripheralAcked tt) (range_if _ (PeripheralTakes now response) tt)
   range_of (IsAnswered room now) l is =
       range_joined (step_if (is_taken l.joint.down) CentralAcked) _ (range_if _ CentralAcked tt) (range_if _ (CentralTakes now) tt)
   range_of (Alone step) l is = (is, tt)

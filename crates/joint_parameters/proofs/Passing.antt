@@ -3,12 +3,11 @@ use Rattle.std.proofs.Common.{◌≡◌, inl, inr, ℕ, ◌≤◌, ◌==◌, Boo
 use Rattle.std.specs.Prelude.{⊤}
 use Rattle.ble_base.specs.ErrorCodes.{instant_passed}
 use Rattle.ble_base.specs.declared.error_codes.ErrCode.{ErrCode}
-use Rattle.data_pdu.specs.declared.ctrl.Ctrl.{Ctrl}
 use Rattle.instants.specs.declared.indications.Indication.{Indication}
 use Rattle.instants.specs.declared.indications.Params.{Params}
 use Rattle.instants.specs.declared.track.Change.{Change}
 use Rattle.phased_control.specs.Phased.{Phased}
-use Rattle.phased_control.specs.Taken.{PhasedStep, phased_after, phased_after_all}
+use Rattle.phased_control.specs.Taken.{PhasedStep, Response, phased_after, phased_after_all}
 use Rattle.joint_controls.specs.Joint.{AnswersRequest, AsksFor, CentralAcked, CentralEnters, CentralHost, CentralSends, CentralSendsData, CentralTakes, Clear, Ends, Fixed, HasKey, HasNoKey, HostStep, Item, Joint, JointStep, OnAir, PeripheralAcked, PeripheralEnters, PeripheralFixes, PeripheralFixesData, PeripheralHost, PeripheralSends, PeripheralTakes, Shuts, Taken, Way, act, after, after_all, beginning, host_step, instant_now, is_late, is_running, item_on_air, may, peripheral_takes, taking}
 use Rattle.joint_controls.specs.Ends.{AreStepsInRange, peripheral_does}
 use Rattle.joint_controls.proofs.EndSteps.{peripheral_acts}
@@ -64,7 +63,7 @@ module _ (central_rx peripheral_rx : ℕ) (first : Params) (slot : ℕ) (steps :
     m : Meets (changes_taken steps (beginning central_rx peripheral_rx first slot)) (view s)
     m = meets central_rx peripheral_rx first slot steps latency range running
 
-    by_change : (now : ℕ) (response : Ctrl) (item : Item) (sealed : Bool) (o : Option Change) → may (PeripheralTakes now response) s ≡ true → s.down ≡ OnAir item sealed
+    by_change : (now : ℕ) (response : Response) (item : Item) (sealed : Bool) (o : Option Change) → may (PeripheralTakes now response) s ≡ true → s.down ≡ OnAir item sealed
         → instant_now s ≡ o → TakenAs (indication_of_item item) s.peripheral.control (phased_after (taking item now response) s.peripheral).control
         → (phased_after (taking item now response) s.peripheral).control.ends ≡ Passed → is_late s ≡ true
     by_change now response item sealed o comes on is (inr goes_with) ends = none_passed _ goes_with.lasts ends
@@ -87,7 +86,7 @@ module _ (central_rx peripheral_rx : ℕ) (first : Params) (slot : ℕ) (steps :
             sym (test_is_late central_rx peripheral_rx first slot steps latency range now response change comes some)
             ∙ subst (λ (i : Option Indication). is_over s.peripheral.control.track i ≡ true) (reads (Some change) some) (over.over code_is)
 
-    takes_way : (now : ℕ) (response : Ctrl) (way : Way) → may (PeripheralTakes now response) s ≡ true → s.down ≡ way
+    takes_way : (now : ℕ) (response : Response) (way : Way) → may (PeripheralTakes now response) s ≡ true → s.down ≡ way
         → (peripheral_takes way now response s).peripheral.control.ends ≡ Passed → is_late s ≡ true
     takes_way now response Clear comes on ends = none_passed _ goes.peripheral ends
     takes_way now response (Fixed item sealed) comes on ends = none_passed _ goes.peripheral ends

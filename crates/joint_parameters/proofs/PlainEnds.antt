@@ -20,7 +20,7 @@ use Rattle.procedure_stages.specs.Kinds.{role_of}
 use Rattle.procedures.specs.Beginning.{begin_step}
 use Rattle.control_model.specs.Control.{Control, Step, after, after_all}
 use Rattle.phased_control.specs.Phased.{Phased, ask_begun, asking_if, asks_again, encrypting, encrypting_if, first_phased, is_encrypt, is_open_now, is_quiet_now, key_given, key_lacking, refused_if, request_of, table_entered, with_owed_if}
-use Rattle.phased_control.specs.Taken.{PhasedStep, Answers, Asks, Disconnects, Enters, GivesKey, LacksKey, SeesAcknowledged, Sends, Takes, TakesData, answered_kept, ciphered, does_keep, is_allowed, lacks_room_now, phased_after, phased_after_all, phased_moved, role_now, seen_as, took}
+use Rattle.phased_control.specs.Taken.{PhasedStep, Response, Answers, Asks, Disconnects, Enters, GivesKey, LacksKey, SeesAcknowledged, Sends, Takes, TakesData, answered_kept, ciphered, does_keep, is_allowed, lacks_room_now, phased_after, phased_after_all, phased_moved, role_now, seen_as, took}
 use Rattle.phased_control.specs.Steps.{control_steps, ctrl_if, end_by_phase, ended_if, first_owed, first_owed_if, kept_steps, later_steps, central_answer, read_answer, owed_steps, seen_by_procedures}
 use Rattle.phased_control.proofs.Answering.{answers}
 use Rattle.phased_control.proofs.Moving.{moves_by_steps}
@@ -80,7 +80,7 @@ central_plain StartEncReq phase = plain_if (is_asked phase) _ refl
 central_plain PauseEncRsp phase = plain_if (may_follow Unlock phase) _ refl
 central_plain other phase = tt
 
-answer_plain : (role : Role) (response : Ctrl) (read : CtrlRead) (phase : PhaseFacts) → role ≡ Central → IsPlainCtrl (read_answer role response read phase)
+answer_plain : (role : Role) (response : Response) (read : CtrlRead) (phase : PhaseFacts) → role ≡ Central → IsPlainCtrl (read_answer role response read phase)
 answer_plain Central response (Known ctrl) phase is = central_plain ctrl phase
 answer_plain Central response (Unknown opcode) phase is = tt
 answer_plain Central response Bare phase is = tt
@@ -94,13 +94,13 @@ steps_if : (b : Bool) (xs : List Step) → ArePlainSteps xs → ArePlainSteps (i
 steps_if true xs are = are
 steps_if false xs are = tt
 
-later_plain : (slot : ℕ) (response : Ctrl) (read : CtrlRead) (s : Phased) → role_now s ≡ Central → ArePlainSteps (later_steps slot response read s)
+later_plain : (slot : ℕ) (response : Response) (read : CtrlRead) (s : Phased) → role_now s ≡ Central → ArePlainSteps (later_steps slot response read s)
 later_plain slot response read s role =
     plain_both (owed_steps (read_answer (role_now s) response read s.phase)) _
     (plain_owed (read_answer (role_now s) response read s.phase) (answer_plain (role_now s) response read s.phase role))
     (steps_if (is_quiet_now (ciphered response read s)) _ (kept_plain slot s.kept))
 
-taken_plain : (slot : ℕ) (response : Ctrl) (read : CtrlRead) (s : Phased) → role_now s ≡ Central → ArePlainSteps (control_steps (Takes read slot response) s)
+taken_plain : (slot : ℕ) (response : Response) (read : CtrlRead) (s : Phased) → role_now s ≡ Central → ArePlainSteps (control_steps (Takes read slot response) s)
 taken_plain slot response read s role = by (is_allowed read s) (does_keep read s) (lacks_room_now read s)
   where
     role_seen : role_now (seen_by_procedures read slot s) ≡ Central
@@ -157,7 +157,7 @@ answered_request : (slot : ℕ) (kept : Option Ctrl) (s : Phased) → AsksPlain 
 answered_request slot None s is = is
 answered_request slot (Some ctrl) s is = is
 
-taken_request : (slot : ℕ) (response : Ctrl) (read : CtrlRead) (s : Phased) → AsksPlain s → AsksPlain (took slot response read s)
+taken_request : (slot : ℕ) (response : Response) (read : CtrlRead) (s : Phased) → AsksPlain s → AsksPlain (took slot response read s)
 taken_request slot response read s is =
     took_ways AsksPlain slot response read s (λ h. is) (λ h k. is) (λ h k l. is)
     (λ h k l. handed_ways AsksPlain slot response read s (λ code over. is) (λ lasts loud. answered) (λ lasts quiet. answered_request slot _ _ answered))

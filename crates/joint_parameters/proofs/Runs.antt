@@ -6,7 +6,6 @@ use Rattle.ble_base.specs.declared.error_codes.ErrCode.{ErrCode}
 use Rattle.ble_base.specs.declared.roles.Role.{Role}
 use Rattle.ble_base.specs.declared.roles.Role.TheVariants.{Central, Peripheral}
 use Rattle.data_pdu.specs.declared.ctrl.Ctrl.{Ctrl}
-use Rattle.data_pdu.specs.declared.ctrl.Ctrl.TheVariants.{TerminateInd}
 use Rattle.enc_phase.specs.Phases.{seals}
 use Rattle.instants.specs.declared.indications.Params.{Params}
 use Rattle.instants.specs.declared.indications.Indication.{Indication}
@@ -23,10 +22,10 @@ use Rattle.two_tracks.specs.TwoEnds as two_ends
 use Rattle.control_model.proofs.Indicating.{Indicates}
 use Rattle.control_model.proofs.Sending.{may_of}
 use Rattle.phased_control.specs.Phased.{Phased, is_quiet_now}
-use Rattle.phased_control.specs.Taken.{PhasedStep, SeesAcknowledged, Sends, phased_after, role_now}
+use Rattle.phased_control.specs.Taken.{PhasedStep, Response, SeesAcknowledged, Sends, phased_after, role_now}
 use Rattle.phased_control.proofs.Kept.{none_at_peripheral}
 use Rattle.phased_control.proofs.Moving.{keeps_role}
-use Rattle.joint_controls.specs.Joint.{AnswersRequest, AsksFor, CentralAcked, CentralEnters, CentralHost, CentralSends, CentralSendsData, CentralTakes, Clear, Control as control_item, Data, Ends, Fixed, HasKey, HasNoKey, HostStep, Item, Joint, JointStep, OnAir, PeripheralAcked, PeripheralEnters, PeripheralFixes, PeripheralFixesData, PeripheralHost, PeripheralSends, PeripheralTakes, Shuts, Taken, Way, act, after, after_all, beginning, central_takes, event_now, has_passed, host_step, instant_now, is_clear, is_free, is_indication, is_item, is_last, is_late, is_near, is_running, is_same_event, is_supervised, is_taken, item_by, item_on_air, last_change, latency_now, may, may_act, may_transmit, next_item, next_out, on_air, peripheral_takes, sends_data, taking}
+use Rattle.joint_controls.specs.Joint.{AnswersRequest, AsksFor, CentralAcked, CentralEnters, CentralHost, CentralSends, CentralSendsData, CentralTakes, Clear, Control as control_item, Data, Ends, Fixed, HasKey, HasNoKey, HostStep, Item, Joint, JointStep, OnAir, PeripheralAcked, PeripheralEnters, PeripheralFixes, PeripheralFixesData, PeripheralHost, PeripheralSends, PeripheralTakes, Shuts, Taken, Way, act, after, after_all, beginning, central_takes, event_now, has_passed, host_step, instant_now, is_clear, is_free, is_indication, is_item, is_last, is_late, is_near, is_running, is_same_event, is_supervised, is_taken, item_by, item_on_air, last_change, latency_now, may, may_act, may_transmit, next_item, next_out, no_response, on_air, peripheral_takes, sends_data, taking}
 use Rattle.joint_controls.specs.Ends.{AreStepsInRange, IsStepInRange, steps_of_central, steps_of_peripheral}
 use Rattle.joint_controls.proofs.ControlRuns.{central_indicates}
 use Rattle.joint_controls.proofs.EndSteps.{central_runs, peripheral_runs}
@@ -96,7 +95,7 @@ host_stays Peripheral (Ends reason) = refl
 host_stays Peripheral HasKey = refl
 host_stays Peripheral HasNoKey = refl
 
-taking_stays : (item : Item) (slot : ℕ) (response : Ctrl) → stays Central (taking item slot response) ≡ true
+taking_stays : (item : Item) (slot : ℕ) (response : Response) → stays Central (taking item slot response) ≡ true
 taking_stays Data slot response = refl
 taking_stays (control_item outgoing ctrl) slot response = refl
 
@@ -118,11 +117,11 @@ module _ (s : Joint) (f : Facts s) (g : GoesOn s) where
   up_stays Clear slot = refl
   up_stays (Fixed item sealed) slot = refl
   up_stays (Taken item) slot = refl
-  up_stays (OnAir item sealed) slot = central_stays (taking item slot (TerminateInd 0)) s.down (taking_stays item slot (TerminateInd 0))
+  up_stays (OnAir item sealed) slot = central_stays (taking item slot no_response) s.down (taking_stays item slot no_response)
 
 -- ---- a peripheral takes what is on its way
 
-pub taken_as : (s : Joint) → Facts s → GoesOn s → (item : Item) (now : ℕ) (response : Ctrl)
+pub taken_as : (s : Joint) → Facts s → GoesOn s → (item : Item) (now : ℕ) (response : Response)
     → TakenAs (indication_of_item item) s.peripheral.control (phased_after (taking item now response) s.peripheral).control
 taken_as s f g Data now response = takes_data s.peripheral g.peripheral f.peripheral f.kept
 taken_as s f g (control_item outgoing ctrl) now response = takes_one s.peripheral g.peripheral f.peripheral f.kept now response ctrl
@@ -259,7 +258,7 @@ module _ (first : Params) (slot : ℕ) where
 
     -- ---- the peripheral takes what is on its way
 
-    abbrev takes_with : (item : Item) (now : ℕ) (response : Ctrl) → Joint
+    abbrev takes_with : (item : Item) (now : ℕ) (response : Response) → Joint
     takes_with item now response =
         record s { peripheral = phased_after (taking item now response) s.peripheral; down = Taken item; stopped = is_last item }
 
@@ -313,7 +312,7 @@ module _ (first : Params) (slot : ℕ) where
       late_is : nat_lt change.at.0 (event_now s.peripheral) ≡ two_ends.has_passed s.peripheral.control.track change
       late_is = sym (test taken s.central.control.track s.peripheral.control.track change coming may_take)
 
-    takes_by : (item : Item) (now : ℕ) (response : Ctrl) (o : Option Change) → change_on_air (view s) ≡ o
+    takes_by : (item : Item) (now : ℕ) (response : Response) (o : Option Change) → change_on_air (view s) ≡ o
         → indication_of_item item ≡ option_map (λ (change : Change). change.indication) o
         → ((change : Change) → o ≡ Some change → MayTake s.central.control.track s.peripheral.control.track change)
         → TakenAs (indication_of_item item) s.peripheral.control (phased_after (taking item now response) s.peripheral).control
@@ -331,7 +330,7 @@ module _ (first : Params) (slot : ℕ) where
         takes_change change is may_take item (takes_with item now response) (λ i. record (view s) { down = Taken item; peripheral = track i })
         (late_is change is may_take ∙ in_time)
 
-    takes_goes : (way : Way) (now : ℕ) (response : Ctrl) → s.down ≡ way
+    takes_goes : (way : Way) (now : ℕ) (response : Response) → s.down ≡ way
         → ((change : Change) → instant_now s ≡ Some change → MayTake s.central.control.track s.peripheral.control.track change)
         → Next taken s (peripheral_takes way now response s)
     takes_goes Clear now response is rule = same_all s refl
@@ -348,7 +347,7 @@ or_parts : (a b : Bool) → (a || b) ≡ true → (a ≡ true) ⊎ (b ≡ true)
 or_parts true b is = inl refl
 or_parts false b is = inr is
 
-pub may_take_of : (s : Joint) (now : ℕ) (response : Ctrl) (change : Change) → may (PeripheralTakes now response) s ≡ true → instant_now s ≡ Some change
+pub may_take_of : (s : Joint) (now : ℕ) (response : Response) (change : Change) → may (PeripheralTakes now response) s ≡ true → instant_now s ≡ Some change
     → MayTake s.central.control.track s.peripheral.control.track change
 may_take_of s now response change comes is =
     let one = and_parts (is_some (item_on_air s.down)) _ (comes_by (PeripheralTakes now response) s comes) in

@@ -1,7 +1,6 @@
 -- A joint run and the run of both tracks by turns and packets at once: what each turn and each packet is in both, and
 -- the rules of a link that are left (our choice of words; Core 5.2, volume 6 part B, sections 4.5.2, 4.5.9 and 5.5).
 use Rattle.std.specs.Prelude.{◌≡◌, ℕ, ◌≤◌, Bool, true, false, not, ◌&&◌, ◌||◌, List, [], ◌∷◌, ◌++◌, Option, Some, None, is_some, if◌then◌else◌, ⊤}
-use Rattle.data_pdu.specs.declared.ctrl.Ctrl.{Ctrl}
 use Rattle.instants.specs.declared.indications.Indication.{Indication}
 use Rattle.instants.specs.declared.indications.Params.{Params}
 use Rattle.procedure_values.specs.Drafts.{indication_of}
@@ -9,6 +8,7 @@ use Rattle.two_tracks.specs.TwoEnds.{TwoEnds, Step, TurnBegins, PeripheralHears,
 use Rattle.two_tracks.specs.TwoEnds as two_ends
 use Rattle.two_tracks.specs.Reached.{untaken}
 use Rattle.two_tracks.specs.Reached as reached
+use Rattle.phased_control.specs.Taken.{Response}
 use Rattle.phased_control.specs.Phased.{Phased}
 use Rattle.joint_controls.specs.Joint.{CentralAcked, CentralEnters, CentralHost, CentralSends, CentralSendsData, CentralTakes, Clear, Control, Data, Item, Joint, JointStep, OnAir, PeripheralAcked, PeripheralEnters, PeripheralFixes, PeripheralFixesData, PeripheralHost, PeripheralSends, PeripheralTakes, Shuts, Taken, Way, after, after_all, beginning, event_now, is_free, is_running, is_taken, item_on_air, latency_now, may, next_item, next_out, sends_data}
 use Rattle.joint_controls.specs.Ends.{IsStepInRange}
@@ -32,9 +32,9 @@ pub data LinkStep : Type 0 where
   SendsControl : (slot : ℕ) → LinkStep
   SendsData : LinkStep
   SendsEmpty : LinkStep
-  -- a packet of the central is good at the peripheral, which has room for data or not; with the LL_ENC_RSP with which
-  -- it would answer LL_ENC_REQ
-  IsHeard : (room : Bool) → (slot : ℕ) → (response : Ctrl) → LinkStep
+  -- a packet of the central is good at the peripheral, which has room for data or not, with what it would draw to
+  -- answer LL_ENC_REQ
+  IsHeard : (room : Bool) → (slot : ℕ) → (response : Response) → LinkStep
   -- the reply to it is good at the central, which has room for data or not
   IsAnswered : (room : Bool) → (slot : ℕ) → LinkStep
   -- with no packet: a host, or the peripheral as it fixes or sends a PDU
@@ -143,10 +143,9 @@ MayLinkAll [] l = ⊤
 MayLinkAll (step ∷ steps) l =
     (is_running l.joint ≡ true) × MayLink step l × MayLinkAll steps (link_after step l)
 
--- what the hosts ask is in its range, and so is what a peripheral would answer
+-- what the hosts ask is in its range
 abbrev pub IsLinkInRange : LinkStep → Type 0
 IsLinkInRange (Alone step) = IsStepInRange step
-IsLinkInRange (IsHeard room slot response) = IsStepInRange (PeripheralTakes slot response)
 IsLinkInRange step = ⊤
 
 abbrev pub AreLinksInRange : List LinkStep → Type 0

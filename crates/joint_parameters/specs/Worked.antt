@@ -3,8 +3,8 @@
 use Rattle.std.specs.Prelude.{true, ℕ, zero, suc, List, [], ◌∷◌, ◌++◌}
 use Rattle.ble_base.specs.declared.channel_map.ChannelMap.{ChannelMap}
 use Rattle.control_model.specs.Worked.{six_slots}
-use Rattle.data_pdu.specs.declared.ctrl.Ctrl.TheVariants.{EncRsp}
 use Rattle.procedure_values.specs.declared.asks.Ask.TheVariants.{Update}
+use Rattle.phased_control.specs.Worked.{zero_response}
 use Rattle.joint_controls.specs.Joint.{AsksFor, CentralHost, CentralSends, JointStep, PeripheralTakes}
 use Rattle.joint_controls.specs.Worked.{enter}
 use Rattle.joint_parameters.specs.Turns.{Alone, Begins, IsAnswered, IsHeard, Link, LinkStep, SendsControl, first_link, link_after_all}
@@ -19,18 +19,18 @@ entries (suc n) = enter ++ entries n
 
 -- it is taken at once, and both ends enter six events more
 abbrev pub in_time : List JointStep
-in_time = sends_update ++ PeripheralTakes 0 (EncRsp 0 0) ∷ entries 6
+in_time = sends_update ++ PeripheralTakes 0 zero_response ∷ entries 6
 
 -- it is taken in event 7
 abbrev pub too_late : List JointStep
-too_late = sends_update ++ entries 7 ++ PeripheralTakes 0 (EncRsp 0 0) ∷ []
+too_late = sends_update ++ entries 7 ++ PeripheralTakes 0 zero_response ∷ []
 
 -- the same by turns, from slot 0 on. Event 0 is in slot 3. In its first exchange an empty PDU is heard and answered, in
 -- the second the update
 abbrev pub update_by_turns : List LinkStep
 update_by_turns =
     Alone (CentralHost (AsksFor (Update 8 0 100))) ∷ Begins 0 ∷ Begins 1 ∷ Begins 2 ∷ Begins 3
-    ∷ IsHeard true 3 (EncRsp 0 0) ∷ IsAnswered true 3 ∷ SendsControl 3 ∷ Begins 4 ∷ IsHeard true 4 (EncRsp 0 0)
+    ∷ IsHeard true 3 zero_response ∷ IsAnswered true 3 ∷ SendsControl 3 ∷ Begins 4 ∷ IsHeard true 4 zero_response
     ∷ IsAnswered true 4 ∷ []
 
 abbrev pub link_by_turns : ChannelMap → List LinkStep → Link

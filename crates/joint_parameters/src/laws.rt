@@ -1,17 +1,17 @@
 //! The laws of the parameters in a joint run. The bodies do nothing: the contracts are the laws. In
-//! all of them the link begins with a latency of at most 499 events, and what the hosts ask and the
-//! peripheral answers is in its range (Core 5.2, volume 6 part B, section 4.5.1).
+//! all of them the link begins with a latency of at most 499 events, and what the hosts ask is in
+//! its range (Core 5.2, volume 6 part B, section 4.5.1).
 ghost use Rattle.std.specs.Prelude.{◌≡◌, ◌≤◌, ◌<◌, ◌++◌, ℕ, List, Some, None, true, false};
 ghost use Rattle.std.specs.Prelude.{is_none, option_map, option_to_list, take};
 ghost use Rattle.std.specs.List.{All};
 ghost use Rattle.ble_base.specs.ErrorCodes.{instant_passed};
-ghost use Rattle.data_pdu.specs.declared.ctrl.Ctrl.{Ctrl};
 ghost use Rattle.instants.specs.declared.indications.Params.{Params};
 ghost use Rattle.instants.specs.declared.track.Change.{Change};
 ghost use Rattle.instants.specs.Follows.{Follows};
 ghost use Rattle.two_tracks.specs.TwoEnds.{change_of, has_passed};
 ghost use Rattle.two_tracks.specs.Reached.{AllMay, IsReached};
 ghost use Rattle.control_model.specs.Waits.{kind_awaited};
+ghost use Rattle.phased_control.specs.Taken.{Response};
 ghost use Rattle.joint_controls.specs.Ends.{AreStepsInRange};
 ghost use Rattle.joint_controls.specs.Joint.{Joint, JointStep, after, after_all, beginning};
 ghost use Rattle.joint_controls.specs.Joint.{event_now, instant_now, is_indication, is_item};
@@ -61,13 +61,13 @@ pub fn an_indication_finds_no_other()
         → is_item is_indication (next_item s.central) ≡ true
         → All (λ (change : Change). change.at.0 < event_now s.central) s.central.control.sent }
     ensures peripheral { (central_rx peripheral_rx : ℕ) (first : Params) (slot : ℕ)
-        (steps : List JointStep) (now : ℕ) (response : Ctrl) (change : Change)
+        (steps : List JointStep) (now : ℕ) (response : Response) (change : Change)
         → first.latency ≤ 499 → AreStepsInRange steps
         → let s = after_all steps (beginning central_rx peripheral_rx first slot) in
         may (JointStep.PeripheralTakes now response) s ≡ true → instant_now s ≡ Some change
         → is_none s.peripheral.control.track.waits ≡ true }
     ensures awaits { (central_rx peripheral_rx : ℕ) (first : Params) (slot : ℕ)
-        (steps : List JointStep) (now : ℕ) (response : Ctrl) (change : Change)
+        (steps : List JointStep) (now : ℕ) (response : Response) (change : Change)
         → first.latency ≤ 499 → AreStepsInRange steps
         → let s = after_all steps (beginning central_rx peripheral_rx first slot) in
         may (JointStep.PeripheralTakes now response) s ≡ true → instant_now s ≡ Some change
@@ -79,19 +79,19 @@ pub fn an_indication_finds_no_other()
 /// of the central, and where the link goes on the peripheral follows the indication with it.
 pub fn instants_have_one_event()
     ensures test { (central_rx peripheral_rx : ℕ) (first : Params) (slot : ℕ)
-        (steps : List JointStep) (now : ℕ) (response : Ctrl) (change : Change)
+        (steps : List JointStep) (now : ℕ) (response : Response) (change : Change)
         → first.latency ≤ 499 → AreStepsInRange steps
         → let s = after_all steps (beginning central_rx peripheral_rx first slot) in
         may (JointStep.PeripheralTakes now response) s ≡ true → instant_now s ≡ Some change
         → has_passed s.peripheral.control.track change ≡ is_late s }
     ensures same { (central_rx peripheral_rx : ℕ) (first : Params) (slot : ℕ)
-        (steps : List JointStep) (now : ℕ) (response : Ctrl) (change : Change)
+        (steps : List JointStep) (now : ℕ) (response : Response) (change : Change)
         → first.latency ≤ 499 → AreStepsInRange steps
         → let s = after_all steps (beginning central_rx peripheral_rx first slot) in
         may (JointStep.PeripheralTakes now response) s ≡ true → instant_now s ≡ Some change
         → is_late s ≡ false → change_of (event_now s.peripheral) change.indication ≡ change }
     ensures taken { (central_rx peripheral_rx : ℕ) (first : Params) (slot : ℕ)
-        (steps : List JointStep) (now : ℕ) (response : Ctrl) (change : Change)
+        (steps : List JointStep) (now : ℕ) (response : Response) (change : Change)
         → first.latency ≤ 499 → AreStepsInRange steps
         → let s = after_all steps (beginning central_rx peripheral_rx first slot) in
         let t = after (JointStep.PeripheralTakes now response) s in
@@ -99,7 +99,7 @@ pub fn instants_have_one_event()
         → t.peripheral.control.ends ≡ None
         → t.peripheral.control.track ≡ record s.peripheral.control.track { waits = Some change } }
     ensures in_time { (central_rx peripheral_rx : ℕ) (first : Params) (slot : ℕ)
-        (steps : List JointStep) (now : ℕ) (response : Ctrl) (change : Change)
+        (steps : List JointStep) (now : ℕ) (response : Response) (change : Change)
         → first.latency ≤ 499 → AreStepsInRange steps
         → let s = after_all steps (beginning central_rx peripheral_rx first slot) in
         let t = after (JointStep.PeripheralTakes now response) s in
@@ -123,7 +123,7 @@ pub fn only_a_late_indication_ends_the_link()
         → (after step s).peripheral.control.ends ≡ Some (record { 0 = instant_passed })
         → takes_late step s ≡ true }
     ensures late { (central_rx peripheral_rx : ℕ) (first : Params) (slot : ℕ)
-        (steps : List JointStep) (now : ℕ) (response : Ctrl) (change : Change)
+        (steps : List JointStep) (now : ℕ) (response : Response) (change : Change)
         → first.latency ≤ 499 → AreStepsInRange steps
         → let s = after_all steps (beginning central_rx peripheral_rx first slot) in
         may (JointStep.PeripheralTakes now response) s ≡ true → instant_now s ≡ Some change

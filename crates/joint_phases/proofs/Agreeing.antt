@@ -19,10 +19,11 @@ use Rattle.phase_pairs.specs.Agreement as machine
 use Rattle.phase_pairs.specs.Agreement.{has_meaning, has_place, is_equal, is_sealing_right, is_step_right}
 use Rattle.phase_pairs.specs.JointRun.{is_way_taken, phases_may}
 use Rattle.phase_pairs.proofs.Proved.{sealing_right}
+use Rattle.phased_control.specs.Taken.{Response}
 use Rattle.joint_controls.specs.Joint.{Joint, JointStep, Way, CentralTakes, Clear, Control, Data, Fixed, OnAir, PeripheralTakes, Taken, is_running, is_taken, is_terminate, item_on_air, may_act}
 use Rattle.joint_phases.specs.Agreement.{is_allowed_right, is_opened_right, is_sealing_agreed, is_taken_right}
 use Rattle.joint_phases.specs.Classes.{class_down, class_up}
-use Rattle.joint_phases.specs.Facts.{Facts, has_response, is_enc_rsp}
+use Rattle.joint_phases.specs.Facts.{Facts}
 use Rattle.joint_phases.specs.Parts.{IsShown, way_down, way_up}
 use Rattle.joint_phases.proofs.JointCentral.{Runs, runs}
 use Rattle.joint_phases.proofs.JointCentralTakes as central_takes
@@ -156,14 +157,14 @@ module _ (s : Joint) (m : PhaseLink) (slot : ℕ) (may : not (is_taken s.down) �
   up_allowed : Premises s m → is_allowed_right central_role s.central.phase (class_up s.peripheral.knows_version) (item_on_air s.up) ≡ true
   up_allowed p = up_by s.up (subst (λ (u : PhaseWay). Premises s (record m { up = u })) p.is.up p)
 
-module _ (s : Joint) (m : PhaseLink) (slot : ℕ) (response : Ctrl) (answers : is_enc_rsp response ≡ true) (may : not (is_taken s.up) ≡ true) where
+module _ (s : Joint) (m : PhaseLink) (slot : ℕ) (response : Response) (may : not (is_taken s.up) ≡ true) where
   down_control : (outgoing : _) (ctrl : Ctrl) (sealed b : Bool) → is_terminate ctrl ≡ b
       → Premises (record s { down = OnAir (Control outgoing ctrl) sealed }) (record m { down = way_down s.central.knows_version (OnAir (Control outgoing ctrl) sealed) })
       → is_allowed_right peripheral_role s.peripheral.phase (class_down s.central.knows_version) (Some (Control outgoing ctrl)) ≡ true
   down_control outgoing ctrl sealed true ends p = end_down s.central.knows_version s.peripheral.phase ctrl ends
   down_control outgoing ctrl sealed false ends p =
       let h =
-      peripheral_takes.right_here s m outgoing ctrl response sealed slot p.is (record { goes = p.goes.goes; central = p.goes.central; peripheral = p.goes.peripheral }) p.settled p.facts p.right answers may ends in
+      peripheral_takes.right_here s m outgoing ctrl response sealed slot p.is (record { goes = p.goes.goes; central = p.goes.central; peripheral = p.goes.peripheral }) p.settled p.facts p.right may ends in
       and_from _ _
       (allowed_down s.central.knows_version s.peripheral.phase ctrl (ap (λ q. allows q peripheral_role (class_down s.central.knows_version ctrl)) p.is.peripheral.phase ∙ h.0))
       (ap (λ q. has_meaning peripheral_role q (class_down s.central.knows_version ctrl)) p.is.peripheral.phase ∙ h.1)
@@ -191,12 +192,12 @@ module _ (s : Joint) (m : PhaseLink) (slot : ℕ) (response : Ctrl) (answers : i
 not_taken : (a b c : Bool) → (a && (b && c)) ≡ true → b ≡ true
 not_taken a b c h = (and_parts b c (and_parts a (b && c) h).1).0
 
-pub taken_right : (s : Joint) (m : PhaseLink) → Shows s m → is_running s ≡ true → Facts s → (step : JointStep) → has_response step ≡ true → may_act step s ≡ true
+pub taken_right : (s : Joint) (m : PhaseLink) → Shows s m → is_running s ≡ true → Facts s → (step : JointStep) → may_act step s ≡ true
     → is_taken_right step s ≡ true
-taken_right s m shows running facts (CentralTakes slot) responds may =
+taken_right s m shows running facts (CentralTakes slot) may =
     up_allowed s m slot (not_taken (is_some (item_on_air s.up)) (not (is_taken s.down)) _ may)
     (record { is = shows.shown; goes = runs s running; settled = settled_in m shows.reached; facts = facts; right = right_in m shows.reached })
-taken_right s m shows running facts (PeripheralTakes slot response) responds may =
-    down_allowed s m slot response responds (not_taken (is_some (item_on_air s.down)) (not (is_taken s.up)) _ may)
+taken_right s m shows running facts (PeripheralTakes slot response) may =
+    down_allowed s m slot response (not_taken (is_some (item_on_air s.down)) (not (is_taken s.up)) _ may)
     (record { is = shows.shown; goes = runs s running; settled = settled_in m shows.reached; facts = facts; right = right_in m shows.reached })
-taken_right s m shows running facts step responds may = refl
+taken_right s m shows running facts step may = refl

@@ -23,7 +23,7 @@ use Rattle.control_model.specs.Control.{Control, Takes as control_takes, took}
 use Rattle.phase_pairs.specs.declared.central.PhaseCentral.{PhaseCentral}
 use Rattle.phase_pairs.specs.Central.{central_starting, central_taken, central_unlocking}
 use Rattle.phased_control.specs.Phased.{Phased, with_step}
-use Rattle.phased_control.specs.Taken.{Takes, answered_if_quiet, answered_kept, ciphered, ciphered_at, ciphered_at_central, ended_with, goes_on, is_version, keeping, keeps_class, knowing, lacks_room_now, phased_after, refused_by, role_now, seen_if, with_phase_taking}
+use Rattle.phased_control.specs.Taken.{Response, Takes, answered_if_quiet, answered_kept, ciphered, ciphered_at, ciphered_at_central, ended_with, goes_on, is_version, keeping, keeps_class, knowing, lacks_room_now, phased_after, refused_by, role_now, seen_if, with_phase_taking}
 use Rattle.joint_controls.specs.Joint.{is_terminate}
 use Rattle.phase_pairs.specs.Agreement.{is_encryption}
 use Rattle.phase_pairs.specs.JointRun.{is_request}
@@ -74,7 +74,7 @@ module _ (t : Phased) (c : PhaseCentral) (slot : ℕ) where
 
 -- ---- what a PDU leaves, before the procedures have gone on
 
-module _ (s : Phased) (c : PhaseCentral) (ctrl response : Ctrl) (slot : ℕ) (is : IsCentral (opened s) c) (unquiet : is_quiet c.phase ≡ false)
+module _ (s : Phased) (c : PhaseCentral) (ctrl : Ctrl) (response : Response) (slot : ℕ) (is : IsCentral (opened s) c) (unquiet : is_quiet c.phase ≡ false)
     (allowed : allows c.phase central_role (ctrl_class ctrl) ≡ true) where
   abbrev control_after : Control
   control_after = took (Known ctrl) slot false (record s.control { ends = None })
@@ -170,7 +170,7 @@ module _ (s : Phased) (c : PhaseCentral) (ctrl response : Ctrl) (slot : ℕ) (is
 
 -- ---- at the role and the phase that it has
 
-at_role : (P : Phased → Type 0) (response ctrl : Ctrl) (t : Phased) → role_now t ≡ central_role → P (ciphered_at_central ctrl t) → P (ciphered response (Known ctrl) t)
+at_role : (P : Phased → Type 0) (response : Response) (ctrl : Ctrl) (t : Phased) → role_now t ≡ central_role → P (ciphered_at_central ctrl t) → P (ciphered response (Known ctrl) t)
 at_role P response ctrl t role h = subst (λ (r : Role). P (ciphered_at r response ctrl t)) (sym role) h
 
 at_both : (P : Phased → Type 0) (t : Phased) (phase : PhaseFacts) → t.phase ≡ phase → t.control.ends ≡ None → P (at_phase t phase) → P t
@@ -214,7 +214,7 @@ refusal_ciphers ctrl t class = absurd (cc)
 
 -- ---- each PDU
 
-module _ (s : Phased) (c : PhaseCentral) (response : Ctrl) (slot : ℕ) (is : IsCentral (opened s) c) (unquiet : is_quiet c.phase ≡ false)
+module _ (s : Phased) (c : PhaseCentral) (response : Response) (slot : ℕ) (is : IsCentral (opened s) c) (unquiet : is_quiet c.phase ≡ false)
     (none : c.queued ≡ None) (unawaited : c.awaits ≡ false) (crossed : Bool) where
   abbrev Result : Ctrl → Type 0
   Result ctrl =
@@ -292,7 +292,7 @@ module _ (s : Phased) (c : PhaseCentral) (response : Ctrl) (slot : ℕ) (is : Is
       subst (λ (k : PduClass). IsCentral (phased_after (Takes (Known ctrl) slot response) (opened s)) (central_taken crossed k c)) (sym class) done
 
 -- the first PDU of a procedure, whatever is queued
-module _ (s : Phased) (c : PhaseCentral) (response : Ctrl) (slot : ℕ) (is : IsCentral (opened s) c) (unquiet : is_quiet c.phase ≡ false) (crossed : Bool) where
+module _ (s : Phased) (c : PhaseCentral) (response : Response) (slot : ℕ) (is : IsCentral (opened s) c) (unquiet : is_quiet c.phase ≡ false) (crossed : Bool) where
   abbrev Taken : Ctrl → Type 0
   Taken ctrl =
       allows c.phase central_role (ctrl_class ctrl) ≡ true → (phased_after (Takes (Known ctrl) slot response) (opened s)).control.ends ≡ None
@@ -325,7 +325,7 @@ never_other k phase seldom not_quiet may = absurd (cc)
 
 -- ---- whichever comes
 
-module _ (s : Phased) (c : PhaseCentral) (response : Ctrl) (slot : ℕ) (is : IsCentral (opened s) c) (unquiet : is_quiet c.phase ≡ false)
+module _ (s : Phased) (c : PhaseCentral) (response : Response) (slot : ℕ) (is : IsCentral (opened s) c) (unquiet : is_quiet c.phase ≡ false)
     (unawaited : c.awaits ≡ false) (crossed : Bool) where
   abbrev MayTake : Ctrl → Type 0
   MayTake ctrl = (is_encryption (ctrl_class ctrl) ≡ true → c.queued ≡ None) → Taken s c response slot is unquiet crossed ctrl

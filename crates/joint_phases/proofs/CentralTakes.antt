@@ -37,7 +37,7 @@ use Rattle.procedure_stages.specs.Queue.{waiting_in}
 use Rattle.phase_pairs.specs.Agreement.{is_encryption}
 use Rattle.control_model.specs.Control.{Takes as control_takes}
 use Rattle.phased_control.specs.Phased.{Phased, is_quiet_now, with_step}
-use Rattle.phased_control.specs.Taken.{Takes, answered_if_quiet, answered_kept, ciphered, ciphered_at, ended_with, goes_on, is_answered_at, is_version, keeping, knowing, phased_after, role_now, seen_if, with_phase_taking}
+use Rattle.phased_control.specs.Taken.{Response, Takes, answered_if_quiet, answered_kept, ciphered, ciphered_at, ended_with, goes_on, is_answered_at, is_version, keeping, knowing, phased_after, role_now, seen_if, with_phase_taking}
 use Rattle.joint_phases.proofs.Plain.{allows_quiet, keeps_quiet, never_unknown, plain_at_central, room_now, taking_quiet, unanswered}
 use Rattle.joint_controls.specs.Joint.{is_terminate}
 use Rattle.joint_phases.specs.Classes.{draft_down}
@@ -133,7 +133,7 @@ module _ (s : Phased) (c : PhaseCentral) (ctrl : Ctrl) (slot : ℕ) (awaited : B
 pub some_none : (e : ErrCode) (E : Type 0) → ◌≡◌ {A = Option ErrCode} (Some e) None → E
 some_none e E is = absurd (cc)
 
-module _ (s : Phased) (c : PhaseCentral) (ctrl response : Ctrl) (slot : ℕ) (awaited : Bool) (is : IsCentral (opened s) c) (quiet : is_quiet c.phase ≡ true)
+module _ (s : Phased) (c : PhaseCentral) (ctrl : Ctrl) (response : Response) (slot : ℕ) (awaited : Bool) (is : IsCentral (opened s) c) (quiet : is_quiet c.phase ≡ true)
     (apart : is_terminate ctrl ≡ false) (plain : is_encryption (ctrl_class ctrl) ≡ false)
     (awaits : awaited ≡ true → is_awaiting (outcome_of s.control.table true (Known ctrl)).progress ≡ true) where
   abbrev control_after : Bool → Control

@@ -22,7 +22,7 @@ use Rattle.procedure_stages.specs.Kinds.{role_of}
 use Rattle.control_model.specs.Control.{Control, Step, Answers as control_answers, Asks as control_asks, Disconnects as control_disconnects, Enters as control_enters, Owes, SeesAcknowledged as control_acked, Sends as control_sends, Takes as control_takes, after, following, goes_out, moved, table_if}
 use Rattle.control_model.specs.Control as control
 use Rattle.phased_control.specs.Phased.{Phased, asking_if, asks_again, encrypting, encrypting_if, is_open_now, is_quiet_now, key_given, key_lacking, refused_if, with_owed, with_owed_if, with_step}
-use Rattle.phased_control.specs.Taken.{PhasedStep, Answers, Asks, Disconnects, Enters, GivesKey, LacksKey, SeesAcknowledged, Sends, Takes, TakesData, answered_if_quiet, answered_kept, ciphered, ciphered_at, ciphered_at_central, ciphered_at_peripheral, does_keep, ended_with, goes_on, handed_on, is_allowed, keeping, knowing, lacks_room_now, moved_if, moved_to, phased_after, phased_moved, refused_by, role_now, seen_as, took, took_allowed, took_data, with_phase_taking}
+use Rattle.phased_control.specs.Taken.{PhasedStep, Response, Answers, Asks, Disconnects, Enters, GivesKey, LacksKey, SeesAcknowledged, Sends, Takes, TakesData, answered_if_quiet, answered_kept, ciphered, ciphered_at, ciphered_at_central, ciphered_at_peripheral, does_keep, ended_with, goes_on, handed_on, is_allowed, keeping, knowing, lacks_room_now, moved_if, moved_to, phased_after, phased_moved, refused_by, response_ctrl, role_now, seen_as, took, took_allowed, took_data, with_phase_taking}
 use Rattle.joint_phases.specs.Agreement.{is_integrity_failure}
 use Rattle.joint_phases.proofs.Codes.{took_spares}
 
@@ -107,19 +107,19 @@ central_lasts StartEncRsp t h = moved_lasts Confirm None t h
 central_lasts PauseEncRsp t h = moved_lasts Unlock (Some PauseEncRsp) t h
 central_lasts ctrl t h = refusal_lasts (ctrl_class ctrl) t h
 
-peripheral_lasts : (response ctrl : Ctrl) (t : Phased) → Lasts t → Lasts (ciphered_at_peripheral response ctrl t)
+peripheral_lasts : (response : Response) (ctrl : Ctrl) (t : Phased) → Lasts t → Lasts (ciphered_at_peripheral response ctrl t)
 peripheral_lasts response (EncReq rand ediv skd_m iv_m) t h =
-    lasts_if (may_follow AskTransition t.phase) (moved_to AskTransition (Some response) (record t { asks_key = is_open_now t })) t (after_spares (Owes response) t.control h) h
+    lasts_if (may_follow AskTransition t.phase) (moved_to AskTransition (Some (response_ctrl response)) (record t { asks_key = is_open_now t })) t (after_spares (Owes (response_ctrl response)) t.control h) h
 peripheral_lasts response PauseEncReq t h = moved_lasts Pause (Some PauseEncRsp) t h
 peripheral_lasts response StartEncRsp t h = moved_lasts Confirm (Some StartEncRsp) t h
 peripheral_lasts response PauseEncRsp t h = moved_lasts Unlock None t h
 peripheral_lasts response ctrl t h = h
 
-role_lasts : (role : Role) (response ctrl : Ctrl) (t : Phased) → Lasts t → Lasts (ciphered_at role response ctrl t)
+role_lasts : (role : Role) (response : Response) (ctrl : Ctrl) (t : Phased) → Lasts t → Lasts (ciphered_at role response ctrl t)
 role_lasts central_role response ctrl t h = central_lasts ctrl t h
 role_lasts peripheral_role response ctrl t h = peripheral_lasts response ctrl t h
 
-module _ (t : Phased) (ctrl response : Ctrl) (slot : ℕ) (h : Lasts t) where
+module _ (t : Phased) (ctrl : Ctrl) (response : Response) (slot : ℕ) (h : Lasts t) where
   abbrev read : CtrlRead
   read = Known ctrl
 

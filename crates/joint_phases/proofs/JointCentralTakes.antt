@@ -4,7 +4,7 @@ use Rattle.std.proofs.lemmas.Bool.{and_from, and_parts, false_from_ne_true}
 use Rattle.ble_base.specs.ErrorCodes.{mic_failure}
 use Rattle.ble_base.specs.declared.roles.Role.TheVariants.{Central as central_role}
 use Rattle.data_pdu.specs.declared.ctrl.Ctrl.{Ctrl}
-use Rattle.data_pdu.specs.declared.ctrl.Ctrl.TheVariants.{TerminateInd, VersionInd}
+use Rattle.data_pdu.specs.declared.ctrl.Ctrl.TheVariants.{VersionInd}
 use Rattle.data_pdu.specs.declared.ctrl.CtrlRead.TheVariants.{Known}
 use Rattle.enc_phase.specs.declared.classes.PduClass.{PduClass}
 use Rattle.enc_phase.specs.declared.classes.PduClass.TheVariants.{Data as data_class, Other, Request}
@@ -24,7 +24,7 @@ use Rattle.phase_pairs.specs.Central.{central_taken}
 use Rattle.phase_pairs.specs.JointRun.{is_crossing_down, is_on_air, is_request, is_way_fixed, is_way_taken, phases_act, phases_may, way_kept}
 use Rattle.phased_control.specs.Phased.{Phased}
 use Rattle.phased_control.specs.Taken.{Takes, TakesData, ended_with, is_version as is_version_read, phased_after}
-use Rattle.joint_controls.specs.Joint.{Item, Joint, Way, CentralTakes, Clear, Control, Data, Fixed, OnAir, Taken, act, is_item, is_running, is_taken, is_terminate, item_on_air, may_act}
+use Rattle.joint_controls.specs.Joint.{Item, Joint, Way, CentralTakes, Clear, Control, Data, Fixed, OnAir, Taken, act, is_item, is_running, is_taken, is_terminate, item_on_air, may_act, no_response}
 use Rattle.joint_phases.specs.Classes.{class_up, is_version, is_version_ctrl, version_class}
 use Rattle.joint_phases.specs.Events.{does_cross_up, event_if, event_of_step}
 use Rattle.joint_phases.specs.Facts.{Facts, is_version_sent}
@@ -82,7 +82,7 @@ module _ (s : Joint) (m : PhaseLink) (outgoing : Outgoing) (ctrl : Ctrl) (sealed
   crossed = does_cross_up item here
 
   abbrev after_it : Phased
-  after_it = phased_after (Takes (Known ctrl) slot (TerminateInd 0)) s.central
+  after_it = phased_after (Takes (Known ctrl) slot no_response) s.central
 
   record Crossing : Type 0 where
     version : is_version_ctrl ctrl ≡ true
@@ -181,17 +181,17 @@ module _ (s : Joint) (m : PhaseLink) (outgoing : Outgoing) (ctrl : Ctrl) (sealed
         abbrev Both : Phased → Type 0
         Both c =
             IsCentral c m.central → (awaits_after crossed class m.central.awaits ≡ true → is_awaiting (outcome_of c.control.table true (Known ctrl)).progress ≡ true)
-            → (phased_after (Takes (Known ctrl) slot (TerminateInd 0)) c).control.ends ≡ None
-            → IsCentral (phased_after (Takes (Known ctrl) slot (TerminateInd 0)) c) (record m.central { awaits = awaits_after crossed class m.central.awaits })
-            × ((phased_after (Takes (Known ctrl) slot (TerminateInd 0)) c).knows_version ≡ c.knows_version || is_version_read (Known ctrl))
+            → (phased_after (Takes (Known ctrl) slot no_response) c).control.ends ≡ None
+            → IsCentral (phased_after (Takes (Known ctrl) slot no_response) c) (record m.central { awaits = awaits_after crossed class m.central.awaits })
+            × ((phased_after (Takes (Known ctrl) slot no_response) c).knows_version ≡ c.knows_version || is_version_read (Known ctrl))
 
         both : IsCentral after_it (record m.central { awaits = awaits_after crossed class m.central.awaits })
             × (after_it.knows_version ≡ s.central.knows_version || is_version_read (Known ctrl))
         both =
             at_open Both s.central runs_on.central
             (λ part. λ a. λ l. (
-              takes_plain s.central m.central ctrl (TerminateInd 0) slot (awaits_after crossed class m.central.awaits) part quiet apart plain_ctrl a l,
-              plain_knows s.central m.central ctrl (TerminateInd 0) slot (awaits_after crossed class m.central.awaits) part quiet apart plain_ctrl a l,
+              takes_plain s.central m.central ctrl no_response slot (awaits_after crossed class m.central.awaits) part quiet apart plain_ctrl a l,
+              plain_knows s.central m.central ctrl no_response slot (awaits_after crossed class m.central.awaits) part quiet apart plain_ctrl a l,
             )) is.central awaits_next lasts
 
         quiet_part : IsCentral after_it (central_taken crossed class m.central)
@@ -248,19 +248,19 @@ module _ (s : Joint) (m : PhaseLink) (outgoing : Outgoing) (ctrl : Ctrl) (sealed
 
         abbrev Part : Phased → Type 0
         Part c =
-            IsCentral c m.central → (phased_after (Takes (Known ctrl) slot (TerminateInd 0)) c).control.ends ≡ None
-            → IsCentral (phased_after (Takes (Known ctrl) slot (TerminateInd 0)) c) (central_taken crossed (ctrl_class ctrl) m.central)
+            IsCentral c m.central → (phased_after (Takes (Known ctrl) slot no_response) c).control.ends ≡ None
+            → IsCentral (phased_after (Takes (Known ctrl) slot no_response) c) (central_taken crossed (ctrl_class ctrl) m.central)
 
         unquiet_part : IsCentral after_it (central_taken crossed class m.central)
         unquiet_part =
             let allowed : allows m.central.phase central_role (ctrl_class ctrl) ≡ true = ap (λ k. allows m.central.phase central_role k) (sym same_class) ∙ right_here.0 in
             let part : IsCentral after_it (central_taken crossed (ctrl_class ctrl) m.central) =
             at_open Part s.central runs_on.central
-            (λ p. λ l. takes_unquiet s.central m.central (TerminateInd 0) slot p unquiet unawaited crossed ctrl apart none_queued allowed l) is.central lasts in
+            (λ p. λ l. takes_unquiet s.central m.central no_response slot p unquiet unawaited crossed ctrl apart none_queued allowed l) is.central lasts in
             subst (λ (k : PduClass). IsCentral after_it (central_taken crossed k m.central)) (sym same_class) part
 
         known_by : (known : Bool) → s.central.knows_version ≡ known → m.down ≡ way_down after_it.knows_version s.down
-        known_by true at = is.down ∙ ap (λ b. way_down b s.down) (at ∙ sym (knows_grows s.central ctrl (TerminateInd 0) slot at))
+        known_by true at = is.down ∙ ap (λ b. way_down b s.down) (at ∙ sym (knows_grows s.central ctrl no_response slot at))
         known_by false at = is.down ∙ sym (unversioned_down s.central.knows_version after_it.knows_version s.down never_fixed (none_on_air at))
 
         unquiet_down : (b : Bool) → crossed ≡ b → (if b then way_kept Other m.down else m.down) ≡ way_down after_it.knows_version s.down

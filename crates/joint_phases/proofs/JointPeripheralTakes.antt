@@ -27,11 +27,11 @@ use Rattle.phase_pairs.specs.Agreement.{has_meaning, has_place, is_encryption, i
 use Rattle.phase_pairs.specs.JointRun.{is_coming, is_crossing_up, is_pause_rsp, is_request, is_way_taken, peripheral_takes, phases_may, way_kept}
 use Rattle.phase_pairs.specs.Peripheral.{has_unsent, peripheral_answering, peripheral_taken}
 use Rattle.phased_control.specs.Phased.{Phased}
-use Rattle.phased_control.specs.Taken.{Takes, TakesData, ended_with, is_version as is_version_read, phased_after}
+use Rattle.phased_control.specs.Taken.{Response, Takes, TakesData, ended_with, is_version as is_version_read, phased_after}
 use Rattle.joint_controls.specs.Joint.{Item, Joint, Way, Clear, Control, Data, Fixed, OnAir, PeripheralTakes, Taken, act, is_running, is_taken, is_terminate, item_on_air, may_act}
 use Rattle.joint_phases.specs.Classes.{class_down, draft_up, has_version, is_version_ctrl, version_class}
 use Rattle.joint_phases.specs.Events.{does_cross_down, event_if, event_of_step}
-use Rattle.joint_phases.specs.Facts.{Facts, drafts_of, is_enc_rsp, is_version_coming, is_version_kept}
+use Rattle.joint_phases.specs.Facts.{Facts, drafts_of, is_version_coming, is_version_kept}
 use Rattle.joint_phases.specs.Parts.{IsPeripheral, IsShown, wait_up, way_down, way_up}
 use Rattle.joint_phases.proofs.CentralEnters.{at_open, none_of_two, opened}
 use Rattle.joint_phases.proofs.CentralQueue.{is_of_others}
@@ -47,7 +47,7 @@ use Rattle.joint_phases.proofs.PeripheralTable.{is_answered, is_silent, version_
 use Rattle.joint_phases.proofs.Plain.{is_session}
 use Rattle.joint_phases.proofs.Ways.{down_in_quiet, encryption_down, ends_down, kept_up, others_down, request_up, taken_same, unversioned_up, version_down}
 
-module _ (s : Joint) (m : PhaseLink) (outgoing : Outgoing) (ctrl response : Ctrl) (sealed : Bool) (slot : ℕ) where
+module _ (s : Joint) (m : PhaseLink) (outgoing : Outgoing) (ctrl : Ctrl) (response : Response) (sealed : Bool) (slot : ℕ) where
   abbrev item : Item
   item = Control outgoing ctrl
 
@@ -89,7 +89,7 @@ module _ (s : Joint) (m : PhaseLink) (outgoing : Outgoing) (ctrl response : Ctrl
 
   module _ (is : IsShown here there) (runs_on : Runs s) (settled : Settled there) (facts : Facts here)
       (right : (event : PhaseEvent) → phases_may event there ≡ true → is_step_right event there ≡ true)
-      (answers : is_enc_rsp response ≡ true) (may : not (is_taken s.up) ≡ true) (apart : is_terminate ctrl ≡ false) where
+      (may : not (is_taken s.up) ≡ true) (apart : is_terminate ctrl ≡ false) where
     -- ---- the own LL_VERSION_IND, where the two cross
 
     request_class : Crossing → class ≡ Request
@@ -167,7 +167,7 @@ module _ (s : Joint) (m : PhaseLink) (outgoing : Outgoing) (ctrl response : Ctrl
           → TakesAs (phased_after (Takes (Known ctrl) slot response) c) (peripheral_taken false (ctrl_class ctrl) m.peripheral) (c.knows_version || is_version_read (Known ctrl)) in
           let h : TakesAs after_it (peripheral_taken false (ctrl_class ctrl) m.peripheral) knows_now =
           at_open Part s.peripheral runs_on.peripheral
-          (λ p. λ l. takes_cipher s.peripheral m.peripheral response slot false p room answers ctrl (ap is_encryption (sym same.0) ∙ enc)
+          (λ p. λ l. takes_cipher s.peripheral m.peripheral response slot false p room ctrl (ap is_encryption (sym same.0) ∙ enc)
           (ap (λ k. allows m.peripheral.phase peripheral_role k) (sym same.0) ∙ right_here.0)
           (ap (λ k. has_meaning peripheral_role m.peripheral.phase k) (sym same.0) ∙ right_here.1) l) is.peripheral lasts in
           shown_plain (subst (λ (k : PduClass). IsPeripheral after_it (peripheral_taken false k m.peripheral)) (sym same.0) h.part) (up_known _ h same.1)
@@ -351,7 +351,7 @@ module _ (s : Joint) (m : PhaseLink) (outgoing : Outgoing) (ctrl response : Ctrl
 
 -- ---- data
 
-module _ (s : Joint) (m : PhaseLink) (response : Ctrl) (sealed : Bool) (slot : ℕ) where
+module _ (s : Joint) (m : PhaseLink) (response : Response) (sealed : Bool) (slot : ℕ) where
   abbrev with_data : Joint
   with_data = record s { down = OnAir Data sealed }
 
@@ -384,7 +384,7 @@ module _ (s : Joint) (m : PhaseLink) (response : Ctrl) (sealed : Bool) (slot : �
 
 -- ---- whichever comes
 
-module _ (s : Joint) (m : PhaseLink) (slot : ℕ) (response : Ctrl) (answers : is_enc_rsp response ≡ true) where
+module _ (s : Joint) (m : PhaseLink) (slot : ℕ) (response : Response) where
   abbrev at_way : Way → Joint
   at_way w = record s { down = w }
 
@@ -405,7 +405,7 @@ module _ (s : Joint) (m : PhaseLink) (slot : ℕ) (response : Ctrl) (answers : i
       goes_data s m response sealed slot t.is runs_on may (runs (act (PeripheralTakes slot response) (at_way (OnAir Data sealed))) running).peripheral
   takes_way (OnAir (Control outgoing ctrl) sealed) runs_on air may running t =
       let next_runs = runs (act (PeripheralTakes slot response) (at_way (OnAir (Control outgoing ctrl) sealed))) running in
-      goes_control s m outgoing ctrl response sealed slot t.is runs_on t.settled t.facts t.right answers may next_runs.goes next_runs.peripheral
+      goes_control s m outgoing ctrl response sealed slot t.is runs_on t.settled t.facts t.right may next_runs.goes next_runs.peripheral
   takes_way Clear runs_on air may running t = absurd (cc)
   takes_way (Fixed item sealed) runs_on air may running t = absurd (cc)
   takes_way (Taken item) runs_on air may running t = absurd (cc)

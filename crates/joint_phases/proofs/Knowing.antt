@@ -17,7 +17,7 @@ use Rattle.enc_phase.specs.Taking.{ctrl_class}
 use Rattle.ble_base.specs.ErrorCodes.{memory_capacity_exceeded, mic_failure}
 use Rattle.control_model.specs.Control.{Takes as control_takes}
 use Rattle.phased_control.specs.Phased.{Phased, is_quiet_now, with_step, asking_if, encrypting, encrypting_if, refused_if, with_owed_if}
-use Rattle.phased_control.specs.Taken.{PhasedStep, Answers, Asks, Disconnects, Enters, GivesKey, LacksKey, SeesAcknowledged, Sends, Takes, TakesData, answered_if_quiet, answered_kept, ciphered, ciphered_at, ciphered_at_central, ciphered_at_peripheral, goes_on, moved_if, phased_after, phased_moved, refused_by, took, does_keep, ended_with, handed_on, is_allowed, keeping, knowing, lacks_room_now, seen_as, took_allowed, with_phase_taking}
+use Rattle.phased_control.specs.Taken.{PhasedStep, Response, Answers, Asks, Disconnects, Enters, GivesKey, LacksKey, SeesAcknowledged, Sends, Takes, TakesData, answered_if_quiet, answered_kept, ciphered, ciphered_at, ciphered_at_central, ciphered_at_peripheral, does_keep, ended_with, goes_on, handed_on, is_allowed, keeping, knowing, lacks_room_now, moved_if, phased_after, phased_moved, refused_by, seen_as, took, took_allowed, with_phase_taking}
 
 -- ---- the steps by which none is taken
 
@@ -95,24 +95,24 @@ central_knows StartEncRsp t h = moved_knows Confirm None t h
 central_knows PauseEncRsp t h = moved_knows Unlock (Some PauseEncRsp) t h
 central_knows ctrl t h = refused_knows (ctrl_class ctrl) t h
 
-peripheral_knows : (response ctrl : Ctrl) (t : Phased) → Knows t → Knows (ciphered_at_peripheral response ctrl t)
+peripheral_knows : (response : Response) (ctrl : Ctrl) (t : Phased) → Knows t → Knows (ciphered_at_peripheral response ctrl t)
 peripheral_knows response (EncReq rand ediv skd_m iv_m) t h = knows_if _ _ _ h h
 peripheral_knows response PauseEncReq t h = moved_knows Pause (Some PauseEncRsp) t h
 peripheral_knows response StartEncRsp t h = moved_knows Confirm (Some StartEncRsp) t h
 peripheral_knows response PauseEncRsp t h = moved_knows Unlock None t h
 peripheral_knows response ctrl t h = h
 
-role_knows : (role : Role) (response ctrl : Ctrl) (t : Phased) → Knows t → Knows (ciphered_at role response ctrl t)
+role_knows : (role : Role) (response : Response) (ctrl : Ctrl) (t : Phased) → Knows t → Knows (ciphered_at role response ctrl t)
 role_knows Central response ctrl t h = central_knows ctrl t h
 role_knows Peripheral response ctrl t h = peripheral_knows response ctrl t h
 
-goes_knows : (slot : ℕ) (response ctrl : Ctrl) (t : Phased) → Knows t → Knows (goes_on slot response (Known ctrl) t)
+goes_knows : (slot : ℕ) (response : Response) (ctrl : Ctrl) (t : Phased) → Knows t → Knows (goes_on slot response (Known ctrl) t)
 goes_knows slot response ctrl t h =
     let u : Phased = ciphered response (Known ctrl) t in
     let known : Knows u = role_knows _ response ctrl t h in
     knows_if (is_none t.control.ends) (answered_if_quiet slot u) t (knows_if _ (answered_kept slot u.kept u) u (kept_knows slot u.kept u known) known) h
 
-module _ (s : Phased) (ctrl response : Ctrl) (slot : ℕ) (h : s.knows_version ≡ true) where
+module _ (s : Phased) (ctrl : Ctrl) (response : Response) (slot : ℕ) (h : s.knows_version ≡ true) where
   abbrev read : CtrlRead
   read = Known ctrl
 

@@ -22,11 +22,10 @@ use Rattle.phase_pairs.specs.declared.peripheral.PhasePeripheral.{PhasePeriphera
 use Rattle.phase_pairs.specs.Agreement.{has_meaning}
 use Rattle.phase_pairs.specs.Peripheral.{is_open as is_peripheral_open, peripheral_asked, peripheral_queuing, peripheral_taken}
 use Rattle.phased_control.specs.Phased.{Phased}
-use Rattle.phased_control.specs.Taken.{Takes, asked, ciphered_at_peripheral, is_version, moved_if, moved_to, phased_after}
+use Rattle.phased_control.specs.Taken.{Response, Takes, asked, ciphered_at_peripheral, is_version, moved_if, moved_to, phased_after, response_ctrl}
 use Rattle.joint_controls.specs.Joint.{is_terminate}
 use Rattle.phase_pairs.specs.Agreement.{is_encryption}
 use Rattle.joint_phases.specs.Classes.{draft_up}
-use Rattle.joint_phases.specs.Facts.{is_enc_rsp}
 use Rattle.joint_phases.specs.Parts.{IsPeripheral, wait_up}
 use Rattle.joint_phases.proofs.CentralEnters.{at_open, opened}
 use Rattle.joint_phases.proofs.PeripheralEnters.{open_up}
@@ -56,27 +55,22 @@ module _ (t : Phased) (p : PhasePeripheral) (is : IsPeripheral (opened t) p) (ro
   same_room phase asks_key = record { after = room.after; room = room.room; request = room.request }
 
   -- an LL_ENC_REQ is answered, and the host asked for the key
-  asked_by : (rsp : Ctrl) → draft_up t.knows_version (Cipher rsp) ≡ EncRsp → closing_given rsp t.control.table.closing ≡ t.control.table.closing → (b : Bool)
-      → IsPeripheral (if b then moved_to Ask (Some rsp) (record (opened t) { asks_key = is_open t.control.table.closing }) else opened t)
+  asked_by : (response : Response) (b : Bool)
+      → IsPeripheral (if b then moved_to Ask (Some (response_ctrl response)) (record (opened t) { asks_key = is_open t.control.table.closing }) else opened t)
       (if b then peripheral_queuing EncRsp (record p { phase = phase_after Ask t.phase; asks_key = is_open t.control.table.closing }) else p)
-  asked_by rsp class closing true =
+  asked_by response true =
       owes_up (record t { phase = phase_after Ask t.phase; asks_key = is_open t.control.table.closing }) (record p { phase = phase_after Ask t.phase; asks_key = is_open t.control.table.closing })
-      rsp EncRsp (state_peripheral (opened t) p (phase_after Ask t.phase) (is_open t.control.table.closing) is) class refl (same_room (phase_after Ask t.phase) (is_open t.control.table.closing)) closing
-  asked_by rsp class closing false = is
+      (response_ctrl response) EncRsp (state_peripheral (opened t) p (phase_after Ask t.phase) (is_open t.control.table.closing) is) refl refl (same_room (phase_after Ask t.phase) (is_open t.control.table.closing)) refl
+  asked_by response false = is
 
   opens : is_open t.control.table.closing ≡ is_peripheral_open p
   opens = ap is_open is.closing ∙ open_up p.closing
 
-  asked_with : (rsp : Ctrl) → draft_up t.knows_version (Cipher rsp) ≡ EncRsp → closing_given rsp t.control.table.closing ≡ t.control.table.closing
-      → IsPeripheral (asked rsp (opened t)) (peripheral_asked p)
-  asked_with rsp class closing =
-      subst (λ (b : Bool). IsPeripheral (asked rsp (opened t)) (if may_follow Ask p.phase then peripheral_queuing EncRsp (record p { phase = phase_after Ask p.phase; asks_key = b }) else p)) opens
-      (subst (λ (q : PhaseFacts). IsPeripheral (asked rsp (opened t)) (if may_follow Ask q then peripheral_queuing EncRsp (record p { phase = phase_after Ask q; asks_key = is_open t.control.table.closing }) else p)) is.phase
-      (asked_by rsp class closing (may_follow Ask t.phase)))
-
-  pub asked_then : (rsp : Ctrl) → is_enc_rsp rsp ≡ true → IsPeripheral (asked rsp (opened t)) (peripheral_asked p)
-  asked_then (enc_rsp skd_s iv_s) is_one = asked_with (enc_rsp skd_s iv_s) refl refl
-  asked_then rsp is_one = absurd (cc)
+  pub asked_then : (response : Response) → IsPeripheral (asked response (opened t)) (peripheral_asked p)
+  asked_then response =
+      subst (λ (b : Bool). IsPeripheral (asked response (opened t)) (if may_follow Ask p.phase then peripheral_queuing EncRsp (record p { phase = phase_after Ask p.phase; asks_key = b }) else p)) opens
+      (subst (λ (q : PhaseFacts). IsPeripheral (asked response (opened t)) (if may_follow Ask q then peripheral_queuing EncRsp (record p { phase = phase_after Ask q; asks_key = is_open t.control.table.closing }) else p)) is.phase
+      (asked_by response (may_follow Ask t.phase)))
 
   -- a transition, and its answer
   moved_by : (transition : Transition) (owed : Ctrl) (k : PduClass) → draft_up t.knows_version (Cipher owed) ≡ k → is_queued_class k ≡ true
@@ -115,8 +109,7 @@ is_sent_down PauseEncReq = true
 is_sent_down PauseEncRsp = true
 is_sent_down k = false
 
-module _ (s : Phased) (p : PhasePeripheral) (response : Ctrl) (slot : ℕ) (crossed : Bool) (is : IsPeripheral (opened s) p) (room : HasRoom p)
-    (answers : is_enc_rsp response ≡ true) where
+module _ (s : Phased) (p : PhasePeripheral) (response : Response) (slot : ℕ) (crossed : Bool) (is : IsPeripheral (opened s) p) (room : HasRoom p) where
   abbrev result : Ctrl → Phased
   result ctrl = phased_after (Takes (Known ctrl) slot response) (opened s)
 
@@ -154,7 +147,7 @@ module _ (s : Phased) (p : PhasePeripheral) (response : Ctrl) (slot : ℕ) (cros
 
   takes_enc_req : (rand ediv skd_m iv_m : ℕ) → MayTake (enc_req rand ediv skd_m iv_m)
   takes_enc_req rand ediv skd_m iv_m =
-      cipher_takes (enc_req rand ediv skd_m iv_m) refl refl refl refl (λ t here. asked_then t p here room response answers)
+      cipher_takes (enc_req rand ediv skd_m iv_m) refl refl refl refl (λ t here. asked_then t p here room response)
       (λ t. if_knows (may_follow Ask t.phase) _ _ refl)
 
   takes_pause_req : MayTake pause_enc_req

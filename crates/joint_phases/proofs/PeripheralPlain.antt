@@ -20,7 +20,7 @@ use Rattle.phase_pairs.specs.declared.peripheral.UnsentRequest.{UnsentRequest}
 use Rattle.phase_pairs.specs.declared.peripheral.UnsentRequest.TheVariants.{Absent}
 use Rattle.phase_pairs.specs.Peripheral.{is_open as is_peripheral_open, peripheral_answering}
 use Rattle.phased_control.specs.Phased.{Phased}
-use Rattle.phased_control.specs.Taken.{Takes, is_version, phased_after}
+use Rattle.phased_control.specs.Taken.{Response, Takes, is_version, phased_after}
 use Rattle.joint_controls.specs.Joint.{is_terminate}
 use Rattle.joint_phases.specs.Classes.{draft_up, has_version, is_version_ctrl}
 use Rattle.joint_phases.specs.Parts.{IsPeripheral, wait_up}
@@ -65,7 +65,7 @@ rejections_same : (b : Bool) (queue : QueueFacts) (draft : Draft) → (if b then
 rejections_same true queue draft = refl
 rejections_same false queue draft = refl
 
-module _ (s : Phased) (p : PhasePeripheral) (ctrl response : Ctrl) (slot : ℕ) (is : IsPeripheral (opened s) p) (quiet : is_quiet p.phase ≡ true)
+module _ (s : Phased) (p : PhasePeripheral) (ctrl : Ctrl) (response : Response) (slot : ℕ) (is : IsPeripheral (opened s) p) (quiet : is_quiet p.phase ≡ true)
     (plain : is_session (ctrl_class ctrl) ≡ false) (apart : is_terminate ctrl ≡ false)
     (lasts : (phased_after (Takes (Known ctrl) slot response) (opened s)).control.ends ≡ None) where
   abbrev result : Phased

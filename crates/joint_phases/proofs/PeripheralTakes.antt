@@ -19,7 +19,7 @@ use Rattle.control_model.specs.Control.{Control, Takes as control_takes, took}
 use Rattle.phase_pairs.specs.declared.peripheral.PhasePeripheral.{PhasePeripheral}
 use Rattle.phase_pairs.specs.declared.peripheral.UnsentRequest.{UnsentRequest}
 use Rattle.phased_control.specs.Phased.{Phased, is_quiet_now, with_step}
-use Rattle.phased_control.specs.Taken.{Takes, answered_if_quiet, answered_kept, ciphered, ciphered_at, ciphered_at_peripheral, ended_with, goes_on, is_version, keeping, keeps_class, knowing, lacks_room_now, moved_to, phased_after, role_now, seen_if, with_phase_taking}
+use Rattle.phased_control.specs.Taken.{Response, Takes, answered_if_quiet, answered_kept, ciphered, ciphered_at, ciphered_at_peripheral, ended_with, goes_on, is_version, keeping, keeps_class, knowing, lacks_room_now, moved_to, phased_after, role_now, seen_if, with_phase_taking}
 use Rattle.joint_controls.specs.Joint.{is_terminate}
 use Rattle.joint_phases.specs.Classes.{draft_up}
 use Rattle.joint_phases.specs.Parts.{IsPeripheral, closing_up, wait_up}
@@ -31,7 +31,7 @@ use Rattle.joint_phases.proofs.Plain.{never_keeps}
 
 -- ---- what a PDU leaves, before the phase has gone on
 
-module _ (s : Phased) (p : PhasePeripheral) (ctrl response : Ctrl) (slot : ℕ) (is : IsPeripheral (opened s) p)
+module _ (s : Phased) (p : PhasePeripheral) (ctrl : Ctrl) (response : Response) (slot : ℕ) (is : IsPeripheral (opened s) p)
     (allowed : allows s.phase peripheral_role (ctrl_class ctrl) ≡ true) (known : is_unknown s.phase peripheral_role (ctrl_class ctrl) ≡ false) where
   abbrev pub control_after : Control
   control_after = took (Known ctrl) slot (is_quiet s.phase) (record s.control { ends = None })

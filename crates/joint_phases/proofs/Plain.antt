@@ -12,7 +12,7 @@ use Rattle.enc_phase.specs.Phases.{is_quiet}
 use Rattle.enc_phase.specs.Taking.{allows, ctrl_class, is_unknown, phase_taking}
 use Rattle.phase_pairs.specs.Agreement.{is_encryption}
 use Rattle.phased_control.specs.Phased.{Phased}
-use Rattle.phased_control.specs.Taken.{ciphered_at_central, ciphered_at_peripheral, is_answered_at, keeps_class, refused_by}
+use Rattle.phased_control.specs.Taken.{Response, ciphered_at_central, ciphered_at_peripheral, is_answered_at, keeps_class, refused_by}
 
 pub allows_quiet : (phase : PhaseFacts) (role : Role) (k : PduClass) → is_quiet phase ≡ true → allows phase role k ≡ true
 allows_quiet Clear role k quiet = refl
@@ -103,7 +103,7 @@ known_at_peripheral Secure StartEncReq plain = absurd (cc)
 known_at_peripheral Secure k plain = refl
 known_at_peripheral phase k plain = refl
 
-pub plain_at_peripheral : (response ctrl : Ctrl) (t : Phased) → is_session (ctrl_class ctrl) ≡ false → ciphered_at_peripheral response ctrl t ≡ t
+pub plain_at_peripheral : (response : Response) (ctrl : Ctrl) (t : Phased) → is_session (ctrl_class ctrl) ≡ false → ciphered_at_peripheral response ctrl t ≡ t
 plain_at_peripheral response (enc_req rand ediv skd_m iv_m) t plain = absurd (cc)
 plain_at_peripheral response pause_enc_req t plain = absurd (cc)
 plain_at_peripheral response start_enc_rsp t plain = absurd (cc)

@@ -10,7 +10,7 @@ use Rattle.phase_pairs.specs.JointRun.{encryption, phases_act, phases_may, phase
 use Rattle.phase_pairs.proofs.Proved.{step_right}
 use Rattle.joint_controls.specs.Joint.{Joint, JointStep, CentralAcked, CentralEnters, CentralHost, CentralSends, CentralSendsData, CentralTakes, PeripheralAcked, PeripheralEnters, PeripheralFixes, PeripheralFixesData, PeripheralHost, PeripheralSends, PeripheralTakes, Shuts, act, after, after_all, beginning, is_running, may, may_act}
 use Rattle.joint_phases.specs.Events.{event_of_step, events_of, with_event}
-use Rattle.joint_phases.specs.Facts.{Facts, FactsHold, has_response}
+use Rattle.joint_phases.specs.Facts.{Facts, FactsHold}
 use Rattle.joint_phases.specs.Parts.{IsShown}
 use Rattle.joint_phases.proofs.JointCentral.{Goes, Runs, runs}
 use Rattle.joint_phases.proofs.JointCentral as central
@@ -21,22 +21,22 @@ use Rattle.joint_phases.proofs.MachineFacts.{Settled, settled}
 
 module _ (s : Joint) (m : PhaseLink) (is : IsShown s m) (goes_on : Runs s) (fixed : Settled m) (facts : Facts s)
     (right : (event : PhaseEvent) → phases_may event m ≡ true → is_step_right event m ≡ true) where
-  pub each_step : (step : JointStep) → has_response step ≡ true → may_act step s ≡ true → is_running (act step s) ≡ true
+  pub each_step : (step : JointStep) → may_act step s ≡ true → is_running (act step s) ≡ true
       → Goes (event_of_step step s) (act step s) m
-  each_step (CentralEnters slot) responds may running = central.goes_enters s m is goes_on slot fixed facts.own_first
-  each_step (CentralHost step) responds may running = central.goes_host s m is goes_on step facts.asked_in_quiet
-  each_step (CentralSends slot) responds may running = central.goes_sends s m is goes_on slot facts.own_first may
-  each_step CentralSendsData responds may running = central.goes_sends_data s m is goes_on may
-  each_step CentralAcked responds may running = central.goes_acked s m is goes_on fixed facts.taken_is_out may
-  each_step (CentralTakes slot) responds may running = central_takes.goes_takes s m slot is goes_on fixed facts right may running
-  each_step (PeripheralEnters slot) responds may running = peripheral.goes_enters s m is goes_on slot facts.begins_alone facts.known_used
-  each_step (PeripheralHost step) responds may running = peripheral.goes_host s m is goes_on step fixed
-  each_step (PeripheralFixes slot) responds may running = peripheral.goes_fixes s m is goes_on slot fixed may
-  each_step PeripheralFixesData responds may running = peripheral.goes_fixes_data s m is goes_on may
-  each_step PeripheralSends responds may running = peripheral.goes_sends s m is goes_on may
-  each_step PeripheralAcked responds may running = peripheral.goes_acked s m is goes_on may
-  each_step (PeripheralTakes slot response) responds may running = peripheral_takes.goes_takes s m slot response responds is goes_on fixed facts right may running
-  each_step Shuts responds may running = absurd (cc)
+  each_step (CentralEnters slot) may running = central.goes_enters s m is goes_on slot fixed facts.own_first
+  each_step (CentralHost step) may running = central.goes_host s m is goes_on step facts.asked_in_quiet
+  each_step (CentralSends slot) may running = central.goes_sends s m is goes_on slot facts.own_first may
+  each_step CentralSendsData may running = central.goes_sends_data s m is goes_on may
+  each_step CentralAcked may running = central.goes_acked s m is goes_on fixed facts.taken_is_out may
+  each_step (CentralTakes slot) may running = central_takes.goes_takes s m slot is goes_on fixed facts right may running
+  each_step (PeripheralEnters slot) may running = peripheral.goes_enters s m is goes_on slot facts.begins_alone facts.known_used
+  each_step (PeripheralHost step) may running = peripheral.goes_host s m is goes_on step fixed
+  each_step (PeripheralFixes slot) may running = peripheral.goes_fixes s m is goes_on slot fixed may
+  each_step PeripheralFixesData may running = peripheral.goes_fixes_data s m is goes_on may
+  each_step PeripheralSends may running = peripheral.goes_sends s m is goes_on may
+  each_step PeripheralAcked may running = peripheral.goes_acked s m is goes_on may
+  each_step (PeripheralTakes slot response) may running = peripheral_takes.goes_takes s m slot response is goes_on fixed facts right may running
+  each_step Shuts may running = absurd (cc)
 
 -- ---- the runs
 
@@ -100,16 +100,16 @@ module _ (s : Joint) (m : PhaseLink) (step : JointStep) where
   split_events None events = refl
   split_events (Some event) events = refl
 
-  one_step : (b : Bool) → may step s ≡ b → (is_running s ≡ true → Shows s m) → (is_running s ≡ true → Facts s) → has_response step ≡ true
+  one_step : (b : Bool) → may step s ≡ b → (is_running s ≡ true → Shows s m) → (is_running s ≡ true → Facts s)
       → is_running (if b then act step s else s) ≡ true → Shows (if b then act step s else s) (next_link b)
-  one_step false at shows facts responds running = shows running
-  one_step true at shows facts responds running =
+  one_step false at shows facts running = shows running
+  one_step true at shows facts running =
       let both = and_parts (is_running s) (may_act step s) at in
       let here = shows both.0 in
       goes_next (event_of_step step s) (act step s) here.reached
-      (each_step s m here.shown (runs s both.0) (settled_in m here.reached) (facts both.0) (right_in m here.reached) step responds both.1 running)
+      (each_step s m here.shown (runs s both.0) (settled_in m here.reached) (facts both.0) (right_in m here.reached) step both.1 running)
 
-  pub shows_next : (is_running s ≡ true → Shows s m) → (is_running s ≡ true → Facts s) → has_response step ≡ true
+  pub shows_next : (is_running s ≡ true → Shows s m) → (is_running s ≡ true → Facts s)
       → is_running (after step s) ≡ true → Shows (after step s) (next_link (may step s))
   shows_next = one_step (may step s) refl
 
@@ -118,7 +118,7 @@ pub shows_all : (steps : List JointStep) (s : Joint) (m : PhaseLink) → (is_run
 shows_all [] s m shows facts running = shows running
 shows_all (step ∷ steps) s m shows facts running =
     let link = next_link s m step (may step s) in
-    let h = shows_all steps (after step s) link (shows_next s m step shows facts.0 facts.1.0) facts.1.1 running in
+    let h = shows_all steps (after step s) link (shows_next s m step shows facts.0) facts.1 running in
     subst (Shows (after_all steps (after step s))) (sym (split_events s m step (if may step s then event_of_step step s else None) (events_of steps (after step s)))) h
 
 -- a link that begins

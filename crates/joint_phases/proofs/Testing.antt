@@ -9,7 +9,7 @@ use Rattle.phased_control.specs.Phased.{is_open_now, is_pause_rsp, is_quiet_now}
 use Rattle.joint_controls.specs.Joint.{Joint, JointStep, after, is_item, is_taken, item_on_air}
 use Rattle.joint_phases.specs.Classes.{draft_down, has_version, is_version}
 use Rattle.joint_phases.specs.Events.{does_begin}
-use Rattle.joint_phases.specs.Facts.{Facts, FactsHold, are_of_own, drafts_of, has_no_first, has_response, is_version_coming, is_version_kept, is_version_sent}
+use Rattle.joint_phases.specs.Facts.{Facts, FactsHold, are_of_own, drafts_of, has_no_first, is_version_coming, is_version_kept, is_version_sent}
 use Rattle.joint_phases.specs.Parts.{way_down}
 
 abbrev if_so : Bool → Bool → Bool
@@ -108,11 +108,10 @@ facts_by s a0 =
 
 abbrev pub facts_test : List JointStep → Joint → Bool
 facts_test [] s = true
-facts_test (step ∷ steps) s = (are_facts s && has_response step) && facts_test steps (after step s)
+facts_test (step ∷ steps) s = are_facts s && facts_test steps (after step s)
 
 pub facts_tested : (steps : List JointStep) (s : Joint) → facts_test steps s ≡ true → FactsHold s steps
 facts_tested [] s all = tt
 facts_tested (step ∷ steps) s all =
-    let both = and_parts (are_facts s && has_response step) (facts_test steps (after step s)) all in
-    let here = and_parts (are_facts s) (has_response step) both.0 in
-    (λ running. facts_by s here.0, (here.1, facts_tested steps (after step s) both.1))
+    let both = and_parts (are_facts s) (facts_test steps (after step s)) all in
+    (λ running. facts_by s both.0, facts_tested steps (after step s) both.1)

@@ -3,16 +3,15 @@ use Rattle.std.proofs.Common.{◌≡◌, ℕ, Bool, true, false, refl, ap, ◌�
 use Rattle.std.proofs.lemmas.Bool.{and_parts, or_from}
 use Rattle.ble_base.specs.declared.roles.Role.TheVariants.{Central as central_role, Peripheral as peripheral_role}
 use Rattle.data_pdu.specs.declared.ctrl.Ctrl.{Ctrl}
-use Rattle.data_pdu.specs.declared.ctrl.Ctrl.TheVariants.{TerminateInd}
 use Rattle.enc_phase.specs.declared.classes.PduClass.{PduClass}
 use Rattle.enc_phase.specs.declared.classes.PduClass.TheVariants.{Data as data_class}
 use Rattle.enc_phase.specs.Taking.{allows, ctrl_class}
 use Rattle.phase_pairs.specs.declared.joint.PhaseLink.{PhaseLink}
-use Rattle.phased_control.specs.Taken.{PhasedStep, Enters, SeesAcknowledged, Sends, phased_after, role_now}
-use Rattle.joint_controls.specs.Joint.{HostStep, Joint, JointStep, Way, AnswersRequest, AsksFor, CentralAcked, CentralEnters, CentralHost, CentralSends, CentralSendsData, CentralTakes, Clear, Control, Data, Ends, Fixed, HasKey, HasNoKey, OnAir, PeripheralAcked, PeripheralEnters, PeripheralFixes, PeripheralFixesData, PeripheralHost, PeripheralSends, PeripheralTakes, Shuts, Taken, act, central_takes, host_step, is_running, item_on_air, may, may_act, peripheral_takes}
+use Rattle.phased_control.specs.Taken.{PhasedStep, Response, Enters, SeesAcknowledged, Sends, phased_after, role_now}
+use Rattle.joint_controls.specs.Joint.{HostStep, Joint, JointStep, Way, AnswersRequest, AsksFor, CentralAcked, CentralEnters, CentralHost, CentralSends, CentralSendsData, CentralTakes, Clear, Control, Data, Ends, Fixed, HasKey, HasNoKey, OnAir, PeripheralAcked, PeripheralEnters, PeripheralFixes, PeripheralFixesData, PeripheralHost, PeripheralSends, PeripheralTakes, Shuts, Taken, act, central_takes, host_step, is_running, item_on_air, may, may_act, no_response, peripheral_takes}
 use Rattle.joint_phases.specs.Agreement.{ends_by_integrity_failure, is_allowed_right, is_integrity_failure, is_taken_right}
 use Rattle.joint_phases.specs.Classes.{class_down, class_up}
-use Rattle.joint_phases.specs.Facts.{Facts, has_response}
+use Rattle.joint_phases.specs.Facts.{Facts}
 use Rattle.joint_phases.proofs.Agreeing.{taken_right}
 use Rattle.joint_phases.proofs.Forged.{Lasts, data_lasts, none_lasts, takes_lasts, takes_none}
 use Rattle.joint_phases.proofs.JointCentral.{runs}
@@ -41,7 +40,7 @@ module _ (s : Joint) (both : BothLast s) where
   up_lasts (OnAir Data sealed) slot class_of role right =
       (data_lasts s.central ((λ i. allows s.central.phase (role i) data_class) ∙ (and_parts (allows s.central.phase central_role data_class) _ right).0) both.0, both.1)
   up_lasts (OnAir (Control outgoing ctrl) sealed) slot class_of role right = (
-    takes_lasts s.central ctrl (TerminateInd 0) slot both.0
+    takes_lasts s.central ctrl no_response slot both.0
         ((λ i. allows s.central.phase (role i) (ctrl_class ctrl)) ∙ (and_parts (allows s.central.phase central_role (ctrl_class ctrl)) _ right).0),
     both.1,
   )
@@ -49,7 +48,7 @@ module _ (s : Joint) (both : BothLast s) where
   up_lasts (Fixed item sealed) slot class_of role right = both
   up_lasts (Taken item) slot class_of role right = both
 
-  down_lasts : (w : Way) (slot : ℕ) (response : Ctrl) (class_of : Ctrl → PduClass) → role_now s.peripheral ≡ peripheral_role
+  down_lasts : (w : Way) (slot : ℕ) (response : Response) (class_of : Ctrl → PduClass) → role_now s.peripheral ≡ peripheral_role
       → is_allowed_right peripheral_role s.peripheral.phase class_of (item_on_air w) ≡ true → BothLast (peripheral_takes w slot response s)
   down_lasts (OnAir Data sealed) slot response class_of role right =
       (both.0, data_lasts s.peripheral ((λ i. allows s.peripheral.phase (role i) data_class) ∙ (and_parts (allows s.peripheral.phase peripheral_role data_class) _ right).0) both.1)
@@ -78,12 +77,12 @@ module _ (s : Joint) (both : BothLast s) where
   step_lasts (PeripheralTakes slot response) c p right = down_lasts s.down slot response (class_down s.central.knows_version) p right
   step_lasts Shuts c p right = both
 
-pub unforged : (s : Joint) (m : PhaseLink) → Shows s m → is_running s ≡ true → Facts s → (step : JointStep) → has_response step ≡ true → may_act step s ≡ true
+pub unforged : (s : Joint) (m : PhaseLink) → Shows s m → is_running s ≡ true → Facts s → (step : JointStep) → may_act step s ≡ true
     → ends_by_integrity_failure (act step s) ≡ false
-unforged s m shows running facts step responds comes =
+unforged s m shows running facts step comes =
     let r = runs s running in
     let both : BothLast s = (ap is_integrity_failure r.central, ap is_integrity_failure r.peripheral) in
-    let h = step_lasts s both step shows.shown.central.role shows.shown.peripheral.role (taken_right s m shows running facts step responds comes) in
+    let h = step_lasts s both step shows.shown.central.role shows.shown.peripheral.role (taken_right s m shows running facts step comes) in
     or_from _ _ h.0 h.1
 
 -- a step that may not come is none
@@ -92,9 +91,9 @@ after_by : (s : Joint) (step : JointStep) (b : Bool) → may step s ≡ b → en
 after_by s step true at now then_after = then_after refl
 after_by s step false at now then_after = now
 
-pub never_forged : (s : Joint) (m : PhaseLink) → (is_running s ≡ true → Shows s m) → is_running s ≡ true → Facts s → (step : JointStep) → has_response step ≡ true
+pub never_forged : (s : Joint) (m : PhaseLink) → (is_running s ≡ true → Shows s m) → is_running s ≡ true → Facts s → (step : JointStep)
     → ends_by_integrity_failure (if may step s then act step s else s) ≡ false
-never_forged s m shows running facts step responds =
+never_forged s m shows running facts step =
     let r = runs s running in
     after_by s step (may step s) refl (or_from _ _ (ap is_integrity_failure r.central) (ap is_integrity_failure r.peripheral))
-    (λ comes. unforged s m (shows running) running facts step responds (and_parts (is_running s) (may_act step s) comes).1)
+    (λ comes. unforged s m (shows running) running facts step (and_parts (is_running s) (may_act step s) comes).1)

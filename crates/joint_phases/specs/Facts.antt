@@ -2,7 +2,6 @@
 -- volume 6 part B, sections 5.1.3 to 5.1.10).
 use Rattle.std.specs.Prelude.{◌≡◌, ⊤, Bool, true, false, not, ◌&&◌, ◌||◌, List, [], ◌∷◌, Option, Some, None}
 use Rattle.data_pdu.specs.declared.ctrl.Ctrl.{Ctrl}
-use Rattle.data_pdu.specs.declared.ctrl.Ctrl.TheVariants.{EncRsp}
 use Rattle.enc_phase.specs.declared.classes.PduClass.{PduClass}
 use Rattle.procedure_values.specs.declared.drafts.Draft.{Draft}
 use Rattle.procedure_values.specs.declared.drafts.Draft.TheVariants.{FeatureReq, LengthReq, PhyReq, VersionInd}
@@ -17,7 +16,7 @@ use Rattle.procedure_stages.specs.InProgress.{is_host_asked}
 use Rattle.procedure_stages.specs.Kinds.{own_exchange}
 use Rattle.phase_pairs.specs.JointRun.{is_pause_rsp_taken, is_request, keeps_request}
 use Rattle.phased_control.specs.Phased.{Phased, is_open_now, is_pause_rsp, is_quiet_now}
-use Rattle.joint_controls.specs.Joint.{Item, Joint, JointStep, Way, Fixed, OnAir, PeripheralTakes, after, is_item, is_running, is_taken, item_on_air}
+use Rattle.joint_controls.specs.Joint.{Item, Joint, JointStep, Way, Fixed, OnAir, after, is_item, is_running, is_taken, item_on_air}
 use Rattle.joint_phases.specs.Classes.{class_up, draft_down, draft_up, has_request, has_version, is_version, is_version_ctrl, item_class}
 use Rattle.joint_phases.specs.Events.{does_begin}
 use Rattle.joint_phases.specs.Parts.{way_down}
@@ -111,17 +110,7 @@ pub record Facts (s : Joint) : Type 0 where
       s.peripheral.knows_version ≡ true → is_open_now s.peripheral ≡ true
       → s.peripheral.control.table.version_used ≡ true
 
--- an LL_ENC_REQ that is taken would be answered with an LL_ENC_RSP
-abbrev pub is_enc_rsp : Ctrl → Bool
-is_enc_rsp (EncRsp skd_s iv_s) = true
-is_enc_rsp ctrl = false
-
-abbrev pub has_response : JointStep → Bool
-has_response (PeripheralTakes slot response) = is_enc_rsp response
-has_response step = true
-
 -- they hold in each state of a run that goes on, before each of these steps
 abbrev pub FactsHold : Joint → List JointStep → Type 0
 FactsHold s [] = ⊤
-FactsHold s (step ∷ steps) =
-    (is_running s ≡ true → Facts s) × ((has_response step ≡ true) × FactsHold (after step s) steps)
+FactsHold s (step ∷ steps) = (is_running s ≡ true → Facts s) × FactsHold (after step s) steps

@@ -10,7 +10,7 @@ ghost use Rattle.joint_controls.specs.Joint.{beginning, is_running, may};
 ghost use Rattle.joint_phases.specs.Agreement.{ends_by_integrity_failure, is_sealing_agreed};
 ghost use Rattle.joint_phases.specs.Agreement.{is_taken_right};
 ghost use Rattle.joint_phases.specs.Events.{events_of};
-ghost use Rattle.joint_phases.specs.Facts.{Facts, FactsHold, has_response};
+ghost use Rattle.joint_phases.specs.Facts.{Facts, FactsHold};
 ghost use Rattle.joint_phases.specs.Pairs.{are_phases_paired, is_answered_in_quiet, keeps_one};
 ghost use Rattle.joint_phases.specs.Parts.{IsShown};
 
@@ -40,7 +40,7 @@ pub fn no_forbidden_pdu_is_taken()
         (step : JointStep)
         → FactsHold (beginning central_rx peripheral_rx first slot) steps
         → let s = after_all steps (beginning central_rx peripheral_rx first slot) in
-        Facts s → has_response step ≡ true → may step s ≡ true → is_taken_right step s ≡ true }
+        Facts s → may step s ≡ true → is_taken_right step s ≡ true }
 {}
 
 /// The phases of the two ends are one of the pairs of the table, with the PDUs of the encryption
@@ -70,6 +70,6 @@ pub fn no_link_ends_by_integrity_failure()
         (step : JointStep)
         → FactsHold (beginning central_rx peripheral_rx first slot) steps
         → let s = after_all steps (beginning central_rx peripheral_rx first slot) in
-        is_running s ≡ true → Facts s → has_response step ≡ true
+        is_running s ≡ true → Facts s
         → ends_by_integrity_failure (after step s) ≡ false }
 {}

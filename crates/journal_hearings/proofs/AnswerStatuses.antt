@@ -1,31 +1,17 @@
 -- The statuses in the answers that a controller notes, step by step.
-use Rattle.std.proofs.Common.{◌≡◌, ℕ, ◌+◌, ◌*◌, ◌/◌, ◌%◌, ◌==◌, Bool, true, false, List, [], ◌∷◌, ◌++◌, map, cond, refl, ap, ◌∙◌, arith}
-use Rattle.std.specs.Prelude.{All, flat_map}
+use Rattle.std.proofs.Common.{◌≡◌, ℕ, ◌+◌, ◌*◌, ◌/◌, ◌%◌, ◌==◌, Bool, true, false, List, [], ◌∷◌, ◌++◌, refl, ap, ◌∙◌, arith}
+use Rattle.std.specs.Prelude.{flat_map}
 use Rattle.std.proofs.lemmas.List.Concat.{flat_map-append}
-use Rattle.std.proofs.lemmas.List.Elements.{All-head, All-tail}
 use Rattle.wire_fields.specs.Field.{little_endian}
 use Rattle.ble_base.specs.declared.notes.Note.{Note}
 use Rattle.ble_base.specs.declared.notes.Note.TheVariants.{Up}
-use Rattle.hci_cmd.specs.declared.command.Command.{Command}
-use Rattle.hci_cmd.specs.declared.command.Command.TheVariants.{LeCreateCancel, Reset}
-use Rattle.hci_evt.specs.Event.{mask_bit_of, written}
+use Rattle.hci_evt.specs.Event.{written}
 use Rattle.hci_evt.specs.declared.event.Event.{Event}
-use Rattle.hci_evt.specs.declared.event.Event.TheVariants.{DisconnectionComplete, HardwareError, CompletedPackets, BufferOverflow, ConnectionComplete, AdvertisingReport, EnhancedConnection, ChannelSelection}
+use Rattle.hci_evt.specs.declared.event.Event.TheVariants.{CommandComplete, CommandStatus}
 use Rattle.host_view.specs.View.{View}
-use Rattle.open_links.specs.OpenLinks.{handles_from}
-use Rattle.open_links.specs.declared.offers.Offer.{Offer}
-use Rattle.open_links.specs.declared.offers.Offer.TheVariants.{NoLink, Empty, Overflow, Kept}
-use Rattle.controller_model.specs.Step.{Step}
-use Rattle.controller_model.specs.Facts.{Setup, Facts}
 use Rattle.controller_model.specs.Answers.{complete_answer, status_answer}
-use Rattle.controller_model.specs.Commands.{events_caused, notes_before}
-use Rattle.controller_model.specs.Data.{notes_offered}
-use Rattle.controller_model.specs.Events.{notes_of_events, passes}
-use Rattle.controller_model.specs.Links.{connection_failed, note_shut, wants_enhanced}
-use Rattle.controller_model.specs.Side.{notes_after}
-use Rattle.controller_model.proofs.Always.{IsInTurn}
-use Rattle.controller_model.proofs.Handles.{HaveOwnHandles}
-use Rattle.controller_model.proofs.TurnNotes.{EachNote, IsOfTurn, turn_noted}
+use Rattle.controller_model.specs.Events.{notes_of_events}
+use Rattle.controller_model.proofs.NoAnswers.{IsNoAnswer, IsNoPacket, ReadsAnswers}
 use Rattle.run_model.specs.Readers.{packets_of}
 use Rattle.journal_hearings.specs.Settings.{is_left_out, status_unless, answer_statuses, answer_status}
 
@@ -69,79 +55,15 @@ command_status view status opcode =
 
 -- ---- what is no answer has none
 
-abbrev HasNoStatus : Note → Type 0
-HasNoStatus note = statuses_noted note ≡ []
-
-none_of : (notes : List Note) → All HasNoStatus notes → statuses_of notes ≡ []
-none_of [] are = refl
-none_of (note ∷ notes) are = λ i. All-head HasNoStatus note notes are i ++ none_of notes (All-tail HasNoStatus note notes are) i
-
-turn_event : (event : Event) → IsOfTurn event → statuses_noted (Up (record { items = written event })) ≡ []
+event_statuses : (event : Event) → IsNoAnswer event → statuses_noted (Up (record { items = written event })) ≡ []
 unfolding little_endian
-turn_event (DisconnectionComplete status handle reason) is = refl
-turn_event (CompletedPackets handle count) is = refl
-turn_event (ConnectionComplete status handle role peer_kind peer interval latency timeout accuracy) is = refl
-turn_event (AdvertisingReport kind address_kind address report rssi) is = refl
-turn_event (EnhancedConnection status handle role peer_kind peer local other interval latency timeout accuracy) is = refl
-turn_event (ChannelSelection handle algorithm) is = refl
-turn_event other is = absurd is
+event_statuses (CommandComplete number opcode fields) is = absurd is
+event_statuses (CommandStatus status number opcode) is = absurd is
+event_statuses other is = refl
 
-each_silent : (most : ℕ) → EachNote most HasNoStatus
-each_silent most = record {
-  up = turn_event;
-  received = λ piece. refl;
-  opened = λ link below. refl;
-  shut = λ handle reason below. refl;
-  entered = λ handle event channel below. refl;
-  sent = λ handle number llid octets below. refl;
-  took = λ handle number llid octets below. refl;
-}
+other_statuses : (note : Note) → IsNoPacket note → statuses_noted note ≡ []
+other_statuses (Up packet) is = absurd is
+other_statuses other is = refl
 
--- a turn
-pub turn_statuses : (setup : Setup) (facts : Facts) (step : Step) → HaveOwnHandles setup facts → IsInTurn step → statuses_of (notes_after setup facts step) ≡ []
-turn_statuses setup facts step own turn =
-    none_of (notes_after setup facts step) (turn_noted setup.links HasNoStatus (each_silent setup.links) setup facts step refl own turn)
-
-shut_statuses : (handles : List ℕ) → statuses_of (map (λ handle. note_shut handle 0) handles) ≡ []
-shut_statuses [] = refl
-shut_statuses (handle ∷ handles) = shut_statuses handles
-
-pub before_statuses : (facts : Facts) (command : Command) → statuses_of (notes_before facts command) ≡ []
-before_statuses facts Reset = shut_statuses (handles_from 0 facts.links)
-before_statuses facts other = refl
-
--- an event that the masks let through, or do not
-masked_statuses : (passed : Bool) (event : Event) → statuses_noted (Up (record { items = written event })) ≡ []
-    → statuses_of (map (λ event. Up (record { items = written event })) (cond passed (event ∷ []) [])) ≡ []
-masked_statuses true event none = ap (λ xs. xs ++ []) none
-masked_statuses false event none = refl
-
-pub event_statuses : (view : View) (event : Event) → statuses_noted (Up (record { items = written event })) ≡ [] → statuses_of (notes_of_events view (event ∷ [])) ≡ []
-event_statuses view event none = masked_statuses (passes view (mask_bit_of event)) event none
-
-failed_is : (enhanced : Bool) (status : ℕ) → IsOfTurn (connection_failed enhanced status)
-failed_is true status = tt
-failed_is false status = tt
-
-pub caused_statuses : (facts : Facts) (command : Command) → statuses_of (notes_of_events facts.view (events_caused facts command)) ≡ []
-caused_statuses facts LeCreateCancel =
-    let event = connection_failed (wants_enhanced facts.view) 0x02 in
-    event_statuses facts.view event (turn_event event (failed_is (wants_enhanced facts.view) 0x02))
-caused_statuses facts other = refl
-
-loss_none : statuses_noted (Up (record { items = written (HardwareError 0x01) })) ≡ []
-unfolding little_endian
-loss_none = refl
-
-pub loss_statuses : (view : View) → statuses_of (notes_of_events view (HardwareError 0x01 ∷ [])) ≡ []
-loss_statuses view = event_statuses view (HardwareError 0x01) loss_none
-
-overflow_none : statuses_noted (Up (record { items = written (BufferOverflow 1) })) ≡ []
-unfolding little_endian
-overflow_none = refl
-
-pub offered_statuses : (view : View) (offer : Offer) (handle : ℕ) → statuses_of (notes_offered view offer handle) ≡ []
-offered_statuses view NoLink handle = refl
-offered_statuses view Empty handle = event_statuses view (CompletedPackets handle 1) (turn_event (CompletedPackets handle 1) tt)
-offered_statuses view Overflow handle = event_statuses view (BufferOverflow 1) overflow_none
-offered_statuses view Kept handle = refl
+pub reads_statuses : ReadsAnswers ℕ statuses_noted
+reads_statuses = record { event = event_statuses; received = λ piece. refl; other = other_statuses }

@@ -41,7 +41,7 @@ use Rattle.journal_data.proofs.Law.{first_data}
 use Rattle.journal_hearings.specs.Openings.{IsToOpen, is_linked, offer_in}
 use Rattle.journal_hearings.specs.Settings.{accept_list, filter_policy}
 use Rattle.journal_hearings.proofs.AdvertiserHandles.{advertisers_have_handles}
-use Rattle.journal_hearings.proofs.AdvertisersKnown.{advertisers_known}
+use Rattle.controller_model.proofs.AdvertisersKnown.{advertisers_known}
 use Rattle.journal_hearings.proofs.AirDoings.{AwaitsNow, FitsPhase, at_phase}
 use Rattle.journal_hearings.proofs.BothKept.{both_kept}
 use Rattle.journal_hearings.proofs.ConnectsTaken.{TakesLink, offered_taken, taken_offered}

@@ -1,5 +1,5 @@
 -- A CONNECT_IND is taken by a controller exactly where its side is to open the link by the lines.
-use Rattle.std.proofs.Common.{◌≡◌, ℕ, ◌==◌, ◌||◌, Bool, true, false, Option, Some, None, List, [], ◌∷◌, ◌++◌, cond, refl, sym, ap, subst, ◌∙◌}
+use Rattle.std.proofs.Common.{◌≡◌, ℕ, ◌==◌, ◌||◌, Bool, true, false, Option, Some, None, List, [], ◌∷◌, ◌++◌, cond, refl, sym, ap, ◌∙◌}
 use Rattle.std.specs.Prelude.{◌&&◌, not, IsSome, if◌then◌else◌}
 use Rattle.std.specs.Option.{option_map}
 use Rattle.std.proofs.lemmas.Bool.{and_from, and_parts, eqb-true}
@@ -12,6 +12,7 @@ use Rattle.adv_pdu.specs.declared.pdu.AdvPdu.TheVariants.{Ind, Direct, Nonconn, 
 use Rattle.adv_pdu.specs.declared.pdu.ConnectFields.{ConnectFields}
 use Rattle.adv_pdu.specs.Ranges.{is_in_range}
 use Rattle.advertise.specs.declared.answers.AdvAnswer.TheVariants.{Ignore, Connect as Takes}
+use Rattle.advertise.specs.declared.params.AdvParams.{AdvParams}
 use Rattle.advertise.specs.Advertising.{AdvertiserFacts, advertisement, is_connectable}
 use Rattle.advertise.specs.Answers.{advertiser_answer, lets_connect, may_connect}
 use Rattle.scan_init.specs.Addresses.{is_same_address}
@@ -28,7 +29,7 @@ use Rattle.controller_model.specs.Packets.{pdu_heard}
 use Rattle.controller_model.specs.Side.{notes_after}
 use Rattle.controller_model.specs.Step.{PacketHeard}
 use Rattle.journal_hearings.specs.Openings.{lets_in, newer_offer}
-use Rattle.journal_hearings.proofs.AdvertisersKnown.{AdvertisersKnown, OnPolicy}
+use Rattle.controller_model.proofs.AdvertisersKnown.{AdvertisersKnown, params_known}
 use Rattle.journal_hearings.proofs.OffersMade.{FitsOffer}
 use Rattle.journal_hearings.proofs.PeripheralNotes.{IsTaking}
 use Rattle.journal_hearings.proofs.SettingsHeld.{Holds}
@@ -102,7 +103,7 @@ module _ (facts : Facts) (policy : ℕ) (list : List Address) (offer : Option Ad
       let kind = params.kind in
       let offer_is : offer ≡ newer_offer None (Some (advertisement params body)) =
       fits ∙ ap (λ (may : Option AdvertiserFacts). newer_offer None (option_map (λ one. advertisement one.params body) may)) is_on in
-      let policy_is : params.policy ≡ policy = subst (OnPolicy facts.advertising.params.policy) is_on known.on_policy ∙ holds.1 in
+      let policy_is : params.policy ≡ policy = ap (λ (set : AdvParams). set.policy) (params_known facts.advertising.params facts.advertising.on on is_on known.has_params) ∙ holds.1 in
       (λ i. lets_in (offer_is i) (sym policy_is i) (sym holds.0 i) from to)
       ∙ lets_by (kind == 0) (kind == 2) (kind == 4) params.own params.target body params.policy facts.view.accepted from to (no_both kind 0 refl) (no_both kind 2 refl)
 

@@ -3,7 +3,6 @@ mod AirDoings
 mod OnePhase
 mod RequestsHeard
 mod ConnectLines
-mod AdvertisersKnown
 mod CommandCodes
 mod AnswerStatuses
 mod SettingsHeld

@@ -43,6 +43,7 @@ use Rattle.run_model.proofs.OfStations.{OfStations, run_of_stations}
 use Rattle.run_model.proofs.Parts.{journal_more}
 use Rattle.run_model.proofs.Places.{each_at}
 use Rattle.run_model.proofs.Stations.{is_in}
+use Rattle.run_laws.proofs.ChSel.{one_channel}
 use Rattle.run_laws.proofs.DistinctAccess.{AreApart}
 use Rattle.run_laws.proofs.Hearings.{wanted_is}
 use Rattle.journal_links.specs.Begun.{links_begun}
@@ -85,9 +86,6 @@ good_is Missed is = absurd cc
 good_is Broken is = absurd cc
 good_is Forged is = absurd cc
 
-same_channel : (one other : ℕ) → Listens one ≡ Listens other → one ≡ other
-same_channel one other is = cc
-
 -- ---- the lines from a packet on
 
 -- the first of them is that of the packet
@@ -119,7 +117,7 @@ module _ (given : Given) (station : ℕ) (before : List Event) (octets : List �
   listens_on channel listens =
       let setup = setup_at given station in
       let past = past_of station before in
-      same_channel taking.channel channel
+      one_channel taking.channel channel
       (sym (subst (λ (doing : Doing). IsWanted doing (facts_of setup past).wanted) taking.doing (always_wanted setup past)) ∙ wanted_is given station before ∙ listens)
 
   on_advertising : HaveAddresses given → is_advertising taking.channel ≡ true

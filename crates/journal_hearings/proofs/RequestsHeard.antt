@@ -34,6 +34,7 @@ use Rattle.run_model.proofs.OfStations.{OfStations, run_of_stations}
 use Rattle.run_model.proofs.Places.{each_at}
 use Rattle.run_model.proofs.Stations.{is_in, among}
 use Rattle.run_model.proofs.Walk.{AtPackets}
+use Rattle.run_laws.proofs.ChSel.{one_channel}
 use Rattle.run_laws.proofs.Hearings.{AreHearing, IsHeard, sends_deaf, wanted_is}
 use Rattle.run_laws.proofs.InAgreement.{differs_back}
 use Rattle.journal_links.proofs.OfTwo.{are_distinct}
@@ -60,9 +61,6 @@ listened_on facts (Initiates on) channel octets answers uses fits = record { wan
 listened_on facts (AwaitsRequest on) channel octets answers uses fits = record { wants = uses ∙ ap Listens answers.0; from = subst (λ n. 37 ≤ n) answers.0 fits.0 }
 listened_on facts (Advertises on) channel octets answers uses fits = absurd answers
 listened_on facts other channel octets answers uses fits = absurd answers
-
-same_channel : (one other : ℕ) → Listens one ≡ Listens other → one ≡ other
-same_channel one other is = cc
 
 -- ---- what the other station sent
 
@@ -209,7 +207,7 @@ module _ (understood : IsUnderstood) (given : Given) (pair : IsOfTwo given) (six
       listened = listened_on (facts station) (facts station).turn.doing channel answered.octets answered.answers (at station in_it).uses (can station)
 
       on_it : heard.channel ≡ channel
-      on_it = same_channel heard.channel channel (sym heard.listens ∙ sym (wanted_is given station start) ∙ listened.wants)
+      on_it = one_channel heard.channel channel (sym heard.listens ∙ sym (wanted_is given station start) ∙ listened.wants)
 
       uses : use_at given other start ≡ Sends channel answered.octets
       uses =

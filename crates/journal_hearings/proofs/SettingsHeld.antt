@@ -20,23 +20,25 @@ use Rattle.hci_cmd.specs.declared.command.CmdRead.{CmdRead}
 use Rattle.hci_cmd.specs.declared.command.CmdRead.TheVariants.{Known, UnknownOpcode, BadLength}
 use Rattle.hci_cmd.specs.Command.{command_of}
 use Rattle.host_view.specs.View.{View}
-use Rattle.host_view.specs.Changes.{after_counts, view_after}
+use Rattle.host_view.specs.Changes.{view_after}
 use Rattle.host_view.specs.Unbuilt.{status_of}
 use Rattle.open_links.specs.declared.offers.Offer.{Offer}
 use Rattle.open_links.specs.declared.offers.Offer.TheVariants.{NoLink, Empty, Overflow, Kept}
 use Rattle.controller_model.specs.Step.{Step, HostOctet, TurnBegins, PacketHeard, NothingHeard, TurnEnds}
 use Rattle.controller_model.specs.Facts.{Setup, Facts, Advertising, first_facts}
-use Rattle.controller_model.specs.Answers.{accepted_answer, answer_to, complete_answer, has_status_answer, is_host_completed, refused_fields, returned, status_answer}
-use Rattle.controller_model.specs.Commands.{advertising_after, events_caused, facts_accepted, facts_commanded, facts_known, notes_before, notes_commanded, notes_known}
+use Rattle.controller_model.specs.Answers.{accepted_answer, complete_answer, has_status_answer, is_host_completed, refused_fields, returned, status_answer}
+use Rattle.controller_model.specs.Commands.{advertising_after, facts_accepted, facts_commanded, facts_known, notes_commanded, notes_known}
 use Rattle.controller_model.specs.Data.{facts_offered, offer_of}
 use Rattle.controller_model.specs.Events.{notes_of_events}
 use Rattle.controller_model.specs.Heard.{link_taken}
 use Rattle.controller_model.specs.Side.{facts_after, facts_fed, facts_of, notes_after, notes_fed, notes_from, notes_of, result_of}
+use Rattle.controller_model.proofs.Accepted.{same_after_counts}
 use Rattle.controller_model.proofs.Always.{IsInTurn, IsKeptInTurns, opening_passes, holds_step, turn_keeps}
 use Rattle.controller_model.proofs.Feds.{frames_more, more_octets, no_frames, turn_octets}
+use Rattle.controller_model.proofs.NoAnswers.{answer_alone, none_in_loss, none_in_turn, none_of_offers}
 use Rattle.controller_model.proofs.Handles.{HaveOwnHandles, handles_kept, own_handles}
 use Rattle.journal_hearings.specs.Settings.{accepted_commands, accepted_command, commands_sent, command_read, is_left_out, list_after, policy_after, status_unless}
-use Rattle.journal_hearings.proofs.AnswerStatuses.{before_statuses, caused_statuses, command_status, complete_status, loss_statuses, offered_statuses, statuses_append, statuses_of, turn_statuses}
+use Rattle.journal_hearings.proofs.AnswerStatuses.{command_status, complete_status, reads_statuses, statuses_append, statuses_noted, statuses_of}
 use Rattle.journal_hearings.proofs.CommandCodes.{FitsCode, FitsRead, IsPlain, read_fits}
 
 -- ---- what a controller holds
@@ -46,17 +48,13 @@ Holds policy list facts = (facts.view.accepted ≡ list) × (facts.advertising.p
 
 -- ---- an accepted command
 
-same_accepted : (on : Bool) (one other : View) → other.accepted ≡ one.accepted → (cond on other one).accepted ≡ one.accepted
-same_accepted true one other same = same
-same_accepted false one other same = refl
-
 list_held : (view : View) (command : Command) → (view_after view command).accepted ≡ list_after view.accepted command
 unfolding view_after
 list_held view Reset = refl
 list_held view LeClearList = refl
 list_held view (LeAddToList kind address) = refl
 list_held view (LeRemoveFromList kind address) = refl
-list_held view (HostCompleted counts) = same_accepted view.flow.on view (record view { links = after_counts view.links counts.items }) refl
+list_held view (HostCompleted counts) = same_after_counts (λ (of : View). of.accepted) view counts refl
 list_held view other = refl
 
 policy_held : (setup : Setup) (view : View) (slot policy : ℕ) (command : Command) (advertising : Advertising) → advertising.params.policy ≡ policy
@@ -181,18 +179,6 @@ says_by setup facts view opcode command status plain false false false unknown i
   says = λ none. is;
 }
 
--- what is noted with an answer says no more
-known_says : (took : Bool) (setup : Setup) (facts : Facts) (opcode : ℕ) (command : Command)
-    → statuses_of (notes_known took setup facts opcode command) ≡ statuses_of (notes_of_events facts.view (answer_to setup facts opcode (Known command)))
-known_says false setup facts opcode command = refl
-known_says true setup facts opcode command =
-    let answer = notes_of_events facts.view (answer_to setup facts opcode (Known command)) in
-    let caused = notes_of_events facts.view (events_caused facts command) in
-    statuses_append (notes_before facts command ++ answer) caused
-    ∙ (λ i. statuses_append (notes_before facts command) answer i ++ caused_statuses facts command i)
-    ∙ (λ i. (before_statuses facts command i ++ statuses_of answer) ++ [])
-    ∙ append-nil (statuses_of answer)
-
 took_set : (took : Bool) (setup : Setup) (facts : Facts) (command : Command) → IsSet facts (facts_known took setup facts command) (cond took (command ∷ []) [])
 took_set true setup facts command = accepted_set setup facts command
 took_set false setup facts command = λ policy list holds. holds
@@ -209,7 +195,7 @@ module _ (setup : Setup) (facts : Facts) (opcode : ℕ) where
 
   says : (command : Command) → is_host_completed command ≡ false → SaysStatus (is_left_out opcode) (has_status_answer opcode) (took command) (statuses command)
   says command plain =
-      subst (SaysStatus (is_left_out opcode) (has_status_answer opcode) (took command)) (sym (known_says (took command) setup facts opcode command))
+      subst (SaysStatus (is_left_out opcode) (has_status_answer opcode) (took command)) (sym (answer_alone ℕ statuses_noted reads_statuses (took command) setup facts opcode command))
       (says_by setup facts facts.view opcode command (status_of facts.view command) plain (status_of facts.view command == 1) (has_status_answer opcode) (took command) refl refl)
 
   set_now : (command : Command) → IsSet facts (next command) (cond (took command) (command ∷ []) [])
@@ -240,7 +226,7 @@ module _ (setup : Setup) (facts : Facts) (opcode : ℕ) where
   -- the one that may have no answer
   completed_none : (counts : ArrayVec HandleCount) → is_left_out opcode ≡ true → statuses (HostCompleted counts) ≡ []
   completed_none counts left =
-      known_says (took (HostCompleted counts)) setup facts opcode (HostCompleted counts)
+      answer_alone ℕ statuses_noted reads_statuses (took (HostCompleted counts)) setup facts opcode (HostCompleted counts)
       ∙ by ((status_of facts.view (HostCompleted counts) == 1) || has_status_answer opcode) (took (HostCompleted counts))
     where
       status : ℕ
@@ -300,9 +286,9 @@ offered_set Overflow handle start octets facts = λ policy list holds. holds
 fed_set : (setup : Setup) (facts : Facts) (fed : Fed) → IsAnsweredSet facts (facts_fed setup facts fed) (command_read fed) (statuses_of (notes_fed setup facts fed))
 fed_set setup facts (Packet (HostCommand opcode body)) = command_set setup facts opcode (command_of opcode body.items) (read_fits opcode body.items)
 fed_set setup facts (Packet (Acl handle start count body)) =
-    subst (IsAnsweredSet facts (facts_fed setup facts (Packet (Acl handle start count body))) []) (sym (offered_statuses facts.view (offer_of setup facts handle count) handle))
+    subst (IsAnsweredSet facts (facts_fed setup facts (Packet (Acl handle start count body))) []) (sym (none_of_offers ℕ statuses_noted reads_statuses facts.view (offer_of setup facts handle count) handle))
     (record { lengths = refl; set = offered_set (offer_of setup facts handle count) handle start body.items facts })
-fed_set setup facts LostSync = subst (IsAnsweredSet facts facts []) (sym (loss_statuses facts.view)) (nothing_set facts)
+fed_set setup facts LostSync = subst (IsAnsweredSet facts facts []) (sym (none_in_loss ℕ statuses_noted reads_statuses facts.view)) (nothing_set facts)
 fed_set setup facts More = nothing_set facts
 
 commands_entry : (place : ℕ) (fed : Fed) → flat_map (λ (entry : ℕ × Fed). command_read entry.1) (frame_entry place fed) ≡ command_read fed
@@ -396,7 +382,7 @@ turn_settings : (setup : Setup) (facts : Facts) (step : Step) (notes : List Note
 turn_settings setup facts step notes own turn are =
     more_settings facts (facts_after setup facts step) notes (notes_after setup facts step) []
     (ap commands_sent (turn_octets setup facts step turn) ∙ sym (append-nil (commands_sent facts.octets)))
-    (subst (IsAnsweredSet facts (facts_after setup facts step) []) (sym (turn_statuses setup facts step own turn)) (record {
+    (subst (IsAnsweredSet facts (facts_after setup facts step) []) (sym (none_in_turn ℕ statuses_noted reads_statuses setup facts step own turn)) (record {
       lengths = refl;
       set = λ policy list holds. turn_keeps setup (Holds policy list) (Holds policy list) (settings_kept setup policy list) facts step turn holds;
     })) are

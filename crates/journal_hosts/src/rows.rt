@@ -19,9 +19,9 @@ pub fn worked_credit()
 {}
 
 /// After the first packet of a turn a side has no credit of a handle after one of a greater handle,
-/// also where the other side has one between them, no two credits of one handle, and none before
-/// another packet on the air or before data for its host. Before that packet no credit is of two
-/// packets, and none comes after the other side is fed. None is ever of no packet.
+/// also where the other host receives data between them, no two credits of one handle, and none
+/// before another packet on the air or before data for its host. Before that packet no credit is of
+/// two packets, and none comes after the other side is fed. None is ever of no packet.
 pub fn wrong_credits_are_refused()
     ensures descending { AllCreditsAscend descending → ⊥ }
     ensures one_by_one { AllCreditsAscend one_by_one → ⊥ }

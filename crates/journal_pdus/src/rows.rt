@@ -7,10 +7,10 @@ ghost use Rattle.ble_base.specs.declared.verdicts.Verdict.TheVariants.{Good, Mis
 ghost use Rattle.journal.specs.declared.entries.Entry.TheVariants.{Air, Fed, Opened, Sent, Took};
 ghost use Rattle.journal.specs.declared.entries.Mark.TheVariants.{Lost as WasLost, Pass};
 ghost use Rattle.journal_acks.specs.Rows.{data_heard, data_packet, data_pdu, data_sent};
-ghost use Rattle.journal_acks.specs.Rows.{data_taken};
+ghost use Rattle.journal_acks.specs.Rows.{data_acknowledged, data_taken, reply_packet};
 ghost use Rattle.journal_data.specs.Lines.{lines_of};
 ghost use Rattle.link_model.specs.Acknowledgement.{Pdu, empty_pdu};
-ghost use Rattle.run_model.specs.Rows.{first_packet, first_reply, one_event_journal};
+ghost use Rattle.run_model.specs.Rows.{first_packet, one_event_journal};
 ghost use Rattle.journal_pdus.specs.Announced.{announced_pdu, new_pdu_in};
 ghost use Rattle.journal_pdus.specs.Pending.{pending_pdu, taken_pdu};
 ghost use Rattle.journal_pdus.specs.Settled.{acked_on};
@@ -97,7 +97,6 @@ pub fn worked_taking()
 pub fn worked_acknowledged()
     ensures sent { acked_on 1 B data_sent ≡ [] }
     ensures taken { acked_on 1 B data_taken ≡ [] }
-    ensures lost { acked_on 1 B (data_taken ++ Air A 25 first_reply WasLost Missed ∷ []) ≡ [] }
-    ensures acknowledged { acked_on 1 B (data_taken ++ Air A 25 first_reply Pass Good ∷ [])
-        ≡ (true, 0xAA) ∷ [] }
+    ensures lost { acked_on 1 B (data_taken ++ Air A 25 reply_packet WasLost Missed ∷ []) ≡ [] }
+    ensures acknowledged { acked_on 1 B data_acknowledged ≡ (true, 0xAA) ∷ [] }
 {}

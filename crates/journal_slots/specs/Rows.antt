@@ -1,51 +1,18 @@
 -- Journals of a link whose first event goes on in the turn after that of its anchor, as worked examples have them.
 use Rattle.std.specs.Prelude.{ℕ, List, [], ◌∷◌, ◌++◌}
-use Rattle.ble_base.specs.declared.roles.Side.{Side}
 use Rattle.ble_base.specs.declared.roles.Side.TheVariants.{A, B}
 use Rattle.ble_base.specs.declared.verdicts.Verdict.TheVariants.{Good, Missed}
 use Rattle.journal.specs.declared.entries.Entry.{Entry}
-use Rattle.journal.specs.declared.entries.Entry.TheVariants.{Air, Enter, Fed, Sent}
+use Rattle.journal.specs.declared.entries.Entry.TheVariants.{Air}
 use Rattle.journal.specs.declared.entries.Mark.TheVariants.{Lost, Pass}
-use Rattle.run_model.specs.Rows.{first_packet, first_reply, one_connection_journal, one_event_journal, turn_entry}
-use Rattle.journal_acks.specs.Rows.{data_packet}
+use Rattle.run_model.specs.Rows.{first_packet, first_reply, one_event_journal, turn_entry}
+use Rattle.journal_acks.specs.Rows.{given_to, more_packet, more_reply}
 
--- ---- the packets, on data channel 25
-
--- the first packet of the central, and the reply of the peripheral, each with MD 1
-abbrev pub more_packet : List ℕ
-more_packet = 0x29 ∷ 0x41 ∷ 0x76 ∷ 0x71 ∷ 0x40 ∷ 0xFA ∷ 0x92 ∷ 0xFE ∷ 0x50 ∷ []
-
-abbrev pub more_reply : List ℕ
-more_reply = 0x29 ∷ 0x41 ∷ 0x76 ∷ 0x71 ∷ 0x44 ∷ 0xFA ∷ 0x41 ∷ 0xF8 ∷ 0x50 ∷ []
-
--- the next packet of the central: an empty PDU with SN 1, NESN 1 and MD 0
+-- the next packet of the central, on data channel 25: an empty PDU with SN 1, NESN 1 and MD 0
 abbrev pub next_packet : List ℕ
 next_packet = 0x29 ∷ 0x41 ∷ 0x76 ∷ 0x71 ∷ 0x5C ∷ 0xFA ∷ 0xAB ∷ 0xEE ∷ 0x50 ∷ []
 
--- the reply of the peripheral to a PDU of data: an empty PDU with SN 1, NESN 0 and MD 0
-abbrev pub reply_packet : List ℕ
-reply_packet = 0x29 ∷ 0x41 ∷ 0x76 ∷ 0x71 ∷ 0x58 ∷ 0xFA ∷ 0x78 ∷ 0xE8 ∷ 0x50 ∷ []
-
--- ---- the turn of the anchor begins
-
--- the host of a side gives a packet of one octet, AA, and both sides enter event 0 in the turn of its anchor, which is
--- turn 2
-abbrev pub given_to : Side → List Entry
-given_to side =
-    one_connection_journal ++ turn_entry 1 ∷ Fed side (0x02 ∷ 0x00 ∷ 0x00 ∷ 0x01 ∷ 0x00 ∷ 0xAA ∷ []) ∷ turn_entry 2
-    ∷ Enter A 1 0 25 ∷ Enter B 1 0 25 ∷ []
-
--- ---- in the turn after that
-
--- the central said that more waits, and sends its data
-abbrev pub central_says_more : List Entry
-central_says_more =
-    given_to B ++ Air B 25 more_packet Pass Good ∷ Air A 25 first_reply Pass Good ∷ turn_entry 3
-    ∷ Sent B 1 1 2 (0xAA ∷ []) ∷ []
-
--- which reaches the peripheral
-abbrev pub central_goes_on : List Entry
-central_goes_on = central_says_more ++ Air B 25 data_packet Pass Good ∷ []
+-- ---- the turn after that of the anchor
 
 -- the peripheral said that more waits
 abbrev pub peripheral_says_more : List Entry

@@ -1,11 +1,11 @@
 //! Worked examples, and journals that the definition refuses.
 ghost use Rattle.std.specs.Prelude.{◌≡◌, false, true};
 ghost use Rattle.ble_base.specs.declared.roles.Side.TheVariants.{A, B};
-ghost use Rattle.journal_acks.specs.Rows.{data_packet};
+ghost use Rattle.journal_acks.specs.Rows.{data_heard, data_packet, data_sent, given_to};
+ghost use Rattle.journal_acks.specs.Rows.{more_packet, more_reply, reply_packet};
 ghost use Rattle.journal_slots.specs.SecondSlot.{AllAreContinued, IsContinued, has_more};
-ghost use Rattle.journal_slots.specs.Rows.{central_goes_on, central_says_more, continued_by_none};
-ghost use Rattle.journal_slots.specs.Rows.{continued_unheard, given_to, more_packet, more_reply};
-ghost use Rattle.journal_slots.specs.Rows.{next_packet, peripheral_says_more, reply_packet};
+ghost use Rattle.journal_slots.specs.Rows.{continued_by_none, continued_unheard, next_packet};
+ghost use Rattle.journal_slots.specs.Rows.{peripheral_says_more};
 ghost use Rattle.run_model.specs.Rows.{first_packet, first_reply};
 
 /// MD is bit 4 of the first octet of a PDU.
@@ -20,8 +20,8 @@ pub fn worked_more_bits()
 /// send where the first packet of either says that more waits, and both packets were heard.
 pub fn worked_second_slots()
     ensures first_slot { IsContinued (given_to B) B more_packet }
-    ensures central { IsContinued central_says_more B data_packet }
-    ensures peripheral { IsContinued central_goes_on A reply_packet }
+    ensures central { IsContinued data_sent B data_packet }
+    ensures peripheral { IsContinued data_heard A reply_packet }
     ensures by_the_reply { IsContinued peripheral_says_more B next_packet }
 {}
 

@@ -6,7 +6,7 @@ use Rattle.ble_base.specs.declared.error_codes.ErrCode.{ErrCode}
 use Rattle.ble_base.specs.declared.roles.Role.{Role}
 use Rattle.ble_base.specs.declared.roles.Role.TheVariants.{Central, Peripheral}
 use Rattle.data_pdu.specs.declared.ctrl.Ctrl.{Ctrl}
-use Rattle.data_pdu.specs.declared.ctrl.Ctrl.TheVariants.{EncReq, EncRsp, PauseEncReq, PauseEncRsp, RejectExtInd, RejectInd, StartEncReq, StartEncRsp, TerminateInd, UnknownRsp}
+use Rattle.data_pdu.specs.declared.ctrl.Ctrl.TheVariants.{EncReq, PauseEncReq, PauseEncRsp, RejectExtInd, RejectInd, StartEncReq, StartEncRsp, TerminateInd, UnknownRsp}
 use Rattle.data_pdu.specs.declared.ctrl.CtrlRead.{CtrlRead}
 use Rattle.data_pdu.specs.declared.ctrl.CtrlRead.TheVariants.{Known, Unknown, Bare}
 use Rattle.enc_phase.specs.declared.classes.PduClass.TheVariants.{Data, Other, Refusal, Request}
@@ -30,13 +30,13 @@ use Rattle.control_model.specs.Control.{Control, Step, after, after_all}
 use Rattle.control_model.specs.Control.{Enters as control_enters, Owes, SeesAcknowledged as control_sees_acknowledged, Sends as control_sends, Takes as control_takes, Asks as control_asks, Answers as control_answers, Disconnects as control_disconnects}
 use Rattle.control_model.proofs.Calls.{any_step, open_step}
 use Rattle.phased_control.specs.Phased.{Phased, acknowledged, ask_begun, asking_if, asks_again, encrypting, encrypting_if, entered, first_phased, is_encrypt, is_open_now, is_pause_rsp, is_quiet_now, key_given, key_lacking, refused_if, request_of, table_entered, with_owed_if, with_step}
-use Rattle.phased_control.specs.Taken.{PhasedStep, Answers, Asks, Disconnects, Enters, GivesKey, LacksKey, SeesAcknowledged, Sends, Takes, TakesData, answered_kept, ciphered, class_of_read, ended_with, is_allowed, phased_after, phased_after_all, phased_moved, role_now, seen_as, took}
+use Rattle.phased_control.specs.Taken.{PhasedStep, Response, Answers, Asks, Disconnects, Enters, GivesKey, LacksKey, SeesAcknowledged, Sends, Takes, TakesData, answered_kept, ciphered, class_of_read, ended_with, is_allowed, phased_after, phased_after_all, phased_moved, response_ctrl, role_now, seen_as, took}
 use Rattle.phased_control.specs.Steps.{ctrl_if, read_answer, owed_steps, seen_by_procedures}
 use Rattle.phased_control.proofs.AnswerParts.{phase_answering}
-use Rattle.phased_control.specs.Ends.{AllMayRespond, IsFirst, IsResponse, MayRespond}
+use Rattle.phased_control.specs.Ends.{IsFirst}
 use Rattle.phased_control.proofs.Answering.{answers}
 use Rattle.phased_control.proofs.Encrypted.{agrees_taken, quiet_taking}
-use Rattle.phased_control.proofs.Kept.{Tied, apart, tied_after, tied_first}
+use Rattle.phased_control.proofs.Kept.{Tied, tied_after, tied_first}
 use Rattle.phased_control.proofs.Moving.{open_phased, same_after, same_kept}
 use Rattle.phased_control.proofs.Requests.{Requests, encrypts, requests_after, requests_first, role_entered}
 use Rattle.phased_control.proofs.Tables.{begins_encryption, is_step_apart, leaves_at_central, leaves_encryption, leaves_entering, same_in, same_role, takes_as}
@@ -157,20 +157,16 @@ no_rejection_if : (b : Bool) (ctrl : Ctrl) → is_rejection ctrl ≡ false → I
 no_rejection_if true ctrl is = is
 no_rejection_if false ctrl is = tt
 
-response_stays : (response : Ctrl) → IsResponse response → is_rejection response ≡ false
-response_stays (EncRsp skd_s iv_s) is = refl
-response_stays ctrl is = absurd is
-
-no_rejection : (role : Role) (response : Ctrl) (read : CtrlRead) (p : PhaseFacts) → (role ≡ Peripheral → IsResponse response) → IsNoRejection (read_answer role response read p)
-no_rejection Central response (Known StartEncReq) p may = no_rejection_if _ StartEncRsp refl
-no_rejection Central response (Known PauseEncRsp) p may = no_rejection_if _ PauseEncRsp refl
-no_rejection Central response (Known ctrl) p may = tt
-no_rejection Peripheral response (Known (EncReq rand ediv skd_m iv_m)) p may = no_rejection_if _ response (response_stays response (may refl))
-no_rejection Peripheral response (Known PauseEncReq) p may = no_rejection_if _ PauseEncRsp refl
-no_rejection Peripheral response (Known StartEncRsp) p may = no_rejection_if _ StartEncRsp refl
-no_rejection Peripheral response (Known ctrl) p may = tt
-no_rejection role response (Unknown opcode) p may = tt
-no_rejection role response Bare p may = tt
+no_rejection : (role : Role) (response : Response) (read : CtrlRead) (p : PhaseFacts) → IsNoRejection (read_answer role response read p)
+no_rejection Central response (Known StartEncReq) p = no_rejection_if _ StartEncRsp refl
+no_rejection Central response (Known PauseEncRsp) p = no_rejection_if _ PauseEncRsp refl
+no_rejection Central response (Known ctrl) p = tt
+no_rejection Peripheral response (Known (EncReq rand ediv skd_m iv_m)) p = no_rejection_if _ (response_ctrl response) refl
+no_rejection Peripheral response (Known PauseEncReq) p = no_rejection_if _ PauseEncRsp refl
+no_rejection Peripheral response (Known StartEncRsp) p = no_rejection_if _ StartEncRsp refl
+no_rejection Peripheral response (Known ctrl) p = tt
+no_rejection role response (Unknown opcode) p = tt
+no_rejection role response Bare p = tt
 
 leaves_owed : (owed : Option Ctrl) (c : Control) → IsNoRejection owed → has_encryption (after_all (owed_steps owed) c).table.progress ≡ has_encryption c.table.progress
 leaves_owed None c is = refl
@@ -210,9 +206,9 @@ leaves_taking read slot quiet c lasts same = by (after (control_takes read slot 
     by None is = ap (λ (f : TableFacts). has_encryption f.progress) ((takes_as read slot quiet c lasts).goes is) ∙ same
     by (Some code) is = ap (λ (f : TableFacts). has_encryption f.progress) ((takes_as read slot quiet c lasts).ends code is)
 
-pub agrees_taking : (slot : ℕ) (response : Ctrl) (read : CtrlRead) (role : Role) (s : Phased) → Tied role s → (role ≡ Peripheral → IsResponse response) → s.control.ends ≡ None
+pub agrees_taking : (slot : ℕ) (response : Response) (read : CtrlRead) (role : Role) (s : Phased) → Tied role s → s.control.ends ≡ None
     → is_allowed read s ≡ true → Agrees s → (seen_by_procedures read slot s).control.ends ≡ None → Agrees (ciphered response read (seen_by_procedures read slot s))
-agrees_taking slot response read role s tied may lasts allowed agrees goes =
+agrees_taking slot response read role s tied lasts allowed agrees goes =
     let t = seen_by_procedures read slot s in
     let f = s.control.table in
     let g = (took_step f (seen_as read s) slot (is_quiet_now s)).0 in
@@ -226,7 +222,7 @@ agrees_taking slot response read role s tied may lasts allowed agrees goes =
     (subst (λ (r : Role). is_quiet (phase_answering r read (has_encryption g.progress) t.phase) ≡ not (has_encryption g.progress)) (sym role_t) here) in
     let owed = read_answer (role_now t) response read t.phase in
     let same : has_encryption (after_all (owed_steps owed) t.control).table.progress ≡ encrypts t =
-    leaves_owed owed t.control (no_rejection (role_now t) response read t.phase (λ at. may (sym tied.is_role ∙ sym role_t ∙ at))) in
+    leaves_owed owed t.control (no_rejection (role_now t) response read t.phase) in
     subst Agrees (sym (answers t response read)) (now ∙ sym (ap not same))
 
 agrees_kept : (slot : ℕ) (kept : Option Ctrl) (s : Phased) → IsFirst kept → s.control.ends ≡ None → Agrees s → Agrees (answered_kept slot kept s)
@@ -239,23 +235,23 @@ pub lasts_owed : (owed : Option Ctrl) (c : Control) → c.ends ≡ None → (aft
 lasts_owed None c lasts = lasts
 lasts_owed (Some ctrl) c lasts = any_step (λ (d : Control). d.ends ≡ None) (Owes ctrl) c lasts lasts
 
-pub lasts_answered : (response : Ctrl) (read : CtrlRead) (s : Phased) → s.control.ends ≡ None → (ciphered response read s).control.ends ≡ None
+pub lasts_answered : (response : Response) (read : CtrlRead) (s : Phased) → s.control.ends ≡ None → (ciphered response read s).control.ends ≡ None
 lasts_answered response read s lasts =
     subst (λ (t : Phased). t.control.ends ≡ None) (sym (answers s response read)) (lasts_owed (read_answer (role_now s) response read s.phase) s.control lasts)
 
-agrees_took : (slot : ℕ) (response : Ctrl) (read : CtrlRead) (role : Role) (s : Phased) → Tied role s → (role ≡ Peripheral → IsResponse response) → s.control.ends ≡ None → Agrees s
+agrees_took : (slot : ℕ) (response : Response) (read : CtrlRead) (role : Role) (s : Phased) → Tied role s → s.control.ends ≡ None → Agrees s
     → Agrees (took slot response read s)
-agrees_took slot response read role s tied may lasts agrees =
+agrees_took slot response read role s tied lasts agrees =
     took_ways Agrees slot response read s (λ no_way. agrees)
     (λ allowed. λ keeps. quiet_taking (class_of_read read) s.phase ∙ agrees)
     (λ allowed. λ keeps. λ full. agrees)
     (λ allowed. λ keeps. λ full. handed_ways Agrees slot response read s
     (λ code. λ over. quiet_taking (class_of_read read) s.phase ∙ agrees
     ∙ ap not (sym (ap (λ (f : TableFacts). has_encryption f.progress) ((takes_as (seen_as read s) slot (is_quiet_now s) s.control lasts).ends code over))))
-    (λ goes. λ loud. agrees_taking slot response read role s tied may lasts allowed agrees goes)
+    (λ goes. λ loud. agrees_taking slot response read role s tied lasts allowed agrees goes)
     (λ goes. λ quiet. agrees_kept slot (ciphered response read t).kept (ciphered response read t)
     (subst IsFirst (sym (same_kept response read t)) tied.first) (lasts_answered response read t goes)
-    (agrees_taking slot response read role s tied may lasts allowed agrees goes)))
+    (agrees_taking slot response read role s tied lasts allowed agrees goes)))
   where
     t : Phased
     t = seen_by_procedures read slot s
@@ -266,36 +262,32 @@ agrees_if : (b : Bool) (s t : Phased) → (b ≡ true → Agrees t) → Agrees s
 agrees_if true s t next agrees = next refl
 agrees_if false s t next agrees = agrees
 
-pub responds : (role : Role) (read : CtrlRead) (slot : ℕ) (response : Ctrl) → MayRespond role (Takes read slot response) → role ≡ Peripheral → IsResponse response
-responds Peripheral read slot response may is = may
-responds Central read slot response may is = apart is
-
-agrees_moved : (role : Role) (step : PhasedStep) (s : Phased) → Sound role s → MayRespond role step → s.control.ends ≡ None → Agrees s → Agrees (phased_moved step s)
-agrees_moved role (Enters slot) s sound may lasts agrees = agrees_entered slot s lasts agrees
-agrees_moved role (Asks ask) s sound may lasts agrees = apart_step (control_asks ask) s refl agrees
-agrees_moved role (Answers answer) s sound may lasts agrees = apart_step (control_answers answer) s refl agrees
-agrees_moved role GivesKey s sound may lasts agrees =
+agrees_moved : (role : Role) (step : PhasedStep) (s : Phased) → Sound role s → s.control.ends ≡ None → Agrees s → Agrees (phased_moved step s)
+agrees_moved role (Enters slot) s sound lasts agrees = agrees_entered slot s lasts agrees
+agrees_moved role (Asks ask) s sound lasts agrees = apart_step (control_asks ask) s refl agrees
+agrees_moved role (Answers answer) s sound lasts agrees = apart_step (control_answers answer) s refl agrees
+agrees_moved role GivesKey s sound lasts agrees =
     agrees_if (s.asks_key && is_open_now s) s (key_given s)
     (λ is. agrees_step (Owes StartEncReq) s (key_given s) (leaves_encryption (Owes StartEncReq) s.control refl) agrees refl (quiet_starting s.phase)) agrees
-agrees_moved role LacksKey s sound may lasts agrees =
+agrees_moved role LacksKey s sound lasts agrees =
     agrees_if (s.asks_key && is_open_now s) s (key_lacking s)
     (λ is. agrees_refused (may_follow Refuse s.phase) s refl (sound.tied.is_role ∙ sound.tied.asked_at (and_parts s.asks_key (is_open_now s) is).0) lasts agrees) agrees
-agrees_moved role (Disconnects reason) s sound may lasts agrees = apart_step (control_disconnects reason) s refl agrees
-agrees_moved role (Sends slot) s sound may lasts agrees = apart_step (control_sends slot (is_quiet_now s)) s refl agrees
-agrees_moved role SeesAcknowledged s sound may lasts agrees = agrees_acknowledged role s sound agrees
-agrees_moved role (Takes read slot response) s sound may lasts agrees =
-    agrees_took slot response read role s sound.tied (responds role read slot response may) lasts agrees
-agrees_moved role TakesData s sound may lasts agrees = by (allows s.phase (role_now s) Data)
+agrees_moved role (Disconnects reason) s sound lasts agrees = apart_step (control_disconnects reason) s refl agrees
+agrees_moved role (Sends slot) s sound lasts agrees = apart_step (control_sends slot (is_quiet_now s)) s refl agrees
+agrees_moved role SeesAcknowledged s sound lasts agrees = agrees_acknowledged role s sound agrees
+agrees_moved role (Takes read slot response) s sound lasts agrees =
+    agrees_took slot response read role s sound.tied lasts agrees
+agrees_moved role TakesData s sound lasts agrees = by (allows s.phase (role_now s) Data)
   where
     by : (b : Bool) → Agrees (if b then s else ended_with mic_failure s)
     by true = agrees
     by false = agrees
 
-pub agrees_after : (role : Role) (step : PhasedStep) (s : Phased) → Sound role s → MayRespond role step → Agrees s → Agrees (phased_after step s)
-agrees_after role step s sound may agrees = by s.control.ends refl
+pub agrees_after : (role : Role) (step : PhasedStep) (s : Phased) → Sound role s → Agrees s → Agrees (phased_after step s)
+agrees_after role step s sound agrees = by s.control.ends refl
   where
     by : (ends : Option ErrCode) → s.control.ends ≡ ends → Agrees (phased_after step s)
-    by None is = open_phased Agrees step s is (agrees_moved role step s sound may is agrees)
+    by None is = open_phased Agrees step s is (agrees_moved role step s sound is agrees)
     by (Some code) is = subst Agrees (sym (same_after step s code is)) agrees
 
 pub sound_after : (role : Role) (step : PhasedStep) (s : Phased) → Sound role s → Sound role (phased_after step s)
@@ -318,14 +310,14 @@ pub agrees_first : (role : Role) (max_rx : ℕ) (first : Params) (slot : ℕ) �
 agrees_first Central max_rx first slot = refl
 agrees_first Peripheral max_rx first slot = refl
 
-agrees_all : (role : Role) (steps : List PhasedStep) (s : Phased) → Sound role s → AllMayRespond role steps → Agrees s → Agrees (phased_after_all steps s)
-agrees_all role [] s sound may agrees = agrees
-agrees_all role (step ∷ steps) s sound may agrees =
-    agrees_all role steps (phased_after step s) (sound_after role step s sound) may.1 (agrees_after role step s sound may.0 agrees)
+agrees_all : (role : Role) (steps : List PhasedStep) (s : Phased) → Sound role s → Agrees s → Agrees (phased_after_all steps s)
+agrees_all role [] s sound agrees = agrees
+agrees_all role (step ∷ steps) s sound agrees =
+    agrees_all role steps (phased_after step s) (sound_after role step s sound) (agrees_after role step s sound agrees)
 
 -- the law
-pub agrees_now : (role : Role) (max_rx : ℕ) (first : Params) (slot : ℕ) (steps : List PhasedStep) → AllMayRespond role steps
+pub agrees_now : (role : Role) (max_rx : ℕ) (first : Params) (slot : ℕ) (steps : List PhasedStep)
     → let s = phased_after_all steps (first_phased role max_rx first slot) in
     is_quiet_now s ≡ not (has_encryption s.control.table.progress)
-agrees_now role max_rx first slot steps may =
-    agrees_all role steps (first_phased role max_rx first slot) (sound_first role max_rx first slot) may (agrees_first role max_rx first slot)
+agrees_now role max_rx first slot steps =
+    agrees_all role steps (first_phased role max_rx first slot) (sound_first role max_rx first slot) (agrees_first role max_rx first slot)

@@ -20,8 +20,7 @@ use Rattle.phased_control.specs.Ciphers.{AreInTurn, IsInTurn}
 use Rattle.phased_control.specs.Phased.{Phased, first_phased, is_open_now, is_quiet_now}
 use Rattle.phased_control.specs.Taken.{PhasedStep, Answers, Asks, Disconnects, Enters, GivesKey, LacksKey, SeesAcknowledged, Sends, Takes, TakesData, phased_after, phased_after_all}
 use Rattle.phased_control.specs.Steps.{control_steps, steps_now}
-use Rattle.phased_control.specs.Ends.{AllMayRespond, MayRespond}
-use Rattle.phased_control.proofs.Agreeing.{Agrees, Sound, agrees_after, agrees_first, responds, sound_after, sound_first}
+use Rattle.phased_control.proofs.Agreeing.{Agrees, Sound, agrees_after, agrees_first, sound_after, sound_first}
 use Rattle.phased_control.proofs.Calling.{keys_joined, makes_phased}
 use Rattle.phased_control.proofs.Extending.{At, Fine, extends, fine_none}
 use Rattle.phased_control.proofs.Moving.{open_phased, same_after}
@@ -45,20 +44,20 @@ module _ (role : Role) (max_rx : ℕ) (past : List Call) (s : Phased) (here : He
   abbrev key : Bool
   key = is_key_asked past
 
-  fits : (step : PhasedStep) → MayRespond role step → (role ≡ Central → IsInTurn step s) → s.control.ends ≡ None → Fits step s key
-  fits (Enters slot) may turn lasts = fits_enters role max_rx past slot s key here.at lasts here.agrees here.asked
-  fits (Asks ask) may turn lasts = fits_asks s key lasts here.agrees here.asked ask
-  fits (Answers answer) may turn lasts = fits_answers s key lasts here.agrees here.asked answer
-  fits GivesKey may turn lasts = fits_given s key lasts here.agrees here.asked (λ is. here.sound.tied.is_role ∙ here.sound.tied.asked_at is)
-  fits LacksKey may turn lasts = fits_lacking s key lasts here.agrees here.asked (λ is. here.sound.tied.is_role ∙ here.sound.tied.asked_at is)
-  fits (Disconnects reason) may turn lasts = fits_disconnects s key lasts here.agrees here.asked reason
-  fits (Sends slot) may turn lasts = fits_sends s key lasts here.agrees here.asked slot
-  fits SeesAcknowledged may turn lasts = fits_acked role max_rx past s key here.at lasts here.sound here.agrees here.order here.asked
-  fits (Takes read slot response) may turn lasts =
-      fits_takes role max_rx past slot response read s key here.at lasts here.sound.tied here.agrees (responds role read slot response may) turn here.asked
-  fits TakesData may turn lasts = fits_data s key lasts here.agrees here.asked
+  fits : (step : PhasedStep) → (role ≡ Central → IsInTurn step s) → s.control.ends ≡ None → Fits step s key
+  fits (Enters slot) turn lasts = fits_enters role max_rx past slot s key here.at lasts here.agrees here.asked
+  fits (Asks ask) turn lasts = fits_asks s key lasts here.agrees here.asked ask
+  fits (Answers answer) turn lasts = fits_answers s key lasts here.agrees here.asked answer
+  fits GivesKey turn lasts = fits_given s key lasts here.agrees here.asked (λ is. here.sound.tied.is_role ∙ here.sound.tied.asked_at is)
+  fits LacksKey turn lasts = fits_lacking s key lasts here.agrees here.asked (λ is. here.sound.tied.is_role ∙ here.sound.tied.asked_at is)
+  fits (Disconnects reason) turn lasts = fits_disconnects s key lasts here.agrees here.asked reason
+  fits (Sends slot) turn lasts = fits_sends s key lasts here.agrees here.asked slot
+  fits SeesAcknowledged turn lasts = fits_acked role max_rx past s key here.at lasts here.sound here.agrees here.order here.asked
+  fits (Takes read slot response) turn lasts =
+      fits_takes role max_rx past slot response read s key here.at lasts here.sound.tied here.agrees turn here.asked
+  fits TakesData turn lasts = fits_data s key lasts here.agrees here.asked
 
-  module _ (step : PhasedStep) (may : MayRespond role step) (turn : role ≡ Central → IsInTurn step s) where
+  module _ (step : PhasedStep) (turn : role ≡ Central → IsInTurn step s) where
     abbrev now : List Call
     now = all_calls (steps_now step s) s.control
 
@@ -71,7 +70,7 @@ module _ (role : Role) (max_rx : ℕ) (past : List Call) (s : Phased) (here : He
       where
         by : (ends : Option ErrCode) → s.control.ends ≡ ends → Then
         by None is =
-            let h = fits step may turn is in
+            let h = fits step turn is in
             let all : steps_now step s ≡ control_steps step s = ap (λ (ends : Option ErrCode). if is_none ends then control_steps step s else []) is in
             record {
               fine = subst (Fine s.control key) (sym all) h.fine;
@@ -96,18 +95,18 @@ module _ (role : Role) (max_rx : ℕ) (past : List Call) (s : Phased) (here : He
         record {
           at = subst (λ (f : TableFacts). At role max_rx (past ++ now) f (is_key_asked (past ++ now))) (sym (makes_phased step s)) (subst (λ (k : Bool). At role max_rx (past ++ now) (after_calls s.control.table now) k) keys there);
           sound = sound_after role step s here.sound;
-          agrees = agrees_after role step s here.sound may here.agrees;
-          order = λ is. order_after role step s here.sound here.agrees may (turn is) (here.order is);
+          agrees = agrees_after role step s here.sound here.agrees;
+          order = λ is. order_after role step s here.sound here.agrees (turn is) (here.order is);
           asked = subst (λ (k : Bool). KeyFits (phased_after step s) k) keys h.asked;
         }
 
-here_all : (role : Role) (max_rx : ℕ) (past : List Call) (steps : List PhasedStep) (s : Phased) → Here role max_rx past s → AllMayRespond role steps → (role ≡ Central → AreInTurn steps s)
+here_all : (role : Role) (max_rx : ℕ) (past : List Call) (steps : List PhasedStep) (s : Phased) → Here role max_rx past s → (role ≡ Central → AreInTurn steps s)
     → Here role max_rx (past ++ all_phased_calls steps s) (phased_after_all steps s)
-here_all role max_rx past [] s here may turns = subst (λ (calls : List Call). Here role max_rx calls s) (sym (append-nil past)) here
-here_all role max_rx past (step ∷ steps) s here may turns =
+here_all role max_rx past [] s here turns = subst (λ (calls : List Call). Here role max_rx calls s) (sym (append-nil past)) here
+here_all role max_rx past (step ∷ steps) s here turns =
     let now = all_calls (steps_now step s) s.control in
     subst (λ (calls : List Call). Here role max_rx calls (phased_after_all steps (phased_after step s))) (append_assoc past now (all_phased_calls steps (phased_after step s)))
-    (here_all role max_rx (past ++ now) steps (phased_after step s) (here_after role max_rx past s here step may.0 (λ is. (turns is).0)) may.1 (λ is. (turns is).1))
+    (here_all role max_rx (past ++ now) steps (phased_after step s) (here_after role max_rx past s here step (λ is. (turns is).0)) (λ is. (turns is).1))
 
 here_first : (role : Role) (max_rx : ℕ) (first : Params) (slot : ℕ) → Here role max_rx [] (first_phased role max_rx first slot)
 here_first role max_rx first slot =
@@ -119,9 +118,9 @@ here_first role max_rx first slot =
       asked = λ opens. refl;
     }
 
-module _ (role : Role) (max_rx : ℕ) (first : Params) (slot : ℕ) (steps : List PhasedStep) (may : AllMayRespond role steps) (turns : role ≡ Central → AreInTurn steps (first_phased role max_rx first slot)) where
+module _ (role : Role) (max_rx : ℕ) (first : Params) (slot : ℕ) (steps : List PhasedStep) (turns : role ≡ Central → AreInTurn steps (first_phased role max_rx first slot)) where
   here_now : Here role max_rx (all_phased_calls steps (first_phased role max_rx first slot)) (phased_after_all steps (first_phased role max_rx first slot))
-  here_now = here_all role max_rx [] steps (first_phased role max_rx first slot) (here_first role max_rx first slot) may turns
+  here_now = here_all role max_rx [] steps (first_phased role max_rx first slot) (here_first role max_rx first slot) turns
 
   -- ---- the laws
 
@@ -142,7 +141,7 @@ pub table_now : (role : Role) (max_rx : ℕ) (first : Params) (slot : ℕ) (step
     → (phased_after_all steps (first_phased role max_rx first slot)).control.table ≡ after_calls (first_facts role max_rx) (all_phased_calls steps (first_phased role max_rx first slot))
 table_now role max_rx first slot steps = makes_all_phased steps (first_phased role max_rx first slot)
 
-module _ (max_rx : ℕ) (first : Params) (slot : ℕ) (steps : List PhasedStep) (may : AllMayRespond Central steps) (turns : AreInTurn steps (first_phased Central max_rx first slot)) where
+module _ (max_rx : ℕ) (first : Params) (slot : ℕ) (steps : List PhasedStep) (turns : AreInTurn steps (first_phased Central max_rx first slot)) where
   abbrev s : Phased
   s = phased_after_all steps (first_phased Central max_rx first slot)
 
@@ -150,7 +149,7 @@ module _ (max_rx : ℕ) (first : Params) (slot : ℕ) (steps : List PhasedStep) 
   calls = all_phased_calls steps (first_phased Central max_rx first slot)
 
   here_c : Here Central max_rx calls s
-  here_c = here_now Central max_rx first slot steps may (λ is. turns)
+  here_c = here_now Central max_rx first slot steps (λ is. turns)
 
   -- a call of now passes the phase of now
   passing : is_quiet_now s ≡ false → PassesPhase (after_calls (first_facts Central max_rx) calls) (takes Bare 0 false)

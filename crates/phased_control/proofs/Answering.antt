@@ -17,7 +17,7 @@ use Rattle.enc_phase.specs.Taking.{ctrl_class}
 use Rattle.table_laws.specs.Encrypting.{has_encryption}
 use Rattle.control_model.specs.Control.{after_all}
 use Rattle.phased_control.specs.Phased.{Phased, is_open_now}
-use Rattle.phased_control.specs.Taken.{asked, ciphered, ciphered_at, ciphered_at_central, ciphered_at_peripheral, moved_if, refused_by, role_now, started}
+use Rattle.phased_control.specs.Taken.{Response, asked, ciphered, ciphered_at, ciphered_at_central, ciphered_at_peripheral, moved_if, refused_by, response_ctrl, role_now, started}
 use Rattle.phased_control.specs.Steps.{ctrl_if, ctrl_answer, central_answer, peripheral_answer, read_answer, owed_steps}
 use Rattle.phased_control.proofs.AnswerParts.{key_answering, ctrl_key, phase_answering, ctrl_phase, central_phase, peripheral_phase, refused_phase}
 
@@ -80,14 +80,14 @@ module _ (s : Phased) where
       by true is = refl
       by false is = same_phase _ (start_stays s.phase is)
 
-  asks : (response : Ctrl)
+  asks : (response : Response)
       → asked response s
-      ≡ with_answer (ctrl_if (may_follow AskTransition s.phase) response) (phase_after AskTransition s.phase) (if may_follow AskTransition s.phase then is_open_now s else s.asks_key) s
+      ≡ with_answer (ctrl_if (may_follow AskTransition s.phase) (response_ctrl response)) (phase_after AskTransition s.phase) (if may_follow AskTransition s.phase then is_open_now s else s.asks_key) s
   asks response = by (may_follow AskTransition s.phase) refl
     where
       by : (b : Bool) → may_follow AskTransition s.phase ≡ b
-          → (if b then with_answer (Some response) (phase_after AskTransition s.phase) (is_open_now s) s else s)
-          ≡ with_answer (ctrl_if b response) (phase_after AskTransition s.phase) (if b then is_open_now s else s.asks_key) s
+          → (if b then with_answer (Some (response_ctrl response)) (phase_after AskTransition s.phase) (is_open_now s) s else s)
+          ≡ with_answer (ctrl_if b (response_ctrl response)) (phase_after AskTransition s.phase) (if b then is_open_now s else s.asks_key) s
       by true is = refl
       by false is = same_phase _ (phase_stays AskTransition s.phase plain_ask is)
 
@@ -107,7 +107,7 @@ module _ (s : Phased) where
   central_answers PauseEncRsp = moves_with Unlock PauseEncRsp plain_unlock
   central_answers other = refuses (ctrl_class other)
 
-  peripheral_answers : (response ctrl : Ctrl)
+  peripheral_answers : (response : Response) (ctrl : Ctrl)
       → ciphered_at_peripheral response ctrl s
       ≡ with_answer (peripheral_answer response ctrl s.phase) (peripheral_phase ctrl s.phase) (ctrl_key Peripheral ctrl s.phase (is_open_now s) s.asks_key) s
   peripheral_answers response (EncReq rand ediv skd_m iv_m) = asks response
@@ -116,14 +116,14 @@ module _ (s : Phased) where
   peripheral_answers response PauseEncRsp = moves_alone Unlock plain_unlock
   peripheral_answers response other = refl
 
-  role_answers : (role : Role) (response ctrl : Ctrl)
+  role_answers : (role : Role) (response : Response) (ctrl : Ctrl)
       → ciphered_at role response ctrl s
       ≡ with_answer (ctrl_answer role response ctrl s.phase) (ctrl_phase role ctrl (has_encryption s.control.table.progress) s.phase) (ctrl_key role ctrl s.phase (is_open_now s) s.asks_key) s
   role_answers Central response ctrl = central_answers ctrl
   role_answers Peripheral response ctrl = peripheral_answers response ctrl
 
   -- the answer to what was read
-  pub answers : (response : Ctrl) (read : CtrlRead)
+  pub answers : (response : Response) (read : CtrlRead)
       → ciphered response read s
       ≡ with_answer (read_answer (role_now s) response read s.phase) (phase_answering (role_now s) read (has_encryption s.control.table.progress) s.phase)
       (key_answering (role_now s) read s.phase (is_open_now s) s.asks_key) s

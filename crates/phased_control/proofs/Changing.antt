@@ -5,7 +5,7 @@ use Rattle.ble_base.specs.ErrorCodes.{memory_capacity_exceeded, mic_failure, pin
 use Rattle.ble_base.specs.declared.roles.Role.{Role}
 use Rattle.ble_base.specs.declared.roles.Role.TheVariants.{Central, Peripheral}
 use Rattle.data_pdu.specs.declared.ctrl.Ctrl.{Ctrl}
-use Rattle.data_pdu.specs.declared.ctrl.Ctrl.TheVariants.{EncReq, EncRsp, PauseEncReq, PauseEncRsp, RejectExtInd, RejectInd, StartEncReq, StartEncRsp, TerminateInd}
+use Rattle.data_pdu.specs.declared.ctrl.Ctrl.TheVariants.{EncReq, PauseEncReq, PauseEncRsp, RejectExtInd, RejectInd, StartEncReq, StartEncRsp, TerminateInd}
 use Rattle.data_pdu.specs.declared.ctrl.CtrlRead.{CtrlRead}
 use Rattle.data_pdu.specs.declared.ctrl.CtrlRead.TheVariants.{Known, Unknown, Bare}
 use Rattle.enc_phase.specs.declared.classes.PduClass.{PduClass}
@@ -21,10 +21,10 @@ use Rattle.procedures.specs.Beginning.{begin_step}
 use Rattle.control_model.specs.Control.{Step}
 use Rattle.control_model.specs.Control.{Enters as control_enters, SeesAcknowledged as control_sees_acknowledged, Takes as control_takes}
 use Rattle.phased_control.specs.Phased.{Phased, acknowledged, ask_begun, asking_if, asks_again, encrypting, encrypting_if, entered, first_phased, is_encrypt, is_open_now, is_pause_rsp, is_quiet_now, key_given, refused_if, request_of, table_entered, with_step}
-use Rattle.phased_control.specs.Taken.{PhasedStep, Answers, Asks, Disconnects, Enters, GivesKey, LacksKey, SeesAcknowledged, Sends, Takes, TakesData, answered_if_quiet, answered_kept, ciphered, class_of_read, does_keep, ended_with, handed_on, is_allowed, keeping, lacks_room_now, phased_after, phased_after_all, phased_moved, role_now, seen_as, took, took_data}
+use Rattle.phased_control.specs.Taken.{PhasedStep, Response, Answers, Asks, Disconnects, Enters, GivesKey, LacksKey, SeesAcknowledged, Sends, Takes, TakesData, answered_if_quiet, answered_kept, ciphered, class_of_read, does_keep, ended_with, handed_on, is_allowed, keeping, lacks_room_now, phased_after, phased_after_all, phased_moved, response_ctrl, role_now, seen_as, took, took_data}
 use Rattle.phased_control.specs.Steps.{control_steps, ctrl_if, first_owed, first_owed_if, handed_steps, kept_steps, later_steps, read_answer, owed_steps, seen_by_procedures, taken_steps}
-use Rattle.phased_control.specs.Ends.{AllMayRespond, IsRequest, IsResponse, MayRespond}
-use Rattle.phased_control.proofs.Agreeing.{Agrees, Sound, agrees_after, agrees_first, asks_at_central, responds, sound_after, sound_first}
+use Rattle.phased_control.specs.Ends.{IsRequest}
+use Rattle.phased_control.proofs.Agreeing.{Agrees, Sound, agrees_after, agrees_first, asks_at_central, sound_after, sound_first}
 use Rattle.phased_control.proofs.Answering.{answers}
 use Rattle.phased_control.proofs.Kept.{Tied}
 use Rattle.phased_control.proofs.Moving.{open_phased}
@@ -33,7 +33,7 @@ use Rattle.phased_control.proofs.Tables.{begins_encryption, same_role}
 use Rattle.phased_control.proofs.Unpaused.{asks_in_half_clear}
 use Rattle.enc_phase.specs.Phases.{is_asked, phase_starting}
 use Rattle.enc_phase.specs.Taking.{phase_taking}
-use Rattle.enc_phase.specs.declared.classes.PduClass.TheVariants.{EncRsp as enc_rsp, Other}
+use Rattle.enc_phase.specs.declared.classes.PduClass.TheVariants.{Other}
 use Rattle.enc_phase.specs.declared.facts.Transition.{Transition}
 use Rattle.enc_phase.specs.declared.facts.Transition.TheVariants.{Confirm, Pause, Unlock}
 use Rattle.phased_control.proofs.AnswerParts.{phase_answering, refused_phase}
@@ -94,38 +94,34 @@ refuses false p may = stays Central p p refl
 takes_as_it_is : (role : Role) (pdu : PduClass) (p : PhaseFacts) → Changes role (Took pdu) p (phase_taking pdu p) []
 takes_as_it_is role pdu p = record { may = refl; phase = refl; owed_too = none_with_took role pdu }
 
-response_owed : (response : Ctrl) → IsResponse response → queued (Some response) ≡ enc_rsp ∷ []
-response_owed (EncRsp skd_s iv_s) is = refl
-response_owed ctrl is = absurd is
-
-answers_change : (role : Role) (response : Ctrl) (read : CtrlRead) (b : Bool) (p : PhaseFacts) → allows p role (class_of_read read) ≡ true → (role ≡ Peripheral → IsResponse response)
+answers_change : (role : Role) (response : Response) (read : CtrlRead) (b : Bool) (p : PhaseFacts) → allows p role (class_of_read read) ≡ true
     → Changes role (answer_change role (class_of_read read) b p) p (phase_answering role read b (phase_taking (class_of_read read) p))
     (queued (read_answer role response read (phase_taking (class_of_read read) p)))
-answers_change Central response (Known StartEncReq) b p allowed may = starts_with p
-answers_change Central response (Known StartEncRsp) b p allowed may = moves_alone Central Confirm p plain_confirm refl
-answers_change Central response (Known PauseEncRsp) b p allowed may = moves_with Central Unlock PauseEncRsp p plain_unlock refl
-answers_change Central response (Known (RejectInd code)) b p allowed may = refuses b p allowed
-answers_change Central response (Known (RejectExtInd opcode code)) b p allowed may = by (opcode == 3) allowed
+answers_change Central response (Known StartEncReq) b p allowed = starts_with p
+answers_change Central response (Known StartEncRsp) b p allowed = moves_alone Central Confirm p plain_confirm refl
+answers_change Central response (Known PauseEncRsp) b p allowed = moves_with Central Unlock PauseEncRsp p plain_unlock refl
+answers_change Central response (Known (RejectInd code)) b p allowed = refuses b p allowed
+answers_change Central response (Known (RejectExtInd opcode code)) b p allowed = by (opcode == 3) allowed
   where
     by : (three : Bool) → let pdu = (if three then Refusal else Other) in
         allows p Central pdu ≡ true → Changes Central (central_change pdu b p) p (refused_phase pdu b (phase_taking pdu p)) []
     by true h = refuses b p h
     by false h = takes_as_it_is Central Other p
-answers_change Central response (Known ctrl) b p allowed may = takes_as_it_is Central (ctrl_class ctrl) p
-answers_change Peripheral response (Known (EncReq rand ediv skd_m iv_m)) b p allowed may = moves_with Peripheral AskTransition response p plain_ask (response_owed response (may refl))
-answers_change Peripheral response (Known PauseEncReq) b p allowed may = moves_with Peripheral Pause PauseEncRsp p plain_pause refl
-answers_change Peripheral response (Known StartEncRsp) b p allowed may = moves_with Peripheral Confirm StartEncRsp p plain_confirm refl
-answers_change Peripheral response (Known PauseEncRsp) b p allowed may = moves_alone Peripheral Unlock p plain_unlock refl
-answers_change Peripheral response (Known (RejectExtInd opcode code)) b p allowed may = by (opcode == 3)
+answers_change Central response (Known ctrl) b p allowed = takes_as_it_is Central (ctrl_class ctrl) p
+answers_change Peripheral response (Known (EncReq rand ediv skd_m iv_m)) b p allowed = moves_with Peripheral AskTransition (response_ctrl response) p plain_ask refl
+answers_change Peripheral response (Known PauseEncReq) b p allowed = moves_with Peripheral Pause PauseEncRsp p plain_pause refl
+answers_change Peripheral response (Known StartEncRsp) b p allowed = moves_with Peripheral Confirm StartEncRsp p plain_confirm refl
+answers_change Peripheral response (Known PauseEncRsp) b p allowed = moves_alone Peripheral Unlock p plain_unlock refl
+answers_change Peripheral response (Known (RejectExtInd opcode code)) b p allowed = by (opcode == 3)
   where
     by : (three : Bool) → let pdu = (if three then Refusal else Other) in Changes Peripheral (peripheral_change pdu p) p (phase_taking pdu p) []
     by true = takes_as_it_is Peripheral Refusal p
     by false = takes_as_it_is Peripheral Other p
-answers_change Peripheral response (Known ctrl) b p allowed may = takes_as_it_is Peripheral (ctrl_class ctrl) p
-answers_change Central response (Unknown opcode) b p allowed may = takes_as_it_is Central Other p
-answers_change Peripheral response (Unknown opcode) b p allowed may = takes_as_it_is Peripheral Other p
-answers_change Central response Bare b p allowed may = takes_as_it_is Central _ p
-answers_change Peripheral response Bare b p allowed may = takes_as_it_is Peripheral _ p
+answers_change Peripheral response (Known ctrl) b p allowed = takes_as_it_is Peripheral (ctrl_class ctrl) p
+answers_change Central response (Unknown opcode) b p allowed = takes_as_it_is Central Other p
+answers_change Peripheral response (Unknown opcode) b p allowed = takes_as_it_is Peripheral Other p
+answers_change Central response Bare b p allowed = takes_as_it_is Central _ p
+answers_change Peripheral response Bare b p allowed = takes_as_it_is Peripheral _ p
 
 -- ---- what steps queue
 
@@ -138,7 +134,7 @@ queued_kept false slot kept = refl
 queued_kept true slot None = refl
 queued_kept true slot (Some ctrl) = refl
 
-queued_later : (slot : ℕ) (response : Ctrl) (read : CtrlRead) (t : Phased)
+queued_later : (slot : ℕ) (response : Response) (read : CtrlRead) (t : Phased)
     → all_step_pdus (later_steps slot response read t) ≡ queued (read_answer (role_now t) response read t.phase)
 queued_later slot response read t =
     let owed = owed_steps (read_answer (role_now t) response read t.phase) in
@@ -153,7 +149,7 @@ phase_kept slot false kept u = refl
 phase_kept slot true None u = refl
 phase_kept slot true (Some ctrl) u = refl
 
-module _ (role : Role) (slot : ℕ) (response : Ctrl) (read : CtrlRead) (s : Phased) (tied : Tied role s) (may : role ≡ Peripheral → IsResponse response) where
+module _ (role : Role) (slot : ℕ) (response : Response) (read : CtrlRead) (s : Phased) (tied : Tied role s) where
   abbrev t : Phased
   t = seen_by_procedures read slot s
 
@@ -163,7 +159,7 @@ module _ (role : Role) (slot : ℕ) (response : Ctrl) (read : CtrlRead) (s : Pha
   answered_changes allowed =
       let u = ciphered response read t in
       let role_t : role_now t ≡ role_now s = same_role (role_now s) (control_takes (seen_as read s) slot (is_quiet_now s)) s.control refl in
-      let h = answers_change (role_now s) response read (encrypts t) s.phase allowed (λ is. may (sym tied.is_role ∙ is)) in
+      let h = answers_change (role_now s) response read (encrypts t) s.phase allowed in
       let phase : (answered_if_quiet slot u).phase ≡ phase_answering (role_now s) read (encrypts t) t.phase =
       phase_kept slot (is_quiet_now u) u.kept u ∙ ap (λ (v : Phased). v.phase) (answers t response read) ∙ ap (λ (r : Role). phase_answering r read (encrypts t) t.phase) role_t in
       let owed : all_step_pdus (later_steps slot response read t) ≡ queued (read_answer (role_now s) response read t.phase) =
@@ -272,18 +268,18 @@ lacking_changes role s tied = by (s.asks_key && is_open_now s) (may_follow Refus
 
 -- ---- every step
 
-moved_changes : (role : Role) (step : PhasedStep) (s : Phased) → Sound role s → Agrees s → MayRespond role step
+moved_changes : (role : Role) (step : PhasedStep) (s : Phased) → Sound role s → Agrees s
     → Changes role (change_of step s) s.phase (phased_moved step s).phase (all_step_pdus (control_steps step s))
-moved_changes role (Enters slot) s sound agrees may = entered_changes role slot s sound.tied.is_role
-moved_changes role (Asks ask) s sound agrees may = stays role s.phase s.phase refl
-moved_changes role (Answers answer) s sound agrees may = stays role s.phase s.phase refl
-moved_changes role GivesKey s sound agrees may = given_changes role s sound.tied
-moved_changes role LacksKey s sound agrees may = lacking_changes role s sound.tied
-moved_changes role (Disconnects reason) s sound agrees may = stays role s.phase s.phase refl
-moved_changes role (Sends slot) s sound agrees may = stays role s.phase s.phase refl
-moved_changes role SeesAcknowledged s sound agrees may = acked_changes role s sound agrees
-moved_changes role (Takes read slot response) s sound agrees may = took_changes role slot response read s sound.tied (responds role read slot response may)
-moved_changes role TakesData s sound agrees may = stays role s.phase (took_data s).phase (by (allows s.phase (role_now s) Data))
+moved_changes role (Enters slot) s sound agrees = entered_changes role slot s sound.tied.is_role
+moved_changes role (Asks ask) s sound agrees = stays role s.phase s.phase refl
+moved_changes role (Answers answer) s sound agrees = stays role s.phase s.phase refl
+moved_changes role GivesKey s sound agrees = given_changes role s sound.tied
+moved_changes role LacksKey s sound agrees = lacking_changes role s sound.tied
+moved_changes role (Disconnects reason) s sound agrees = stays role s.phase s.phase refl
+moved_changes role (Sends slot) s sound agrees = stays role s.phase s.phase refl
+moved_changes role SeesAcknowledged s sound agrees = acked_changes role s sound agrees
+moved_changes role (Takes read slot response) s sound agrees = took_changes role slot response read s sound.tied
+moved_changes role TakesData s sound agrees = stays role s.phase (took_data s).phase (by (allows s.phase (role_now s) Data))
   where
     by : (b : Bool) → (if b then s else ended_with mic_failure s).phase ≡ s.phase
     by true = refl
@@ -293,23 +289,23 @@ record Settled (role : Role) (s : Phased) : Type 0 where
   sound : Sound role s
   agrees : Agrees s
 
-known_all : (role : Role) (steps : List PhasedStep) (s : Phased) → AllMayRespond role steps → Settled role s → Settled role (phased_after_all steps s)
-known_all role [] s may known = known
-known_all role (step ∷ steps) s may known =
-    known_all role steps (phased_after step s) may.1
-    (record { sound = sound_after role step s known.sound; agrees = agrees_after role step s known.sound may.0 known.agrees })
+known_all : (role : Role) (steps : List PhasedStep) (s : Phased) → Settled role s → Settled role (phased_after_all steps s)
+known_all role [] s known = known
+known_all role (step ∷ steps) s known =
+    known_all role steps (phased_after step s)
+    (record { sound = sound_after role step s known.sound; agrees = agrees_after role step s known.sound known.agrees })
 
-module _ (role : Role) (max_rx : ℕ) (first : Params) (slot : ℕ) (steps : List PhasedStep) (step : PhasedStep) (all : AllMayRespond role steps) (may : MayRespond role step) where
+module _ (role : Role) (max_rx : ℕ) (first : Params) (slot : ℕ) (steps : List PhasedStep) (step : PhasedStep) where
   abbrev s : Phased
   s = phased_after_all steps (first_phased role max_rx first slot)
 
   known : Settled role s
-  known = known_all role steps (first_phased role max_rx first slot) all (record { sound = sound_first role max_rx first slot; agrees = agrees_first role max_rx first slot })
+  known = known_all role steps (first_phased role max_rx first slot) (record { sound = sound_first role max_rx first slot; agrees = agrees_first role max_rx first slot })
 
   changes : s.control.ends ≡ None → Changes role (change_of step s) s.phase (phased_after step s).phase (all_step_pdus (control_steps step s))
   changes lasts =
       open_phased (λ (t : Phased). Changes role (change_of step s) s.phase t.phase (all_step_pdus (control_steps step s))) step s lasts
-      (moved_changes role step s known.sound known.agrees may)
+      (moved_changes role step s known.sound known.agrees)
 
   -- ---- the laws
 

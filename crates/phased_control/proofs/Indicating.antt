@@ -19,7 +19,7 @@ use Rattle.control_model.specs.Waits.{AreInRange, last_event_of, last_instant_of
 use Rattle.control_model.proofs.Central.{free as free_of, last as last_of, may as may_of, offset as offset_of, over_before}
 use Rattle.phased_control.specs.Ends.{AllAskInRange, AsksInRange}
 use Rattle.phased_control.specs.Phased.{Phased, first_phased, is_quiet_now}
-use Rattle.phased_control.specs.Taken.{PhasedStep, Answers, Asks, Disconnects, Enters, GivesKey, LacksKey, SeesAcknowledged, Sends, Takes, TakesData, ciphered, does_keep, is_allowed, lacks_room_now, phased_after, phased_after_all, role_now}
+use Rattle.phased_control.specs.Taken.{PhasedStep, Response, Answers, Asks, Disconnects, Enters, GivesKey, LacksKey, SeesAcknowledged, Sends, Takes, TakesData, ciphered, does_keep, is_allowed, lacks_room_now, phased_after, phased_after_all, role_now}
 use Rattle.phased_control.specs.Steps.{all_control_steps, control_steps, handed_steps, kept_steps, later_steps, owed_steps, read_answer, seen_by_procedures, steps_now, taken_steps}
 use Rattle.phased_control.proofs.Moving.{but_end}
 
@@ -36,7 +36,7 @@ kept false slot ctrl = tt
 kept true slot None = tt
 kept true slot (Some ctrl) = (tt, tt)
 
-handed : (slot : ℕ) (response : Ctrl) (read : CtrlRead) (s : Phased) → AreInRange (handed_steps slot response read s)
+handed : (slot : ℕ) (response : Response) (read : CtrlRead) (s : Phased) → AreInRange (handed_steps slot response read s)
 handed slot response read s = (tt, by (is_none (seen_by_procedures read slot s).control.ends))
   where
     t : Phased
@@ -48,7 +48,7 @@ handed slot response read s = (tt, by (is_none (seen_by_procedures read slot s).
         (kept (is_quiet_now (ciphered response read t)) slot t.kept)
     by false = tt
 
-taken : (slot : ℕ) (response : Ctrl) (read : CtrlRead) (s : Phased) → AreInRange (taken_steps slot response read s)
+taken : (slot : ℕ) (response : Response) (read : CtrlRead) (s : Phased) → AreInRange (taken_steps slot response read s)
 taken slot response read s = by (is_allowed read s) (does_keep read s) (lacks_room_now read s)
   where
     by : (a k f : Bool) → AreInRange (if a then (if k then [] else (if f then [] else handed_steps slot response read s)) else [])

@@ -23,7 +23,7 @@ use Rattle.table_laws.specs.Encrypting.{has_encryption}
 use Rattle.control_model.specs.Control.{Control, after, after_all, ended}
 use Rattle.control_model.specs.Control.{Enters as control_enters, Owes, SeesAcknowledged as control_sees_acknowledged, Sends as control_sends, Takes as control_takes, Asks as control_asks, Answers as control_answers, Disconnects as control_disconnects, Step}
 use Rattle.phased_control.specs.Phased.{Phased, ask_begun, asking_if, asks_again, encrypting, encrypting_if, entered, first_phased, is_encrypt, is_open_now, is_pause_rsp, is_quiet_now, key_given, key_lacking, refused_if, request_of, table_entered, with_owed_if, with_step}
-use Rattle.phased_control.specs.Taken.{PhasedStep, Answers, Asks, Disconnects, Enters, GivesKey, LacksKey, SeesAcknowledged, Sends, Takes, TakesData, answered_kept, ciphered, class_of_read, ctrl_in, does_keep, ended_with, is_allowed, keeping, keeps_class, phased_after, phased_after_all, phased_moved, role_now, seen_as, took}
+use Rattle.phased_control.specs.Taken.{PhasedStep, Response, Answers, Asks, Disconnects, Enters, GivesKey, LacksKey, SeesAcknowledged, Sends, Takes, TakesData, answered_kept, ciphered, class_of_read, ctrl_in, does_keep, ended_with, is_allowed, keeping, keeps_class, phased_after, phased_after_all, phased_moved, role_now, seen_as, took}
 use Rattle.phased_control.specs.Steps.{read_answer, owed_steps, seen_by_procedures}
 use Rattle.phased_control.proofs.AnswerParts.{key_answering, phase_answering, refused_phase}
 use Rattle.phased_control.specs.Ends.{IsFirst, is_half_keyed, says_kept}
@@ -272,7 +272,7 @@ module _ (role : Role) where
     asked : s.asks_key ≡ true → is_asked s.phase ≡ true
     asked_at : s.asks_key ≡ true → role ≡ Peripheral
 
-  half_answered : (response : Ctrl) (read : CtrlRead) (s : Phased) → Tied role s → Half (ciphered response read s)
+  half_answered : (response : Response) (read : CtrlRead) (s : Phased) → Tied role s → Half (ciphered response read s)
   half_answered response read s tied =
       subst Half (sym (answers s response read))
       (record {
@@ -283,7 +283,7 @@ module _ (role : Role) where
         asked_at = λ key. sym tied.is_role ∙ asked_there (role_now s) read s.phase (is_open_now s) s.asks_key (λ k. tied.is_role ∙ tied.asked_at k) key;
       })
 
-  tied_loudly : (response : Ctrl) (read : CtrlRead) (s : Phased) → is_quiet_now (ciphered response read s) ≡ false → Tied role s → Tied role (ciphered response read s)
+  tied_loudly : (response : Response) (read : CtrlRead) (s : Phased) → is_quiet_now (ciphered response read s) ≡ false → Tied role s → Tied role (ciphered response read s)
   tied_loudly response read s loud tied =
       let t = ciphered response read s in
       let half = half_answered response read s tied in
@@ -322,7 +322,7 @@ module _ (role : Role) where
       by None is = subst (λ (k : Option Ctrl). Tied role (record s { kept = k })) (sym is) (tied_none s quiet half)
       by (Some ctrl) is = tied_step role (control_takes (Known ctrl) slot true) _ (tied_known _ (record s { kept = None }) (tied_none s quiet half))
 
-  tied_took : (slot : ℕ) (response : Ctrl) (read : CtrlRead) (s : Phased) → Tied role s → Tied role (took slot response read s)
+  tied_took : (slot : ℕ) (response : Response) (read : CtrlRead) (s : Phased) → Tied role s → Tied role (took slot response read s)
   tied_took slot response read s tied =
       took_ways (Tied role) slot response read s (λ may. tied_ended role mic_failure s tied)
       (λ may. λ keeps. tied_keeping read s may keeps tied)

@@ -9,7 +9,7 @@ use Rattle.ble_base.specs.declared.procedure_kinds.Kind.TheVariants.{Encrypt}
 use Rattle.ble_base.specs.declared.roles.Role.{Role}
 use Rattle.ble_base.specs.declared.roles.Role.TheVariants.{Central, Peripheral}
 use Rattle.data_pdu.specs.declared.ctrl.Ctrl.{Ctrl}
-use Rattle.data_pdu.specs.declared.ctrl.Ctrl.TheVariants.{EncReq, EncRsp, PauseEncReq, PauseEncRsp, RejectExtInd, StartEncReq, StartEncRsp, TerminateInd}
+use Rattle.data_pdu.specs.declared.ctrl.Ctrl.TheVariants.{EncReq, PauseEncReq, PauseEncRsp, RejectExtInd, StartEncReq, StartEncRsp, TerminateInd}
 use Rattle.data_pdu.specs.declared.ctrl.CtrlRead.{CtrlRead}
 use Rattle.data_pdu.specs.declared.ctrl.CtrlRead.TheVariants.{Known, Unknown, Bare}
 use Rattle.enc_phase.specs.declared.classes.PduClass.{PduClass}
@@ -53,10 +53,10 @@ use Rattle.control_model.proofs.Calls.{any_step, open_step}
 use Rattle.phased_control.specs.Calls.{AllPassPhase, all_calls, calls_now, calls_of}
 use Rattle.phased_control.specs.Ciphers.{ciphers_waiting, is_of_encryption, phase_ciphers}
 use Rattle.phased_control.specs.Phased.{Phased, ask_begun, asking_if, asks_again, encrypting, encrypting_if, is_encrypt, is_open_now, is_pause_rsp, is_quiet_now, request_of, table_entered, with_owed_if, with_step}
-use Rattle.phased_control.specs.Taken.{PhasedStep, Answers, Asks, Disconnects, Enters, GivesKey, LacksKey, SeesAcknowledged, Sends, TakesData, class_of_read, ended_with, is_answered, phased_moved, role_now, seen_if}
+use Rattle.phased_control.specs.Taken.{PhasedStep, Response, Answers, Asks, Disconnects, Enters, GivesKey, LacksKey, SeesAcknowledged, Sends, TakesData, class_of_read, ended_with, is_answered, phased_moved, response_ctrl, role_now, seen_if}
 use Rattle.phased_control.specs.Steps.{control_steps, ctrl_if, end_by_phase, ended_if, first_owed, first_owed_if, read_answer, owed_steps}
 use Rattle.phased_control.proofs.AnswerParts.{key_answering}
-use Rattle.phased_control.specs.Ends.{IsRequest, IsResponse}
+use Rattle.phased_control.specs.Ends.{IsRequest}
 use Rattle.phased_control.proofs.Agreeing.{Agrees, Sound, asks_at_central}
 use Rattle.phased_control.proofs.Calling.{keys_joined}
 use Rattle.phased_control.proofs.Encrypted.{class_of_end, ends_at_central, known_loudly, same_unknown}
@@ -458,22 +458,21 @@ key_if_owed : (b : Bool) (ctrl : Ctrl) (key : Bool) → key_after_given key ctrl
 key_if_owed true ctrl key is = is
 key_if_owed false ctrl key is = refl
 
-key_response : (b : Bool) (response : Ctrl) (key : Bool) → IsResponse response → key_given_by (ctrl_if b response) key ≡ (if b then true else key)
-key_response true (EncRsp skd_s iv_s) key is = refl
-key_response true ctrl key is = absurd is
-key_response false response key is = refl
+key_response : (b : Bool) (response : Response) (key : Bool) → key_given_by (ctrl_if b (response_ctrl response)) key ≡ (if b then true else key)
+key_response true response key = refl
+key_response false response key = refl
 
-pub key_answered : (role : Role) (response : Ctrl) (read : CtrlRead) (p : PhaseFacts) (key : Bool) → (role ≡ Peripheral → IsResponse response)
+pub key_answered : (role : Role) (response : Response) (read : CtrlRead) (p : PhaseFacts) (key : Bool)
     → key_given_by (read_answer role response read p) key ≡ key_answering role read p true key
-key_answered Central response (Known StartEncReq) p key may = key_if_owed _ StartEncRsp key refl
-key_answered Central response (Known PauseEncRsp) p key may = key_if_owed _ PauseEncRsp key refl
-key_answered Central response (Known ctrl) p key may = refl
-key_answered Peripheral response (Known (EncReq rand ediv skd_m iv_m)) p key may = key_response (may_follow AskTransition p) response key (may refl)
-key_answered Peripheral response (Known PauseEncReq) p key may = key_if_owed _ PauseEncRsp key refl
-key_answered Peripheral response (Known StartEncRsp) p key may = key_if_owed _ StartEncRsp key refl
-key_answered Peripheral response (Known ctrl) p key may = refl
-key_answered role response (Unknown opcode) p key may = refl
-key_answered role response Bare p key may = refl
+key_answered Central response (Known StartEncReq) p key = key_if_owed _ StartEncRsp key refl
+key_answered Central response (Known PauseEncRsp) p key = key_if_owed _ PauseEncRsp key refl
+key_answered Central response (Known ctrl) p key = refl
+key_answered Peripheral response (Known (EncReq rand ediv skd_m iv_m)) p key = key_response (may_follow AskTransition p) response key
+key_answered Peripheral response (Known PauseEncReq) p key = key_if_owed _ PauseEncRsp key refl
+key_answered Peripheral response (Known StartEncRsp) p key = key_if_owed _ StartEncRsp key refl
+key_answered Peripheral response (Known ctrl) p key = refl
+key_answered role response (Unknown opcode) p key = refl
+key_answered role response Bare p key = refl
 
 pub answered_in : (read : CtrlRead) (s : Phased) → is_answered read s ≡ is_answered_in (role_now s) read s.phase
 answered_in (Known ctrl) s = refl

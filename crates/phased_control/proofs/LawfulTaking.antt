@@ -25,10 +25,9 @@ use Rattle.control_model.specs.Control.{Takes as control_takes}
 use Rattle.phased_control.specs.Calls.{all_calls, calls_now}
 use Rattle.phased_control.specs.Ciphers.{IsInTurn, ciphers_waiting, is_of_encryption}
 use Rattle.phased_control.specs.Phased.{Phased, is_open_now, is_quiet_now}
-use Rattle.phased_control.specs.Taken.{Takes, answered_if_quiet, answered_kept, ciphered, class_of_read, does_keep, ended_with, is_allowed, is_answered, handed_on, keeping, lacks_room_now, role_now, seen_as, seen_if}
+use Rattle.phased_control.specs.Taken.{Response, Takes, answered_if_quiet, answered_kept, ciphered, class_of_read, does_keep, ended_with, handed_on, is_allowed, is_answered, keeping, lacks_room_now, role_now, seen_as, seen_if}
 use Rattle.phased_control.specs.Steps.{handed_steps, kept_steps, later_steps, read_answer, owed_steps, seen_by_procedures}
 use Rattle.phased_control.proofs.AnswerParts.{key_answering}
-use Rattle.phased_control.specs.Ends.{IsResponse}
 use Rattle.phased_control.proofs.Agreeing.{Agrees, agrees_taking, lasts_answered}
 use Rattle.phased_control.proofs.Answering.{answers}
 use Rattle.phased_control.proofs.Calling.{keys_joined}
@@ -73,8 +72,8 @@ opens_kept : (slot : ℕ) (kept : Option Ctrl) (s : Phased) → is_open_now (ans
 opens_kept slot None s opens = opens
 opens_kept slot (Some ctrl) s opens = opens_before (control_takes (Known ctrl) slot true) s.control opens
 
-module _ (role : Role) (max_rx : ℕ) (past : List Call) (slot : ℕ) (response : Ctrl) (read : CtrlRead) (s : Phased) (key : Bool) (at : At role max_rx past s.control.table key)
-    (lasts : s.control.ends ≡ None) (tied : Tied role s) (agrees : Agrees s) (may : role ≡ Peripheral → IsResponse response) (turn : role ≡ Central → IsInTurn (Takes read slot response) s) (asked : KeyFits s key) where
+module _ (role : Role) (max_rx : ℕ) (past : List Call) (slot : ℕ) (response : Response) (read : CtrlRead) (s : Phased) (key : Bool) (at : At role max_rx past s.control.table key)
+    (lasts : s.control.ends ≡ None) (tied : Tied role s) (agrees : Agrees s) (turn : role ≡ Central → IsInTurn (Takes read slot response) s) (asked : KeyFits s key) where
   abbrev f : TableFacts
   f = s.control.table
 
@@ -128,7 +127,7 @@ module _ (role : Role) (max_rx : ℕ) (past : List Call) (slot : ℕ) (response 
   owed_may keeps full goes = by owed here
     where
       here : AreAnswers (role_now s) read s.phase owed
-      here = subst (λ (r : Role). AreAnswers (role_now s) read s.phase (read_answer r response read t.phase)) (sym role_t) (answers_of (role_now s) response read s.phase (λ is. may (sym tied.is_role ∙ is)))
+      here = subst (λ (r : Role). AreAnswers (role_now s) read s.phase (read_answer r response read t.phase)) (sym role_t) (answers_of (role_now s) response read s.phase)
 
       table : t.control.table ≡ g
       table = (takes_as (seen_as read s) slot (is_quiet_now s) s.control lasts).goes goes
@@ -202,7 +201,7 @@ module _ (role : Role) (max_rx : ℕ) (past : List Call) (slot : ℕ) (response 
             ∙ keys_joined (all_calls (owed_steps owed) t.control) (all_calls ks (after_all (owed_steps owed) t.control)) key
             ∙ kept_key q t.kept (after_all (owed_steps owed) t.control) (key_after_calls key (all_calls (owed_steps owed) t.control))
             ∙ key_owed owed t.control key goes
-            ∙ key_answered (role_now t) response read t.phase key (λ is. may (sym tied.is_role ∙ sym role_t ∙ is))
+            ∙ key_answered (role_now t) response read t.phase key
             ∙ ap (key_answering (role_now t) read t.phase true) (asked (opens_s open_t))
             ∙ ap (λ (b : Bool). key_answering (role_now t) read t.phase b s.asks_key) (sym open_t)
             ∙ sym (ap (λ (v : Phased). v.asks_key) (answers t response read))
@@ -222,7 +221,7 @@ module _ (role : Role) (max_rx : ℕ) (past : List Call) (slot : ℕ) (response 
       control_u = ap (λ (v : Phased). v.control) (answers t response read)
 
       agrees_u : Agrees u
-      agrees_u = agrees_taking slot response read role s tied may lasts allowed agrees goes
+      agrees_u = agrees_taking slot response read role s tied lasts allowed agrees goes
 
       lasts_u : u.control.ends ≡ None
       lasts_u = lasts_answered response read t goes

@@ -25,7 +25,7 @@ use Rattle.control_model.specs.Waits.{kind_awaited, kind_waiting}
 use Rattle.control_model.proofs.Moving.{role_after}
 use Rattle.control_model.proofs.Waiting.{free, same_kind}
 use Rattle.phased_control.specs.Phased.{Phased, first_phased, ask_begun, asking_if, asks_again, encrypting, encrypting_if, is_encrypt, is_open_now, is_quiet_now, key_given, key_lacking, refused_if, request_of, table_entered, with_step}
-use Rattle.phased_control.specs.Taken.{PhasedStep, Answers, Asks, Disconnects, Enters, GivesKey, LacksKey, SeesAcknowledged, Sends, Takes, TakesData, answered_if_quiet, answered_kept, ciphered, does_keep, ended_with, goes_on, handed_on, is_allowed, keeping, lacks_room_now, phased_after, phased_after_all, phased_moved, role_now, took, took_data}
+use Rattle.phased_control.specs.Taken.{PhasedStep, Response, Answers, Asks, Disconnects, Enters, GivesKey, LacksKey, SeesAcknowledged, Sends, Takes, TakesData, answered_if_quiet, answered_kept, ciphered, does_keep, ended_with, goes_on, handed_on, is_allowed, keeping, lacks_room_now, phased_after, phased_after_all, phased_moved, role_now, took, took_data}
 use Rattle.phased_control.specs.Steps.{all_control_steps, code_if, control_steps, ctrl_if, end_by_phase, ended_if, first_owed, first_owed_if, handed_steps, kept_steps, later_steps, read_answer, owed_steps, owed_without_key, seen_by_procedures, steps_now}
 use Rattle.phased_control.proofs.Answering.{answers}
 
@@ -79,10 +79,10 @@ kept_moves slot false kept s = refl
 kept_moves slot true None s = refl
 kept_moves slot true (Some ctrl) s = refl
 
-pub same_kept : (response : Ctrl) (read : CtrlRead) (s : Phased) → (ciphered response read s).kept ≡ s.kept
+pub same_kept : (response : Response) (read : CtrlRead) (s : Phased) → (ciphered response read s).kept ≡ s.kept
 same_kept response read s = ap (λ (t : Phased). t.kept) (answers s response read)
 
-later_moves : (slot : ℕ) (response : Ctrl) (read : CtrlRead) (s : Phased)
+later_moves : (slot : ℕ) (response : Response) (read : CtrlRead) (s : Phased)
     → (answered_if_quiet slot (ciphered response read s)).control ≡ after_all (later_steps slot response read s) s.control
 later_moves slot response read s =
     let t = ciphered response read s in
@@ -93,7 +93,7 @@ later_moves slot response read s =
     one ∙ ap (after_all (if is_quiet_now t then kept_steps slot s.kept else [])) (ap (λ (u : Phased). u.control) (answers s response read))
     ∙ sym (steps_joined owed (if is_quiet_now t then kept_steps slot s.kept else []) s.control)
 
-goes_moves : (slot : ℕ) (response : Ctrl) (read : CtrlRead) (s : Phased)
+goes_moves : (slot : ℕ) (response : Response) (read : CtrlRead) (s : Phased)
     → (goes_on slot response read s).control ≡ after_all (if is_none s.control.ends then later_steps slot response read s else []) s.control
 goes_moves slot response read s = by (is_none s.control.ends)
   where
@@ -101,11 +101,11 @@ goes_moves slot response read s = by (is_none s.control.ends)
     by true = later_moves slot response read s
     by false = refl
 
-handed_moves : (slot : ℕ) (response : Ctrl) (read : CtrlRead) (s : Phased)
+handed_moves : (slot : ℕ) (response : Response) (read : CtrlRead) (s : Phased)
     → (handed_on slot response read s).control ≡ after_all (handed_steps slot response read s) s.control
 handed_moves slot response read s = goes_moves slot response read (seen_by_procedures read slot s)
 
-took_moves : (slot : ℕ) (response : Ctrl) (read : CtrlRead) (s : Phased)
+took_moves : (slot : ℕ) (response : Response) (read : CtrlRead) (s : Phased)
     → (took slot response read s).control
     ≡ ended_if (end_by_phase (Takes read slot response) s) (after_all (control_steps (Takes read slot response) s) s.control)
 took_moves slot response read s = by (is_allowed read s) (does_keep read s) (lacks_room_now read s)

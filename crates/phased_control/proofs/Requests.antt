@@ -32,7 +32,7 @@ use Rattle.control_model.specs.Control.{Control, Step, after, after_all, moved}
 use Rattle.control_model.specs.Control.{Enters as control_enters, Owes, SeesAcknowledged as control_sees_acknowledged, Sends as control_sends, Takes as control_takes, Asks as control_asks, Answers as control_answers, Disconnects as control_disconnects}
 use Rattle.control_model.proofs.Calls.{held_over}
 use Rattle.phased_control.specs.Phased.{Phased, ask_begun, asking_if, asks_again, encrypting, encrypting_if, entered, first_phased, is_encrypt, is_open_now, is_quiet_now, key_given, key_lacking, refused_if, request_of, table_entered, with_owed_if, with_step}
-use Rattle.phased_control.specs.Taken.{PhasedStep, Answers, Asks, Disconnects, Enters, GivesKey, LacksKey, SeesAcknowledged, Sends, Takes, TakesData, answered_kept, ciphered, ended_with, phased_after, phased_after_all, phased_moved, role_now, seen_as, took}
+use Rattle.phased_control.specs.Taken.{PhasedStep, Response, Answers, Asks, Disconnects, Enters, GivesKey, LacksKey, SeesAcknowledged, Sends, Takes, TakesData, answered_kept, ciphered, ended_with, phased_after, phased_after_all, phased_moved, role_now, seen_as, took}
 use Rattle.phased_control.specs.Steps.{read_answer, owed_steps, seen_by_procedures}
 use Rattle.phased_control.specs.Ends.{IsRequest}
 use Rattle.phased_control.proofs.Answering.{answers}
@@ -145,7 +145,7 @@ module _ (role : Role) (s : Phased) where
       }
   on_owed (Some ctrl) t u control request on = on_control (Owes ctrl) t u refl control request on
 
-  on_answers : (response : Ctrl) (read : CtrlRead) (t : Phased) → GoesOn role s t → GoesOn role s (ciphered response read t)
+  on_answers : (response : Response) (read : CtrlRead) (t : Phased) → GoesOn role s t → GoesOn role s (ciphered response read t)
   on_answers response read t on =
       on_owed (read_answer (role_now t) response read t.phase) t (ciphered response read t)
       (ap (λ (u : Phased). u.control) (answers t response read)) (ap (λ (u : Phased). u.request) (answers t response read)) on
@@ -154,7 +154,7 @@ module _ (role : Role) (s : Phased) where
   on_kept slot None t on = on
   on_kept slot (Some ctrl) t on = on_control (control_takes (Known ctrl) slot true) t (answered_kept slot (Some ctrl) t) refl refl refl on
 
-  on_took : (slot : ℕ) (response : Ctrl) (read : CtrlRead) → role_now s ≡ role → GoesOn role s (took slot response read s)
+  on_took : (slot : ℕ) (response : Response) (read : CtrlRead) → role_now s ≡ role → GoesOn role s (took slot response read s)
   on_took slot response read is =
       let here = on_same s refl refl is in
       let now = on_control (control_takes (seen_as read s) slot (is_quiet_now s)) s (seen_by_procedures read slot s) refl refl refl here in

@@ -3,7 +3,7 @@ use Rattle.std.proofs.Common.{◌≡◌, ℕ, ◌<◌, nat_le, Bool, true, false
 use Rattle.ble_base.specs.declared.roles.Role.{Role}
 use Rattle.ble_base.specs.declared.roles.Role.TheVariants.{Central, Peripheral}
 use Rattle.data_pdu.specs.declared.ctrl.Ctrl.{Ctrl}
-use Rattle.data_pdu.specs.declared.ctrl.Ctrl.TheVariants.{EncReq, EncRsp, PauseEncReq, PauseEncRsp, StartEncReq, StartEncRsp}
+use Rattle.data_pdu.specs.declared.ctrl.Ctrl.TheVariants.{EncReq, PauseEncReq, PauseEncRsp, StartEncReq, StartEncRsp}
 use Rattle.data_pdu.specs.declared.ctrl.CtrlRead.{CtrlRead}
 use Rattle.data_pdu.specs.declared.ctrl.CtrlRead.TheVariants.{Known, Unknown, Bare}
 use Rattle.enc_phase.specs.declared.facts.PhaseFacts.{PhaseFacts}
@@ -24,9 +24,8 @@ use Rattle.procedures.specs.Table.{TableFacts}
 use Rattle.procedures.specs.Taking.{facts_with, lacks_room, no_room, outcome_of, settled, taken_by, took_step}
 use Rattle.table_laws.specs.Pasts.{HasRoomToAnswer, MayGive, MayGiveAtCentral, MayGiveAtPeripheral}
 use Rattle.table_laws.proofs.Taken.{few}
-use Rattle.phased_control.specs.Ends.{IsResponse}
 use Rattle.phased_control.specs.Steps.{ctrl_if, read_answer}
-use Rattle.phased_control.specs.Taken.{class_of_read, is_answered_at, seen_if}
+use Rattle.phased_control.specs.Taken.{Response, class_of_read, is_answered_at, response_ctrl, seen_if}
 
 -- ---- what is answered so has no other answer
 
@@ -119,10 +118,6 @@ at_peripheral : (ctrl : Ctrl) → ((f : TableFacts) (key : Bool) → HasRoomToAn
 at_peripheral ctrl may (central c) f key is room = absurd (cc)
 at_peripheral ctrl may (peripheral p) f key is room = may f key room
 
-response_may : (response : Ctrl) → IsResponse response → (f : TableFacts) (key : Bool) → HasRoomToAnswer f → MayGiveAtPeripheral f key response
-response_may (EncRsp skd_s iv_s) is f key room = room
-response_may ctrl is f key room = absurd is
-
 abbrev pub AreAnswers : Role → CtrlRead → PhaseFacts → Option Ctrl → Type 0
 AreAnswers role read p None = Unit {0}
 AreAnswers role read p (Some ctrl) = Answer role read p ctrl
@@ -132,17 +127,17 @@ answer_if : (role : Role) (read : CtrlRead) (p : PhaseFacts) (b : Bool) (ctrl : 
 answer_if role read p true ctrl is gives = record { answered = is; gives = gives }
 answer_if role read p false ctrl is gives = tt
 
-pub answers_of : (role : Role) (response : Ctrl) (read : CtrlRead) (p : PhaseFacts) → (role ≡ Peripheral → IsResponse response)
+pub answers_of : (role : Role) (response : Response) (read : CtrlRead) (p : PhaseFacts)
     → AreAnswers role read p (read_answer role response read (phase_taking (class_of_read read) p))
-answers_of Central response (Known StartEncReq) p may = answer_if Central (Known StartEncReq) p _ StartEncRsp refl (at_central StartEncRsp (λ f. λ room. room))
-answers_of Central response (Known PauseEncRsp) p may = answer_if Central (Known PauseEncRsp) p _ PauseEncRsp refl (at_central PauseEncRsp (λ f. λ room. room))
-answers_of Central response (Known ctrl) p may = tt
-answers_of Peripheral response (Known (EncReq rand ediv skd_m iv_m)) p may =
-    answer_if Peripheral (Known (EncReq rand ediv skd_m iv_m)) p _ response refl (at_peripheral response (response_may response (may refl)))
-answers_of Peripheral response (Known PauseEncReq) p may =
+answers_of Central response (Known StartEncReq) p = answer_if Central (Known StartEncReq) p _ StartEncRsp refl (at_central StartEncRsp (λ f. λ room. room))
+answers_of Central response (Known PauseEncRsp) p = answer_if Central (Known PauseEncRsp) p _ PauseEncRsp refl (at_central PauseEncRsp (λ f. λ room. room))
+answers_of Central response (Known ctrl) p = tt
+answers_of Peripheral response (Known (EncReq rand ediv skd_m iv_m)) p =
+    answer_if Peripheral (Known (EncReq rand ediv skd_m iv_m)) p _ (response_ctrl response) refl (at_peripheral (response_ctrl response) (λ f. λ key. λ room. room))
+answers_of Peripheral response (Known PauseEncReq) p =
     answer_if Peripheral (Known PauseEncReq) p _ PauseEncRsp refl (at_peripheral PauseEncRsp (λ f. λ key. λ room. room))
-answers_of Peripheral response (Known StartEncRsp) p may =
+answers_of Peripheral response (Known StartEncRsp) p =
     answer_if Peripheral (Known StartEncRsp) p _ StartEncRsp refl (at_peripheral StartEncRsp (λ f. λ key. λ room. room))
-answers_of Peripheral response (Known ctrl) p may = tt
-answers_of role response (Unknown opcode) p may = tt
-answers_of role response Bare p may = tt
+answers_of Peripheral response (Known ctrl) p = tt
+answers_of role response (Unknown opcode) p = tt
+answers_of role response Bare p = tt

@@ -2,13 +2,12 @@
 use Rattle.std.proofs.Common.{◌≡◌, ℕ, Bool, true, false, if◌then◌else◌, Option, Some, None, is_none, refl}
 use Rattle.ble_base.specs.ErrorCodes.{memory_capacity_exceeded, mic_failure}
 use Rattle.ble_base.specs.declared.error_codes.ErrCode.{ErrCode}
-use Rattle.data_pdu.specs.declared.ctrl.Ctrl.{Ctrl}
 use Rattle.data_pdu.specs.declared.ctrl.CtrlRead.{CtrlRead}
 use Rattle.phased_control.specs.Phased.{Phased, is_quiet_now}
-use Rattle.phased_control.specs.Taken.{answered_kept, ciphered, does_keep, ended_with, handed_on, is_allowed, keeping, lacks_room_now, took}
+use Rattle.phased_control.specs.Taken.{Response, answered_kept, ciphered, does_keep, ended_with, handed_on, is_allowed, keeping, lacks_room_now, took}
 use Rattle.phased_control.specs.Steps.{seen_by_procedures}
 
-module _ (P : Phased → Type 0) (slot : ℕ) (response : Ctrl) (read : CtrlRead) where
+module _ (P : Phased → Type 0) (slot : ℕ) (response : Response) (read : CtrlRead) where
   -- the phase forbids it, or keeps it, or there is no room for its answer, or the procedures see it
   pub took_ways : (s : Phased) → (is_allowed read s ≡ false → P (ended_with mic_failure s))
       → (is_allowed read s ≡ true → does_keep read s ≡ true → P (keeping read s))

@@ -25,7 +25,7 @@ use Rattle.table_laws.specs.Encrypting.{has_encryption}
 use Rattle.control_model.specs.Control.{Control, Step, after_all}
 use Rattle.control_model.specs.Control.{Enters as control_enters, SeesAcknowledged as control_sees_acknowledged, Sends as control_sends, Takes as control_takes, Asks as control_asks, Answers as control_answers, Disconnects as control_disconnects}
 use Rattle.phased_control.specs.Phased.{Phased, ask_begun, asking_if, asks_again, encrypting, encrypting_if, entered, acknowledged, first_phased, is_encrypt, is_open_now, is_pause_rsp, is_quiet_now, key_given, key_lacking, request_of, table_entered, with_owed_if, with_step}
-use Rattle.phased_control.specs.Taken.{PhasedStep, Answers, Asks, Disconnects, Enters, GivesKey, LacksKey, SeesAcknowledged, Sends, Takes, TakesData, answered_kept, ciphered, class_of_read, ended_with, is_allowed, phased_after, phased_moved, role_now, seen_as, took}
+use Rattle.phased_control.specs.Taken.{PhasedStep, Response, Answers, Asks, Disconnects, Enters, GivesKey, LacksKey, SeesAcknowledged, Sends, Takes, TakesData, answered_kept, ciphered, class_of_read, ended_with, is_allowed, phased_after, phased_moved, role_now, seen_as, took}
 use Rattle.phased_control.specs.Steps.{read_answer, owed_steps, seen_by_procedures}
 use Rattle.phased_control.proofs.AnswerParts.{phase_answering, refused_phase}
 use Rattle.phased_control.specs.Ends.{IsRequest}
@@ -82,7 +82,7 @@ record Back (p q : PhaseFacts) (owed : Option Ctrl) : Type 0 where
   phase : follows_no_pause q ≡ true → follows_no_pause p ≡ true
   none : follows_no_pause q ≡ true → owed ≡ None
 
-back : (response : Ctrl) (read : CtrlRead) (b : Bool) (p : PhaseFacts) → allows p Central (class_of_read read) ≡ true
+back : (response : Response) (read : CtrlRead) (b : Bool) (p : PhaseFacts) → allows p Central (class_of_read read) ≡ true
     → Back p (phase_answering Central read b (phase_taking (class_of_read read) p)) (read_answer Central response read (phase_taking (class_of_read read) p))
 back response (Known StartEncReq) b (Asked after_pause enc_rsp kept) may = record { phase = λ h. absurd (cc); none = λ h. absurd (cc) }
 back response (Known StartEncReq) b p may = record { phase = λ h. h; none = λ h. refl }
@@ -183,7 +183,7 @@ none_owed : (owed : Option Ctrl) (c : Control) → owed ≡ None → Holds AreOt
 none_owed None c is none = none
 none_owed (Some ctrl) c is none = absurd (cc)
 
-none_took : (slot : ℕ) (response : Ctrl) (read : CtrlRead) (s : Phased) → Tied Central s → Unpaused s → Unpaused (took slot response read s)
+none_took : (slot : ℕ) (response : Response) (read : CtrlRead) (s : Phased) → Tied Central s → Unpaused s → Unpaused (took slot response read s)
 none_took slot response read s tied unpaused =
     took_ways Unpaused slot response read s (λ may. unpaused)
     (λ may. λ keeps. λ h. unpaused (sym (back_taking (class_of_read read) s.phase) ∙ h))

@@ -8,7 +8,7 @@ use Rattle.ble_base.specs.declared.error_codes.ErrCode.{ErrCode}
 use Rattle.ble_base.specs.declared.roles.Role.{Role}
 use Rattle.ble_base.specs.declared.roles.Role.TheVariants.{Central, Peripheral}
 use Rattle.data_pdu.specs.declared.ctrl.Ctrl.{Ctrl}
-use Rattle.data_pdu.specs.declared.ctrl.Ctrl.TheVariants.{EncReq, EncRsp, PauseEncReq, PauseEncRsp, RejectExtInd, StartEncReq, StartEncRsp, TerminateInd}
+use Rattle.data_pdu.specs.declared.ctrl.Ctrl.TheVariants.{EncReq, PauseEncReq, PauseEncRsp, RejectExtInd, StartEncReq, StartEncRsp, TerminateInd}
 use Rattle.data_pdu.specs.declared.ctrl.CtrlRead.{CtrlRead}
 use Rattle.data_pdu.specs.declared.ctrl.CtrlRead.TheVariants.{Known, Unknown, Bare}
 use Rattle.enc_phase.specs.declared.classes.PduClass.{PduClass}
@@ -32,11 +32,11 @@ use Rattle.control_model.specs.Control.{Enters as control_enters, Owes, SeesAckn
 use Rattle.control_model.proofs.Calls.{any_step, open_step}
 use Rattle.phased_control.specs.Ciphers.{AreInTurn, AreLastOf, IsInTurn, cipher_in, cipher_of, ciphers_in, ciphers_waiting, is_of_encryption, phase_ciphers}
 use Rattle.phased_control.specs.Phased.{Phased, acknowledged, ask_begun, asking_if, asks_again, encrypting, encrypting_if, entered, first_phased, is_encrypt, is_open_now, is_pause_rsp, is_quiet_now, key_given, key_lacking, refused_if, request_of, table_entered, with_owed_if, with_step}
-use Rattle.phased_control.specs.Taken.{PhasedStep, Answers, Asks, Disconnects, Enters, GivesKey, LacksKey, SeesAcknowledged, Sends, Takes, TakesData, answered_kept, ciphered, class_of_read, ended_with, phased_after, phased_after_all, phased_moved, role_now, seen_as, took}
+use Rattle.phased_control.specs.Taken.{PhasedStep, Response, Answers, Asks, Disconnects, Enters, GivesKey, LacksKey, SeesAcknowledged, Sends, Takes, TakesData, answered_kept, ciphered, class_of_read, ended_with, phased_after, phased_after_all, phased_moved, role_now, seen_as, took}
 use Rattle.phased_control.specs.Steps.{read_answer, owed_steps, seen_by_procedures}
 use Rattle.phased_control.proofs.AnswerParts.{phase_answering, refused_phase}
-use Rattle.phased_control.specs.Ends.{AllMayRespond, IsRequest, IsResponse, MayRespond}
-use Rattle.phased_control.proofs.Agreeing.{Agrees, Sound, agrees_after, agrees_first, asks_at_central, responds, sound_after, sound_first}
+use Rattle.phased_control.specs.Ends.{IsRequest}
+use Rattle.phased_control.proofs.Agreeing.{Agrees, Sound, agrees_after, agrees_first, asks_at_central, sound_after, sound_first}
 use Rattle.phased_control.proofs.Answering.{answers}
 use Rattle.phased_control.proofs.Ciphers.{Holds, IsOut, Sort, ciphers_joined, held_after, held_owing, is_owing}
 use Rattle.phased_control.proofs.Kept.{Tied}
@@ -181,7 +181,7 @@ record Apart (p q : PhaseFacts) (owed : Option Ctrl) : Type 0 where
   phase : q ≡ p
   none : owed ≡ None
 
-apart_from : (role : Role) (response : Ctrl) (read : CtrlRead) (b : Bool) (p : PhaseFacts) → is_of_encryption (class_of_read read) ≡ false
+apart_from : (role : Role) (response : Response) (read : CtrlRead) (b : Bool) (p : PhaseFacts) → is_of_encryption (class_of_read read) ≡ false
     → Apart p (phase_answering role read b p) (read_answer role response read p)
 apart_from Central response (Known StartEncReq) b p is = absurd (cc)
 apart_from Central response (Known StartEncRsp) b p is = absurd (cc)
@@ -201,29 +201,25 @@ abbrev OwedFits : List PduClass → Option Ctrl → Type 0
 OwedFits pdus None = Unit {0}
 OwedFits pdus (Some ctrl) = Last pdus (cipher_in ctrl)
 
-response_fits : (response : Ctrl) → IsResponse response → Last (enc_rsp ∷ []) (cipher_in response)
-response_fits (EncRsp skd_s iv_s) is = inl refl
-response_fits ctrl is = absurd is
-
-owed_fits : (role : Role) (response : Ctrl) (read : CtrlRead) (b : Bool) (p : PhaseFacts) → (role ≡ Peripheral → IsResponse response)
+owed_fits : (role : Role) (response : Response) (read : CtrlRead) (b : Bool) (p : PhaseFacts)
     → OwedFits (phase_ciphers role (phase_answering role read b p)) (read_answer role response read p)
-owed_fits Central response (Known StartEncReq) b (Asked after_pause enc_rsp_taken kept) may = inl refl
-owed_fits Central response (Known StartEncReq) b p may = tt
-owed_fits Central response (Known PauseEncRsp) b (Pausing kept) may = inl refl
-owed_fits Central response (Known PauseEncRsp) b p may = tt
-owed_fits Central response (Known StartEncRsp) b p may = tt
-owed_fits Central response (Known ctrl) b p may = tt
-owed_fits Peripheral response (Known (EncReq rand ediv skd_m iv_m)) b Clear may = response_fits response (may refl)
-owed_fits Peripheral response (Known (EncReq rand ediv skd_m iv_m)) b (HalfClear kept) may = response_fits response (may refl)
-owed_fits Peripheral response (Known (EncReq rand ediv skd_m iv_m)) b p may = tt
-owed_fits Peripheral response (Known PauseEncReq) b Secure may = inl refl
-owed_fits Peripheral response (Known PauseEncReq) b p may = tt
-owed_fits Peripheral response (Known StartEncRsp) b HalfKeyed may = inl refl
-owed_fits Peripheral response (Known StartEncRsp) b p may = tt
-owed_fits Peripheral response (Known PauseEncRsp) b p may = tt
-owed_fits Peripheral response (Known ctrl) b p may = tt
-owed_fits role response (Unknown opcode) b p may = tt
-owed_fits role response Bare b p may = tt
+owed_fits Central response (Known StartEncReq) b (Asked after_pause enc_rsp_taken kept) = inl refl
+owed_fits Central response (Known StartEncReq) b p = tt
+owed_fits Central response (Known PauseEncRsp) b (Pausing kept) = inl refl
+owed_fits Central response (Known PauseEncRsp) b p = tt
+owed_fits Central response (Known StartEncRsp) b p = tt
+owed_fits Central response (Known ctrl) b p = tt
+owed_fits Peripheral response (Known (EncReq rand ediv skd_m iv_m)) b Clear = inl refl
+owed_fits Peripheral response (Known (EncReq rand ediv skd_m iv_m)) b (HalfClear kept) = inl refl
+owed_fits Peripheral response (Known (EncReq rand ediv skd_m iv_m)) b p = tt
+owed_fits Peripheral response (Known PauseEncReq) b Secure = inl refl
+owed_fits Peripheral response (Known PauseEncReq) b p = tt
+owed_fits Peripheral response (Known StartEncRsp) b HalfKeyed = inl refl
+owed_fits Peripheral response (Known StartEncRsp) b p = tt
+owed_fits Peripheral response (Known PauseEncRsp) b p = tt
+owed_fits Peripheral response (Known ctrl) b p = tt
+owed_fits role response (Unknown opcode) b p = tt
+owed_fits role response Bare b p = tt
 
 -- ---- an encryption begins
 
@@ -358,7 +354,7 @@ order_kept : (role : Role) (slot : ℕ) (kept : Option Ctrl) (s : Phased) → In
 order_kept role slot None s order = order
 order_kept role slot (Some ctrl) s order = ordered_step (control_takes (Known ctrl) slot true) (phase_ciphers role s.phase) s.control refl order
 
-module _ (role : Role) (slot : ℕ) (response : Ctrl) (read : CtrlRead) (s : Phased) (tied : Tied role s) (may : role ≡ Peripheral → IsResponse response) where
+module _ (role : Role) (slot : ℕ) (response : Response) (read : CtrlRead) (s : Phased) (tied : Tied role s) where
   abbrev t : Phased
   t = seen_by_procedures read slot s
 
@@ -386,7 +382,7 @@ module _ (role : Role) (slot : ℕ) (response : Ctrl) (read : CtrlRead) (s : Pha
       let b = encrypts t in
       let fits : OwedFits (phase_ciphers role (phase_answering (role_now t) read b t.phase)) (read_answer (role_now t) response read t.phase) =
       subst (λ (r : Role). OwedFits (phase_ciphers r (phase_answering (role_now t) read b t.phase)) (read_answer (role_now t) response read t.phase)) role_t
-      (owed_fits (role_now t) response read b t.phase (λ at. may (sym role_t ∙ at))) in
+      (owed_fits (role_now t) response read b t.phase) in
       subst (InOrder role) (sym (answers t response read))
       (order_owed (read_answer (role_now t) response read t.phase) (phase_ciphers role (phase_answering (role_now t) read b t.phase)) t.control fits (empty_seen none))
 
@@ -412,45 +408,45 @@ order_if : (role : Role) (b : Bool) (s t : Phased) → (b ≡ true → InOrder r
 order_if role true s t next order = next refl
 order_if role false s t next order = order
 
-order_moved : (role : Role) (step : PhasedStep) (s : Phased) → Sound role s → Agrees s → MayRespond role step → IsInTurn step s → s.control.ends ≡ None → InOrder role s
+order_moved : (role : Role) (step : PhasedStep) (s : Phased) → Sound role s → Agrees s → IsInTurn step s → s.control.ends ≡ None → InOrder role s
     → InOrder role (phased_moved step s)
-order_moved role (Enters slot) s sound agrees may turn lasts order = order_entered role slot s sound.tied.is_role order
-order_moved role (Asks ask) s sound agrees may turn lasts order = ordered_step (control_asks ask) (phase_ciphers role s.phase) s.control refl order
-order_moved role (Answers answer) s sound agrees may turn lasts order = ordered_step (control_answers answer) (phase_ciphers role s.phase) s.control refl order
-order_moved role GivesKey s sound agrees may turn lasts order =
+order_moved role (Enters slot) s sound agrees turn lasts order = order_entered role slot s sound.tied.is_role order
+order_moved role (Asks ask) s sound agrees turn lasts order = ordered_step (control_asks ask) (phase_ciphers role s.phase) s.control refl order
+order_moved role (Answers answer) s sound agrees turn lasts order = ordered_step (control_answers answer) (phase_ciphers role s.phase) s.control refl order
+order_moved role GivesKey s sound agrees turn lasts order =
     order_if role (s.asks_key && is_open_now s) s (key_given s)
     (λ is. let parts = and_parts s.asks_key (is_open_now s) is in
     let at = sound.tied.asked_at parts.0 in
     subst (λ (r : Role). InOrder r (key_given s)) (sym at)
     (order_given s.phase s refl (sound.tied.asked parts.0) lasts parts.1 (subst (λ (r : Role). InOrder r s) at order))) order
-order_moved role LacksKey s sound agrees may turn lasts order =
+order_moved role LacksKey s sound agrees turn lasts order =
     order_if role (s.asks_key && is_open_now s) s (key_lacking s)
     (λ is. let at = sound.tied.asked_at (and_parts s.asks_key (is_open_now s) is).0 in
     subst (λ (r : Role). InOrder r (key_lacking s)) (sym at)
     (order_refused (may_follow Refuse s.phase) s.phase s refl refl (subst (λ (r : Role). InOrder r s) at order))) order
-order_moved role (Disconnects reason) s sound agrees may turn lasts order = ordered_step (control_disconnects reason) (phase_ciphers role s.phase) s.control refl order
-order_moved role (Sends slot) s sound agrees may turn lasts order = ordered_step (control_sends slot (is_quiet_now s)) (phase_ciphers role s.phase) s.control refl order
-order_moved role SeesAcknowledged s sound agrees may turn lasts order = order_acknowledged role s sound agrees lasts order
-order_moved role (Takes read slot response) s sound agrees may turn lasts order =
-    order_took role slot response read s sound.tied (responds role read slot response may) turn order
-order_moved role TakesData s sound agrees may turn lasts order = by (allows s.phase (role_now s) Data)
+order_moved role (Disconnects reason) s sound agrees turn lasts order = ordered_step (control_disconnects reason) (phase_ciphers role s.phase) s.control refl order
+order_moved role (Sends slot) s sound agrees turn lasts order = ordered_step (control_sends slot (is_quiet_now s)) (phase_ciphers role s.phase) s.control refl order
+order_moved role SeesAcknowledged s sound agrees turn lasts order = order_acknowledged role s sound agrees lasts order
+order_moved role (Takes read slot response) s sound agrees turn lasts order =
+    order_took role slot response read s sound.tied turn order
+order_moved role TakesData s sound agrees turn lasts order = by (allows s.phase (role_now s) Data)
   where
     by : (b : Bool) → InOrder role (if b then s else ended_with mic_failure s)
     by true = order
     by false = order
 
-pub order_after : (role : Role) (step : PhasedStep) (s : Phased) → Sound role s → Agrees s → MayRespond role step → IsInTurn step s → InOrder role s → InOrder role (phased_after step s)
-order_after role step s sound agrees may turn order = by s.control.ends refl
+pub order_after : (role : Role) (step : PhasedStep) (s : Phased) → Sound role s → Agrees s → IsInTurn step s → InOrder role s → InOrder role (phased_after step s)
+order_after role step s sound agrees turn order = by s.control.ends refl
   where
     by : (ends : Option ErrCode) → s.control.ends ≡ ends → InOrder role (phased_after step s)
-    by None is = open_phased (InOrder role) step s is (order_moved role step s sound agrees may turn is order)
+    by None is = open_phased (InOrder role) step s is (order_moved role step s sound agrees turn is order)
     by (Some code) is = subst (InOrder role) (sym (same_after step s code is)) order
 
-order_all : (role : Role) (steps : List PhasedStep) (s : Phased) → Sound role s → Agrees s → AllMayRespond role steps → AreInTurn steps s → InOrder role s → InOrder role (phased_after_all steps s)
-order_all role [] s sound agrees may turns order = order
-order_all role (step ∷ steps) s sound agrees may turns order =
-    order_all role steps (phased_after step s) (sound_after role step s sound) (agrees_after role step s sound may.0 agrees) may.1 turns.1
-    (order_after role step s sound agrees may.0 turns.0 order)
+order_all : (role : Role) (steps : List PhasedStep) (s : Phased) → Sound role s → Agrees s → AreInTurn steps s → InOrder role s → InOrder role (phased_after_all steps s)
+order_all role [] s sound agrees turns order = order
+order_all role (step ∷ steps) s sound agrees turns order =
+    order_all role steps (phased_after step s) (sound_after role step s sound) (agrees_after role step s sound agrees) turns.1
+    (order_after role step s sound agrees turns.0 order)
 
 pub order_first : (role : Role) (max_rx : ℕ) (first : Params) (slot : ℕ) → InOrder role (first_phased role max_rx first slot)
 order_first Central max_rx first slot = record { waits = refl; out = tt }
@@ -458,11 +454,11 @@ order_first Peripheral max_rx first slot = record { waits = inr refl; out = tt }
 
 -- ---- the laws
 
-pub order_now : (role : Role) (max_rx : ℕ) (first : Params) (slot : ℕ) (steps : List PhasedStep) → AllMayRespond role steps → AreInTurn steps (first_phased role max_rx first slot)
+pub order_now : (role : Role) (max_rx : ℕ) (first : Params) (slot : ℕ) (steps : List PhasedStep) → AreInTurn steps (first_phased role max_rx first slot)
     → let s = phased_after_all steps (first_phased role max_rx first slot) in
     AreLastOf (phase_ciphers role s.phase) (map (λ ctrl. ctrl_class ctrl) (ciphers_waiting s.control.table))
-order_now role max_rx first slot steps may turns =
-    (order_all role steps (first_phased role max_rx first slot) (sound_first role max_rx first slot) (agrees_first role max_rx first slot) may turns (order_first role max_rx first slot)).waits
+order_now role max_rx first slot steps turns =
+    (order_all role steps (first_phased role max_rx first slot) (sound_first role max_rx first slot) (agrees_first role max_rx first slot) turns (order_first role max_rx first slot)).waits
 
 few_last : (ys xs : List PduClass) → AreLastOf ys xs → length xs ≤ length ys
 few_last [] xs h = rw h (omega arith)
@@ -477,11 +473,11 @@ two_at_most Central p = omega arith
 two_at_most Peripheral Clear = omega arith
 two_at_most Peripheral p = omega arith
 
-pub few_now : (role : Role) (max_rx : ℕ) (first : Params) (slot : ℕ) (steps : List PhasedStep) → AllMayRespond role steps → AreInTurn steps (first_phased role max_rx first slot)
+pub few_now : (role : Role) (max_rx : ℕ) (first : Params) (slot : ℕ) (steps : List PhasedStep) → AreInTurn steps (first_phased role max_rx first slot)
     → length (ciphers_waiting (phased_after_all steps (first_phased role max_rx first slot)).control.table) ≤ 2
-few_now role max_rx first slot steps may turns =
+few_now role max_rx first slot steps turns =
     let s = phased_after_all steps (first_phased role max_rx first slot) in
-    let few = few_last (phase_ciphers role s.phase) (map ctrl_class (ciphers_waiting s.control.table)) (order_now role max_rx first slot steps may turns) in
+    let few = few_last (phase_ciphers role s.phase) (map ctrl_class (ciphers_waiting s.control.table)) (order_now role max_rx first slot steps turns) in
     let two = two_at_most role s.phase in
     let same = length-map (ciphers_waiting s.control.table) ctrl_class in
     omega (arith, few, two, same)
@@ -516,10 +512,10 @@ apart_in Peripheral (Asked after_pause enc_rsp_taken kept) c d last same = no_pa
 apart_in Peripheral Secure c d last same = no_pair _ c d last
 apart_in Peripheral (Pausing kept) c d last same = no_pair _ c d last
 
-pub apart_now : (role : Role) (max_rx : ℕ) (first : Params) (slot : ℕ) (steps : List PhasedStep) (one other : Ctrl) → AllMayRespond role steps
+pub apart_now : (role : Role) (max_rx : ℕ) (first : Params) (slot : ℕ) (steps : List PhasedStep) (one other : Ctrl)
     → AreInTurn steps (first_phased role max_rx first slot)
     → ciphers_waiting (phased_after_all steps (first_phased role max_rx first slot)).control.table ≡ one ∷ other ∷ [] → ctrl_class one ≢ ctrl_class other
-apart_now role max_rx first slot steps one other may turns is =
+apart_now role max_rx first slot steps one other turns is =
     let s = phased_after_all steps (first_phased role max_rx first slot) in
     apart_in role s.phase (ctrl_class one) (ctrl_class other)
-    (subst (λ (ctrls : List Ctrl). Last (phase_ciphers role s.phase) ctrls) is (order_now role max_rx first slot steps may turns))
+    (subst (λ (ctrls : List Ctrl). Last (phase_ciphers role s.phase) ctrls) is (order_now role max_rx first slot steps turns))

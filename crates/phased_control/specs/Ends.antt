@@ -1,16 +1,14 @@
 -- What the laws of one end with its phase speak of (Core 5.2, volume 6 part B, section 5.1.3; that a central keeps a
 -- PDU is our choice).
 use Rattle.std.specs.Prelude.{◌≡◌, Bool, true, false, List, [], ◌∷◌, Option, Some, None, Ok, ⊤}
-use Rattle.ble_base.specs.declared.roles.Role.{Role}
-use Rattle.ble_base.specs.declared.roles.Role.TheVariants.{Peripheral}
 use Rattle.data_pdu.specs.declared.ctrl.Ctrl.{Ctrl}
-use Rattle.data_pdu.specs.declared.ctrl.Ctrl.TheVariants.{EncReq, EncRsp}
+use Rattle.data_pdu.specs.declared.ctrl.Ctrl.TheVariants.{EncReq}
 use Rattle.enc_phase.specs.declared.classes.PduClass.TheVariants.{Request}
 use Rattle.enc_phase.specs.declared.facts.PhaseFacts.{PhaseFacts}
 use Rattle.enc_phase.specs.declared.facts.PhaseFacts.TheVariants.{Asked, HalfClear, HalfKeyed, Pausing}
 use Rattle.enc_phase.specs.Taking.{ctrl_class}
 use Rattle.procedure_values.specs.Wants.{IsAsk}
-use Rattle.phased_control.specs.Taken.{PhasedStep, Answers, Asks, Takes}
+use Rattle.phased_control.specs.Taken.{PhasedStep, Answers, Asks}
 
 -- ---- the PDU that a central keeps
 
@@ -35,20 +33,6 @@ IsFirst (Some ctrl) = ctrl_class ctrl ≡ Request
 abbrev pub IsRequest : Option Ctrl → Type 0
 IsRequest (Some (EncReq rand ediv skd_m iv_m)) = ⊤
 IsRequest request = ⊥
-
--- ---- the answer of a peripheral to LL_ENC_REQ
-
-abbrev pub IsResponse : Ctrl → Type 0
-IsResponse (EncRsp skd_s iv_s) = ⊤
-IsResponse ctrl = ⊥
-
-abbrev pub MayRespond : Role → PhasedStep → Type 0
-MayRespond Peripheral (Takes read slot response) = IsResponse response
-MayRespond role step = ⊤
-
-abbrev pub AllMayRespond : Role → List PhasedStep → Type 0
-AllMayRespond role [] = ⊤
-AllMayRespond role (step ∷ steps) = MayRespond role step × AllMayRespond role steps
 
 -- ---- what a host asks is in its range
 

@@ -20,7 +20,7 @@ use Rattle.procedures.specs.Beginning.{begin_step}
 use Rattle.control_model.specs.Control.{Control, Step, Owes, ended}
 use Rattle.control_model.specs.Control.{Answers as control_answers, Asks as control_asks, Disconnects as control_disconnects, Enters as control_enters, SeesAcknowledged as control_sees_acknowledged, Sends as control_sends, Takes as control_takes}
 use Rattle.phased_control.specs.Phased.{Phased, ask_begun, asks_again, is_encrypt, is_open_now, is_quiet_now, request_of, table_entered, with_step}
-use Rattle.phased_control.specs.Taken.{PhasedStep, Answers, Asks, Disconnects, Enters, GivesKey, LacksKey, SeesAcknowledged, Sends, Takes, TakesData, ciphered, does_keep, is_allowed, knowing, lacks_room_now, phased_after, role_now, seen_as, with_phase_taking}
+use Rattle.phased_control.specs.Taken.{PhasedStep, Response, Answers, Asks, Disconnects, Enters, GivesKey, LacksKey, SeesAcknowledged, Sends, Takes, TakesData, ciphered, does_keep, is_allowed, knowing, lacks_room_now, phased_after, response_ctrl, role_now, seen_as, with_phase_taking}
 
 -- ---- the PDU of the encryption that is owed
 
@@ -62,17 +62,18 @@ central_answer StartEncReq phase = ctrl_if (is_asked phase) StartEncRsp
 central_answer PauseEncRsp phase = ctrl_if (may_follow Unlock phase) PauseEncRsp
 central_answer ctrl phase = None
 
-abbrev pub peripheral_answer : Ctrl → Ctrl → PhaseFacts → Option Ctrl
-peripheral_answer response (EncReq rand ediv skd_m iv_m) phase = ctrl_if (may_follow AskTransition phase) response
+abbrev pub peripheral_answer : Response → Ctrl → PhaseFacts → Option Ctrl
+peripheral_answer response (EncReq rand ediv skd_m iv_m) phase =
+    ctrl_if (may_follow AskTransition phase) (response_ctrl response)
 peripheral_answer response PauseEncReq phase = ctrl_if (may_follow Pause phase) PauseEncRsp
 peripheral_answer response StartEncRsp phase = ctrl_if (may_follow Confirm phase) StartEncRsp
 peripheral_answer response ctrl phase = None
 
-abbrev pub ctrl_answer : Role → Ctrl → Ctrl → PhaseFacts → Option Ctrl
+abbrev pub ctrl_answer : Role → Response → Ctrl → PhaseFacts → Option Ctrl
 ctrl_answer Central response ctrl phase = central_answer ctrl phase
 ctrl_answer Peripheral response ctrl phase = peripheral_answer response ctrl phase
 
-abbrev pub read_answer : Role → Ctrl → CtrlRead → PhaseFacts → Option Ctrl
+abbrev pub read_answer : Role → Response → CtrlRead → PhaseFacts → Option Ctrl
 read_answer role response (Known ctrl) phase = ctrl_answer role response ctrl phase
 read_answer role response read phase = None
 
@@ -89,12 +90,12 @@ seen_by_procedures read slot s =
     with_phase_taking read (with_step (control_takes (seen_as read s) slot (is_quiet_now s)) (knowing read s))
 
 -- the answer to a PDU, and the PDU that was kept until then
-abbrev pub later_steps : ℕ → Ctrl → CtrlRead → Phased → List Step
+abbrev pub later_steps : ℕ → Response → CtrlRead → Phased → List Step
 later_steps slot response read s =
     owed_steps (read_answer (role_now s) response read s.phase)
     ++ (if is_quiet_now (ciphered response read s) then kept_steps slot s.kept else [])
 
-abbrev pub handed_steps : ℕ → Ctrl → CtrlRead → Phased → List Step
+abbrev pub handed_steps : ℕ → Response → CtrlRead → Phased → List Step
 handed_steps slot response read s =
     control_takes (seen_as read s) slot (is_quiet_now s)
     ∷ (if is_none (seen_by_procedures read slot s).control.ends
@@ -102,7 +103,7 @@ handed_steps slot response read s =
     else [])
 
 -- nothing where the phase forbids or keeps the PDU, or there is no room for the answer
-abbrev pub taken_steps : ℕ → Ctrl → CtrlRead → Phased → List Step
+abbrev pub taken_steps : ℕ → Response → CtrlRead → Phased → List Step
 taken_steps slot response read s =
     (if is_allowed read s
     then (if does_keep read s then [] else (if lacks_room_now read s then [] else handed_steps slot response read s))

@@ -79,15 +79,23 @@ moved_to transition (Some ctrl) s = with_owed ctrl (record s { phase = phase_aft
 abbrev pub moved_if : Transition → Option Ctrl → Phased → Phased
 moved_if transition owed s = (if may_follow transition s.phase then moved_to transition owed s else s)
 
+-- what a peripheral draws for its LL_ENC_RSP: its half of the session key diversifier and of the initialization vector
+pub record Response : Type 0 where
+  pub skd_s : ℕ
+  pub iv_s : ℕ
+
+abbrev pub response_ctrl : Response → Ctrl
+response_ctrl response = EncRsp response.skd_s response.iv_s
+
 -- a session begins
 abbrev pub started : Phased → Phased
 started s = (if is_asked s.phase then with_owed StartEncRsp (record s { phase = phase_starting s.phase }) else s)
 
 -- a peripheral asks its host for the key, unless the link is to end
-abbrev pub asked : Ctrl → Phased → Phased
+abbrev pub asked : Response → Phased → Phased
 asked response s =
     (if may_follow AskTransition s.phase
-    then moved_to AskTransition (Some response) (record s { asks_key = is_open_now s })
+    then moved_to AskTransition (Some (response_ctrl response)) (record s { asks_key = is_open_now s })
     else s)
 
 -- a start is refused where the procedures read it so: its LL_ENC_REQ was sent
@@ -102,19 +110,18 @@ ciphered_at_central StartEncRsp s = moved_if Confirm None s
 ciphered_at_central PauseEncRsp s = moved_if Unlock (Some PauseEncRsp) s
 ciphered_at_central ctrl s = refused_by (ctrl_class ctrl) s
 
--- the response that a peripheral would draw its words for
-abbrev pub ciphered_at_peripheral : Ctrl → Ctrl → Phased → Phased
+abbrev pub ciphered_at_peripheral : Response → Ctrl → Phased → Phased
 ciphered_at_peripheral response (EncReq rand ediv skd_m iv_m) s = asked response s
 ciphered_at_peripheral response PauseEncReq s = moved_if Pause (Some PauseEncRsp) s
 ciphered_at_peripheral response StartEncRsp s = moved_if Confirm (Some StartEncRsp) s
 ciphered_at_peripheral response PauseEncRsp s = moved_if Unlock None s
 ciphered_at_peripheral response ctrl s = s
 
-abbrev pub ciphered_at : Role → Ctrl → Ctrl → Phased → Phased
+abbrev pub ciphered_at : Role → Response → Ctrl → Phased → Phased
 ciphered_at Central response ctrl s = ciphered_at_central ctrl s
 ciphered_at Peripheral response ctrl s = ciphered_at_peripheral response ctrl s
 
-abbrev pub ciphered : Ctrl → CtrlRead → Phased → Phased
+abbrev pub ciphered : Response → CtrlRead → Phased → Phased
 ciphered response (Known ctrl) s = ciphered_at (role_now s) response ctrl s
 ciphered response read s = s
 
@@ -159,20 +166,20 @@ answered_if_quiet slot s = (if is_quiet_now s then answered_kept slot s.kept s e
 -- ---- a control PDU is taken
 
 -- after the procedures have seen it; a PDU that ended the link does nothing more
-abbrev pub goes_on : ℕ → Ctrl → CtrlRead → Phased → Phased
+abbrev pub goes_on : ℕ → Response → CtrlRead → Phased → Phased
 goes_on slot response read s =
     (if is_none s.control.ends then answered_if_quiet slot (ciphered response read s) else s)
 
-abbrev pub handed_on : ℕ → Ctrl → CtrlRead → Phased → Phased
+abbrev pub handed_on : ℕ → Response → CtrlRead → Phased → Phased
 handed_on slot response read s =
     goes_on slot response read (with_phase_taking read (with_step (control_takes (seen_as read s) slot (is_quiet_now s)) (knowing read s)))
 
-abbrev pub took_allowed : ℕ → Ctrl → CtrlRead → Phased → Phased
+abbrev pub took_allowed : ℕ → Response → CtrlRead → Phased → Phased
 took_allowed slot response read s =
     (if does_keep read s then keeping read s
     else (if lacks_room_now read s then ended_with memory_capacity_exceeded s else handed_on slot response read s))
 
-abbrev pub took : ℕ → Ctrl → CtrlRead → Phased → Phased
+abbrev pub took : ℕ → Response → CtrlRead → Phased → Phased
 took slot response read s =
     (if is_allowed read s then took_allowed slot response read s else ended_with mic_failure s)
 
@@ -197,8 +204,8 @@ pub data PhasedStep : Type 0 where
   Sends : (slot : ℕ) → PhasedStep
   -- the last PDU is acknowledged
   SeesAcknowledged : PhasedStep
-  -- a control PDU of the peer is taken; the LL_ENC_RSP with which LL_ENC_REQ would be answered
-  Takes : CtrlRead → (slot : ℕ) → (response : Ctrl) → PhasedStep
+  -- a control PDU of the peer is taken, with what a peripheral would draw to answer LL_ENC_REQ
+  Takes : CtrlRead → (slot : ℕ) → (response : Response) → PhasedStep
   TakesData : PhasedStep
 
 abbrev pub phased_moved : PhasedStep → Phased → Phased

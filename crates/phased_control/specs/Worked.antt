@@ -8,7 +8,7 @@ use Rattle.data_pdu.specs.declared.ctrl.CtrlRead.{CtrlRead}
 use Rattle.data_pdu.specs.declared.ctrl.CtrlRead.TheVariants.{Known}
 use Rattle.procedure_values.specs.declared.asks.Ask.TheVariants.{Encrypt}
 use Rattle.phased_control.specs.Phased.{Phased, first_phased}
-use Rattle.phased_control.specs.Taken.{PhasedStep, Asks, Enters, GivesKey, SeesAcknowledged, Sends, Takes, phased_after_all}
+use Rattle.phased_control.specs.Taken.{PhasedStep, Response, Asks, Enters, GivesKey, SeesAcknowledged, Sends, Takes, phased_after_all}
 
 abbrev pub central_after : ChannelMap → List PhasedStep → Phased
 central_after map steps = phased_after_all steps (first_phased Central 27 (six_slots map) 3)
@@ -16,8 +16,11 @@ central_after map steps = phased_after_all steps (first_phased Central 27 (six_s
 abbrev pub peripheral_after : ChannelMap → List PhasedStep → Phased
 peripheral_after map steps = phased_after_all steps (first_phased Peripheral 27 (six_slots map) 3)
 
+abbrev pub zero_response : Response
+zero_response = record { skd_s = 0; iv_s = 0 }
+
 abbrev pub takes : CtrlRead → PhasedStep
-takes read = Takes read 0 (EncRsp 0 0)
+takes read = Takes read 0 zero_response
 
 -- the host asks for encryption, which begins with LL_ENC_REQ; the peripheral answers, and has a key
 abbrev pub start_at_central : List PhasedStep
@@ -40,7 +43,3 @@ answers_too_early =
 -- a peer that goes on before it has LL_ENC_RSP and LL_START_ENC_REQ
 abbrev pub goes_on_too_early : List PhasedStep
 goes_on_too_early = takes (Known (EncReq 0 0 0 0)) ∷ GivesKey ∷ takes (Known StartEncRsp) ∷ []
-
--- LL_ENC_REQ answered by another PDU than LL_ENC_RSP
-abbrev pub answered_wrongly : List PhasedStep
-answered_wrongly = Takes (Known (EncReq 0 0 0 0)) 0 (RejectExtInd 0x03 0x06) ∷ []

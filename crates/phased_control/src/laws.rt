@@ -36,8 +36,8 @@ ghost use Rattle.control_model.specs.Waits.{last_event_of, last_instant_of};
 ghost use Rattle.phased_control.specs.Calls.{AllPassPhase, all_phased_calls};
 ghost use Rattle.phased_control.specs.Ciphers.{AreInTurn, AreLastOf, ciphers_waiting};
 ghost use Rattle.phased_control.specs.Ciphers.{phase_ciphers};
-ghost use Rattle.phased_control.specs.Ends.{AllAskInRange, AllMayRespond, IsFirst, IsRequest};
-ghost use Rattle.phased_control.specs.Ends.{MayRespond, is_half_keyed, says_kept};
+ghost use Rattle.phased_control.specs.Ends.{AllAskInRange, IsFirst, IsRequest};
+ghost use Rattle.phased_control.specs.Ends.{is_half_keyed, says_kept};
 ghost use Rattle.phased_control.specs.PhaseChanges.{change_of, changed, may_change};
 ghost use Rattle.phased_control.specs.PhaseChanges.{all_step_pdus, change_pdus};
 ghost use Rattle.phased_control.specs.Phased.{Phased, first_phased, is_open_now};
@@ -132,11 +132,9 @@ pub fn a_phase_says_whether_a_pdu_is_kept()
         → (phased_after_all steps (first_phased Role.Central max_rx first slot)).asks_key ≡ false }
 {}
 
-/// An encryption is in progress in the table of an end exactly outside Clear and Secure, where a
-/// peripheral answers LL_ENC_REQ with LL_ENC_RSP.
+/// An encryption is in progress in the table of an end exactly outside Clear and Secure.
 pub fn encryption_runs_outside_clear_and_secure()
     ensures { (role : Role) (max_rx : ℕ) (first : Params) (slot : ℕ) (steps : List PhasedStep)
-        → AllMayRespond role steps
         → let s = phased_after_all steps (first_phased role max_rx first slot) in
         is_quiet_now s ≡ not (has_encryption s.control.table.progress) }
 {}
@@ -157,17 +155,17 @@ pub fn a_central_has_the_request_of_its_encryption()
 pub fn few_pdus_of_the_encryption_wait()
     ensures order { (role : Role) (max_rx : ℕ) (first : Params) (slot : ℕ)
         (steps : List PhasedStep)
-        → AllMayRespond role steps → AreInTurn steps (first_phased role max_rx first slot)
+        → AreInTurn steps (first_phased role max_rx first slot)
         → let s = phased_after_all steps (first_phased role max_rx first slot) in
         AreLastOf (phase_ciphers role s.phase)
         (map (λ ctrl. ctrl_class ctrl) (ciphers_waiting s.control.table)) }
     ensures few { (role : Role) (max_rx : ℕ) (first : Params) (slot : ℕ) (steps : List PhasedStep)
-        → AllMayRespond role steps → AreInTurn steps (first_phased role max_rx first slot)
+        → AreInTurn steps (first_phased role max_rx first slot)
         → length (ciphers_waiting
         (phased_after_all steps (first_phased role max_rx first slot)).control.table) ≤ 2 }
     ensures kinds { (role : Role) (max_rx : ℕ) (first : Params) (slot : ℕ)
         (steps : List PhasedStep) (one other : Ctrl)
-        → AllMayRespond role steps → AreInTurn steps (first_phased role max_rx first slot)
+        → AreInTurn steps (first_phased role max_rx first slot)
         → ciphers_waiting
         (phased_after_all steps (first_phased role max_rx first slot)).control.table
         ≡ one ∷ other ∷ []
@@ -185,25 +183,21 @@ pub fn calls_of_an_end_may_come()
         ≡ after_calls (first_facts role max_rx)
         (all_phased_calls steps (first_phased role max_rx first slot)) }
     ensures may { (role : Role) (max_rx : ℕ) (first : Params) (slot : ℕ) (steps : List PhasedStep)
-        → AllMayRespond role steps
         → (role ≡ Role.Central → AreInTurn steps (first_phased role max_rx first slot))
         → MayAll (first_facts role max_rx) false
         (all_phased_calls steps (first_phased role max_rx first slot)) }
     ensures phase { (role : Role) (max_rx : ℕ) (first : Params) (slot : ℕ)
         (steps : List PhasedStep)
-        → AllMayRespond role steps
         → (role ≡ Role.Central → AreInTurn steps (first_phased role max_rx first slot))
         → AllPassPhase (first_facts role max_rx)
         (all_phased_calls steps (first_phased role max_rx first slot)) }
     ensures key { (role : Role) (max_rx : ℕ) (first : Params) (slot : ℕ) (steps : List PhasedStep)
-        → AllMayRespond role steps
         → (role ≡ Role.Central → AreInTurn steps (first_phased role max_rx first slot))
         → let s = phased_after_all steps (first_phased role max_rx first slot) in
         is_open_now s ≡ true
         → is_key_asked (all_phased_calls steps (first_phased role max_rx first slot))
         ≡ s.asks_key }
     ensures few { (role : Role) (max_rx : ℕ) (first : Params) (slot : ℕ) (steps : List PhasedStep)
-        → AllMayRespond role steps
         → (role ≡ Role.Central → AreInTurn steps (first_phased role max_rx first slot))
         → waiting_in
         (phased_after_all steps (first_phased role max_rx first slot)).control.table.queue ≤ 20 }
@@ -214,24 +208,20 @@ pub fn calls_of_an_end_may_come()
 /// excludes others is in progress there.
 pub fn a_central_only_encrypts_outside_clear_and_secure()
     ensures own { (max_rx : ℕ) (first : Params) (slot : ℕ) (steps : List PhasedStep)
-        → AllMayRespond Role.Central steps
         → AreInTurn steps (first_phased Role.Central max_rx first slot)
         → let s = phased_after_all steps (first_phased Role.Central max_rx first slot) in
         is_quiet_now s ≡ false → own_kind s.control.table.progress ≡ Some Kind.Encrypt }
     ensures first { (max_rx : ℕ) (first : Params) (slot : ℕ) (steps : List PhasedStep)
-        → AllMayRespond Role.Central steps
         → AreInTurn steps (first_phased Role.Central max_rx first slot)
         → let s = phased_after_all steps (first_phased Role.Central max_rx first slot) in
         is_quiet_now s ≡ false → first_pdus_waiting s.control.table ≡ 0 }
     ensures begins { (max_rx : ℕ) (first : Params) (slot : ℕ) (steps : List PhasedStep)
-        → AllMayRespond Role.Central steps
         → AreInTurn steps (first_phased Role.Central max_rx first slot)
         → (now : ℕ) (quiet : Bool)
         → let s = phased_after_all steps (first_phased Role.Central max_rx first slot) in
         is_quiet_now s ≡ false
         → begin_step s.control.table now quiet ≡ (s.control.table, None) }
     ensures peer { (max_rx : ℕ) (first : Params) (slot : ℕ) (steps : List PhasedStep)
-        → AllMayRespond Role.Central steps
         → AreInTurn steps (first_phased Role.Central max_rx first slot)
         → AllKeepRules (first_facts Role.Central max_rx)
         (all_phased_calls steps (first_phased Role.Central max_rx first slot))
@@ -244,17 +234,16 @@ pub fn a_central_only_encrypts_outside_clear_and_secure()
 /// queues the one that is owed with this change, by the role of the end, or none.
 pub fn each_change_of_a_phase_owes_its_pdu()
     ensures may { (role : Role) (max_rx : ℕ) (first : Params) (slot : ℕ) (steps : List PhasedStep)
-        (step : PhasedStep) → AllMayRespond role steps → MayRespond role step
+        (step : PhasedStep)
         → let s = phased_after_all steps (first_phased role max_rx first slot) in
         s.control.ends ≡ None → may_change (change_of step s) s.phase ≡ true }
     ensures phase { (role : Role) (max_rx : ℕ) (first : Params) (slot : ℕ)
         (steps : List PhasedStep) (step : PhasedStep)
-        → AllMayRespond role steps → MayRespond role step
         → let s = phased_after_all steps (first_phased role max_rx first slot) in
         s.control.ends ≡ None
         → (phased_after step s).phase ≡ changed (change_of step s) s.phase }
     ensures owed { (role : Role) (max_rx : ℕ) (first : Params) (slot : ℕ) (steps : List PhasedStep)
-        (step : PhasedStep) → AllMayRespond role steps → MayRespond role step
+        (step : PhasedStep)
         → let s = phased_after_all steps (first_phased role max_rx first slot) in
         s.control.ends ≡ None
         → all_step_pdus (control_steps step s) ≡ change_pdus role (change_of step s) }

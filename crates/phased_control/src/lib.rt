@@ -13,5 +13,5 @@ pub use crate::laws::{
 };
 pub use crate::rows::{
     a_peer_that_answers_too_early_breaks_the_rules, a_peer_that_goes_on_too_early_lets_three_wait,
-    a_start_is_secure, a_start_without_a_key_is_clear, another_answer_leaves_the_phase_alone,
+    a_start_is_secure, a_start_without_a_key_is_clear,
 };

@@ -4,14 +4,13 @@ ghost use Rattle.ble_base.specs.declared.channel_map.ChannelMap.{ChannelMap};
 ghost use Rattle.ble_base.specs.declared.roles.Role.{Role};
 ghost use Rattle.enc_phase.specs.declared.facts.PhaseFacts.{PhaseFacts};
 ghost use Rattle.procedures.specs.Table.{first_facts};
-ghost use Rattle.table_laws.specs.Encrypting.{has_encryption};
 ghost use Rattle.table_laws.specs.Pasts.{MayAll};
 ghost use Rattle.control_model.specs.Worked.{six_slots};
 ghost use Rattle.phased_control.specs.Calls.{all_phased_calls};
 ghost use Rattle.phased_control.specs.Ciphers.{ciphers_waiting};
 ghost use Rattle.phased_control.specs.Phased.{first_phased};
 ghost use Rattle.phased_control.specs.Worked.{central_after, peripheral_after, start_at_central};
-ghost use Rattle.phased_control.specs.Worked.{refusal_at_central, answered_wrongly};
+ghost use Rattle.phased_control.specs.Worked.{refusal_at_central};
 ghost use Rattle.phased_control.specs.Worked.{answers_too_early, goes_on_too_early};
 
 /// A central whose host asks for encryption is Secure once the peripheral has confirmed.
@@ -36,12 +35,4 @@ pub fn a_peer_that_answers_too_early_breaks_the_rules()
 pub fn a_peer_that_goes_on_too_early_lets_three_wait()
     ensures { (map : ChannelMap)
         → length (ciphers_waiting (peripheral_after map goes_on_too_early).control.table) ≡ 3 }
-{}
-
-/// After another answer to LL_ENC_REQ than LL_ENC_RSP the phase is Asked, and no encryption runs.
-pub fn another_answer_leaves_the_phase_alone()
-    ensures phase { (map : ChannelMap) → (peripheral_after map answered_wrongly).phase
-        ≡ PhaseFacts.Asked false false false }
-    ensures table { (map : ChannelMap)
-        → has_encryption (peripheral_after map answered_wrongly).control.table.progress ≡ false }
 {}

@@ -1,8 +1,9 @@
 -- What is to be refused in a packet whose link is known.
-use Rattle.std.proofs.Common.{◌≡◌, ℕ, Bool, List, Some, sym, ap, ◌∙◌}
+use Rattle.std.proofs.Common.{◌≡◌, ℕ, Bool, true, false, List, Some, sym, ap, subst, ◌∙◌}
 use Rattle.ble_base.specs.declared.roles.Side.{Side}
 use Rattle.journal.specs.declared.entries.Entry.{Entry}
 use Rattle.air_frame.specs.Packet.{on_air}
+use Rattle.link_model.specs.Data.{is_empty}
 use Rattle.journal_links.specs.Begun.{LinkBegun, link_numbered}
 use Rattle.journal_packets.specs.Belonging.{link_of_packet}
 use Rattle.journal_acks.specs.Carried.{bits_of, carried_of, channel_entered, pdu_octets}
@@ -46,3 +47,16 @@ channel_is front side channel octets number belongs tells =
     let packet = tells.packet in
     let same = some_is packet.number number (sym packet.belongs ∙ belongs) in
     ap (λ (n : ℕ). channel_entered n side front) (sym same) ∙ packet.in_event
+
+-- where a packet of this link has an empty PDU as a new one, no data waits
+pub none_waits : (front : List Entry) (side : Side) (channel : ℕ) (octets : List ℕ) (number : ℕ)
+    → link_of_packet front side octets ≡ Some number
+    → (exchange_of number front side).acked ≡ (exchange_of number front side).sent
+    → is_empty (carried_of number front side) ≡ true → TellsWhatWaits front side channel octets
+    → data_waits number (lines_of host_buffers side front) ≡ false
+none_waits front side channel octets number belongs new empty tells =
+    let same : number ≡ tells.packet.number = some_is number tells.packet.number (sym belongs ∙ tells.packet.belongs) in
+    ap (λ (n : ℕ). data_waits n (lines_of host_buffers side front)) same
+    ∙ tells.empty_last
+    (subst (λ (n : ℕ). (exchange_of n front side).acked ≡ (exchange_of n front side).sent) same new)
+    (subst (λ (n : ℕ). is_empty (carried_of n front side) ≡ true) same empty)

@@ -6,8 +6,9 @@ use Rattle.ble_base.specs.declared.verdicts.Verdict.TheVariants.{Good, Missed}
 use Rattle.journal.specs.declared.entries.Entry.{Entry}
 use Rattle.journal.specs.declared.entries.Entry.TheVariants.{Air, Enter, Opened}
 use Rattle.journal.specs.declared.entries.Mark.TheVariants.{Pass}
-use Rattle.run_model.specs.Rows.{connect_packet, connectable_packet, first_packet, first_reply, turn_entry}
+use Rattle.run_model.specs.Rows.{first_packet, first_reply, turn_entry}
 use Rattle.wrong_journals.specs.Events.{turns_before_first}
+use Rattle.wrong_journals.specs.Hearings.{passed_connect, unheard_connect}
 
 -- ---- an answer
 
@@ -21,17 +22,13 @@ answer_missed = before_answer ++ Air A 25 first_reply Pass Missed ∷ []
 
 -- ---- a CONNECT_IND
 
--- B sends a CONNECT_IND, which A hears
-abbrev pub asked_to_connect : List Entry
-asked_to_connect = turn_entry 0 ∷ Air A 37 connectable_packet Pass Good ∷ Air B 37 connect_packet Pass Good ∷ []
-
--- A holds the link from there on, and B does not
+-- A hears the CONNECT_IND of B and holds the link from there on, and B does not
 abbrev pub opened_by_other : List Entry
-opened_by_other = asked_to_connect ++ Opened A 1 0 Peripheral ∷ []
+opened_by_other = passed_connect ++ Opened A 1 0 Peripheral ∷ []
 
--- the next turn begins, and neither holds the link, or only A does
+-- the next turn begins, and neither holds the link, where A did not hear it, or only A does
 abbrev pub never_opened : List Entry
-never_opened = asked_to_connect ++ turn_entry 1 ∷ []
+never_opened = unheard_connect ++ turn_entry 1 ∷ []
 
 abbrev pub never_opened_by_central : List Entry
 never_opened_by_central = opened_by_other ++ turn_entry 1 ∷ []

@@ -1,20 +1,22 @@
 -- Journals of a link whose lines of links and events are not those of its CONNECT_IND.
 use Rattle.std.specs.Prelude.{ℕ, zero, suc, ◌+◌, List, [], ◌∷◌, ◌++◌}
 use Rattle.ble_base.specs.declared.procedure_kinds.Kind.TheVariants.{Version}
-use Rattle.ble_base.specs.declared.roles.Role.TheVariants.{Central}
+use Rattle.ble_base.specs.declared.roles.Role.TheVariants.{Central, Peripheral}
 use Rattle.ble_base.specs.declared.roles.Side.TheVariants.{A, B}
 use Rattle.journal.specs.declared.entries.Entry.{Entry}
 use Rattle.journal.specs.declared.entries.Entry.TheVariants.{Applied, Began, Enter, Opened}
 use Rattle.run_model.specs.Rows.{connect_packet, one_connection_journal, turn_entry}
 use Rattle.journal_links.specs.Rows.{answered_by, unoffered_packet}
+use Rattle.wrong_journals.specs.Hearings.{passed_connect}
+use Rattle.wrong_journals.specs.Resetting.{shut_by_reset}
 
 -- the side that received the CONNECT_IND opens the link as its central
 abbrev pub roles_exchanged : List Entry
-roles_exchanged = one_connection_journal ++ Opened A 1 1 Central ∷ []
+roles_exchanged = passed_connect ++ Opened A 1 0 Central ∷ []
 
--- a side opens the link one turn late
+-- a side opens the link one turn late, after a Reset that shut it
 abbrev pub opened_late : List Entry
-opened_late = one_connection_journal ++ turn_entry 1 ∷ Opened B 1 1 Central ∷ []
+opened_late = shut_by_reset B ++ Opened B 1 0 Central ∷ []
 
 -- a side opens a link that no CONNECT_IND began
 abbrev pub opened_from_nothing : List Entry
@@ -34,7 +36,9 @@ entered_by_hopping = one_connection_journal ++ turn_entry 1 ∷ turn_entry 2 ∷
 
 -- and on the channel of algorithm #2, where the advertiser does not offer it
 abbrev pub unoffered_connection : List Entry
-unoffered_connection = answered_by unoffered_packet connect_packet ++ turn_entry 1 ∷ turn_entry 2 ∷ []
+unoffered_connection =
+    answered_by unoffered_packet connect_packet ++ Opened A 1 0 Peripheral ∷ Opened B 1 0 Central ∷ turn_entry 1
+    ∷ turn_entry 2 ∷ []
 
 abbrev pub entered_unoffered : List Entry
 entered_unoffered = unoffered_connection ++ Enter A 1 0 25 ∷ []

@@ -14,9 +14,16 @@ use Rattle.run_model.specs.Rows.{connect_packet, turn_entry}
 abbrev pub connect_missed : List Entry
 connect_missed = offered_journal ++ Air B 37 connect_packet Pass Missed ∷ []
 
+-- it passes and is heard, and it is lost
+abbrev pub passed_connect : List Entry
+passed_connect = offered_journal ++ Air B 37 connect_packet Pass Good ∷ []
+
+abbrev pub unheard_connect : List Entry
+unheard_connect = offered_journal ++ Air B 37 connect_packet Lost Missed ∷ []
+
 -- the advertiser opens the link of a CONNECT_IND that is lost, and of one that is changed
 abbrev pub lost_connect : List Entry
-lost_connect = offered_journal ++ Air B 37 connect_packet Lost Missed ∷ Opened B 1 0 Central ∷ []
+lost_connect = unheard_connect ++ Opened B 1 0 Central ∷ []
 
 abbrev pub opened_though_lost : List Entry
 opened_though_lost = lost_connect ++ Opened A 1 0 Peripheral ∷ []
@@ -30,7 +37,7 @@ opened_though_broken = broken_connect ++ Opened A 1 0 Peripheral ∷ []
 
 -- the advertiser hears the CONNECT_IND, and does not open its link before the next turn
 abbrev pub heard_connect : List Entry
-heard_connect = offered_journal ++ Air B 37 connect_packet Pass Good ∷ Opened B 1 0 Central ∷ []
+heard_connect = passed_connect ++ Opened B 1 0 Central ∷ []
 
 abbrev pub heard_unopened : List Entry
 heard_unopened = heard_connect ++ turn_entry 1 ∷ []

@@ -6,6 +6,7 @@ use Rattle.journal.specs.declared.entries.Entry.{Entry}
 use Rattle.journal.specs.declared.entries.Entry.TheVariants.{Air, Enter}
 use Rattle.journal.specs.declared.entries.Mark.TheVariants.{Pass}
 use Rattle.run_model.specs.Rows.{first_packet, one_event_journal, turn_entry}
+use Rattle.journal_slots.specs.Rows.{next_packet}
 use Rattle.wrong_journals.specs.Events.{turns_before_first}
 
 -- both sides have entered event 0, in its turn
@@ -21,7 +22,7 @@ two_turns_after = one_event_journal ++ turn_entry 3 ∷ turn_entry 4 ∷ []
 
 -- a packet two turns after its event
 abbrev pub packet_too_late : List Entry
-packet_too_late = two_turns_after ++ Air B 25 first_packet Pass Good ∷ []
+packet_too_late = two_turns_after ++ Air B 25 next_packet Pass Good ∷ []
 
 -- the other side has entered the event, and its sender has not
 abbrev pub only_other_entered : List Entry

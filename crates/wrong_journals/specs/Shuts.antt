@@ -1,9 +1,7 @@
 -- Journals at whose end a link may be shut, and others at whose end it may not.
-use Rattle.std.specs.Prelude.{List, [], ◌∷◌, ◌++◌}
-use Rattle.ble_base.specs.declared.roles.Side.TheVariants.{A}
+use Rattle.std.specs.Prelude.{List, ◌++◌}
 use Rattle.journal.specs.declared.entries.Entry.{Entry}
-use Rattle.journal.specs.declared.entries.Entry.TheVariants.{Fed}
-use Rattle.run_model.specs.Rows.{one_connection_journal, one_event_journal, reset, turn_entry}
+use Rattle.run_model.specs.Rows.{one_connection_journal, one_event_journal}
 use Rattle.wrong_journals.specs.Events.{turn_entries}
 
 -- nothing is heard on the link of turn 0, whose interval is 24, up to turn 144
@@ -25,7 +23,3 @@ silent = one_event_journal ++ turn_entries 3 576
 -- one turn before that
 abbrev pub before_silent : List Entry
 before_silent = one_event_journal ++ turn_entries 3 575
-
--- the host of A resets its controller in turn 1
-abbrev pub reset_now : List Entry
-reset_now = one_connection_journal ++ turn_entry 1 ∷ Fed A reset ∷ []

@@ -1,5 +1,5 @@
 //! Small journals that are right.
-ghost use Rattle.std.specs.Prelude.{[], ◌∷◌};
+ghost use Rattle.std.specs.Prelude.{◌≡◌, [], ◌∷◌};
 ghost use Rattle.ble_base.specs.declared.roles.Side.TheVariants.{A, B};
 ghost use Rattle.ble_base.specs.declared.verdicts.Verdict.TheVariants.{Good, Missed};
 ghost use Rattle.controller_model.specs.Rows.{advertisement_ending, advertising_octets};
@@ -8,14 +8,39 @@ ghost use Rattle.journal.specs.declared.entries.Entry.TheVariants.{Air, Up};
 ghost use Rattle.journal.specs.declared.entries.Mark.TheVariants.{Lost as WasLost, Pass as Passed};
 ghost use Rattle.journal_pdus.specs.Lawful.{IsLawful};
 ghost use Rattle.radio_replay.specs.declared.fates.Fate.TheVariants.{Lost};
+ghost use Rattle.run_model.specs.Journal.{journal_of};
+ghost use Rattle.run_model.specs.Pair.{given_of};
+ghost use Rattle.run_model.specs.Run.{history_of, run_of};
 ghost use Rattle.run_model.specs.Rows.{advertisement_opening, connecting_octets, enabling_octets};
 ghost use Rattle.run_model.specs.Rows.{first_reset_journal, one_connection_journal};
 ghost use Rattle.run_model.specs.Rows.{one_event_journal, report, reset};
-ghost use Rattle.wrong_journals.specs.Right.{script_with, turn_with};
+ghost use Rattle.wrong_journals.specs.Hosts.{data_settled};
+ghost use Rattle.wrong_journals.specs.Resetting.{shut_by_reset};
+ghost use Rattle.wrong_journals.specs.Right.{answering_octets, both_script, both_settled};
+ghost use Rattle.wrong_journals.specs.Right.{data_script, more_octets, more_script, more_settled};
+ghost use Rattle.wrong_journals.specs.Right.{reset_script, resetting_octets, script_with};
+ghost use Rattle.wrong_journals.specs.Right.{sending_octets, turn_with};
 
-/// Five journals are lawful, which were written by hand: a first HCI_Reset; an advertisement that is
-/// reported, and one that the radio loses; a link that opens; and its first event, with an empty PDU
-/// each way. So the definition of a lawful journal does not refuse what is right.
+/// The journals of four runs. In three of them the central has a packet of its host to send. It
+/// says so in its first packet, and the event goes on in the next turn: there the packet is taken,
+/// acknowledged, handed up and credited. In one of these its host gives another packet in that
+/// turn, and in one the peripheral has a packet as well. In the last run the peripheral is reset.
+pub fn worked_link_runs()
+    ensures one { journal_of (history_of (run_of
+        (given_of enabling_octets sending_octets data_script))) ≡ data_settled }
+    ensures more { journal_of (history_of (run_of
+        (given_of enabling_octets more_octets more_script))) ≡ more_settled }
+    ensures both { journal_of (history_of (run_of
+        (given_of answering_octets sending_octets both_script))) ≡ both_settled }
+    ensures reset { journal_of (history_of (run_of
+        (given_of resetting_octets connecting_octets reset_script))) ≡ shut_by_reset A }
+{}
+
+/// Nine journals are lawful, which were written by hand: a first HCI_Reset; an advertisement that
+/// is reported, and one that the radio loses; a link that opens; its first event, with an empty PDU
+/// each way; three with data, and one with a Reset of a side with a link. Many of the wrong
+/// journals begin with lines of the last four. So the definition of a lawful journal does not
+/// refuse what is right.
 pub fn right_journals_are_lawful()
     ensures reset { IsLawful reset []
         (script_with (turn_with 0 0 [] ∷ turn_with 4 0 [] ∷ [])) first_reset_journal }
@@ -31,7 +56,13 @@ pub fn right_journals_are_lawful()
     ensures event { IsLawful enabling_octets connecting_octets
         (script_with (turn_with 5 29 [] ∷ turn_with 0 0 [] ∷ turn_with 0 0 [] ∷ []))
         one_event_journal }
+    ensures one_packet { IsLawful enabling_octets sending_octets data_script data_settled }
+    ensures more_packets { IsLawful enabling_octets more_octets more_script more_settled }
+    ensures both_sides { IsLawful answering_octets sending_octets both_script both_settled }
+    ensures link_reset { IsLawful resetting_octets connecting_octets reset_script
+        (shut_by_reset A) }
 {
+    worked_link_runs();
     run_model::worked_runs();
     run_model::worked_connection();
     journal_pdus::each_journal_is_lawful();

@@ -3,8 +3,9 @@ ghost use Rattle.ble_base.specs.declared.roles.Side.TheVariants.{A};
 ghost use Rattle.journal_acks.specs.Shut.{CompletesReset, HasTimedOut};
 ghost use Rattle.journal_acks.specs.Shut.{IsNotEstablished, IsShutWithReason};
 ghost use Rattle.journal_pdus.specs.InTime.{EndsLater, NoneIsOverdue};
+ghost use Rattle.wrong_journals.specs.Resetting.{reset_now};
 ghost use Rattle.wrong_journals.specs.Shuts.{before_failing, before_silent, failing, heard_once};
-ghost use Rattle.wrong_journals.specs.Shuts.{reset_now, silent};
+ghost use Rattle.wrong_journals.specs.Shuts.{silent};
 
 /// A link on which nothing was heard is shut in turn 144 with 3E, one on which a packet was heard
 /// in turn 2 is shut in turn 578 with 08, and any is shut at a Reset. None is shut one turn before,
@@ -13,7 +14,7 @@ ghost use Rattle.wrong_journals.specs.Shuts.{reset_now, silent};
 pub fn wrong_reasons_are_refused()
     ensures failed { IsNotEstablished failing A 1 }
     ensures timed_out { HasTimedOut silent A 1 }
-    ensures reset { CompletesReset reset_now A }
+    ensures reset { CompletesReset (reset_now A) A }
     ensures fails_early { IsShutWithReason before_failing A 1 0x3E → ⊥ }
     ensures times_out_early { IsShutWithReason before_silent A 1 0x08 → ⊥ }
     ensures heard { IsShutWithReason heard_once A 1 0x3E → ⊥ }

@@ -5,5 +5,5 @@ use Rattle.joint_phases.proofs.laws.no_link_ends_by_integrity_failure.Goals as g
 
 pub returns : goal.returns
 returns c =
-    λ central_rx peripheral_rx first slot steps step facts running here responds.
-    never_forged _ _ (shows_run central_rx peripheral_rx first slot steps facts) running here step responds
+    λ central_rx peripheral_rx first slot steps step facts running here.
+    never_forged _ _ (shows_run central_rx peripheral_rx first slot steps facts) running here step

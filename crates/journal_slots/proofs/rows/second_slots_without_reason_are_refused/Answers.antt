@@ -15,7 +15,8 @@ use Rattle.journal_links.specs.Entered.{anchor_in}
 use Rattle.journal_links.specs.Rows.{one_link}
 use Rattle.journal_packets.specs.Belonging.{is_answer, link_of_packet}
 use Rattle.journal_acks.specs.EventOrder.{entered_on}
-use Rattle.journal_slots.specs.Rows.{more_packet, next_packet, none_is_heard, none_says_more}
+use Rattle.journal_acks.specs.Rows.{more_packet}
+use Rattle.journal_slots.specs.Rows.{next_packet, none_is_heard, none_says_more}
 use Rattle.journal_slots.proofs.Refusals.{has_to_continue, unheard_refutes, no_more_refutes}
 use Rattle.journal_slots.proofs.rows.second_slots_without_reason_are_refused.Goals as goal
 

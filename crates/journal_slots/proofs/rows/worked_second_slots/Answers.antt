@@ -16,8 +16,8 @@ use Rattle.journal_links.specs.Rows.{one_link}
 use Rattle.journal_packets.specs.Belonging.{is_answer, link_of_packet}
 use Rattle.journal_acks.specs.EventOrder.{entered_on}
 use Rattle.run_model.specs.Rows.{first_packet, first_reply, turn_entry}
-use Rattle.journal_acks.specs.Rows.{data_packet}
-use Rattle.journal_slots.specs.Rows.{central_goes_on, central_says_more, given_to, more_packet, more_reply, next_packet, peripheral_says_more, reply_packet}
+use Rattle.journal_acks.specs.Rows.{data_heard, data_packet, data_sent, given_to, more_packet, more_reply, reply_packet}
+use Rattle.journal_slots.specs.Rows.{next_packet, peripheral_says_more}
 use Rattle.journal_slots.proofs.Refusals.{continued_as}
 use Rattle.journal_slots.proofs.rows.worked_second_slots.Goals as goal
 
@@ -29,7 +29,7 @@ returns-clause-first_slot c =
 pub returns-clause-central : goal.returns-clause-central
 unfolding link_of_packet is_answer entered_on links_begun pdu_heard heard_in read_of kept_bits crc crc_octets crc_of_bits remainder mask_of next_mask whitening_bit whitening_of little_endian
 returns-clause-central c =
-    continued_as central_says_more B data_packet 1 0 one_link (record { belongs = refl; is_link = refl; entered = refl }) (λ in_turn. record {
+    continued_as data_sent B data_packet 1 0 one_link (record { belongs = refl; is_link = refl; entered = refl }) (λ in_turn. record {
       heard = record {
         before = given_to B ++ Air B 25 more_packet Pass Good ∷ [];
         channel = 25;
@@ -63,7 +63,7 @@ returns-clause-central c =
 pub returns-clause-peripheral : goal.returns-clause-peripheral
 unfolding link_of_packet is_answer entered_on links_begun pdu_heard heard_in read_of kept_bits crc crc_octets crc_of_bits remainder mask_of next_mask whitening_bit whitening_of little_endian
 returns-clause-peripheral c =
-    continued_as central_goes_on A reply_packet 1 0 one_link (record { belongs = refl; is_link = refl; entered = refl }) (λ in_turn. record {
+    continued_as data_heard A reply_packet 1 0 one_link (record { belongs = refl; is_link = refl; entered = refl }) (λ in_turn. record {
       heard = record {
         before = given_to B;
         channel = 25;

@@ -9,14 +9,15 @@ use Rattle.controller_model.specs.Packets.{pdu_heard}
 use Rattle.wire_fields.specs.Field.{little_endian}
 use Rattle.journal_links.specs.Begun.{links_begun}
 use Rattle.journal_links.specs.Rows.{one_link}
-use Rattle.wrong_journals.specs.Answers.{asked_to_connect, opened_by_other}
+use Rattle.wrong_journals.specs.Answers.{opened_by_other}
+use Rattle.wrong_journals.specs.Hearings.{unheard_connect}
 use Rattle.wrong_journals.proofs.Differing.{truths_differ}
 use Rattle.wrong_journals.proofs.Opening.{link_is_opened}
 use Rattle.wrong_journals.proofs.answers.unopened_links_are_refused.Goals as goal
 
 pub returns-clause-never : goal.returns-clause-never
 unfolding links_begun pdu_heard heard_in read_of kept_bits crc crc_octets crc_of_bits remainder mask_of next_mask whitening_bit whitening_of little_endian
-returns-clause-never c lawful = truths_differ (sym (lawful asked_to_connect [] 1 true (Some true) refl 1 one_link refl))
+returns-clause-never c lawful = truths_differ (sym (lawful unheard_connect [] 1 true (Some true) refl 1 one_link refl))
 
 pub returns-clause-by_other : goal.returns-clause-by_other
 unfolding links_begun pdu_heard heard_in read_of kept_bits crc crc_octets crc_of_bits remainder mask_of next_mask whitening_bit whitening_of little_endian

@@ -24,6 +24,8 @@ use Rattle.journal_data.specs.Lines.{lines_of}
 use Rattle.journal_pdus.specs.Announced.{announced_pdu}
 use Rattle.journal_pdus.specs.Pending.{pending_pdu}
 use Rattle.run_model.specs.Rows.{one_connection_journal, turn_entry}
+use Rattle.wrong_journals.specs.Hearings.{passed_connect}
+use Rattle.wrong_journals.specs.Resetting.{shut_by_reset}
 use Rattle.wrong_journals.proofs.Differing.{entered_as, numbers_differ, opened_as, truths_differ}
 use Rattle.wrong_journals.specs.Events.{unoffered_connection}
 use Rattle.wrong_journals.proofs.events.wrong_links_are_refused.Goals as goal
@@ -32,15 +34,13 @@ pub returns-clause-roles : goal.returns-clause-roles
 unfolding announced_pdu pending_pdu channel_entered lines_of frames exchange_of sent_line_of link_of_packet is_answer links_begun pdu_heard heard_in read_of kept_bits crc crc_octets crc_of_bits remainder mask_of next_mask whitening_bit whitening_of little_endian data_channels used_channels reversed_octet perm mam stage prn channel_of
 returns-clause-roles c lawful =
     truths_differ (ap (is_side B)
-    (opened_as one_connection_journal A 1 Central one_link refl
-    (lawful one_connection_journal [] A 1 1 Central refl)).central)
+    (opened_as passed_connect A 1 Central one_link refl (lawful passed_connect [] A 1 0 Central refl)).central)
 
 pub returns-clause-late : goal.returns-clause-late
 unfolding announced_pdu pending_pdu channel_entered lines_of frames exchange_of sent_line_of link_of_packet is_answer links_begun pdu_heard heard_in read_of kept_bits crc crc_octets crc_of_bits remainder mask_of next_mask whitening_bit whitening_of little_endian data_channels used_channels reversed_octet perm mam stage prn channel_of
 returns-clause-late c lawful =
     numbers_differ 1 2 refl
-    (opened_as (one_connection_journal ++ turn_entry 1 ∷ []) B 1 Central one_link refl
-    (lawful (one_connection_journal ++ turn_entry 1 ∷ []) [] B 1 1 Central refl)).turn
+    (opened_as (shut_by_reset B) B 1 Central one_link refl (lawful (shut_by_reset B) [] B 1 0 Central refl)).turn
 
 pub returns-clause-no_connect_ind : goal.returns-clause-no_connect_ind
 unfolding announced_pdu pending_pdu channel_entered lines_of frames exchange_of sent_line_of link_of_packet is_answer links_begun pdu_heard heard_in read_of kept_bits crc crc_octets crc_of_bits remainder mask_of next_mask whitening_bit whitening_of little_endian data_channels used_channels reversed_octet perm mam stage prn channel_of

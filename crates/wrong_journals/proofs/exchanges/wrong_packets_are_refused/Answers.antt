@@ -1,9 +1,8 @@
 -- A packet does not carry what it must.
-use Rattle.std.proofs.Common.{ℕ, true, false, List, [], ◌∷◌, ◌++◌, Option, Some, None, get_or, refl, ap}
+use Rattle.std.proofs.Common.{ℕ, true, false, List, [], Option, Some, None, get_or, refl, ap}
 use Rattle.ble_base.specs.declared.roles.Side.TheVariants.{B}
 use Rattle.ble_base.specs.declared.verdicts.Verdict.TheVariants.{Good}
 use Rattle.ble_base.specs.ChannelMap.{data_channels, used_channels}
-use Rattle.journal.specs.declared.entries.Entry.TheVariants.{Fed, Sent}
 use Rattle.journal.specs.declared.entries.Mark.TheVariants.{Pass}
 use Rattle.adv_pdu.specs.Header.{kept_bits}
 use Rattle.adv_pdu.specs.Reading.{read_of}
@@ -20,70 +19,63 @@ use Rattle.journal_links.specs.Rows.{one_link}
 use Rattle.journal_packets.specs.Belonging.{is_answer, link_of_packet}
 use Rattle.journal_acks.specs.Carried.{channel_entered, sent_line_of}
 use Rattle.journal_acks.specs.Exchange.{exchange_of}
-use Rattle.journal_acks.specs.Rows.{data_packet}
 use Rattle.journal_data.specs.Lines.{lines_of}
 use Rattle.journal_pdus.specs.Announced.{announced_pdu}
 use Rattle.journal_pdus.specs.Pending.{pending_pdu}
-use Rattle.run_model.specs.Rows.{first_packet, one_event_journal, turn_entry}
-use Rattle.wrong_journals.specs.Exchanges.{announced, submitted}
-use Rattle.wrong_journals.proofs.Differing.{numbers_differ}
-use Rattle.wrong_journals.proofs.Packets.{channel_is, octets_are}
+use Rattle.journal_acks.specs.Rows.{data_packet, data_sent, second_slot}
+use Rattle.wrong_journals.specs.Exchanges.{data_as_first, data_on_another, data_with_more, empty_with_more, other_data, two_submitted}
+use Rattle.wrong_journals.proofs.Differing.{numbers_differ, truths_differ}
+use Rattle.wrong_journals.proofs.Packets.{channel_is, none_waits, octets_are}
 use Rattle.wrong_journals.proofs.exchanges.wrong_packets_are_refused.Goals as goal
 
 pub returns-clause-empty : goal.returns-clause-empty
 unfolding announced_pdu pending_pdu channel_entered lines_of frames exchange_of sent_line_of link_of_packet is_answer links_begun pdu_heard heard_in read_of kept_bits crc crc_octets crc_of_bits remainder mask_of next_mask whitening_bit whitening_of little_endian data_channels used_channels reversed_octet perm mam stage prn channel_of
 returns-clause-empty c lawful =
-    numbers_differ 0x5C 0x4C refl
-    (ap (λ (octets : List ℕ). get_or octets 4 0)
-    (octets_are (submitted) B 25 (0x29 ∷ 0x41 ∷ 0x76 ∷ 0x71 ∷ 0x5C ∷ 0xFA ∷ 0xAB ∷ 0xEE ∷ 0x50 ∷ []) 1 one_link true refl refl refl
-    (lawful (submitted) [] B 25 (0x29 ∷ 0x41 ∷ 0x76 ∷ 0x71 ∷ 0x5C ∷ 0xFA ∷ 0xAB ∷ 0xEE ∷ 0x50 ∷ []) Pass Good refl refl)))
+    truths_differ
+    (none_waits second_slot B 25 empty_with_more 1 refl refl refl
+    (lawful second_slot [] B 25 empty_with_more Pass Good refl refl))
 
 pub returns-clause-number : goal.returns-clause-number
 unfolding announced_pdu pending_pdu channel_entered lines_of frames exchange_of sent_line_of link_of_packet is_answer links_begun pdu_heard heard_in read_of kept_bits crc crc_octets crc_of_bits remainder mask_of next_mask whitening_bit whitening_of little_endian data_channels used_channels reversed_octet perm mam stage prn channel_of
 returns-clause-number c lawful =
-    numbers_differ 0x50 0x5C refl
+    numbers_differ 0x53 0x5F refl
     (ap (λ (octets : List ℕ). get_or octets 4 0)
-    (octets_are (one_event_journal ++ turn_entry 3 ∷ []) B 25 (first_packet) 1 one_link false refl refl refl
-    (lawful (one_event_journal ++ turn_entry 3 ∷ []) [] B 25 (first_packet) Pass Good refl refl)))
+    (octets_are data_sent B 25 data_as_first 1 one_link false refl refl refl (lawful data_sent [] B 25 data_as_first Pass Good refl refl)))
 
 pub returns-clause-no_line : goal.returns-clause-no_line
 unfolding announced_pdu pending_pdu channel_entered lines_of frames exchange_of sent_line_of link_of_packet is_answer links_begun pdu_heard heard_in read_of kept_bits crc crc_octets crc_of_bits remainder mask_of next_mask whitening_bit whitening_of little_endian data_channels used_channels reversed_octet perm mam stage prn channel_of
 returns-clause-no_line c lawful =
     numbers_differ 0x5F 0x4C refl
     (ap (λ (octets : List ℕ). get_or octets 4 0)
-    (octets_are (submitted) B 25 (data_packet) 1 one_link true refl refl refl
-    (lawful (submitted) [] B 25 (data_packet) Pass Good refl refl)))
+    (octets_are second_slot B 25 data_packet 1 one_link true refl refl refl (lawful second_slot [] B 25 data_packet Pass Good refl refl)))
 
 pub returns-clause-otherwise : goal.returns-clause-otherwise
 unfolding announced_pdu pending_pdu channel_entered lines_of frames exchange_of sent_line_of link_of_packet is_answer links_begun pdu_heard heard_in read_of kept_bits crc crc_octets crc_of_bits remainder mask_of next_mask whitening_bit whitening_of little_endian data_channels used_channels reversed_octet perm mam stage prn channel_of
 returns-clause-otherwise c lawful =
     numbers_differ 0x81 0x80 refl
     (ap (λ (octets : List ℕ). get_or octets 6 0)
-    (octets_are (announced) B 25 (0x29 ∷ 0x41 ∷ 0x76 ∷ 0x71 ∷ 0x5F ∷ 0xFB ∷ 0x81 ∷ 0x28 ∷ 0xE6 ∷ 0xFD ∷ []) 1 one_link false refl refl refl
-    (lawful (announced) [] B 25 (0x29 ∷ 0x41 ∷ 0x76 ∷ 0x71 ∷ 0x5F ∷ 0xFB ∷ 0x81 ∷ 0x28 ∷ 0xE6 ∷ 0xFD ∷ []) Pass Good refl refl)))
+    (octets_are data_sent B 25 other_data 1 one_link false refl refl refl (lawful data_sent [] B 25 other_data Pass Good refl refl)))
 
 pub returns-clause-more : goal.returns-clause-more
 unfolding announced_pdu pending_pdu channel_entered lines_of frames exchange_of sent_line_of link_of_packet is_answer links_begun pdu_heard heard_in read_of kept_bits crc crc_octets crc_of_bits remainder mask_of next_mask whitening_bit whitening_of little_endian data_channels used_channels reversed_octet perm mam stage prn channel_of
 returns-clause-more c lawful =
     numbers_differ 0x4F 0x5F refl
     (ap (λ (octets : List ℕ). get_or octets 4 0)
-    (octets_are (announced) B 25 (0x29 ∷ 0x41 ∷ 0x76 ∷ 0x71 ∷ 0x4F ∷ 0xFB ∷ 0x80 ∷ 0xF3 ∷ 0x17 ∷ 0x9A ∷ []) 1 one_link false refl refl refl
-    (lawful (announced) [] B 25 (0x29 ∷ 0x41 ∷ 0x76 ∷ 0x71 ∷ 0x4F ∷ 0xFB ∷ 0x80 ∷ 0xF3 ∷ 0x17 ∷ 0x9A ∷ []) Pass Good refl refl)))
+    (octets_are data_sent B 25 data_with_more 1 one_link false refl refl refl (lawful data_sent [] B 25 data_with_more Pass Good refl refl)))
 
 pub returns-clause-less : goal.returns-clause-less
 unfolding announced_pdu pending_pdu channel_entered lines_of frames exchange_of sent_line_of link_of_packet is_answer links_begun pdu_heard heard_in read_of kept_bits crc crc_octets crc_of_bits remainder mask_of next_mask whitening_bit whitening_of little_endian data_channels used_channels reversed_octet perm mam stage prn channel_of
 returns-clause-less c lawful =
     numbers_differ 0x5F 0x4F refl
     (ap (λ (octets : List ℕ). get_or octets 4 0)
-    (octets_are (submitted ++ Fed B (0x02 ∷ 0x00 ∷ 0x00 ∷ 0x01 ∷ 0x00 ∷ 0xBB ∷ []) ∷ Sent B 1 1 2 (0xAA ∷ []) ∷ []) B 25 (data_packet) 1 one_link true refl refl refl
-    (lawful (submitted ++ Fed B (0x02 ∷ 0x00 ∷ 0x00 ∷ 0x01 ∷ 0x00 ∷ 0xBB ∷ []) ∷ Sent B 1 1 2 (0xAA ∷ []) ∷ []) [] B 25 (data_packet) Pass Good refl refl)))
+    (octets_are two_submitted B 25 data_packet 1 one_link true refl refl refl (lawful two_submitted [] B 25 data_packet Pass Good refl refl)))
 
 pub returns-clause-channel : goal.returns-clause-channel
 unfolding announced_pdu pending_pdu channel_entered lines_of frames exchange_of sent_line_of link_of_packet is_answer links_begun pdu_heard heard_in read_of kept_bits crc crc_octets crc_of_bits remainder mask_of next_mask whitening_bit whitening_of little_endian data_channels used_channels reversed_octet perm mam stage prn channel_of
 returns-clause-channel c lawful =
     numbers_differ 25 24 refl
-    (ap number (channel_is announced B 24 data_packet 1 refl
-    (lawful announced [] B 24 data_packet Pass Good refl refl)))
+    (ap number (channel_is data_sent B 24 data_on_another 1 refl
+    (lawful data_sent [] B 24 data_on_another Pass Good refl refl)))
   where
     number : Option ℕ → ℕ
     number None = 0

@@ -16,11 +16,11 @@ use Rattle.journal_links.specs.Begun.{links_begun}
 use Rattle.journal_packets.specs.Belonging.{is_answer, link_of_packet}
 use Rattle.journal_acks.specs.Carried.{sent_line_of}
 use Rattle.journal_acks.specs.Exchange.{exchange_of}
-use Rattle.journal_acks.specs.Rows.{data_packet}
 use Rattle.journal_data.specs.Lines.{PduLine, lines_of}
 use Rattle.journal_pdus.specs.Announced.{announced_pdu}
 use Rattle.journal_pdus.specs.Pending.{pending_pdu}
-use Rattle.wrong_journals.specs.Exchanges.{announced, heard}
+use Rattle.journal_acks.specs.Rows.{data_heard, data_packet}
+use Rattle.wrong_journals.specs.Exchanges.{sent_in_first_slot}
 use Rattle.wrong_journals.proofs.Differing.{truths_differ}
 use Rattle.wrong_journals.proofs.exchanges.wrong_turns_of_exchanges_are_refused.Goals as goal
 
@@ -28,10 +28,10 @@ pub returns-clause-sent : goal.returns-clause-sent
 unfolding announced_pdu pending_pdu lines_of frames exchange_of sent_line_of link_of_packet is_answer links_begun pdu_heard heard_in read_of kept_bits crc crc_octets crc_of_bits remainder mask_of next_mask whitening_bit whitening_of little_endian
 returns-clause-sent c rests =
     truths_differ (ap (λ (o : Option PduLine). is_some o)
-    (rests announced (Air B 25 data_packet Pass Good ∷ []) 4 true (Some true) refl B).0)
+    (rests sent_in_first_slot (Air B 25 data_packet Pass Good ∷ []) 3 true (Some true) refl B).0)
 
 pub returns-clause-taken : goal.returns-clause-taken
 unfolding announced_pdu pending_pdu lines_of frames exchange_of sent_line_of link_of_packet is_answer links_begun pdu_heard heard_in read_of kept_bits crc crc_octets crc_of_bits remainder mask_of next_mask whitening_bit whitening_of little_endian
 returns-clause-taken c rests =
     truths_differ (ap (λ (o : Option PduLine). is_some o)
-    (rests heard (Took A 1 1 2 (0xAA ∷ []) ∷ []) 4 true (Some true) refl A).1)
+    (rests data_heard (Took A 1 1 2 (0xAA ∷ []) ∷ []) 4 true (Some true) refl A).1)

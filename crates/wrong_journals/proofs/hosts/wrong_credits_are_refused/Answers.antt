@@ -22,8 +22,8 @@ use Rattle.journal_pdus.specs.Pending.{pending_pdu}
 use Rattle.ble_base.specs.declared.verdicts.Verdict.TheVariants.{Good}
 use Rattle.journal.specs.declared.entries.Mark.TheVariants.{Pass}
 use Rattle.run_model.specs.Rows.{first_packet, one_event_journal}
-use Rattle.wrong_journals.specs.Exchanges.{taken}
-use Rattle.wrong_journals.specs.Hosts.{acknowledged, before_credit, credit, data_up}
+use Rattle.journal_acks.specs.Rows.{data_acknowledged, data_taken}
+use Rattle.wrong_journals.specs.Hosts.{before_credit, credit, credit_twice, data_up}
 use Rattle.wrong_journals.proofs.Differing.{numbers_differ}
 use Rattle.wrong_journals.proofs.hosts.wrong_credits_are_refused.Goals as goal
 
@@ -35,19 +35,19 @@ returns-clause-from_nothing c lawful =
 pub returns-clause-twice : goal.returns-clause-twice
 unfolding announced_pdu pending_pdu channel_entered lines_of frames exchange_of sent_line_of link_of_packet is_answer links_begun pdu_heard heard_in read_of kept_bits crc crc_octets crc_of_bits remainder mask_of next_mask whitening_bit whitening_of little_endian data_channels used_channels reversed_octet perm mam stage prn channel_of
 returns-clause-twice c lawful =
-    let few : 2 ≤ 1 = (lawful (acknowledged ++ data_up ∷ credit ∷ credit ∷ []) [] refl B 1).delivered.credited in omega arith
+    let few : 2 ≤ 1 = (lawful credit_twice [] refl B 1).delivered.credited in omega arith
 
 pub returns-clause-too_early : goal.returns-clause-too_early
 unfolding announced_pdu pending_pdu channel_entered lines_of frames exchange_of sent_line_of link_of_packet is_answer links_begun pdu_heard heard_in read_of kept_bits crc crc_octets crc_of_bits remainder mask_of next_mask whitening_bit whitening_of little_endian data_channels used_channels reversed_octet perm mam stage prn channel_of
 returns-clause-too_early c lawful =
     numbers_differ 1 0 refl
-    (lawful (taken ++ data_up ∷ credit ∷ []) [] 4 true (Some true) refl B [] [] (record { link = 1; handle = 0 }) refl).credited
+    (lawful (data_taken ++ data_up ∷ credit ∷ []) [] 4 true (Some true) refl B [] [] (record { link = 1; handle = 0 }) refl).credited
 
 pub returns-clause-never : goal.returns-clause-never
 unfolding announced_pdu pending_pdu channel_entered lines_of frames exchange_of sent_line_of link_of_packet is_answer links_begun pdu_heard heard_in read_of kept_bits crc crc_octets crc_of_bits remainder mask_of next_mask whitening_bit whitening_of little_endian data_channels used_channels reversed_octet perm mam stage prn channel_of
 returns-clause-never c lawful =
     numbers_differ 0 1 refl
-    (lawful (acknowledged ++ data_up ∷ []) [] 4 true (Some true) refl B [] [] (record { link = 1; handle = 0 }) refl).credited
+    (lawful (data_acknowledged ++ data_up ∷ []) [] 4 true (Some true) refl B [] [] (record { link = 1; handle = 0 }) refl).credited
 
 pub returns-clause-after_packet : goal.returns-clause-after_packet
 unfolding announced_pdu pending_pdu channel_entered lines_of frames exchange_of sent_line_of link_of_packet is_answer links_begun pdu_heard heard_in read_of kept_bits crc crc_octets crc_of_bits remainder mask_of next_mask whitening_bit whitening_of little_endian data_channels used_channels reversed_octet perm mam stage prn channel_of

@@ -23,8 +23,8 @@ use Rattle.journal_pdus.specs.Announced.{announced_pdu}
 use Rattle.journal_pdus.specs.Pending.{pending_pdu}
 use Rattle.journal_pdus.specs.Settled.{packets_passed}
 use Rattle.run_model.specs.Rows.{one_event_journal}
-use Rattle.wrong_journals.specs.Exchanges.{taken}
-use Rattle.wrong_journals.specs.Hosts.{acknowledged, credit, data_up}
+use Rattle.journal_acks.specs.Rows.{data_acknowledged}
+use Rattle.wrong_journals.specs.Hosts.{credit, data_up}
 use Rattle.wrong_journals.proofs.Differing.{numbers_differ, truths_differ}
 use Rattle.wrong_journals.proofs.hosts.wrong_data_is_refused.Goals as goal
 
@@ -38,13 +38,13 @@ pub returns-clause-twice : goal.returns-clause-twice
 unfolding announced_pdu pending_pdu channel_entered lines_of frames exchange_of sent_line_of link_of_packet is_answer links_begun pdu_heard heard_in read_of kept_bits crc crc_octets crc_of_bits remainder mask_of next_mask whitening_bit whitening_of little_endian data_channels used_channels reversed_octet perm mam stage prn channel_of
 returns-clause-twice c lawful =
     numbers_differ 2 1 refl
-    (ap (λ (xs : List Marked). length xs) (lawful (taken ++ data_up ∷ data_up ∷ []) [] refl B 1).delivered.received)
+    (ap (λ (xs : List Marked). length xs) (lawful (data_acknowledged ++ data_up ∷ data_up ∷ []) [] refl B 1).delivered.received)
 
 pub returns-clause-continuation : goal.returns-clause-continuation
 unfolding announced_pdu pending_pdu channel_entered lines_of frames exchange_of sent_line_of link_of_packet is_answer links_begun pdu_heard heard_in read_of kept_bits crc crc_octets crc_of_bits remainder mask_of next_mask whitening_bit whitening_of little_endian data_channels used_channels reversed_octet perm mam stage prn channel_of
 returns-clause-continuation c lawful =
     truths_differ (sym (ap starts
-    (lawful (taken ++ Up A (0x02 ∷ 0x00 ∷ 0x10 ∷ 0x01 ∷ 0x00 ∷ 0xAA ∷ []) ∷ []) [] refl B 1).delivered.received))
+    (lawful (data_acknowledged ++ Up A (0x02 ∷ 0x00 ∷ 0x10 ∷ 0x01 ∷ 0x00 ∷ 0xAA ∷ []) ∷ []) [] refl B 1).delivered.received))
   where
     starts : List Marked → Bool
     starts [] = false
@@ -54,10 +54,10 @@ pub returns-clause-never : goal.returns-clause-never
 unfolding announced_pdu pending_pdu channel_entered lines_of frames exchange_of sent_line_of link_of_packet is_answer links_begun pdu_heard heard_in read_of kept_bits crc crc_octets crc_of_bits remainder mask_of next_mask whitening_bit whitening_of little_endian data_channels used_channels reversed_octet perm mam stage prn channel_of
 returns-clause-never c lawful =
     numbers_differ 0 1 refl
-    (ap (λ (xs : List Marked). length xs) (lawful (acknowledged ++ credit ∷ []) [] 4 true (Some true) refl A [] [] (record { link = 1; handle = 0 }) refl).received)
+    (ap (λ (xs : List Marked). length xs) (lawful (data_acknowledged ++ credit ∷ []) [] 4 true (Some true) refl A [] [] (record { link = 1; handle = 0 }) refl).received)
 
 pub returns-clause-shut : goal.returns-clause-shut
 unfolding packets_passed announced_pdu pending_pdu channel_entered lines_of frames exchange_of sent_line_of link_of_packet is_answer links_begun pdu_heard heard_in read_of kept_bits crc crc_octets crc_of_bits remainder mask_of next_mask whitening_bit whitening_of little_endian data_channels used_channels reversed_octet perm mam stage prn channel_of
 returns-clause-shut c lawful =
     numbers_differ 0 1 refl
-    (ap (λ (xs : List Marked). length xs) (lawful (acknowledged ++ credit ∷ []) [] A 1 (record { 0 = 0x16 }) refl refl).received)
+    (ap (λ (xs : List Marked). length xs) (lawful data_acknowledged [] A 1 (record { 0 = 0x16 }) refl refl).received)

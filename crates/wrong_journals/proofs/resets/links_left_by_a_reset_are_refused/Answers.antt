@@ -3,14 +3,13 @@ use Rattle.std.proofs.Common.{[], ap, length, refl}
 use Rattle.ble_base.specs.declared.roles.Side.TheVariants.{A}
 use Rattle.run_model.specs.Rows.{reset_answer}
 use Rattle.journal_data.specs.Lines.{lines_of}
-use Rattle.wrong_journals.specs.Held.{one_open}
-use Rattle.wrong_journals.specs.Resetting.{other_shut}
+use Rattle.wrong_journals.specs.Resetting.{other_shut, reset_now}
 use Rattle.wrong_journals.proofs.Differing.{numbers_differ}
 use Rattle.wrong_journals.proofs.resets.links_left_by_a_reset_are_refused.Goals as goal
 
 pub returns-clause-left : goal.returns-clause-left
 unfolding lines_of
-returns-clause-left c lawful = numbers_differ 1 0 refl (ap length (lawful one_open [] A reset_answer refl refl))
+returns-clause-left c lawful = numbers_differ 1 0 refl (ap length (lawful (reset_now A) [] A reset_answer refl refl))
 
 pub returns-clause-at_one : goal.returns-clause-at_one
 unfolding lines_of

@@ -4,7 +4,7 @@ use Rattle.controller_model.specs.Rows.{advertising_octets, scanning_octets}
 use Rattle.journal_pdus.specs.Lawful.{IsLawful}
 use Rattle.radio_replay.specs.declared.fates.Fate.TheVariants.{Lost}
 use Rattle.run_model.specs.Rows.{connecting_octets, enabling_octets, reset}
-use Rattle.wrong_journals.specs.Right.{script_with, turn_with}
+use Rattle.wrong_journals.specs.Right.{answering_octets, both_script, data_script, more_octets, more_script, reset_script, resetting_octets, script_with, sending_octets, turn_with}
 use Rattle.wrong_journals.proofs.right.right_journals_are_lawful.Goals as goal
 
 pub returns : goal.returns
@@ -12,6 +12,7 @@ returns c =
     let lawful = c.each_journal_is_lawful.ensures.lawful in
     let runs = c.worked_runs.ensures in
     let links = c.worked_connection.ensures in
+    let more = c.worked_link_runs.ensures in
     let script = script_with in
     let resets = script_with (turn_with 0 0 [] ∷ turn_with 4 0 [] ∷ []) in
     let advertises = script_with (turn_with 24 18 [] ∷ []) in
@@ -24,4 +25,8 @@ returns c =
       lost = subst (IsLawful advertising_octets scanning_octets loses) runs.lost (lawful advertising_octets scanning_octets loses refl refl);
       opens = subst (IsLawful enabling_octets connecting_octets connects) links.opens (lawful enabling_octets connecting_octets connects refl refl);
       event = subst (IsLawful enabling_octets connecting_octets enters) links.event (lawful enabling_octets connecting_octets enters refl refl);
+      one_packet = subst (IsLawful enabling_octets sending_octets data_script) more.one (lawful enabling_octets sending_octets data_script refl refl);
+      more_packets = subst (IsLawful enabling_octets more_octets more_script) more.more (lawful enabling_octets more_octets more_script refl refl);
+      both_sides = subst (IsLawful answering_octets sending_octets both_script) more.both (lawful answering_octets sending_octets both_script refl refl);
+      link_reset = subst (IsLawful resetting_octets connecting_octets reset_script) more.reset (lawful resetting_octets connecting_octets reset_script refl refl);
     }

@@ -16,6 +16,7 @@ use Rattle.journal_links.specs.Entered.{anchor_in}
 use Rattle.journal_links.specs.Rows.{one_link}
 use Rattle.journal_packets.specs.Belonging.{is_answer, link_of_packet}
 use Rattle.journal_acks.specs.EventOrder.{entered_on}
+use Rattle.journal_slots.specs.Rows.{next_packet}
 use Rattle.wrong_journals.specs.InEvent.{only_other_entered, two_turns_after}
 use Rattle.wrong_journals.proofs.InEvents.{in_event_as}
 use Rattle.wrong_journals.proofs.slots.packets_outside_events_are_refused.Goals as goal
@@ -42,7 +43,7 @@ returns-clause-next_turn c = record { number = 1; belongs = refl; link = one_lin
 pub returns-clause-late : goal.returns-clause-late
 unfolding link_of_packet is_answer entered_on links_begun pdu_heard heard_in read_of kept_bits crc crc_octets crc_of_bits remainder mask_of next_mask whitening_bit whitening_of little_endian
 returns-clause-late c lawful =
-    let is = in_event_as two_turns_after B first_packet 1 one_link 1 refl refl refl (lawful two_turns_after [] B 25 first_packet Pass Good refl refl) in
+    let is = in_event_as two_turns_after B next_packet 1 one_link 1 refl refl refl (lawful two_turns_after [] B 25 next_packet Pass Good refl refl) in
     not_so is.event 5 (anchor_in one_link [] is.event) is.in_turn refl (ap (anchor_in one_link []) (first_event is.event is.entered))
 
 pub returns-clause-before : goal.returns-clause-before
