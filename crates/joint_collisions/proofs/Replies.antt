@@ -6,6 +6,7 @@ use Rattle.ble_base.specs.declared.procedure_kinds.Kind.TheVariants.{Map as map_
 use Rattle.data_pdu.specs.declared.ctrl.Ctrl.{Ctrl}
 use Rattle.data_pdu.specs.declared.ctrl.Ctrl.TheVariants.{ChannelMapInd, ConnectionParamReq, ConnectionParamRsp, ConnectionUpdateInd, EncReq, EncRsp, FeatureReq, FeatureRsp, LengthReq, LengthRsp, PauseEncReq, PauseEncRsp, PeripheralFeatureReq, PhyReq, PhyRsp, PhyUpdateInd, RejectExtInd, RejectInd, StartEncReq, StartEncRsp, TerminateInd, UnknownRsp, VersionInd}
 use Rattle.data_pdu.specs.declared.ctrl.CtrlRead.TheVariants.{Known}
+use Rattle.data_pdu.specs.Reading.{opcode_of}
 use Rattle.exclusive_stages.specs.Awaited.{awaits_phy_ind, awaits_phy_rsp, central_answered, has_phy_of_central, peer_answered, reads_as_answer}
 use Rattle.procedure_values.specs.declared.drafts.Draft.TheVariants.{UnknownRsp as unknown_rsp}
 use Rattle.procedure_values.specs.Values.{are_valid}
@@ -27,10 +28,11 @@ use Rattle.procedures.specs.Encryption.{start_rsp_at_central}
 use Rattle.procedures.specs.Refusals.{refused_if}
 use Rattle.procedures.specs.Request.{after_grant, against_central, collided, outlived, request_judged}
 use Rattle.procedures.specs.Table.{TableFacts}
-use Rattle.procedures.specs.Taking.{outcome_of, taken_by, taken_by_central, taken_by_either, taken_by_peripheral}
+use Rattle.procedures.specs.Taking.{outcome_of, taken_by, taken_by_either}
 use Rattle.procedures.specs.Update.{follow}
 use Rattle.procedures.specs.Version.{version_reply}
-use Rattle.phased_control.specs.Taken.{opcode_of, seen_if}
+use Rattle.phased_control.specs.Taken.{seen_if}
+use Rattle.phased_control.proofs.Unknown.{MayBeUnknown}
 use Rattle.joint_collisions.specs.Facts.{is_first_down, is_first_up}
 
 -- no such PDU is answered with LL_UNKNOWN_RSP
@@ -54,17 +56,16 @@ module _ (names : ℕ → Bool) (f : TableFacts) where
   version true = refl
   version false = refl
 
-  either : (p : Progress) (ctrl : Ctrl) → not (names 0x10) ≡ true → f.progress ≡ p → Knows names (taken_by_either f ctrl)
-  either p (TerminateInd code) known is = refl
-  either p (UnknownRsp opcode) known is = refusal (is_opcode (first_opcode f.progress) opcode) _
-  either p (FeatureRsp value) known is = choice (awaits_features (own_exchange f.progress)) _ _ refl refl
-  either p (VersionInd number company sub) known is = version f.version_used
-  either p (RejectInd code) known is = refusal (is_some (first_opcode f.progress)) _
-  either p (ConnectionParamRsp min max latency timeout periodicity reference offsets) known is = known
-  either p (RejectExtInd opcode code) known is = refusal (is_opcode (first_opcode f.progress) opcode || is_opcode (later_opcode f.progress) opcode) _
-  either p (LengthReq rx rx_time tx tx_time) known is = refl
-  either p (LengthRsp rx rx_time tx tx_time) known is = choice (awaits_lengths (own_exchange f.progress)) _ _ refl refl
-  either p other known is = refl
+  either : (ctrl : Ctrl) → Knows names (taken_by_either f ctrl)
+  either (TerminateInd code) = refl
+  either (UnknownRsp opcode) = refusal (is_opcode (first_opcode f.progress) opcode) _
+  either (FeatureRsp value) = choice (awaits_features (own_exchange f.progress)) _ _ refl refl
+  either (VersionInd number company sub) = version f.version_used
+  either (RejectInd code) = refusal (is_some (first_opcode f.progress)) _
+  either (RejectExtInd opcode code) = refusal (is_opcode (first_opcode f.progress) opcode || is_opcode (later_opcode f.progress) opcode) _
+  either (LengthReq rx rx_time tx tx_time) = refl
+  either (LengthRsp rx rx_time tx tx_time) = choice (awaits_lengths (own_exchange f.progress)) _ _ refl refl
+  either other = refl
 
 -- ---- at a central
 
@@ -85,13 +86,14 @@ module _ (f : TableFacts) where
   start_rsp c false true is = rw is refl
   start_rsp c false false is = rw is refl
 
-  at_central : (c : Central) (quiet : Bool) (ctrl : Ctrl) → Knows is_first_up (taken_by_central f c quiet ctrl)
+  at_central : (c : Central) (quiet : Bool) (ctrl : Ctrl) → Knows is_first_up (taken_by (central c) f quiet ctrl)
   at_central c quiet (ConnectionUpdateInd win_size win_offset interval latency timeout instant) = refl
   at_central c quiet (ChannelMapInd map instant) = refl
   at_central c quiet (EncReq rand ediv skd_m iv_m) = refl
   at_central c quiet (FeatureReq value) = refl
   at_central c quiet PauseEncReq = refl
   at_central c quiet (PhyUpdateInd to_peripheral to_central instant) = refl
+  at_central c quiet (ConnectionParamRsp min max latency timeout periodicity reference offsets) = refl
   at_central c quiet (EncRsp skd_s iv_s) = choice is_first_up f quiet _ _ refl refl
   at_central c quiet StartEncReq = choice is_first_up f quiet _ _ refl refl
   at_central c quiet PauseEncRsp = choice is_first_up f quiet _ _ refl refl
@@ -101,7 +103,7 @@ module _ (f : TableFacts) where
       against c Request connection_param_req_opcode _ (judged c min max latency timeout)
   at_central c quiet (PhyReq tx rx) = against c Phy phy_req_opcode _ refl
   at_central c quiet (PhyRsp tx rx) = choice is_first_up f (awaits_phy_rsp (central_stage c.own)) _ _ refl refl
-  at_central c quiet other = either is_first_up f f.progress other refl refl
+  at_central c quiet other = either is_first_up f other
 
   -- ---- at a peripheral
 
@@ -117,7 +119,7 @@ module _ (f : TableFacts) where
   followed update_ahead new o h = refl
   followed map_ahead new o h = refl
 
-  at_peripheral : (p : Peripheral) (quiet : Bool) (ctrl : Ctrl) → Knows is_first_down (taken_by_peripheral f p quiet ctrl)
+  at_peripheral : (p : Peripheral) (quiet : Bool) (ctrl : Ctrl) → Knows is_first_down (taken_by (peripheral p) f quiet ctrl)
   at_peripheral p quiet (ConnectionUpdateInd win_size win_offset interval latency timeout instant) =
       followed p.ahead update_ahead _ (choice is_first_down f (reads_as_answer (peripheral_stage p.own)) _ _ refl refl)
   at_peripheral p quiet (ChannelMapInd map instant) = granting p map_kind _ (followed p.ahead map_ahead _ refl)
@@ -129,32 +131,35 @@ module _ (f : TableFacts) where
   at_peripheral p quiet StartEncReq = refl
   at_peripheral p quiet (PeripheralFeatureReq value) = refl
   at_peripheral p quiet (ConnectionParamReq min max latency timeout periodicity reference offsets) = refl
+  at_peripheral p quiet (ConnectionParamRsp min max latency timeout periodicity reference offsets) = refl
   at_peripheral p quiet (FeatureReq value) = refl
   at_peripheral p quiet (PhyReq tx rx) = granting p Phy _ refl
   at_peripheral p quiet (PhyUpdateInd to_peripheral to_central instant) =
       choice is_first_down f (has_phy_of_central p.peer) _ _ refl (choice is_first_down f (awaits_phy_ind (peripheral_stage p.own)) _ _ refl refl)
-  at_peripheral p quiet other = either is_first_down f f.progress other refl refl
+  at_peripheral p quiet other = either is_first_down f other
 
 -- ---- a PDU of the encryption that is seen as unknown
 
-unknown_up : (ctrl : Ctrl) → not (is_first_up (opcode_of ctrl)) ≡ true
-unknown_up (EncReq rand ediv skd_m iv_m) = refl
-unknown_up (EncRsp skd_s iv_s) = refl
-unknown_up StartEncReq = refl
-unknown_up ctrl = refl
+unknown_up : (ctrl : Ctrl) → MayBeUnknown ctrl → not (is_first_up (opcode_of ctrl)) ≡ true
+unknown_up (EncReq rand ediv skd_m iv_m) is = refl
+unknown_up (EncRsp skd_s iv_s) is = refl
+unknown_up StartEncReq is = refl
+unknown_up PauseEncReq is = refl
+unknown_up ctrl is = absurd is
 
-unknown_down : (ctrl : Ctrl) → not (is_first_down (opcode_of ctrl)) ≡ true
-unknown_down (EncReq rand ediv skd_m iv_m) = refl
-unknown_down (EncRsp skd_s iv_s) = refl
-unknown_down StartEncReq = refl
-unknown_down ctrl = refl
+unknown_down : (ctrl : Ctrl) → MayBeUnknown ctrl → not (is_first_down (opcode_of ctrl)) ≡ true
+unknown_down (EncReq rand ediv skd_m iv_m) is = refl
+unknown_down (EncRsp skd_s iv_s) is = refl
+unknown_down StartEncReq is = refl
+unknown_down PauseEncReq is = refl
+unknown_down ctrl is = absurd is
 
-pub central_knows : (f : TableFacts) (c : Central) (unknown : Bool) (ctrl : Ctrl) (quiet : Bool) → f.progress ≡ central c
+pub central_knows : (f : TableFacts) (c : Central) (unknown : Bool) (ctrl : Ctrl) (quiet : Bool) → (unknown ≡ true → MayBeUnknown ctrl) → f.progress ≡ central c
     → Knows is_first_up (outcome_of f quiet (seen_if unknown (Known ctrl)))
-central_knows f c true ctrl quiet is = unknown_up ctrl
-central_knows f c false ctrl quiet is = subst (λ (p : Progress). Knows is_first_up (taken_by p f quiet ctrl)) (sym is) (at_central f c quiet ctrl)
+central_knows f c true ctrl quiet of is = unknown_up ctrl (of refl)
+central_knows f c false ctrl quiet of is = subst (λ (p : Progress). Knows is_first_up (taken_by p f quiet ctrl)) (sym is) (at_central f c quiet ctrl)
 
-pub peripheral_knows : (f : TableFacts) (p : Peripheral) (unknown : Bool) (ctrl : Ctrl) (quiet : Bool) → f.progress ≡ peripheral p
+pub peripheral_knows : (f : TableFacts) (p : Peripheral) (unknown : Bool) (ctrl : Ctrl) (quiet : Bool) → (unknown ≡ true → MayBeUnknown ctrl) → f.progress ≡ peripheral p
     → Knows is_first_down (outcome_of f quiet (seen_if unknown (Known ctrl)))
-peripheral_knows f p true ctrl quiet is = unknown_down ctrl
-peripheral_knows f p false ctrl quiet is = subst (λ (q : Progress). Knows is_first_down (taken_by q f quiet ctrl)) (sym is) (at_peripheral f p quiet ctrl)
+peripheral_knows f p true ctrl quiet of is = unknown_down ctrl (of refl)
+peripheral_knows f p false ctrl quiet of is = subst (λ (q : Progress). Knows is_first_down (taken_by q f quiet ctrl)) (sym is) (at_peripheral f p quiet ctrl)

@@ -9,6 +9,7 @@ use Rattle.data_pdu.specs.declared.ctrl.Ctrl.{Ctrl}
 use Rattle.data_pdu.specs.declared.ctrl.Ctrl.TheVariants.{TerminateInd}
 use Rattle.data_pdu.specs.declared.ctrl.CtrlRead.{CtrlRead}
 use Rattle.data_pdu.specs.declared.ctrl.CtrlRead.TheVariants.{Known, Unknown}
+use Rattle.data_pdu.specs.Reading.{opcode_of}
 use Rattle.enc_phase.specs.declared.facts.PhaseFacts.{PhaseFacts}
 use Rattle.enc_phase.specs.Taking.{ctrl_class, is_unknown}
 use Rattle.exclusive_stages.specs.declared.pdus.Pdu.{Pdu}
@@ -61,7 +62,7 @@ use Rattle.joint_collisions.proofs.Readings.{hears, indication_in, same_indicati
 use Rattle.joint_collisions.specs.Facts.{fits_down}
 use Rattle.joint_controls.specs.Ends.{IsSentAs}
 use Rattle.joint_controls.specs.Joint.{is_terminate}
-use Rattle.phased_control.specs.Taken.{opcode_of, seen_if}
+use Rattle.phased_control.specs.Taken.{seen_if}
 use Rattle.procedure_stages.specs.declared.stages.Peripheral.{Peripheral as ThePeripheral}
 use Rattle.procedure_stages.specs.declared.stages.Progress.{Progress}
 use Rattle.procedure_stages.specs.declared.stages.Progress.TheVariants.{Peripheral as peripheral}

@@ -29,7 +29,7 @@ use Rattle.procedures.specs.declared.outcome.Outcome.{Outcome}
 use Rattle.procedures.specs.Refusals.{refused_if}
 use Rattle.procedures.specs.Request.{after_grant, collided, outlived, request_judged}
 use Rattle.procedures.specs.Table.{TableFacts}
-use Rattle.procedures.specs.Taking.{facts_with, lacks_room, outcome_of, taken_by, taken_by_central, taken_by_either, taken_by_peripheral}
+use Rattle.procedures.specs.Taking.{facts_with, lacks_room, outcome_of, taken_by, taken_by_either}
 use Rattle.procedures.specs.Update.{follow}
 use Rattle.control_model.specs.Control.{Control, ended, indicated_by, is_to_come, taken, took}
 use Rattle.joint_phases.specs.Agreement.{is_integrity_failure}
@@ -90,7 +90,7 @@ module _ (f : TableFacts) where
   either_spares (LengthRsp rx rx_time tx tx_time) = spares_if (awaits_lengths (own_exchange f.progress)) _ _ refl refl
   either_spares ctrl = refl
 
-  central_spares : (c : Central) (quiet : Bool) (ctrl : Ctrl) → Spares (taken_by_central f c quiet ctrl)
+  central_spares : (c : Central) (quiet : Bool) (ctrl : Ctrl) → Spares (taken_by (central c) f quiet ctrl)
   central_spares c true (EncRsp skd_s iv_s) = refl
   central_spares c false (EncRsp skd_s iv_s) = refl
   central_spares c true StartEncReq = refl
@@ -112,7 +112,7 @@ module _ (f : TableFacts) where
   central_spares c quiet (LengthRsp rx rx_time tx tx_time) = either_spares (LengthRsp rx rx_time tx tx_time)
   central_spares c quiet ctrl = refl
 
-  peripheral_spares : (p : Peripheral) (quiet : Bool) (ctrl : Ctrl) → Spares (taken_by_peripheral f p quiet ctrl)
+  peripheral_spares : (p : Peripheral) (quiet : Bool) (ctrl : Ctrl) → Spares (taken_by (peripheral p) f quiet ctrl)
   peripheral_spares p quiet (ConnectionUpdateInd win_size win_offset interval latency timeout instant) =
       follow_update p.ahead _ (spares_if (reads_as_answer (peripheral_stage p.own)) _ _ refl refl)
   peripheral_spares p quiet (ChannelMapInd map instant) = grant_spares p map_kind _ (follow_map p.ahead _ refl)

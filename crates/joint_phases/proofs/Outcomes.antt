@@ -13,7 +13,6 @@ use Rattle.procedure_stages.specs.Opcodes.{connection_param_req_opcode, first_op
 use Rattle.procedure_values.specs.Values.{are_valid}
 use Rattle.procedures.specs.Refusals.{refused_if}
 use Rattle.procedures.specs.Request.{after_grant, collided, outlived, request_judged}
-use Rattle.procedures.specs.Taking.{taken_by}
 use Rattle.procedures.specs.Update.{follow}
 use Rattle.std.proofs.lemmas.Bool.{false_from_ne_true}
 use Rattle.ble_base.specs.declared.error_codes.ErrCode.{ErrCode}
@@ -32,7 +31,7 @@ use Rattle.procedure_stages.specs.Steps.{closing_after}
 use Rattle.procedures.specs.declared.outcome.Outcome.{Outcome}
 use Rattle.procedures.specs.Calls.{takes}
 use Rattle.procedures.specs.Table.{TableFacts}
-use Rattle.procedures.specs.Taking.{facts_with, lacks_room, outcome_of, taken_by_central, taken_by_either, taken_by_peripheral, took_step}
+use Rattle.procedures.specs.Taking.{facts_with, lacks_room, outcome_of, taken_by, taken_by_either, took_step}
 use Rattle.table_laws.specs.Encrypting.{MayBeginBy, has_encryption}
 use Rattle.table_laws.proofs.Encrypting.{begins_by}
 use Rattle.control_model.specs.Control.{Control, ended, indicated_by, taken, took}
@@ -105,7 +104,7 @@ module _ (f : TableFacts) where
   collided_open true opcode (Some code) other h = λ cl. refl
   collided_open false opcode (Some code) other h = λ cl. refl
 
-  central_open : (c : Central) (quiet : Bool) (ctrl : Ctrl) → is_terminate ctrl ≡ false → IsOpen (taken_by_central f c quiet ctrl)
+  central_open : (c : Central) (quiet : Bool) (ctrl : Ctrl) → is_terminate ctrl ≡ false → IsOpen (taken_by (central c) f quiet ctrl)
   central_open c true (EncRsp skd_s iv_s) apart closing = refl
   central_open c false (EncRsp skd_s iv_s) apart closing = refl
   central_open c true StartEncReq apart closing = refl
@@ -140,7 +139,7 @@ module _ (f : TableFacts) where
   grant_open : (p : Peripheral) (kind : Kind) (other : Outcome) → IsOpen other → IsOpen (after_grant f p kind other)
   grant_open p kind other h = open_if (central_answered (peripheral_stage p.own)) _ _ (outlived_open (collision (kind_at_peripheral p.own) kind) other h) h
 
-  peripheral_open : (p : Peripheral) (quiet : Bool) (ctrl : Ctrl) → is_terminate ctrl ≡ false → IsOpen (taken_by_peripheral f p quiet ctrl)
+  peripheral_open : (p : Peripheral) (quiet : Bool) (ctrl : Ctrl) → is_terminate ctrl ≡ false → IsOpen (taken_by (peripheral p) f quiet ctrl)
   peripheral_open p quiet (ConnectionUpdateInd win_size win_offset interval latency timeout instant) apart closing =
       follow_open p.ahead update_ahead _ (open_if (reads_as_answer (peripheral_stage p.own)) _ _ (λ cl. refl) (λ cl. refl)) closing
   peripheral_open p quiet (ChannelMapInd map instant) apart closing =

@@ -24,7 +24,7 @@ use Rattle.procedures.specs.declared.outcome.Outcome.{Outcome}
 use Rattle.procedures.specs.Refusals.{refused_if}
 use Rattle.procedures.specs.Request.{outlived}
 use Rattle.procedures.specs.Table.{TableFacts}
-use Rattle.procedures.specs.Taking.{taken_by, taken_by_peripheral}
+use Rattle.procedures.specs.Taking.{taken_by}
 use Rattle.procedures.specs.Update.{follow}
 use Rattle.procedures.specs.Version.{version_reply}
 use Rattle.joint_phases.specs.Classes.{class_down, draft_up, is_version_ctrl}
@@ -83,7 +83,7 @@ module _ (f : TableFacts) where
 
   module _ (x : Peripheral) (quiet knows : Bool) where
     -- a PDU that the machine knows as one that is answered
-    answered : (ctrl : Ctrl) → is_version_ctrl ctrl ≡ false → class_down knows ctrl ≡ Request → Answers (taken_by_peripheral f x quiet ctrl)
+    answered : (ctrl : Ctrl) → is_version_ctrl ctrl ≡ false → class_down knows ctrl ≡ Request → Answers (taken_by (peripheral x) f quiet ctrl)
     answered (FeatureReq features) plain class lasts = record { draft = feature_rsp; reply = refl; class = λ k. refl }
     answered (LengthReq rx rx_time tx tx_time) plain class lasts =
         record { draft = length_rsp f.lengths.own_rx f.lengths.own_tx; reply = refl; class = λ k. refl }
@@ -99,7 +99,7 @@ module _ (f : TableFacts) where
     answered ctrl plain class lasts = absurd (cc)
 
     -- and one that it knows as another
-    silent : (ctrl : Ctrl) → is_version_ctrl ctrl ≡ false → class_down knows ctrl ≡ Other → IsSilent (taken_by_peripheral f x quiet ctrl)
+    silent : (ctrl : Ctrl) → is_version_ctrl ctrl ≡ false → class_down knows ctrl ≡ Other → IsSilent (taken_by (peripheral x) f quiet ctrl)
     silent (ConnectionUpdateInd win_size win_offset interval latency timeout instant) plain class =
         follow_silent x.ahead update_ahead _ (silent_if (reads_as_answer (peripheral_stage x.own)) _ _ refl refl)
     silent (ChannelMapInd map instant) plain class =
@@ -133,7 +133,7 @@ module _ (f : TableFacts) where
   version_sent (peripheral x) quiet version company sub role = refl
   version_sent (central x) quiet version company sub role = absurd (cc)
 
-  cipher_here : (x : Peripheral) (quiet : Bool) (ctrl : Ctrl) → is_cipher ctrl ≡ true → IsSilent (taken_by_peripheral f x quiet ctrl)
+  cipher_here : (x : Peripheral) (quiet : Bool) (ctrl : Ctrl) → is_cipher ctrl ≡ true → IsSilent (taken_by (peripheral x) f quiet ctrl)
   cipher_here x quiet (enc_req rand ediv skd_m iv_m) is = refl
   cipher_here x quiet pause_enc_req is = refl
   cipher_here x true start_enc_rsp is = refl
