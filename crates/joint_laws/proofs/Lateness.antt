@@ -1,8 +1,7 @@
 -- An indication that comes after its Instant comes to a peripheral that has passed that.
-use Rattle.std.proofs.Common.{◌≡◌, ◌≤◌, ℕ, ◌+◌, ◌-◌, ◌%◌, ◌^◌, ◌==◌, nat_le, nat_lt, Bool, true, false, ◌||◌, if◌then◌else◌, List, [], ◌∷◌, Option, Some, None, is_some, refl, ap, sym, subst, ◌∙◌, arith, leb-true, ltb-false}
+use Rattle.std.proofs.Common.{◌≡◌, ◌≤◌, ℕ, ◌+◌, ◌-◌, ◌%◌, ◌^◌, nat_le, nat_lt, Bool, true, false, ◌||◌, if◌then◌else◌, Option, Some, None, is_some, refl, ap, sym, subst, ◌∙◌, arith, leb-true, ltb-false}
 use Rattle.ble_base.specs.Instant.{gap_of}
 use Rattle.ble_base.specs.declared.error_codes.ErrCode.{ErrCode}
-use Rattle.ble_base.specs.declared.counters.EventNo.{EventNo}
 use Rattle.ble_base.specs.declared.roles.Role.{Role}
 use Rattle.ble_base.specs.declared.roles.Role.TheVariants.{Peripheral as peripheral_role}
 use Rattle.data_pdu.specs.declared.ctrl.Ctrl.{Ctrl}
@@ -13,20 +12,14 @@ use Rattle.data_pdu.specs.Reading.{opcode_of}
 use Rattle.enc_phase.specs.declared.facts.PhaseFacts.{PhaseFacts}
 use Rattle.enc_phase.specs.Taking.{ctrl_class, is_unknown}
 use Rattle.exclusive_stages.specs.declared.pdus.Pdu.{Pdu}
-use Rattle.exclusive_stages.specs.declared.pdus.Pdu.TheVariants.{RejectParam, RejectPhy}
 use Rattle.exclusive_stages.specs.Pdus.{is_timed}
 use Rattle.instants.specs.declared.indications.Indication.{Indication}
 use Rattle.instants.specs.declared.track.Change.{Change}
 use Rattle.instants.specs.Track.{event_of, gap_ahead}
-use Rattle.procedure_values.specs.declared.drafts.Draft.{Draft}
-use Rattle.procedure_values.specs.declared.drafts.Draft.TheVariants.{Grant, Map, Update}
 use Rattle.procedure_values.specs.declared.drafts.Outgoing.{Outgoing}
-use Rattle.procedure_values.specs.declared.drafts.Outgoing.TheVariants.{Disconnect, Nothing, Other, Rejection}
-use Rattle.procedure_values.specs.Drafts.{indication_of}
 use Rattle.joint_controls.specs.Joint.{Control, Joint, OnAir, Way, has_passed, is_indication, is_item, is_late, item_on_air, last_change}
-use Rattle.control_model.specs.Waits.{last_event_of}
 use Rattle.collision_steps.specs.CentralPart.{passed_from, passed_from_of}
-use Rattle.collision_steps.specs.Parts.{outgoing_part, param_request_opcode, phy_request_opcode, reason_part}
+use Rattle.collision_steps.specs.Parts.{outgoing_part}
 use Rattle.collisions.specs.JointRun.{is_pdu, pdu_on_air}
 use Rattle.collisions.specs.declared.joint.Way.TheVariants.{OnAir as on_air_pdu}
 use Rattle.joint_collisions.specs.Views.{view_of, way_if, way_part}

@@ -1,15 +1,11 @@
 -- A collision of a joint run is rejected next, with no premise on what comes before.
-use Rattle.std.proofs.Common.{◌≡◌, ℕ, Bool, true, false, List, [], ◌∷◌, ◌++◌, if◌then◌else◌, refl, ap, subst, ◌∙◌}
+use Rattle.std.proofs.Common.{◌≡◌, ℕ, Bool, true, List, [], ◌∷◌, ◌++◌, if◌then◌else◌, refl, ap, subst, ◌∙◌}
 use Rattle.data_pdu.specs.declared.ctrl.Ctrl.{Ctrl}
 use Rattle.exclusive_stages.specs.declared.pdus.Exclusive.{Exclusive}
-use Rattle.exclusive_stages.specs.declared.stages.PeerAtCentral.TheVariants.{Absent}
 use Rattle.instants.specs.declared.indications.Params.{Params}
 use Rattle.procedure_values.specs.declared.drafts.Outgoing.{Outgoing}
-use Rattle.procedure_stages.specs.Queue.{next_disconnect}
-use Rattle.collision_steps.specs.CentralPart.{central_of}
-use Rattle.phased_control.specs.Phased.{is_open_now}
-use Rattle.joint_controls.specs.Joint.{CentralTakes, Joint, JointStep, act, after, after_all, beginning, is_running, next_out}
-use Rattle.joint_collisions.specs.Arrivals.{Collides, RejectsNext, collided, is_silent}
+use Rattle.joint_controls.specs.Joint.{CentralTakes, Joint, JointStep, act, after, after_all, beginning, is_running}
+use Rattle.joint_collisions.specs.Arrivals.{Collides, collided}
 use Rattle.joint_collisions.specs.Facts.{CentralFacts, IsState}
 use Rattle.joint_collisions.proofs.CollisionLaws.{no_peer_then, own_stays, rejected_later, terminates_next}
 use Rattle.joint_laws.specs.Prevailing.{CentralPrevails}

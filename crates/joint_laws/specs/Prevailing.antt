@@ -7,7 +7,7 @@ use Rattle.procedure_values.specs.declared.drafts.Outgoing.{Outgoing}
 use Rattle.procedure_stages.specs.Queue.{next_disconnect}
 use Rattle.collision_steps.specs.CentralPart.{central_of}
 use Rattle.phased_control.specs.Phased.{is_open_now}
-use Rattle.joint_controls.specs.Joint.{Joint, JointStep, after_all, is_running, next_out}
+use Rattle.joint_controls.specs.Joint.{Joint, JointStep, after_all, next_out}
 use Rattle.joint_collisions.specs.Arrivals.{Collides, RejectsNext, collided, is_silent}
 
 -- the central has procedure p in progress, and has taken the first PDU of the peripheral's q
