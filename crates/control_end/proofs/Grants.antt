@@ -6,7 +6,7 @@ use Rattle.ble_base.specs.declared.procedure_kinds.Kind.{Kind}
 use Rattle.ble_base.specs.declared.procedure_kinds.Kind.TheVariants.{Map as map_kind, Phy}
 use Rattle.ble_base.specs.declared.roles.Role.TheVariants.{Central as central_role, Peripheral as peripheral_role}
 use Rattle.data_pdu.specs.declared.ctrl.Ctrl.{Ctrl}
-use Rattle.data_pdu.specs.declared.ctrl.Ctrl.TheVariants.{UnknownRsp, FeatureRsp, VersionInd, RejectInd, RejectExtInd, LengthRsp, ConnectionUpdateInd, ChannelMapInd, EncReq, EncRsp, StartEncReq, StartEncRsp, FeatureReq, PauseEncReq, PauseEncRsp, PeripheralFeatureReq, ConnectionParamReq, PhyReq, PhyUpdateInd}
+use Rattle.data_pdu.specs.declared.ctrl.Ctrl.TheVariants.{UnknownRsp, FeatureRsp, VersionInd, RejectInd, RejectExtInd, LengthRsp, ConnectionUpdateInd, ChannelMapInd, EncReq, StartEncRsp, FeatureReq, PauseEncReq, PauseEncRsp, PhyReq, PhyUpdateInd}
 use Rattle.data_pdu.specs.declared.ctrl.CtrlRead.{CtrlRead}
 use Rattle.data_pdu.specs.declared.ctrl.CtrlRead.TheVariants.{Known, Unknown, Bare}
 use Rattle.instants.specs.declared.indications.Indication.{Indication}
@@ -35,6 +35,7 @@ use Rattle.procedure_stages.specs.Awaited.{awaits_features, awaits_lengths, is_v
 use Rattle.procedure_stages.specs.Begun.{progress_begun}
 use Rattle.procedure_stages.specs.Collisions.{collision}
 use Rattle.procedure_stages.specs.Exclusive.{on_peripheral_stage, pdu_of_draft, peripheral_stage}
+use Rattle.procedure_stages.specs.Foreign.{is_foreign}
 use Rattle.procedure_stages.specs.Held.{progress_held}
 use Rattle.procedure_stages.specs.Kinds.{kind_at_peripheral, own_exchange, role_of, without_own}
 use Rattle.procedure_stages.specs.Opcodes.{first_opcode, is_opcode, later_opcode}
@@ -213,17 +214,14 @@ module _ (f : TableFacts) (p : Peripheral) (g : AwaitsGrant (peripheral p)) wher
   by_ctrl quiet PauseEncReq = record { grant = g; none = λ _. refl }
   by_ctrl quiet PauseEncRsp = choice None quiet _ _ (same None _ refl refl) (same None _ refl refl)
   by_ctrl quiet StartEncRsp = choice None quiet _ _ (same None _ refl refl) (record { grant = g; none = λ _. refl })
-  by_ctrl quiet (EncRsp skd_s iv_s) = same None _ refl refl
-  by_ctrl quiet StartEncReq = same None _ refl refl
-  by_ctrl quiet (PeripheralFeatureReq value) = same None _ refl refl
-  by_ctrl quiet (ConnectionParamReq min max latency timeout periodicity reference offsets) = same None _ refl refl
   by_ctrl quiet (FeatureReq value) = same None _ refl refl
   by_ctrl quiet (PhyReq tx rx) = granting None Phy _ (record { grant = g; none = λ _. refl })
   by_ctrl quiet (PhyUpdateInd to_peripheral to_central instant) = phy_ind
   by_ctrl quiet other = either other
 
   by_read : (quiet : Bool) (read : CtrlRead) → Leaves (indication_read read) (outcome_of (at f p) quiet read)
-  by_read quiet (Known ctrl) = by_ctrl quiet ctrl
+  by_read quiet (Known ctrl) =
+      choice (indication_read (Known ctrl)) (is_foreign peripheral_role ctrl) _ _ (same (indication_read (Known ctrl)) _ refl refl) (by_ctrl quiet ctrl)
   by_read quiet (Unknown opcode) = same None _ refl refl
   by_read quiet Bare = same None _ refl refl
 

@@ -4,7 +4,6 @@ use Rattle.ble_base.specs.ErrorCodes.{instant_passed}
 use Rattle.ble_base.specs.declared.procedure_kinds.Kind.{Kind}
 use Rattle.ble_base.specs.declared.procedure_kinds.Kind.TheVariants.{Map as map_kind}
 use Rattle.ble_base.specs.declared.error_codes.ErrCode.{ErrCode}
-use Rattle.ble_base.specs.declared.roles.Role.{Role}
 use Rattle.ble_base.specs.declared.roles.Role.TheVariants.{Peripheral as peripheral_role}
 use Rattle.data_pdu.specs.declared.ctrl.Ctrl.TheVariants.{ConnectionUpdateInd, ChannelMapInd}
 use Rattle.data_pdu.specs.declared.ctrl.CtrlRead.{CtrlRead}
@@ -15,7 +14,6 @@ use Rattle.instants.specs.declared.track.Change.{Change}
 use Rattle.instants.specs.Track.{TrackFacts, track_after_take}
 use Rattle.exclusive_stages.specs.declared.stages.PeerAtPeripheral.TheVariants.{MapTaken}
 use Rattle.exclusive_stages.specs.Awaited.{central_answered, reads_as_answer}
-use Rattle.procedure_stages.specs.declared.closing.Closing.{Closing}
 use Rattle.procedure_stages.specs.declared.stages.Ahead.{Ahead}
 use Rattle.procedure_stages.specs.declared.stages.Ahead.TheVariants.{Nothing, Update as update_ahead, Map as map_ahead}
 use Rattle.procedure_stages.specs.declared.stages.Peripheral.{Peripheral}
@@ -29,7 +27,6 @@ use Rattle.procedure_stages.specs.Collisions.{collision}
 use Rattle.procedure_stages.specs.Exclusive.{peripheral_stage}
 use Rattle.procedure_stages.specs.Kinds.{kind_at_peripheral, role_of}
 use Rattle.procedure_stages.specs.Queue.{waiting_in}
-use Rattle.procedure_stages.specs.Steps.{closing_after}
 use Rattle.procedures.specs.declared.outcome.Outcome.{Outcome}
 use Rattle.procedures.specs.Table.{TableFacts}
 use Rattle.procedures.specs.Taking.{facts_with, lacks_room, no_room, outcome_of, settled, took_step}
@@ -181,7 +178,7 @@ module _ (f : TableFacts) (slot : ℕ) (quiet : Bool) where
 
 -- ---- what an end holds after it
 
-module _ (role : Role) (closing : Closing) (h : Held) (i : IsEnd role closing h) (read : CtrlRead) (slot : ℕ) (quiet : Bool) where
+module _ (h : Held) (i : IsEnd h) (read : CtrlRead) (slot : ℕ) (quiet : Bool) where
   hands : (indication : Indication) → indication_followed read h ≡ Some indication
       → (took_step h.table read slot quiet).1 ≡ hands_on indication
   hands indication is = hands_by h.table slot quiet h.table.progress h.track.waits i.waits i.grant read indication is
@@ -249,10 +246,11 @@ module _ (role : Role) (closing : Closing) (h : Held) (i : IsEnd role closing h)
         ∙ goes_by (took_step h.table read slot quiet).0 (indication_followed read h) track follows
 
     kept_by : (p q : Progress) (x : Option Indication) → Hands x p q → AwaitsWaiting p h.track.waits
-        → track_following x h.track ≡ Some track → (role_of q ≡ role_of p) × AwaitsWaiting q track.waits
+        → track_following x h.track ≡ Some track → AwaitsWaiting q track.waits
     kept_by p q None s a is =
-        (s.role, subst (λ (t : TrackFacts). AwaitsWaiting q t.waits) (some_same h.track track is) (waits_on p q h.track.waits s.role s.awaited a))
-    kept_by p q (Some indication) s a is = (s.role ∙ sym s.here, by (is_to_come h.track indication) is)
+        subst (λ (t : TrackFacts). AwaitsWaiting q t.waits) (some_same h.track track is)
+        (waits_on p q h.track.waits s.role s.awaited a)
+    kept_by p q (Some indication) s a is = by (is_to_come h.track indication) is
       where
         at_peripheral : (q : Progress) → kind_awaited q ≡ Some (kind_of_indication indication)
             → AwaitsWaiting q (track_after_take h.track indication).waits
@@ -266,18 +264,14 @@ module _ (role : Role) (closing : Closing) (h : Held) (i : IsEnd role closing h)
             (some_same (track_after_take h.track indication) track is) (at_peripheral q s.awaited)
         by false is = absurd (cc)
 
-    pub taken_fits : IsEnd role (closing_after (took_step h.table read slot quiet).1.effect closing)
-        (record { table = (took_step h.table read slot quiet).0; track = track; ends = h.ends })
+    pub taken_fits : IsEnd (record { table = (took_step h.table read slot quiet).0; track = track; ends = h.ends })
     taken_fits =
         let o = outcome_of h.table quiet read in
         let on = (settles h.table read slot quiet).on lasts in
         let same = sym (ap (λ (r : TableFacts × TableStep). indicated_by r.1.effect) on) ∙ agrees lasts in
-        let k = kept_by h.table.progress o.progress (indication_followed read h)
-        (subst (λ (x : Option Indication). Hands x h.table.progress o.progress) same (fits h.table quiet read).hands) i.waits follows in
+        let hands = subst (λ (x : Option Indication). Hands x h.table.progress o.progress) same (fits h.table quiet read).hands in
         rw on (record {
-          role_is = k.0 ∙ i.role_is;
-          closing_is = ap (λ (closing : Closing). closing_after o.step.effect closing) i.closing_is;
-          waits = k.1;
+          waits = kept_by h.table.progress o.progress (indication_followed read h) hands i.waits follows;
           grant = taken_grants h.table quiet read i.grant;
         })
 
@@ -294,31 +288,31 @@ some_of : (ends : Option ErrCode) → is_some ends ≡ true → (P : Option ErrC
 some_of None is P next = absurd (cc)
 some_of (Some code) is P next = next code refl
 
-module _ (role : Role) (closing : Closing) (read : CtrlRead) (slot : ℕ) (quiet : Bool) where
+module _ (read : CtrlRead) (slot : ℕ) (quiet : Bool) where
   -- the Instant has passed
-  pub passed_step : (h k : Held) → IsEnd role closing h → h ≡ k → is_some h.ends ≡ false
+  pub passed_step : (h k : Held) → IsEnd h → h ≡ k → is_some h.ends ≡ false
       → track_following (indication_followed read k) k.track ≡ None
       → record h { ends = Some (record { 0 = instant_passed }) } ≡ held_after (Takes read slot quiet) k
   passed_step h k i same goes is =
-      let j : IsEnd role closing k = subst (λ (h : Held). IsEnd role closing h) same i in
+      let j : IsEnd k = subst (λ (h : Held). IsEnd h) same i in
       ap (λ (h : Held). record h { ends = Some (record { 0 = instant_passed }) }) same
-      ∙ sym (passed role closing k j read slot quiet (subst (λ (h : Held). goes_on h ≡ true) same (open_of h goes)) is)
+      ∙ sym (passed k j read slot quiet (subst (λ (h : Held). goes_on h ≡ true) same (open_of h goes)) is)
 
-  pub passed_taken : (h k : Held) → IsEnd role closing h → h ≡ k → is_some h.ends ≡ false
+  pub passed_taken : (h k : Held) → IsEnd h → h ≡ k → is_some h.ends ≡ false
       → track_following (indication_followed read k) k.track ≡ None → nothing_taken ≡ taken_of read slot quiet k
   passed_taken h k i same goes is =
       ap (λ (after : Held). if goes_on after then step_shown (took_step k.table read slot quiet).1 else nothing_taken) (passed_step h k i same goes is)
 
-  module _ (h k : Held) (i : IsEnd role closing h) (same : h ≡ k) (r : TableFacts × TableStep) (is : r ≡ took_step h.table read slot quiet) where
+  module _ (h k : Held) (i : IsEnd h) (same : h ≡ k) (r : TableFacts × TableStep) (is : r ≡ took_step h.table read slot quiet) where
     -- the table ends the link
     stays : is_some r.1.ends ≡ true → r.0 ≡ h.table
     stays ends =
         ap (λ (r : TableFacts × TableStep). r.0) is
         ∙ table_stays h.table read slot quiet (ap (λ (r : TableFacts × TableStep). is_some r.1.ends) (sym is) ∙ ends)
 
-    pub ends_fits : is_some r.1.ends ≡ true → IsEnd role closing (record { table = r.0; track = h.track; ends = r.1.ends })
+    pub ends_fits : is_some r.1.ends ≡ true → IsEnd (record { table = r.0; track = h.track; ends = r.1.ends })
     ends_fits ends =
-        rw (stays ends) (record { role_is = i.role_is; closing_is = i.closing_is; waits = i.waits; grant = i.grant })
+        rw (stays ends) (record { waits = i.waits; grant = i.grant })
 
     pub ends_step : goes_on k ≡ true → is_some r.1.ends ≡ true
         → record { table = r.0; track = h.track; ends = r.1.ends } ≡ held_after (Takes read slot quiet) k
@@ -326,7 +320,7 @@ module _ (role : Role) (closing : Closing) (read : CtrlRead) (slot : ℕ) (quiet
         let open_h : goes_on h ≡ true = subst (λ (h : Held). goes_on h ≡ true) (sym same) goes in
         ap (λ (table : TableFacts). record { table = table; track = h.track; ends = r.1.ends }) (stays ends)
         ∙ some_of r.1.ends ends (λ (ends : Option ErrCode). record h { ends = ends } ≡ held_after (Takes read slot quiet) h)
-        (λ code code_is. sym (ended_by role closing h i read slot quiet code open_h (ap (λ (r : TableFacts × TableStep). r.1.ends) (sym is) ∙ code_is)))
+        (λ code code_is. sym (ended_by h i read slot quiet code open_h (ap (λ (r : TableFacts × TableStep). r.1.ends) (sym is) ∙ code_is)))
         ∙ ap (λ (h : Held). held_after (Takes read slot quiet) h) same
 
     -- it goes on
@@ -337,13 +331,13 @@ module _ (role : Role) (closing : Closing) (read : CtrlRead) (slot : ℕ) (quiet
       follows_h : track_following (indication_followed read h) h.track ≡ Some track
       follows_h = subst (λ (h : Held). track_following (indication_followed read h) h.track ≡ Some track) (sym same) follows
 
-      pub goes_fits : IsEnd role (closing_after r.1.effect closing) (record { table = r.0; track = track; ends = h.ends })
-      goes_fits = rw is (taken_fits role closing h i read slot quiet track none_h follows_h)
+      pub goes_fits : IsEnd (record { table = r.0; track = track; ends = h.ends })
+      goes_fits = rw is (taken_fits h i read slot quiet track none_h follows_h)
 
       pub goes_step : goes_on k ≡ true → record { table = r.0; track = track; ends = h.ends } ≡ held_after (Takes read slot quiet) k
       goes_step goes =
           ap (λ (r : TableFacts × TableStep). record { table = r.0; track = track; ends = h.ends }) is
-          ∙ sym (went_on role closing h i read slot quiet track none_h follows_h (subst (λ (h : Held). goes_on h ≡ true) (sym same) goes))
+          ∙ sym (went_on h i read slot quiet track none_h follows_h (subst (λ (h : Held). goes_on h ≡ true) (sym same) goes))
           ∙ ap (λ (h : Held). held_after (Takes read slot quiet) h) same
 
       pub goes_taken : goes_on k ≡ true → step_shown r.1 ≡ taken_of read slot quiet k

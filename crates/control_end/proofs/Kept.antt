@@ -1,22 +1,18 @@
 -- Each call leaves the two parts of an end fit together.
-use Rattle.std.proofs.Common.{◌≡◌, ℕ, Bool, true, false, Option, Some, None, is_some, refl, ap, ◌∙◌}
-use Rattle.ble_base.specs.declared.roles.Role.{Role}
-use Rattle.ble_base.specs.declared.roles.Role.TheVariants.{Central as central_role}
+use Rattle.std.proofs.Common.{◌≡◌, ℕ, Bool, true, false, Option, Some, None, is_some, refl, ◌∙◌}
 use Rattle.ble_base.specs.declared.error_codes.ErrCode.{ErrCode}
 use Rattle.data_pdu.specs.declared.ctrl.Ctrl.{Ctrl}
 use Rattle.instants.specs.declared.track.Change.{Change}
 use Rattle.instants.specs.Track.{TrackFacts, is_due, next_number, track_after_enter}
-use Rattle.procedure_stages.specs.declared.closing.Closing.{Closing}
 use Rattle.procedure_stages.specs.declared.stages.Progress.{Progress}
 use Rattle.procedure_stages.specs.declared.stages.Progress.TheVariants.{Central as central, Peripheral as peripheral}
 use Rattle.procedure_stages.specs.Held.{progress_held}
 use Rattle.procedure_stages.specs.Kinds.{role_of}
-use Rattle.procedures.specs.Beginning.{ask_at, begin_at, begin_step, place_to_begin}
-use Rattle.procedures.specs.Going.{closing_given, entered_step, owe_step}
+use Rattle.procedures.specs.Beginning.{begin_step}
+use Rattle.procedures.specs.Going.{entered_step, owe_step}
 use Rattle.procedures.specs.Queue.{next_of}
 use Rattle.procedures.specs.Sending.{went_step}
 use Rattle.procedures.specs.Table.{TableFacts}
-use Rattle.procedure_values.specs.declared.asks.Ask.{Ask}
 use Rattle.control_model.specs.Waits.{kind_awaited}
 use Rattle.control_model.proofs.Calls.{begun_same, given_same, held_over, sent_from}
 use Rattle.control_end.specs.Following.{AwaitsWaiting, IsEnd}
@@ -37,19 +33,12 @@ waits_over (peripheral p) is = is
 
 -- ---- an event is entered
 
-begun_closing : (f : TableFacts) (slot : ℕ) (place : Option ℕ) (ask : Option Ask) → (begin_at f slot place ask).0.closing ≡ f.closing
-begun_closing f slot None ask = refl
-begun_closing f slot (Some place) None = refl
-begun_closing f slot (Some place) (Some ask) = refl
-
-begins : (role : Role) (closing : Closing) (g : TableFacts) (t : TrackFacts) (ends : Option ErrCode) (slot : ℕ) (quiet : Bool)
-    → IsEnd role closing (record { table = g; track = t; ends = ends })
-    → IsEnd role closing (record { table = (begin_step g slot quiet).0; track = t; ends = ends })
-begins role closing g t ends slot quiet i =
+begins : (g : TableFacts) (t : TrackFacts) (ends : Option ErrCode) (slot : ℕ) (quiet : Bool)
+    → IsEnd (record { table = g; track = t; ends = ends })
+    → IsEnd (record { table = (begin_step g slot quiet).0; track = t; ends = ends })
+begins g t ends slot quiet i =
     let s = begun_same g slot quiet in
     record {
-      role_is = s.role ∙ i.role_is;
-      closing_is = begun_closing g slot (place_to_begin g quiet) (ask_at (place_to_begin g quiet) g.wanted) ∙ i.closing_is;
       waits = waits_on g.progress _ t.waits s.role s.awaited i.waits;
       grant = begun_grants g slot quiet i.grant;
     }
@@ -57,76 +46,53 @@ begins role closing g t ends slot quiet i =
 abbrev with_waits : Option Change → TrackFacts → TrackFacts
 with_waits waits t = record t { waits = waits }
 
-abbrev Enters : Role → Closing → TableFacts → TrackFacts → Option ErrCode → Type 0
-Enters role closing f t ends =
-    IsEnd role closing (record { table = (entered_step f (is_some (next_number t))).0; track = track_after_enter t; ends = ends })
+abbrev Enters : TableFacts → TrackFacts → Option ErrCode → Type 0
+Enters f t ends =
+    IsEnd (record { table = (entered_step f (is_some (next_number t))).0; track = track_after_enter t; ends = ends })
 
-enters_by : (role : Role) (closing : Closing) (f : TableFacts) (t : TrackFacts) (ends : Option ErrCode) (waits : Option Change)
-    → IsEnd role closing (record { table = f; track = with_waits waits t; ends = ends })
-    → Enters role closing f (with_waits waits t) ends
-enters_by role closing f t ends None i =
-    record { role_is = i.role_is; closing_is = i.closing_is; waits = i.waits; grant = i.grant }
-enters_by role closing f t ends (Some change) i = by (is_due change t.entered) refl
+enters_by : (f : TableFacts) (t : TrackFacts) (ends : Option ErrCode) (waits : Option Change)
+    → IsEnd (record { table = f; track = with_waits waits t; ends = ends })
+    → Enters f (with_waits waits t) ends
+enters_by f t ends None i = record { waits = i.waits; grant = i.grant }
+enters_by f t ends (Some change) i = by (is_due change t.entered) refl
   where
-    by : (due : Bool) → is_due change t.entered ≡ due → Enters role closing f (with_waits (Some change) t) ends
+    by : (due : Bool) → is_due change t.entered ≡ due → Enters f (with_waits (Some change) t) ends
     by true is =
         let o = held_over f.progress in
         rw is (record {
-          role_is = o.role ∙ i.role_is;
-          closing_is = i.closing_is;
           waits = waits_over (progress_held f.progress) o.awaited;
           grant = held_grants f.progress;
         })
-    by false is = rw is (record { role_is = i.role_is; closing_is = i.closing_is; waits = i.waits; grant = i.grant })
+    by false is = rw is (record { waits = i.waits; grant = i.grant })
 
-pub entered_fits : (role : Role) (closing : Closing) (h : Held) (slot : ℕ) (quiet : Bool) → IsEnd role closing h
-    → IsEnd role closing (record {
+pub entered_fits : (h : Held) (slot : ℕ) (quiet : Bool) → IsEnd h
+    → IsEnd (record {
       table = (begin_step (entered_step h.table (is_some (next_number h.track))).0 slot quiet).0;
       track = track_after_enter h.track;
       ends = h.ends;
     })
-entered_fits role closing h slot quiet i =
-    begins role closing _ _ h.ends slot quiet (enters_by role closing h.table h.track h.ends h.track.waits i)
+entered_fits h slot quiet i =
+    begins _ _ h.ends slot quiet (enters_by h.table h.track h.ends h.track.waits i)
 
 -- ---- the layer above queues a PDU
 
-pub owed_fits : (role : Role) (closing : Closing) (h : Held) (ctrl : Ctrl) → IsEnd role closing h
-    → IsEnd role (closing_given ctrl closing) (record h { table = owe_step h.table ctrl })
-owed_fits role closing h ctrl i =
+pub owed_fits : (h : Held) (ctrl : Ctrl) → IsEnd h
+    → IsEnd (record h { table = owe_step h.table ctrl })
+owed_fits h ctrl i =
     let s = given_same h.table.progress ctrl in
     record {
-      role_is = s.role ∙ i.role_is;
-      closing_is = ap (λ (closing : Closing). closing_given ctrl closing) i.closing_is;
       waits = waits_on h.table.progress _ h.track.waits s.role s.awaited i.waits;
       grant = given_grants h.table.progress ctrl i.grant;
     }
 
 -- ---- a PDU is sent
 
-pub sent_fits : (role : Role) (closing : Closing) (h : Held) (event skips : ℕ) (quiet : Bool) (slot : ℕ) → IsEnd role closing h
-    → IsEnd role closing (record h { table = (went_step h.table event skips quiet slot).0 })
-sent_fits role closing h event skips quiet slot i =
+pub sent_fits : (h : Held) (event skips : ℕ) (quiet : Bool) (slot : ℕ) → IsEnd h
+    → IsEnd (record h { table = (went_step h.table event skips quiet slot).0 })
+sent_fits h event skips quiet slot i =
     let outgoing = next_of h.table event quiet in
     let s = sent_from outgoing event skips h.table.progress in
     record {
-      role_is = s.role ∙ i.role_is;
-      closing_is = i.closing_is;
       waits = waits_on h.table.progress _ h.track.waits s.role s.awaited i.waits;
       grant = sent_grants outgoing event skips h.table.progress i.grant;
-    }
-
--- the track of a central alone follows what it sends
-of_central : (q : Progress) (waits : Option Change) → role_of q ≡ central_role → AwaitsWaiting q waits
-of_central (central c) waits is = tt
-of_central (peripheral p) waits is = absurd (cc)
-
-pub followed_fits : (closing : Closing) (h : Held) (t : TrackFacts)
-    → IsEnd central_role closing h
-    → IsEnd central_role closing (record h { track = t })
-followed_fits closing h t i =
-    record {
-      role_is = i.role_is;
-      closing_is = i.closing_is;
-      waits = of_central h.table.progress t.waits i.role_is;
-      grant = i.grant;
     }

@@ -11,7 +11,6 @@ use Rattle.instants.specs.declared.indications.Indication.TheVariants.{Update, M
 use Rattle.instants.specs.declared.track.Change.{Change}
 use Rattle.instants.specs.Track.{TrackFacts, is_free, track_after_take}
 use Rattle.exclusive_stages.specs.Awaited.{central_answered}
-use Rattle.procedure_stages.specs.declared.closing.Closing.{Closing}
 use Rattle.procedure_stages.specs.declared.stages.Ahead.{Ahead}
 use Rattle.procedure_stages.specs.declared.stages.Ahead.TheVariants.{Nothing}
 use Rattle.procedure_stages.specs.declared.stages.Progress.{Progress}
@@ -69,9 +68,7 @@ abbrev pub AwaitsWaiting : Progress → Option Change → Type 0
 AwaitsWaiting (central c) waits = ⊤
 AwaitsWaiting (peripheral p) waits = kind_awaited (peripheral p) ≡ kind_waiting waits
 
--- an end with this role, whose two parts fit together; `closing` says whether its link is to end
-pub record IsEnd (role : Role) (closing : Closing) (h : Held) : Type 0 where
-  pub role_is : role_of h.table.progress ≡ role
-  pub closing_is : h.table.closing ≡ closing
+-- the two parts of an end fit together
+pub record IsEnd (h : Held) : Type 0 where
   pub waits : AwaitsWaiting h.table.progress h.track.waits
   pub grant : AwaitsGrant h.table.progress

@@ -12,7 +12,7 @@ ghost use Rattle.control_end.specs.Held.{held_after, held_of};
 use crate::answers::{Entry, no_entry};
 use ble_base::{ErrCode, EventNo, Role, SlotNo};
 use instants::{ParamTrack, Params};
-use procedures::{Closing, ProcTable};
+use procedures::ProcTable;
 use std::marker::Model;
 
 /// The control part of one end of a link: its table of control procedures, its parameters, and the
@@ -22,14 +22,10 @@ use std::marker::Model;
 /// would answer is empty.
 #[derive(Drop)]
 pub struct ControlEnd {
-    /// The role of this end, which is that of its table.
-    pub(crate) role: Role,
     /// Its control procedures.
     pub(crate) table: ProcTable,
     /// Its parameters and anchors.
     pub(crate) track: ParamTrack,
-    /// Whether the link is to end, which is so for its table too: the table does not give it.
-    pub(crate) closing: Closing,
     /// The error with which it ended the link, once it did.
     pub(crate) ends: Option<ErrCode>,
 }
@@ -44,11 +40,7 @@ impl Model for ControlEnd {
 
     // What a peripheral awaits by its table waits at its track; a request that was granted awaits
     // its update.
-    ghost invariant = { λ e. IsEnd e.role e.closing (record {
-      table = e.table;
-      track = e.track;
-      ends = e.ends;
-    }) };
+    ghost invariant = { λ e. IsEnd (record { table = e.table; track = e.track; ends = e.ends }) };
 }
 
 impl ControlEnd {
@@ -62,10 +54,8 @@ impl ControlEnd {
         ensures { result ≡ held_of (first_control role max_rx first anchor.0) }
     {
         ControlEnd {
-            role,
             table: ProcTable::new(role, max_rx),
             track: ParamTrack::new(first, anchor),
-            closing: Closing::Open,
             ends: None,
         }
     }
@@ -150,7 +140,7 @@ impl ControlEnd {
     pub fn is_closing(&self) -> bool
         ensures { result ≡ not (is_open self.now.table.closing) }
     {
-        !self.closing.is_open()
+        self.table.is_closing()
     }
 
     /// LL Response Timeout, if the peer's time to answer, 40 s or 32,000 slots, is over in this

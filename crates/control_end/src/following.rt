@@ -80,7 +80,7 @@ impl ControlEnd {
     fn is_peripheral(&self) -> bool
         ensures { result ≡ is_peripheral (role_of self.now.table.progress) }
     {
-        matches!(self.role, Role::Peripheral)
+        matches!(self.table.role(), Role::Peripheral)
     }
 
     /// The track after what was read; there is none if it is an indication that this end would

@@ -10,7 +10,7 @@ ghost use Rattle.control_end.specs.Held.{held_after};
 
 use crate::end::ControlEnd;
 use ble_base::{ErrCode, Kind};
-use procedures::{Ask, Closing};
+use procedures::Ask;
 
 /// Whether an answer of the host is one to a request: it grants it by an update, or refuses it.
 fn is_answer(answer: &Result<Ask, ErrCode>) -> bool
@@ -70,7 +70,6 @@ impl ControlEnd {
     {
         if self.goes_on() && !self.is_closing() {
             self.table.terminate(reason);
-            self.closing = Closing::Disconnecting;
         }
     }
 }

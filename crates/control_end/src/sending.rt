@@ -73,10 +73,11 @@ impl ControlEnd {
             (CanFollow self.old.track) }
         ensures { self.new ≡ held_after (Step.Sends slot.0 quiet) self.old }
     {
+        let role = self.table.role();
         let event = self.track.event();
         let latency = self.track.params().latency;
         let indication = self.table.went(event, latency, quiet, slot);
-        if let Some(indication) = own_indication(self.role, indication) {
+        if let Some(indication) = own_indication(role, indication) {
             follow(&mut self.track, indication);
         }
     }

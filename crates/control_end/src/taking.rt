@@ -3,7 +3,6 @@ ghost use Rattle.std.specs.Prelude.{◌≡◌, ◌≤◌, ◌<◌, IsTrue, Some}
 ghost use Rattle.data_pdu.specs.Ranges.{IsInRange};
 ghost use Rattle.data_pdu.specs.Reading.{IfKnown};
 ghost use Rattle.procedure_stages.specs.Queue.{waiting_in};
-ghost use Rattle.procedures.specs.Going.{closing_given};
 ghost use Rattle.control_model.specs.Control.{Step};
 ghost use Rattle.control_end.specs.Answers.{goes_on, taken_of};
 ghost use Rattle.control_end.specs.Following.{indication_followed, track_following};
@@ -14,17 +13,6 @@ use crate::end::ControlEnd;
 use ble_base::{ErrCode, SlotNo};
 use data_pdu::{Ctrl, CtrlRead};
 use instants::ParamTrack;
-use procedures::Closing;
-
-/// Whether the link is to end, after the layer above queued a PDU.
-fn closing_given(ctrl: &Ctrl, closing: Closing) -> Closing
-    ensures { result ≡ closing_given ctrl.now closing }
-{
-    match ctrl {
-        Ctrl::TerminateInd { .. } => closing.closed(),
-        _ => closing,
-    }
-}
 
 impl ControlEnd {
     /// Takes a control PDU of the peer in a slot of the event entered last, `quiet` being phase
@@ -64,7 +52,6 @@ impl ControlEnd {
             return nothing_taken();
         }
         self.track = track;
-        self.closing = step.effect.closing_after(self.closing);
         step_shown(&step)
     }
 
@@ -76,7 +63,6 @@ impl ControlEnd {
         ensures { self.new ≡ held_after (Step.Owes ctrl) self.old }
     {
         if self.goes_on() {
-            self.closing = closing_given(&ctrl, self.closing);
             self.table.owe(ctrl);
         }
     }

@@ -1,6 +1,8 @@
 //! The procedures of one end of a link.
-ghost use Rattle.std.specs.Prelude.{◌≡◌};
+ghost use Rattle.std.specs.Prelude.{◌≡◌, not};
+ghost use Rattle.procedure_stages.specs.Closing.{is_open};
 ghost use Rattle.procedure_stages.specs.InProgress.{is_busy};
+ghost use Rattle.procedure_stages.specs.Kinds.{role_of};
 ghost use Rattle.procedure_values.specs.Limits.{rx_of, tx_of};
 ghost use Rattle.procedure_values.specs.Values.{IsPayloadMax};
 ghost use Rattle.procedures.specs.Table.{first_facts};
@@ -79,6 +81,21 @@ impl ProcTable {
             version_used: false,
             since: None,
         }
+    }
+
+    /// The role of this end in its link.
+    pub fn role(&self) -> Role
+        ensures { result ≡ role_of self.now.progress }
+    {
+        self.progress.role()
+    }
+
+    /// Whether the link is to end: a Disconnect of the host was accepted, or LL_TERMINATE_IND was
+    /// taken or queued (Core 5.2, volume 6 part B, section 5.1.6).
+    pub fn is_closing(&self) -> bool
+        ensures { result ≡ not (is_open self.now.closing) }
+    {
+        !self.closing.is_open()
     }
 
     /// Whether a procedure that either end began is in progress here.

@@ -5,6 +5,6 @@ use Rattle.control_end.proofs.end.ControlEnd.owe.Goals as goal
 
 pub invariant_of-self : goal.invariant_of-self
 invariant_of-self c =
-    let fits = owed_fits c.self.inside.role c.self.inside.closing (record { table = c.self.inside.table; track = c.self.inside.track; ends = c.self.inside.ends })
+    let fits = owed_fits (record { table = c.self.inside.table; track = c.self.inside.track; ends = c.self.inside.ends })
     c.args.ctrl c.self.invariant in
     search (rules, fits)

@@ -5,29 +5,28 @@ use Rattle.control_end.proofs.end.ControlEnd.take_by.Goals as goal
 
 pub invariant_of-self : goal.invariant_of-self
 invariant_of-self c =
-    ends_fits c.self.inside.role c.self.inside.closing c.args.read.now c.args.slot.0 c.args.quiet _ c.args.self.now
+    ends_fits c.args.read.now c.args.slot.0 c.args.quiet _ c.args.self.now
     c.self.invariant c.self.view_is _ c.took-step.ensures (sym c.if-is_some.ensures)
 
 pub returns-then-is_some-clause-step : goal.returns-then-is_some-clause-step
 returns-then-is_some-clause-step c =
-    ends_step c.self.inside.role c.self.inside.closing c.args.read.now c.args.slot.0 c.args.quiet _ c.args.self.now
+    ends_step c.args.read.now c.args.slot.0 c.args.quiet _ c.args.self.now
     c.self.invariant c.self.view_is _ c.took-step.ensures c.requires.goes_on (sym c.if-is_some.ensures)
 
 pub invariant_of-self-2 : goal.invariant_of-self-2
 invariant_of-self-2 c =
-    rw c.closing_after-self-inside.ensures
-    (goes_fits c.self.inside.role c.self.inside.closing c.args.read.now c.args.slot.0 c.args.quiet _ c.args.self.now
-    c.self.invariant c.self.view_is _ c.took-step.ensures c.args.track (sym c.if-is_some.ensures) c.requires.track)
+    goes_fits c.args.read.now c.args.slot.0 c.args.quiet _ c.args.self.now
+    c.self.invariant c.self.view_is _ c.took-step.ensures c.args.track (sym c.if-is_some.ensures) c.requires.track
 
 pub returns-clause-step : goal.returns-clause-step
 returns-clause-step c =
-    goes_step c.self.inside.role c.self.inside.closing c.args.read.now c.args.slot.0 c.args.quiet _ c.args.self.now
+    goes_step c.args.read.now c.args.slot.0 c.args.quiet _ c.args.self.now
     c.self.invariant c.self.view_is _ c.took-step.ensures c.args.track (sym c.if-is_some.ensures) c.requires.track
     c.requires.goes_on
 
 pub returns-clause-taken : goal.returns-clause-taken
 returns-clause-taken c =
     c.step_shown.ensures
-    ∙ goes_taken c.self.inside.role c.self.inside.closing c.args.read.now c.args.slot.0 c.args.quiet _ c.args.self.now
+    ∙ goes_taken c.args.read.now c.args.slot.0 c.args.quiet _ c.args.self.now
     c.self.invariant c.self.view_is _ c.took-step.ensures c.args.track (sym c.if-is_some.ensures) c.requires.track
     c.requires.goes_on
