@@ -5,7 +5,7 @@ use Rattle.ble_base.specs.declared.roles.Role.TheVariants.{Central, Peripheral}
 use Rattle.control_model.specs.Worked.{six_slots}
 use Rattle.procedure_values.specs.declared.asks.Ask.TheVariants.{Encrypt, Features, Length}
 use Rattle.joint_controls.specs.Joint.{AsksFor, CentralHost, CentralTakes, HasKey, Joint, JointStep, PeripheralAcked, PeripheralFixes, PeripheralHost, PeripheralSends, beginning}
-use Rattle.joint_controls.specs.Worked.{enter, goes_down, goes_down_again, goes_up}
+use Rattle.joint_controls.specs.Worked.{enter, goes_down, goes_down_again, goes_up, goes_up_again}
 use Rattle.exchange_pairs.specs.Exchange.{Answer, Question}
 use Rattle.exchange_steps.specs.Steps.{begins_features, begins_lengths, limits}
 use Rattle.joint_exchanges.specs.Moves.{Does, Keeps, Move, Sends, Takes, TakesKept}
@@ -16,7 +16,7 @@ link_of map = beginning 27 27 (six_slots map) 3
 
 -- the central's host asks for the features of the peripheral, which answers
 abbrev pub features_asked : List JointStep
-features_asked = CentralHost (AsksFor Features) ∷ enter ++ goes_down ++ goes_up
+features_asked = CentralHost (AsksFor Features) ∷ enter ++ goes_down ++ goes_up_again
 
 abbrev pub features_moves : List Move
 features_moves =
@@ -28,8 +28,8 @@ features_moves =
 abbrev pub question_kept : List JointStep
 question_kept =
     PeripheralHost (AsksFor (Length 27)) ∷ CentralHost (AsksFor (Encrypt 0 0 (replicate 16 0) 0 0)) ∷ enter
-    ++ PeripheralFixes 0 ∷ PeripheralSends ∷ CentralTakes 0 ∷ goes_down_again ++ PeripheralHost HasKey ∷ goes_up
-    ++ PeripheralAcked ∷ goes_up ++ goes_down_again ++ goes_up
+    ++ PeripheralFixes 0 ∷ PeripheralSends ∷ CentralTakes 0 ∷ goes_down_again ++ PeripheralHost HasKey ∷ goes_up_again
+    ++ PeripheralAcked ∷ goes_up ++ goes_down_again ++ goes_up_again
 
 abbrev pub question : AnyPdu
 question = of_lengths (record { pdu = Question; rx = 27; tx = 27 })
