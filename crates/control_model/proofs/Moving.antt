@@ -71,9 +71,12 @@ module _ (role : Role) where
       (role_taken c (facts_with c.table slot (outcome_of c.table quiet read)) (indicated_by (outcome_of c.table quiet read).step.effect) is (fits c.table quiet read).hands)
   role_moved (Owes ctrl) c is = (given_same c.table.progress ctrl).role ∙ is
 
+  pub same_role : (step : Step) (c : Control) → role_of c.table.progress ≡ role → role_of (after step c).table.progress ≡ role
+  same_role step c is = any_step (HasRole role) step c (role_moved step c is) is
+
   role_all : (steps : List Step) (c : Control) → HasRole role c → HasRole role (after_all steps c)
   role_all [] c is = is
-  role_all (step ∷ steps) c is = role_all steps (after step c) (any_step (HasRole role) step c (role_moved step c is) is)
+  role_all (step ∷ steps) c is = role_all steps (after step c) (same_role step c is)
 
 pub role_after : (role : Role) (max_rx : ℕ) (first : Params) (slot : ℕ) (steps : List Step)
     → role_of (after_all steps (first_control role max_rx first slot)).table.progress ≡ role

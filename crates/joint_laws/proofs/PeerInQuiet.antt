@@ -34,7 +34,8 @@ use Rattle.phased_control.specs.Steps.{control_steps, end_by_phase, ended_if, ow
 use Rattle.phased_control.proofs.Agreeing.{Agrees, Sound, agrees_after, agrees_first, agrees_taking, lasts_answered, sound_after, sound_first}
 use Rattle.phased_control.proofs.Answering.{answers}
 use Rattle.phased_control.proofs.Moving.{moves_by_steps, open_phased, same_after}
-use Rattle.phased_control.proofs.Tables.{following_table, same_role, takes_as}
+use Rattle.control_model.proofs.Moving.{same_role}
+use Rattle.phased_control.proofs.Tables.{following_table, takes_as}
 use Rattle.phased_control.proofs.Taking.{handed_ways, took_ways}
 use Rattle.joint_laws.proofs.PeerOrEncryption.{acked_none, answers_none, enters_none, given_none, is_both, is_exclusive_first, parts_of_both, sends_none, takes_none}
 

@@ -36,7 +36,8 @@ use Rattle.phased_control.specs.Steps.{control_steps, end_by_phase, ended_if, ow
 use Rattle.phased_control.proofs.Agreeing.{lasts_answered}
 use Rattle.phased_control.proofs.Answering.{answers}
 use Rattle.phased_control.proofs.Moving.{moves_by_steps, open_phased, same_kept}
-use Rattle.phased_control.proofs.Tables.{same_role, takes_as}
+use Rattle.control_model.proofs.Moving.{same_role}
+use Rattle.phased_control.proofs.Tables.{takes_as}
 use Rattle.phased_control.proofs.Taking.{handed_ways, took_ways}
 use Rattle.joint_laws.proofs.PeerInQuiet.{ArePlain, IsPlain, owed_plain}
 use Rattle.joint_laws.proofs.TakenEnds.{IsLate, TakenEnd, by_collision, no_end, takes_end, too_late}

@@ -17,7 +17,7 @@ use Rattle.phased_control.specs.Phased.{Phased, first_phased}
 use Rattle.phased_control.specs.Taken.{PhasedStep, Takes, TakesData, does_keep, is_allowed, lacks_room_now, phased_after, phased_after_all, phased_moved, role_now}
 use Rattle.phased_control.specs.Steps.{code_if, control_steps, end_by_phase, ended_if}
 use Rattle.phased_control.proofs.Moving.{moves_by_steps}
-use Rattle.phased_control.proofs.Tables.{same_role}
+use Rattle.control_model.proofs.Moving.{same_role}
 use Rattle.joint_parameters.proofs.Ends.{ends_all, is_taking}
 use Rattle.joint_parameters.proofs.Outcomes.{IsOther, indication_by}
 use Rattle.joint_parameters.proofs.Taking.{TakenAs, takes_as}

@@ -28,12 +28,11 @@ use Rattle.two_tracks.specs.TwoEnds.{TwoEnds, after_sending}
 use Rattle.control_model.specs.Control.{Control, Step, after, after_all, following, goes_out, is_to_come, moved, table_if, taken, went}
 use Rattle.control_model.specs.Control.{Answers as control_answers, Asks as control_asks, Disconnects as control_disconnects, Enters as control_enters, Owes, SeesAcknowledged as control_sees_acknowledged, Sends as control_sends, Takes as control_takes}
 use Rattle.control_model.proofs.Calls.{any_step, either_way}
-use Rattle.control_model.proofs.Moving.{central_takes, enters_track, peripheral_sends, sends_all, sends_track, table_alone}
+use Rattle.control_model.proofs.Moving.{central_takes, enters_track, peripheral_sends, sends_all, sends_track, table_alone, same_role}
 use Rattle.phased_control.specs.Phased.{is_open_now, Phased, is_quiet_now}
 use Rattle.phased_control.specs.Taken.{PhasedStep, Response, Answers, Asks, Disconnects, Enters, GivesKey, LacksKey, SeesAcknowledged, Sends, Takes, TakesData, ciphered, class_of_read, does_keep, is_allowed, is_answered_at, keeps_class, lacks_room_now, phased_after, role_now, seen_as, seen_if}
 use Rattle.phased_control.specs.Steps.{code_if, control_steps, end_by_phase, ended_if, kept_steps, later_steps, owed_entering, read_answer, owed_steps, seen_by_procedures}
 use Rattle.phased_control.proofs.Moving.{moves_by_steps}
-use Rattle.phased_control.proofs.Tables.{same_role}
 use Rattle.joint_parameters.specs.Indications.{EndsLate, indication_in}
 use Rattle.joint_parameters.proofs.Outcomes.{indication_by}
 use Rattle.joint_parameters.proofs.Taking.{TakenAs, is_over, late_end, takes_as}

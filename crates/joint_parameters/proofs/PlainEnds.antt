@@ -24,7 +24,7 @@ use Rattle.phased_control.specs.Taken.{PhasedStep, Response, Answers, Asks, Disc
 use Rattle.phased_control.specs.Steps.{control_steps, ctrl_if, end_by_phase, ended_if, first_owed, first_owed_if, kept_steps, later_steps, central_answer, read_answer, owed_steps, seen_by_procedures}
 use Rattle.phased_control.proofs.Answering.{answers}
 use Rattle.phased_control.proofs.Moving.{moves_by_steps}
-use Rattle.phased_control.proofs.Tables.{same_role}
+use Rattle.control_model.proofs.Moving.{same_role}
 use Rattle.phased_control.proofs.Taking.{handed_ways, took_ways}
 use Rattle.control_model.specs.Control.{Takes as control_takes}
 use Rattle.joint_controls.proofs.Keeping.{choice}

@@ -39,7 +39,8 @@ use Rattle.phased_control.proofs.Encrypted.{agrees_taken, quiet_taking}
 use Rattle.phased_control.proofs.Kept.{Tied, tied_after, tied_first}
 use Rattle.phased_control.proofs.Moving.{open_phased, same_after, same_kept}
 use Rattle.phased_control.proofs.Requests.{Requests, encrypts, requests_after, requests_first, role_entered}
-use Rattle.phased_control.proofs.Tables.{begins_encryption, is_step_apart, leaves_at_central, leaves_encryption, leaves_entering, same_in, same_role, takes_as}
+use Rattle.control_model.proofs.Moving.{same_role}
+use Rattle.phased_control.proofs.Tables.{begins_encryption, is_step_apart, leaves_at_central, leaves_encryption, leaves_entering, same_in, takes_as}
 use Rattle.phased_control.proofs.Taking.{handed_ways, took_ways}
 use Rattle.phased_control.proofs.Unpaused.{Unpaused, asks_in_half_clear, unpaused_after, unpaused_first}
 use Rattle.phased_control.proofs.PhaseFacts.{follows_no_pause}

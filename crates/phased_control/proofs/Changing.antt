@@ -29,7 +29,8 @@ use Rattle.phased_control.proofs.Answering.{answers}
 use Rattle.phased_control.proofs.Kept.{Tied}
 use Rattle.phased_control.proofs.Moving.{open_phased}
 use Rattle.phased_control.proofs.Requests.{encrypts, role_entered}
-use Rattle.phased_control.proofs.Tables.{begins_encryption, same_role}
+use Rattle.control_model.proofs.Moving.{same_role}
+use Rattle.phased_control.proofs.Tables.{begins_encryption}
 use Rattle.phased_control.proofs.Unpaused.{asks_in_half_clear}
 use Rattle.enc_phase.specs.Phases.{is_asked, phase_starting}
 use Rattle.enc_phase.specs.Taking.{phase_taking}

@@ -30,7 +30,8 @@ use Rattle.phased_control.specs.Ends.{IsFirst, is_half_keyed, says_kept}
 use Rattle.phased_control.proofs.Answering.{answers, plain_ask, plain_confirm, plain_pause, plain_unlock}
 use Rattle.phased_control.proofs.Moving.{same_kept}
 use Rattle.phased_control.proofs.PhaseFacts.{Goes, asked_stays, goes_after, goes_none, goes_starting, is_asked_then, keeps_it, minds, says_none}
-use Rattle.phased_control.proofs.Tables.{begins_encryption, same_role}
+use Rattle.control_model.proofs.Moving.{same_role}
+use Rattle.phased_control.proofs.Tables.{begins_encryption}
 use Rattle.phased_control.proofs.Taking.{handed_ways, took_ways}
 
 pub record Tied (role : Role) (s : Phased) : Type 0 where

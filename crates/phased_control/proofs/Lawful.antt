@@ -64,7 +64,8 @@ use Rattle.phased_control.proofs.Extending.{At, Fine, IsNoRequest, OwedMay, encr
 use Rattle.phased_control.proofs.Moving.{open_moves}
 use Rattle.phased_control.proofs.Requests.{encrypts, role_entered}
 use Rattle.phased_control.proofs.Rooms.{is_answered_in}
-use Rattle.phased_control.proofs.Tables.{begins_encryption, leaves_encryption, same_apart, same_role}
+use Rattle.control_model.proofs.Moving.{same_role}
+use Rattle.phased_control.proofs.Tables.{begins_encryption, leaves_encryption, same_apart}
 use Rattle.phased_control.proofs.Unpaused.{asks_in_half_clear}
 use Rattle.phased_control.proofs.Waiting.{InOrder, Last, lasts_acked}
 use Rattle.phased_control.proofs.PhaseFacts.{follows_no_pause}

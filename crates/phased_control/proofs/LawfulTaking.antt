@@ -35,7 +35,8 @@ use Rattle.phased_control.proofs.Extending.{At, Fine, IsNoRequest, OwedMay, encr
 use Rattle.phased_control.proofs.Kept.{Tied, role_owed}
 use Rattle.phased_control.proofs.Requests.{encrypts}
 use Rattle.phased_control.proofs.Rooms.{AreAnswers, answers_of, room_left, same_queue}
-use Rattle.phased_control.proofs.Tables.{same_role, takes_as}
+use Rattle.control_model.proofs.Moving.{same_role}
+use Rattle.phased_control.proofs.Tables.{takes_as}
 use Rattle.procedures.specs.declared.outcome.Outcome.{Outcome}
 use Rattle.procedure_stages.specs.declared.steps.Step.{Step as TableStep}
 use Rattle.procedures.specs.Taking.{facts_with, lacks_room, no_room, outcome_of}

@@ -37,7 +37,8 @@ use Rattle.phased_control.specs.Steps.{read_answer, owed_steps, seen_by_procedur
 use Rattle.phased_control.specs.Ends.{IsRequest}
 use Rattle.phased_control.proofs.Answering.{answers}
 use Rattle.phased_control.proofs.Kept.{Tied, tied_after, tied_first}
-use Rattle.phased_control.proofs.Tables.{begins_encryption, leaves_at_central, leaves_encryption, leaves_entering, same_role, takes_as}
+use Rattle.control_model.proofs.Moving.{same_role}
+use Rattle.phased_control.proofs.Tables.{begins_encryption, leaves_at_central, leaves_encryption, leaves_entering, takes_as}
 use Rattle.phased_control.proofs.Taking.{handed_ways, took_ways}
 
 abbrev pub encrypts : Phased → Bool

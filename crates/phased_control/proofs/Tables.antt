@@ -1,4 +1,4 @@
--- What a step of procedures leaves of the role of an end and of an encryption in progress, and how an encryption begins.
+-- What a step of procedures leaves of an encryption in progress, and how an encryption begins.
 use Rattle.std.proofs.Common.{◌≡◌, ℕ, Bool, true, false, not, ◌&&◌, if◌then◌else◌, List, Option, Some, None, is_some, refl, sym, ap, ◌∙◌}
 use Rattle.ble_base.specs.ErrorCodes.{instant_passed}
 use Rattle.ble_base.specs.declared.error_codes.ErrCode.{ErrCode}
@@ -38,55 +38,6 @@ use Rattle.control_model.proofs.Outcomes.{Hands, fits}
 use Rattle.control_model.proofs.Calls.{acked_same, answered_same, any_step, begun_same, either_way, given_same, held_over, open_step, sent_from, took_by}
 use Rattle.phased_control.specs.Phased.{is_encrypt, request_of}
 use Rattle.phased_control.specs.Ends.{IsRequest}
-
--- ---- no step changes the role
-
-abbrev HasRole : Role → Control → Type 0
-HasRole role c = role_of c.table.progress ≡ role
-
-module _ (role : Role) where
-  role_if : (b : Bool) (g : TableFacts) (c : Control) → HasRole role c → role_of g.progress ≡ role → HasRole role (table_if b g c)
-  role_if true g c is next = next
-  role_if false g c is next = is
-
-  role_entered : (b : Bool) (f : TableFacts) → role_of f.progress ≡ role → role_of (entered_step f b).0.progress ≡ role
-  role_entered true f is = (held_over f.progress).role ∙ is
-  role_entered false f is = is
-
-  role_following : (r : Role) (indication : Option Indication) (c : Control) → HasRole role c → HasRole role (following r indication c)
-  role_following central_role None c is = is
-  role_following central_role (Some indication) c is = is
-  role_following peripheral_role indication c is = is
-
-  role_taken : (c : Control) (g : TableFacts) (indication : Option Indication) → HasRole role c → Hands indication c.table.progress g.progress
-      → HasRole role (taken g None indication c)
-  role_taken c g None is s = s.role ∙ is
-  role_taken c g (Some indication) is h = by (is_to_come c.track indication)
-    where
-      by : (b : Bool) → HasRole role (if b then record c { table = g; track = track_after_take c.track indication } else ended (record { 0 = instant_passed }) c)
-      by true = h.role ∙ sym h.here ∙ is
-      by false = is
-
-  role_moved : (step : Step) (c : Control) → HasRole role c → HasRole role (moved step c)
-  role_moved (Enters slot quiet) c is =
-      (begun_same (entered_step c.table (is_some (next_number c.track))).0 slot quiet).role ∙ role_entered (is_some (next_number c.track)) c.table is
-  role_moved (Asks ask) c is = is
-  role_moved (Answers answer) c is =
-      role_if (is_host_asked c.table.progress && is_answer answer) _ c is ((answered_same c.table answer).role ∙ is)
-  role_moved (Disconnects reason) c is = role_if (is_open c.table.closing) (terminate_step c.table reason) c is is
-  role_moved (Sends slot quiet) c is =
-      either_way (HasRole role) (goes_out quiet c) _ c
-      (role_following (role_of c.table.progress) (went slot quiet c).1 (record c { table = (went slot quiet c).0 })
-      ((sent_from (next_of c.table (event_of c.track) quiet) (event_of c.track) c.track.params.latency c.table.progress).role ∙ is))
-      is
-  role_moved SeesAcknowledged c is = role_if (is_out c.table.out) _ c is ((acked_same c.table.out c.table.progress).role ∙ is)
-  role_moved (Takes read slot quiet) c is =
-      took_by (HasRole role) c (λ code. is) read slot quiet
-      (role_taken c (facts_with c.table slot (outcome_of c.table quiet read)) (indicated_by (outcome_of c.table quiet read).step.effect) is (fits c.table quiet read).hands)
-  role_moved (Owes ctrl) c is = (given_same c.table.progress ctrl).role ∙ is
-
-  pub same_role : (step : Step) (c : Control) → role_of c.table.progress ≡ role → role_of (after step c).table.progress ≡ role
-  same_role step c is = any_step (HasRole role) step c (role_moved step c is) is
 
 -- ---- how an encryption begins
 

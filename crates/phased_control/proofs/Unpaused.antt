@@ -32,7 +32,8 @@ use Rattle.phased_control.specs.Ends.{IsRequest}
 use Rattle.phased_control.proofs.Answering.{answers}
 use Rattle.phased_control.proofs.Ciphers.{Holds, IsOut, Sort, held_after, held_owing, is_owing}
 use Rattle.phased_control.proofs.Kept.{Tied, apart}
-use Rattle.phased_control.proofs.Tables.{begins_encryption, same_role}
+use Rattle.control_model.proofs.Moving.{same_role}
+use Rattle.phased_control.proofs.Tables.{begins_encryption}
 use Rattle.phased_control.proofs.Taking.{handed_ways, took_ways}
 use Rattle.phased_control.proofs.PhaseFacts.{follows_no_pause}
 use Rattle.phased_control.proofs.PhaseFacts.{phase_owed}

@@ -42,7 +42,8 @@ use Rattle.phased_control.proofs.Ciphers.{Holds, IsOut, Sort, ciphers_joined, he
 use Rattle.phased_control.proofs.Kept.{Tied}
 use Rattle.phased_control.proofs.Moving.{open_phased, same_after}
 use Rattle.phased_control.proofs.Requests.{encrypts, role_entered}
-use Rattle.phased_control.proofs.Tables.{begins_encryption, same_role}
+use Rattle.control_model.proofs.Moving.{same_role}
+use Rattle.phased_control.proofs.Tables.{begins_encryption}
 use Rattle.phased_control.proofs.Taking.{handed_ways, took_ways}
 use Rattle.phased_control.proofs.Unpaused.{asks_in_half_clear}
 use Rattle.phased_control.proofs.PhaseFacts.{follows_no_pause}
