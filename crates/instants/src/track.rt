@@ -1,5 +1,5 @@
 //! The parameters of one end of a link, event by event.
-ghost use Rattle.std.specs.Prelude.{◌≡◌, ◌<◌, ◌≤◌, ◌^◌, ◌↔◌, IsTrue, IsErr, OnOk, OnErr};
+ghost use Rattle.std.specs.Prelude.{◌≡◌, ◌<◌, ◌≤◌, ◌^◌, ◌↔◌, IsTrue, IsErr, OnOk, OnErr, nat_lt};
 ghost use Rattle.instants.specs.Track.{TrackFacts, first_facts, is_free, gap_ahead};
 ghost use Rattle.instants.specs.Track.{track_after_take};
 ghost use Rattle.instants.specs.Track.{event_of, is_due, last_params, waiting_offset, spacing_of};
@@ -96,6 +96,13 @@ impl ParamTrack {
         self.waits.is_none()
     }
 
+    /// The indication that was taken and does not hold yet, with the event from which it does.
+    pub fn waiting(&self) -> Option<Change>
+        ensures { result ≡ self.now.waits }
+    {
+        self.waits
+    }
+
     /// Takes an indication in the event entered last. Where its Instant is 32767 events or more
     /// ahead, counted modulo 65536, it has passed: the answer is `Passed` and nothing changes.
     pub fn take(&mut self, indication: Indication) -> Result<(), Passed>
@@ -153,6 +160,13 @@ impl ParamTrack {
         ensures interval { 1 ≤ result.interval }
     {
         self.params
+    }
+
+    /// Whether an event was entered.
+    pub fn has_entered(&self) -> bool
+        ensures { result ≡ nat_lt 0 self.now.entered }
+    {
+        self.entered > 0
     }
 
     /// The event entered last.

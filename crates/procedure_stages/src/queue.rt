@@ -62,6 +62,14 @@ impl Queue {
         self.rejections.len() + usize::from(self.disconnect.is_some()) + self.drafts.len()
     }
 
+    /// The control PDUs that wait, in order, without rejections and LL_TERMINATE_IND of a
+    /// Disconnect.
+    pub fn drafts(&self) -> &[Draft]
+        ensures { result.now ≡ self.now.drafts }
+    {
+        self.drafts.as_slice()
+    }
+
     /// Queues a control PDU, unless the link is to end.
     pub fn push_draft(&mut self, closing: Closing, draft: Draft)
         requires { is_open closing ≡ true → waiting_in self.old < 24 }

@@ -44,6 +44,13 @@ impl ProcTable {
         !(self.wanted.has(kind) || is_kind(self.progress.own_kind(), kind))
     }
 
+    /// What the host wants and was not begun, in order.
+    pub fn wanted(&self) -> &[Ask]
+        ensures { result.now ≡ self.now.wanted }
+    {
+        self.wanted.as_slice()
+    }
+
     /// The host asks for a procedure, with values in their ranges. A map takes the place of one that
     /// is wanted. A limit on what is transmitted holds at once.
     pub fn ask(&mut self, ask: Ask)

@@ -6,7 +6,7 @@ ghost use Rattle.procedures.specs.Queue.{next_of};
 
 use crate::table::ProcTable;
 use ble_base::EventNo;
-use procedure_values::Outgoing;
+use procedure_values::{Draft, Outgoing};
 
 impl ProcTable {
     /// How many control PDUs wait to be sent.
@@ -14,6 +14,14 @@ impl ProcTable {
         ensures { result ≡ waiting_in self.now.queue }
     {
         self.queue.waiting()
+    }
+
+    /// The control PDUs that wait to be sent, in order, without rejections and LL_TERMINATE_IND of a
+    /// Disconnect.
+    pub fn drafts(&self) -> &[Draft]
+        ensures { result.now ≡ self.now.queue.drafts }
+    {
+        self.queue.drafts()
     }
 
     /// Whether nothing but rejections goes before LL_TERMINATE_IND of a Disconnect.
