@@ -2,3 +2,4 @@
 pub mod Control
 pub mod Waits
 pub mod Worked
+pub mod Supported
