@@ -3,4 +3,6 @@ pub mod Depending
 pub mod Grants
 pub mod Handing
 pub mod Kept
+pub mod Reaching
+pub mod Room
 pub mod Sendable

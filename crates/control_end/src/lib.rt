@@ -7,9 +7,12 @@ mod end;
 mod following;
 mod host;
 mod laws;
+mod readers;
 mod sending;
 mod taking;
 
 pub use crate::answers::{Entry, Taken};
 pub use crate::end::ControlEnd;
-pub use crate::laws::{ends_can_follow_what_they_send, steps_depend_on_what_is_held};
+pub use crate::laws::{
+    ends_can_follow_what_they_send, reached_ends_have_room, steps_depend_on_what_is_held,
+};
