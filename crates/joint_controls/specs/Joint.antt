@@ -26,6 +26,7 @@ use Rattle.instants.specs.declared.indications.Params.{Params}
 use Rattle.instants.specs.declared.track.Change.{Change}
 use Rattle.instants.specs.Track.{event_of}
 use Rattle.procedure_values.specs.declared.asks.Ask.{Ask}
+use Rattle.procedure_values.specs.declared.asks.Ask.TheVariants.{Map}
 use Rattle.procedure_values.specs.Asks.{kind_of_ask, is_same_kind}
 use Rattle.procedure_values.specs.declared.drafts.Outgoing.{Outgoing}
 use Rattle.procedure_values.specs.Drafts.{ctrl_of_outgoing, indication_of}
@@ -189,11 +190,17 @@ is_near (Some change) event = nat_lt event (change.at.0 + 32769)
 abbrev pub is_supervised : Joint → Bool
 is_supervised s = is_near (instant_now s) (event_now s.peripheral)
 
--- a host asks for a kind that neither runs nor is wanted, and for a version only until that of the peer is known; else it
--- is answered at once
+-- a map replaces one that is wanted, and is wanted while one runs
+abbrev pub is_map : Ask → Bool
+is_map (Map map) = true
+is_map ask = false
+
+-- a host asks for a map at any time, for another kind while that neither runs nor is wanted, and for a version only until
+-- that of the peer is known; else it is answered at once
 abbrev pub may_ask : Ask → Phased → Bool
 may_ask ask s =
-    may_ask_of s.control.table (kind_of_ask ask) && not (is_same_kind (kind_of_ask ask) Version && s.knows_version)
+    is_map ask
+    || (may_ask_of s.control.table (kind_of_ask ask) && not (is_same_kind (kind_of_ask ask) Version && s.knows_version))
 
 abbrev pub may_host : HostStep → Phased → Bool
 may_host (AsksFor ask) s = may_ask ask s

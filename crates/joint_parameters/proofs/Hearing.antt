@@ -1,6 +1,7 @@
 -- A packet of the central is good at the peripheral, and the reply at the central, by turns and in a joint run.
 use Rattle.std.proofs.Common.{◌≡◌, inl, inr, ℕ, ◌==◌, Bool, true, false, not, ◌||◌, if◌then◌else◌, List, [], ◌∷◌, ◌++◌, Option, Some, None, is_some, option_map, refl, sym, ap, subst, ◌∙◌}
 use Rattle.std.proofs.lemmas.Bool.{and_from}
+use Rattle.std.proofs.lemmas.List.{append-nil}
 use Rattle.ble_base.specs.declared.error_codes.ErrCode.{ErrCode}
 use Rattle.instants.specs.declared.indications.Indication.{Indication}
 use Rattle.instants.specs.declared.track.Change.{Change}
@@ -9,16 +10,17 @@ use Rattle.control_model.specs.Control.{Control}
 use Rattle.two_tracks.specs.TwoEnds.{LastPdu, Untaken, Acknowledged, TwoEnds, after_indication, after_pdu, heard_by_peripheral, last_after_reply}
 use Rattle.two_tracks.specs.TwoEnds as two_ends
 use Rattle.two_tracks.specs.Reached.{untaken}
-use Rattle.phased_control.specs.Taken.{Response, SeesAcknowledged, phased_after}
-use Rattle.joint_controls.specs.Joint.{CentralAcked, CentralTakes, Clear, Control as control_item, Data, Fixed, Item, Joint, JointStep, OnAir, PeripheralAcked, PeripheralTakes, Taken, Way, act, central_takes, has_passed, is_free, is_last, is_late, is_near, is_running, is_same_event, is_taken, item_on_air, may, peripheral_takes, taking}
+use Rattle.phased_control.specs.Taken.{PhasedStep, Response, SeesAcknowledged, Sends, phased_after}
+use Rattle.joint_controls.specs.Joint.{CentralAcked, CentralTakes, Clear, Control as control_item, Data, Fixed, Item, Joint, JointStep, OnAir, PeripheralAcked, PeripheralFixes, PeripheralFixesData, PeripheralTakes, Taken, Way, act, after_all, central_takes, fixed, has_passed, is_clear, is_free, is_last, is_late, is_near, is_running, is_same_event, is_taken, item_on_air, may, next_item, peripheral_takes, sends_data, taking}
+use Rattle.joint_controls.specs.Ends.{AreStepsInRange, IsStepInRange}
 use Rattle.joint_controls.proofs.Running.{GoesOn, goes_on}
 use Rattle.joint_parameters.specs.Indications.{indication_of_item, indication_read}
-use Rattle.joint_parameters.specs.Turns.{IsPairedWith, fits, step_if, takes_item}
+use Rattle.joint_parameters.specs.Turns.{Fixing, FixesControl, FixesData, FixesNothing, IsPairedWith, MayFix, fits, fixing_steps, step_if, takes_item}
 use Rattle.joint_parameters.specs.Views.{View, change_on_air, view}
-use Rattle.joint_parameters.proofs.Ends.{ends_still}
+use Rattle.joint_parameters.proofs.Ends.{ends_still, takes_none}
 use Rattle.joint_parameters.proofs.Meeting.{Meets}
 use Rattle.joint_parameters.proofs.Pairing.{Leads, Together, leads_none, leads_on, leads_one, may_now, running_from, together}
-use Rattle.joint_parameters.proofs.Runs.{Facts, central_stays, peripheral_stays, taken_as, up_stays}
+use Rattle.joint_parameters.proofs.Runs.{Facts, central_stays, peripheral_stays, range_joined, taken_as, up_stays}
 use Rattle.joint_parameters.proofs.Taking.{TakenAs, is_over, track_with}
 
 -- ---- where the last PDU is
@@ -187,52 +189,109 @@ meets_rule v = (event_of v.central == event_of v.peripheral) || has_passed (chan
 abbrev pub near_rule : View → Bool
 near_rule v = is_near (change_on_air v) (event_of v.peripheral)
 
-record AckedUp (s : Joint) : Type 0 where
+-- these steps are in range
+pub range_if : (b : Bool) (step : JointStep) → IsStepInRange step → AreStepsInRange (step_if b step)
+range_if true step is = (is, tt)
+range_if false step is = tt
+
+range_fixing : (fixing : Fixing) (now : ℕ) → AreStepsInRange (fixing_steps fixing now)
+range_fixing FixesNothing now = tt
+range_fixing FixesControl now = (tt, tt)
+range_fixing FixesData now = (tt, tt)
+
+-- the peripheral sees its own PDU acknowledged, if it was taken
+abbrev acked_steps : Joint → List JointStep
+acked_steps s = step_if (is_taken s.up) PeripheralAcked
+
+pub range_before : (s : Joint) (fixing : Fixing) (now : ℕ) → AreStepsInRange (step_if (is_taken s.up) PeripheralAcked ++ fixing_steps fixing now)
+range_before s fixing now =
+    range_joined (acked_steps s) (fixing_steps fixing now) (range_if (is_taken s.up) PeripheralAcked tt) (range_fixing fixing now)
+
+fixed_not_taken : (o : Option Item) → is_taken (fixed o) ≡ false
+fixed_not_taken None = refl
+fixed_not_taken (Some item) = refl
+
+-- steps of the peripheral that leave all but its own PDU as it is
+record Steady (steps : List JointStep) (s : Joint) : Type 0 where
   to : Joint
-  leads : Leads (step_if (is_taken s.up) PeripheralAcked) s to
+  leads : Leads steps s to
   same : view to ≡ view s
   running : is_running to ≡ true
   up : is_taken to.up ≡ false
-  facts : Facts to
 
-module _ (s : Joint) (f : Facts s) (facts_next : may PeripheralAcked s ≡ true → Facts (act PeripheralAcked s)) (running : is_running s ≡ true) (rule : meets_rule (view s) ≡ true) where
-  acked_up : AckedUp s
+steady_none : (s : Joint) → is_running s ≡ true → is_taken s.up ≡ false → Steady [] s
+steady_none s running up = record { to = s; leads = leads_none s; same = refl; running = running; up = up }
+
+steady_one : (steps : List JointStep) (s : Joint) (a : Steady steps s) (step : JointStep) → may step a.to ≡ true → view (act step a.to) ≡ view a.to
+    → is_running (act step a.to) ≡ true → is_taken (act step a.to).up ≡ false → Steady (steps ++ step ∷ []) s
+steady_one steps s a step comes same running up =
+    record {
+      to = act step a.to;
+      leads = leads_on steps (step ∷ []) s a.to (act step a.to) a.leads (leads_one step a.to comes);
+      same = same ∙ a.same;
+      running = running;
+      up = up;
+    }
+
+-- the control part of the peripheral makes a step
+peripheral_runs : (s : Joint) (step : PhasedStep) (way : Way) → is_running s ≡ true → takes_none step ≡ true
+    → is_running (record s { peripheral = phased_after step s.peripheral; up = way }) ≡ true
+peripheral_runs s step way running none =
+    let g = goes_on s running in
+    running_from (record s { peripheral = phased_after step s.peripheral; up = way }) g.stopped g.central
+    (ends_still s.peripheral step g.peripheral none ∙ g.peripheral)
+
+module _ (s : Joint) (facts_after : (steps : List JointStep) → AreStepsInRange steps → Facts (after_all steps s)) (running : is_running s ≡ true)
+    (rule : meets_rule (view s) ≡ true) where
+  acked_up : Steady (acked_steps s) s
   acked_up = by (is_taken s.up) refl
     where
-      by : (b : Bool) → is_taken s.up ≡ b → AckedUp s
-      by false is =
-          record {
-            to = s;
-            leads = subst (λ (b : Bool). Leads (step_if b PeripheralAcked) s s) (sym is) (leads_none s);
-            same = refl;
-            running = running;
-            up = is;
-            facts = f;
-          }
+      by : (b : Bool) → is_taken s.up ≡ b → Steady (step_if b PeripheralAcked) s
+      by false is = steady_none s running is
       by true is =
-          let g = goes_on s running in
-          let comes = may_now PeripheralAcked s running (and_from (is_taken s.up) _ is rule) in
           record {
             to = act PeripheralAcked s;
-            leads = subst (λ (b : Bool). Leads (step_if b PeripheralAcked) s (act PeripheralAcked s)) (sym is) (leads_one PeripheralAcked s comes);
-            same = peripheral_stays s f g SeesAcknowledged refl;
-            running = running_from (act PeripheralAcked s) g.stopped g.central (ends_still s.peripheral SeesAcknowledged g.peripheral refl ∙ g.peripheral);
+            leads = leads_one PeripheralAcked s (may_now PeripheralAcked s running (and_from (is_taken s.up) _ is rule));
+            same = peripheral_stays s (facts_after [] tt) (goes_on s running) SeesAcknowledged refl;
+            running = peripheral_runs s SeesAcknowledged Clear running refl;
             up = refl;
-            facts = facts_next comes;
           }
+
+  -- ---- then it fixes its next one
+
+  fixed_up : (fixing : Fixing) (now : ℕ) → MayFix fixing now s → Steady (acked_steps s ++ fixing_steps fixing now) s
+  fixed_up FixesNothing now may_fix = subst (λ (steps : List JointStep). Steady steps s) (sym (append-nil (acked_steps s))) acked_up
+  fixed_up FixesControl now may_fix =
+      let a = acked_up in
+      let f : Facts a.to = subst Facts a.leads.to (facts_after (acked_steps s) (range_if (is_taken s.up) PeripheralAcked tt)) in
+      let clear : is_clear a.to.up ≡ true = subst (λ (x : Joint). is_clear x.up ≡ true) a.leads.to may_fix.0 in
+      let some : is_some (next_item a.to.peripheral) ≡ true = subst (λ (x : Joint). is_some (next_item x.peripheral) ≡ true) a.leads.to may_fix.1 in
+      steady_one (acked_steps s) s a (PeripheralFixes now) (may_now (PeripheralFixes now) a.to a.running (and_from (is_clear a.to.up) _ clear some))
+      (peripheral_stays a.to f (goes_on a.to a.running) (Sends now) refl)
+      (peripheral_runs a.to (Sends now) (fixed (next_item a.to.peripheral)) a.running refl) (fixed_not_taken (next_item a.to.peripheral))
+  fixed_up FixesData now may_fix =
+      let a = acked_up in
+      let clear : is_clear a.to.up ≡ true = subst (λ (x : Joint). is_clear x.up ≡ true) a.leads.to may_fix.0 in
+      let sends : sends_data a.to.peripheral ≡ true = subst (λ (x : Joint). sends_data x.peripheral ≡ true) a.leads.to may_fix.1 in
+      steady_one (acked_steps s) s a PeripheralFixesData (may_now PeripheralFixesData a.to a.running (and_from (is_clear a.to.up) _ clear sends)) refl
+      a.running refl
 
 -- ---- a packet is good at the peripheral
 
-module _ (taken : List Change) (t : TwoEnds) (s : Joint) (f : Facts s) (facts_next : may PeripheralAcked s ≡ true → Facts (act PeripheralAcked s))
-    (running : is_running s ≡ true) (m : Meets taken (view s)) (p : IsPairedWith t (view s)) (rule : meets_rule (view s) ≡ true) (near : near_rule (view s) ≡ true) where
-  a : AckedUp s
-  a = acked_up s f facts_next running rule
+module _ (taken : List Change) (t : TwoEnds) (s : Joint) (facts_after : (steps : List JointStep) → AreStepsInRange steps → Facts (after_all steps s))
+    (running : is_running s ≡ true) (m : Meets taken (view s)) (p : IsPairedWith t (view s)) (rule : meets_rule (view s) ≡ true) (near : near_rule (view s) ≡ true)
+    (fixing : Fixing) (now : ℕ) (may_fix : MayFix fixing now s) where
+  a : Steady (acked_steps s ++ fixing_steps fixing now) s
+  a = fixed_up s facts_after running rule fixing now may_fix
+
+  facts : Facts a.to
+  facts = subst Facts a.leads.to (facts_after (acked_steps s ++ fixing_steps fixing now) (range_before s fixing now))
 
   abbrev hears : Bool → TwoEnds
   hears room = after_pdu (room || not (is_free s.down)) t.last (heard_by_peripheral t)
 
-  abbrev steps : Bool → ℕ → Response → List JointStep
-  steps room now response = step_if (is_taken s.up) PeripheralAcked ++ step_if (takes_item room (item_on_air s.down)) (PeripheralTakes now response)
+  abbrev steps : Bool → Response → List JointStep
+  steps room response = acked_steps s ++ fixing_steps fixing now ++ step_if (takes_item room (item_on_air s.down)) (PeripheralTakes now response)
 
   same_down : a.to.down ≡ s.down
   same_down = ap (λ (v : View). v.down) a.same
@@ -249,40 +308,40 @@ module _ (taken : List Change) (t : TwoEnds) (s : Joint) (f : Facts s) (facts_ne
   some_air room (Fixed item sealed) takes = absurd (cc)
   some_air room (Taken item) takes = absurd (cc)
 
-  comes_then : (room : Bool) (now : ℕ) (response : Response) → takes_item room (item_on_air s.down) ≡ true → may (PeripheralTakes now response) a.to ≡ true
-  comes_then room now response takes =
+  comes_then : (room : Bool) (response : Response) → takes_item room (item_on_air s.down) ≡ true → may (PeripheralTakes now response) a.to ≡ true
+  comes_then room response takes =
       may_now (PeripheralTakes now response) a.to a.running
       (and_from (is_some (item_on_air a.to.down)) _ (some_air room a.to.down (subst (λ (way : Way). takes_item room (item_on_air way) ≡ true) (sym same_down) takes))
       (and_from (not (is_taken a.to.up)) _ (ap (λ (b : Bool). not b) a.up)
       (and_from (is_same_event a.to || is_late a.to) _ (subst (λ (v : View). meets_rule v ≡ true) (sym a.same) rule)
       (subst (λ (v : View). near_rule v ≡ true) (sym a.same) near))))
 
-  takes_any : (room : Bool) (now : ℕ) (response : Response) (way : Way) → a.to.down ≡ way → takes_item room (item_on_air way) ≡ true
+  takes_any : (room : Bool) (response : Response) (way : Way) → a.to.down ≡ way → takes_item room (item_on_air way) ≡ true
       → is_running (peripheral_takes way now response a.to) ≡ true
       → IsPairedWith (after_pdu (room || not (is_free way)) t.last (heard_by_peripheral t)) (view (peripheral_takes way now response a.to))
-  takes_any room now response Clear is takes still = absurd (cc)
-  takes_any room now response (Fixed item sealed) is takes still = absurd (cc)
-  takes_any room now response (Taken item) is takes still = absurd (cc)
-  takes_any room now response (OnAir item sealed) is takes still =
+  takes_any room response Clear is takes still = absurd (cc)
+  takes_any room response (Fixed item sealed) is takes still = absurd (cc)
+  takes_any room response (Taken item) is takes still = absurd (cc)
+  takes_any room response (OnAir item sealed) is takes still =
       subst (λ (way : Way). IsPairedWith (after_pdu (room || not (is_free way)) t.last (heard_by_peripheral t)) (view (peripheral_takes (OnAir item sealed) now response a.to)))
-      is (takes_then taken t a.to a.facts a.running meets_to paired_to item sealed is now response room takes still)
+      is (takes_then taken t a.to facts a.running meets_to paired_to item sealed is now response room takes still)
 
-  pub is_heard : (room : Bool) (now : ℕ) (response : Response) → Together (steps room now response) (hears room) s
-  is_heard room now response = by (takes_item room (item_on_air s.down)) refl
+  pub is_heard : (room : Bool) (response : Response) → Together (steps room response) (hears room) s
+  is_heard room response = by (takes_item room (item_on_air s.down)) refl
     where
       by : (b : Bool) → takes_item room (item_on_air s.down) ≡ b
-          → Together (step_if (is_taken s.up) PeripheralAcked ++ step_if b (PeripheralTakes now response)) (hears room) s
+          → Together (acked_steps s ++ fixing_steps fixing now ++ step_if b (PeripheralTakes now response)) (hears room) s
       by false takes =
-          together (step_if (is_taken s.up) PeripheralAcked ++ []) (hears room) s a.to
-          (leads_on (step_if (is_taken s.up) PeripheralAcked) [] s a.to a.to a.leads (leads_none a.to))
+          together (acked_steps s ++ fixing_steps fixing now ++ []) (hears room) s a.to
+          (leads_on (acked_steps s ++ fixing_steps fixing now) [] s a.to a.to a.leads (leads_none a.to))
           (λ still. subst (IsPairedWith (hears room)) (sym a.same) (none_taken t (view s) room t.last s.down p takes))
       by true takes =
           let u = peripheral_takes a.to.down now response a.to in
-          together (step_if (is_taken s.up) PeripheralAcked ++ PeripheralTakes now response ∷ []) (hears room) s u
-          (leads_on (step_if (is_taken s.up) PeripheralAcked) (PeripheralTakes now response ∷ []) s a.to u a.leads
-          (leads_one (PeripheralTakes now response) a.to (comes_then room now response takes)))
+          together (acked_steps s ++ fixing_steps fixing now ++ PeripheralTakes now response ∷ []) (hears room) s u
+          (leads_on (acked_steps s ++ fixing_steps fixing now) (PeripheralTakes now response ∷ []) s a.to u a.leads
+          (leads_one (PeripheralTakes now response) a.to (comes_then room response takes)))
           (λ still. subst (λ (way : Way). IsPairedWith (after_pdu (room || not (is_free way)) t.last (heard_by_peripheral t)) (view u)) same_down
-          (takes_any room now response a.to.down refl (subst (λ (way : Way). takes_item room (item_on_air way) ≡ true) (sym same_down) takes) still))
+          (takes_any room response a.to.down refl (subst (λ (way : Way). takes_item room (item_on_air way) ≡ true) (sym same_down) takes) still))
 
 -- ---- the reply is good at the central
 

@@ -1,5 +1,5 @@
 -- A link by turns and packets is a joint run at once, and both have one state of the tracks.
-use Rattle.std.proofs.Common.{◌≡◌, ◌⊎◌, inl, inr, ℕ, ◌≤◌, ◌==◌, Bool, true, false, ◌||◌, List, [], ◌∷◌, Option, Some, None, refl, sym, subst, arith}
+use Rattle.std.proofs.Common.{◌≡◌, ◌⊎◌, inl, inr, ℕ, ◌≤◌, ◌==◌, true, ◌||◌, List, [], ◌∷◌, ◌++◌, Option, Some, None, refl, sym, subst, arith}
 use Rattle.std.proofs.lemmas.Bool.{or_left, or_right}
 use Rattle.ble_base.specs.declared.roles.Role.TheVariants.{Central, Peripheral}
 use Rattle.instants.specs.declared.indications.Indication.{Indication}
@@ -19,9 +19,9 @@ use Rattle.joint_controls.specs.Joint.{CentralAcked, CentralEnters, CentralHost,
 use Rattle.joint_controls.specs.Ends.{AreStepsInRange, IsStepInRange}
 use Rattle.joint_controls.proofs.Running.{GoesOn, goes_on}
 use Rattle.joint_parameters.specs.Indications.{changes_taken}
-use Rattle.joint_parameters.specs.Turns.{Alone, AreLinksInRange, Begins, CentralShuts, IsAnswered, IsHeard, IsLinkInRange, IsPaired, IsPairedWith, Link, LinkStep, MayLink, MayLinkAll, MayTransmit, PeripheralShuts, SendsControl, SendsData, SendsEmpty, all_joint_steps, first_link, is_alone, joint_steps, link_after, link_after_all, next_indication, step_if, turn_steps}
+use Rattle.joint_parameters.specs.Turns.{Alone, AreLinksInRange, Begins, CentralShuts, IsAnswered, IsHeard, IsLinkInRange, IsPaired, IsPairedWith, Link, LinkStep, MayLink, MayLinkAll, MayTransmit, PeripheralShuts, SendsControl, SendsData, SendsEmpty, all_joint_steps, first_link, fixing_steps, is_alone, joint_steps, link_after, link_after_all, next_indication, step_if, turn_steps}
 use Rattle.joint_parameters.specs.Views.{View, change_on_air, view}
-use Rattle.joint_parameters.proofs.Hearing.{is_answered, is_heard, meets_rule, near_rule}
+use Rattle.joint_parameters.proofs.Hearing.{is_answered, is_heard, meets_rule, near_rule, range_before, range_if}
 use Rattle.joint_parameters.proofs.Meeting.{Meets}
 use Rattle.joint_parameters.proofs.Pairing.{Leads, Together, after_may, leads_on, leads_one, may_now, sends_control, sends_data_too, sends_empty, together, turn_begins}
 use Rattle.joint_parameters.proofs.Runs.{Facts, Inv, IsReached, central_stays, holds_after, host_stays, peripheral_stays, range_joined, reached_facts, reached_next}
@@ -95,6 +95,15 @@ module _ (central_rx peripheral_rx : ℕ) (first : Params) (slot : ℕ) (latency
   facts_next step s r range comes =
       subst Facts (after_may step s comes)
       (facts_at (after step s) (reached_next central_rx peripheral_rx first slot latency step s range r))
+
+  -- what some steps lead to
+  joint_all : (steps : List JointStep) (s : Joint) → AreStepsInRange steps → Comes s → Comes (after_all steps s)
+  joint_all [] s range r = r
+  joint_all (step ∷ steps) s range r =
+      joint_all steps (after step s) range.1 (reached_next central_rx peripheral_rx first slot latency step s range.0 r)
+
+  facts_after : (s : Joint) → Comes s → (steps : List JointStep) → AreStepsInRange steps → Facts (after_all steps s)
+  facts_after s r steps range = facts_at (after_all steps s) (joint_all steps s range r)
 
   -- it comes by turns, and in the joint run, and both stay paired
   record Goes (step : LinkStep) (l : Link) : Type 0 where
@@ -176,12 +185,13 @@ module _ (central_rx peripheral_rx : ℕ) (first : Params) (slot : ℕ) (latency
         }
     goes_by SendsEmpty may_link =
         record { by_turn = (may_send None may_link tt, tt); by_both = sends_empty l.turns l.joint f running p may_link.acknowledged }
-    goes_by (IsHeard room now response) may_link =
+    goes_by (IsHeard room fixing now response) may_link =
         record {
-          by_turn = (may_link, tt);
+          by_turn = (may_link.0, tt);
           by_both =
-              is_heard h.taken l.turns l.joint f (λ comes. facts_next PeripheralAcked l.joint linked.joint tt comes) running m p
-              (rule_of first slot l.turns linked.turns (view l.joint) p may_link) (near_of first slot l.turns linked.turns (view l.joint) p may_link) room now response;
+              is_heard h.taken l.turns l.joint (facts_after l.joint linked.joint) running m p
+              (rule_of first slot l.turns linked.turns (view l.joint) p may_link.0) (near_of first slot l.turns linked.turns (view l.joint) p may_link.0)
+              fixing now may_link.1 room response;
         }
     goes_by (IsAnswered room now) may_link =
         record {
@@ -200,23 +210,15 @@ module _ (central_rx peripheral_rx : ℕ) (first : Params) (slot : ℕ) (latency
   turns_all [] t may_all_of r = r
   turns_all (step ∷ steps) t may_all_of r = turns_all steps (two_ends.after step t) may_all_of.1 (turns_next first slot t step r may_all_of.0)
 
-  joint_all : (steps : List JointStep) (s : Joint) → AreStepsInRange steps → Comes s → Comes (after_all steps s)
-  joint_all [] s range r = r
-  joint_all (step ∷ steps) s range r =
-      joint_all steps (after step s) range.1 (reached_next central_rx peripheral_rx first slot latency step s range.0 r)
-
-  range_if : (b : Bool) (step : JointStep) → IsStepInRange step → AreStepsInRange (step_if b step)
-  range_if true step is = (is, tt)
-  range_if false step is = tt
-
   range_of : (step : LinkStep) (l : Link) → IsLinkInRange step → AreStepsInRange (joint_steps step l)
   range_of (Begins now) l is =
       range_joined (step_if (enters l.turns.turns l.turns.central_open l.turns.central) (CentralEnters now)) _ (range_if _ (CentralEnters now) tt) (range_if _ (PeripheralEnters now) tt)
   range_of (SendsControl now) l is = (tt, tt)
   range_of SendsData l is = (tt, tt)
   range_of SendsEmpty l is = tt
-  range_of (IsHeard room now response) l is =
-      range_joined (step_if (is_taken l.joint.up) PeripheralAcked) _ (range_if _ PeripheralAcked tt) (range_if _ (PeripheralTakes now response) tt)
+  range_of (IsHeard room fixing now response) l is =
+      range_joined (step_if (is_taken l.joint.up) PeripheralAcked ++ fixing_steps fixing now) _ (range_before l.joint fixing now)
+      (range_if _ (PeripheralTakes now response) tt)
   range_of (IsAnswered room now) l is =
       range_joined (step_if (is_taken l.joint.down) CentralAcked) _ (range_if _ CentralAcked tt) (range_if _ (CentralTakes now) tt)
   range_of (Alone step) l is = (is, tt)

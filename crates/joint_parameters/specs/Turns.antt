@@ -1,6 +1,6 @@
 -- A joint run and the run of both tracks by turns and packets at once: what each turn and each packet is in both, and
 -- the rules of a link that are left (our choice of words; Core 5.2, volume 6 part B, sections 4.5.2, 4.5.9 and 5.5).
-use Rattle.std.specs.Prelude.{◌≡◌, ℕ, ◌≤◌, Bool, true, false, not, ◌&&◌, ◌||◌, List, [], ◌∷◌, ◌++◌, Option, Some, None, is_some, if◌then◌else◌, ⊤}
+use Rattle.std.specs.Prelude.{◌≡◌, ℕ, ◌≤◌, Bool, true, false, not, ◌||◌, List, [], ◌∷◌, ◌++◌, Option, Some, None, is_some, if◌then◌else◌, ⊤}
 use Rattle.instants.specs.declared.indications.Indication.{Indication}
 use Rattle.instants.specs.declared.indications.Params.{Params}
 use Rattle.procedure_values.specs.Drafts.{indication_of}
@@ -10,7 +10,7 @@ use Rattle.two_tracks.specs.Reached.{untaken}
 use Rattle.two_tracks.specs.Reached as reached
 use Rattle.phased_control.specs.Taken.{Response}
 use Rattle.phased_control.specs.Phased.{Phased}
-use Rattle.joint_controls.specs.Joint.{CentralAcked, CentralEnters, CentralHost, CentralSends, CentralSendsData, CentralTakes, Clear, Control, Data, Item, Joint, JointStep, OnAir, PeripheralAcked, PeripheralEnters, PeripheralFixes, PeripheralFixesData, PeripheralHost, PeripheralSends, PeripheralTakes, Shuts, Taken, Way, after, after_all, beginning, event_now, is_free, is_running, is_taken, item_on_air, latency_now, may, next_item, next_out, sends_data}
+use Rattle.joint_controls.specs.Joint.{CentralAcked, CentralEnters, CentralHost, CentralSends, CentralSendsData, CentralTakes, Clear, Control, Data, Item, Joint, JointStep, OnAir, PeripheralAcked, PeripheralEnters, PeripheralFixes, PeripheralFixesData, PeripheralHost, PeripheralSends, PeripheralTakes, Shuts, Taken, Way, after_all, beginning, event_now, is_clear, is_free, is_running, is_taken, item_on_air, latency_now, may, next_item, next_out, sends_data}
 use Rattle.joint_controls.specs.Ends.{IsStepInRange}
 use Rattle.joint_parameters.specs.Views.{View, change_on_air, view}
 
@@ -25,6 +25,15 @@ abbrev pub first_link : ℕ → ℕ → Params → ℕ → ℕ → Link
 first_link central_rx peripheral_rx first slot turns =
     record { turns = two_ends.beginning first slot turns; joint = beginning central_rx peripheral_rx first slot }
 
+-- what a peripheral fixes for its reply as it hears a packet (our choice of words; section 4.5.9)
+pub data Fixing : Type 0 where
+  -- nothing new: the reply has what was fixed before, or is empty
+  FixesNothing : Fixing
+  -- the control PDU that goes next, which leaves its queue
+  FixesControl : Fixing
+  -- data, where no control PDU goes
+  FixesData : Fixing
+
 pub data LinkStep : Type 0 where
   -- a turn begins: each end whose anchor is in it enters its next event
   Begins : (slot : ℕ) → LinkStep
@@ -32,9 +41,9 @@ pub data LinkStep : Type 0 where
   SendsControl : (slot : ℕ) → LinkStep
   SendsData : LinkStep
   SendsEmpty : LinkStep
-  -- a packet of the central is good at the peripheral, which has room for data or not, with what it would draw to
-  -- answer LL_ENC_REQ
-  IsHeard : (room : Bool) → (slot : ℕ) → (response : Response) → LinkStep
+  -- a packet of the central is good at the peripheral, which has room for data or not and fixes this, with what it
+  -- would draw to answer LL_ENC_REQ
+  IsHeard : (room : Bool) → (fixing : Fixing) → (slot : ℕ) → (response : Response) → LinkStep
   -- the reply to it is good at the central, which has room for data or not
   IsAnswered : (room : Bool) → (slot : ℕ) → LinkStep
   -- with no packet: a host, or the peripheral as it fixes or sends a PDU
@@ -61,7 +70,7 @@ turn_steps (Begins slot) l = TurnBegins ∷ []
 turn_steps (SendsControl slot) l = two_ends.CentralSends (next_indication l.joint.central) ∷ []
 turn_steps SendsData l = two_ends.CentralSends None ∷ []
 turn_steps SendsEmpty l = two_ends.CentralSends None ∷ []
-turn_steps (IsHeard room slot response) l = PeripheralHears (room || not (is_free l.joint.down)) ∷ []
+turn_steps (IsHeard room fixing slot response) l = PeripheralHears (room || not (is_free l.joint.down)) ∷ []
 turn_steps (IsAnswered room slot) l = CentralHears ∷ []
 turn_steps (Alone step) l = []
 turn_steps CentralShuts l = CentralEnds ∷ []
@@ -70,7 +79,13 @@ turn_steps PeripheralShuts l = PeripheralEnds ∷ []
 abbrev pub step_if : Bool → JointStep → List JointStep
 step_if does step = (if does then step ∷ [] else [])
 
--- an end sees its own PDU acknowledged before it takes that of the other
+-- what is fixed, as a step of the peripheral
+abbrev pub fixing_steps : Fixing → ℕ → List JointStep
+fixing_steps FixesNothing slot = []
+fixing_steps FixesControl slot = PeripheralFixes slot ∷ []
+fixing_steps FixesData slot = PeripheralFixesData ∷ []
+
+-- an end sees its own PDU acknowledged before it takes that of the other; in between a peripheral fixes its next one
 abbrev pub joint_steps : LinkStep → Link → List JointStep
 joint_steps (Begins slot) l =
     step_if (enters l.turns.turns l.turns.central_open l.turns.central) (CentralEnters slot)
@@ -78,8 +93,8 @@ joint_steps (Begins slot) l =
 joint_steps (SendsControl slot) l = CentralSends slot ∷ []
 joint_steps SendsData l = CentralSendsData ∷ []
 joint_steps SendsEmpty l = []
-joint_steps (IsHeard room slot response) l =
-    step_if (is_taken l.joint.up) PeripheralAcked
+joint_steps (IsHeard room fixing slot response) l =
+    step_if (is_taken l.joint.up) PeripheralAcked ++ fixing_steps fixing slot
     ++ step_if (takes_item room (item_on_air l.joint.down)) (PeripheralTakes slot response)
 joint_steps (IsAnswered room slot) l =
     step_if (is_taken l.joint.down) CentralAcked
@@ -120,13 +135,25 @@ is_alone PeripheralFixesData = true
 is_alone PeripheralSends = true
 is_alone step = false
 
+-- the peripheral has seen its own PDU acknowledged, if it was taken
+abbrev pub after_acknowledgement : Joint → Joint
+after_acknowledgement s = after_all (step_if (is_taken s.up) PeripheralAcked) s
+
+-- a peripheral fixes a PDU after that, where its last one is acknowledged: a control PDU, or data where none goes
+abbrev pub MayFix : Fixing → ℕ → Joint → Type 0
+MayFix FixesNothing slot s = ⊤
+MayFix FixesControl slot s =
+    (is_clear (after_acknowledgement s).up ≡ true) × (is_some (next_item (after_acknowledgement s).peripheral) ≡ true)
+MayFix FixesData slot s =
+    (is_clear (after_acknowledgement s).up ≡ true) × (sends_data (after_acknowledgement s).peripheral ≡ true)
+
 abbrev pub MayLink : LinkStep → Link → Type 0
 MayLink (Begins slot) l = ⊤
 MayLink (SendsControl slot) l =
     MayTransmit l × (is_free l.joint.up ≡ true) × (is_some (next_item l.joint.central) ≡ true)
 MayLink SendsData l = MayTransmit l × (is_free l.joint.up ≡ true) × (sends_data l.joint.central ≡ true)
 MayLink SendsEmpty l = MayTransmit l
-MayLink (IsHeard room slot response) l = MayReach l.turns
+MayLink (IsHeard room fixing slot response) l = MayReach l.turns × MayFix fixing slot l.joint
 MayLink (IsAnswered room slot) l = l.turns.replies ≡ true
 MayLink (Alone step) l = (is_alone step ≡ true) × (may step l.joint ≡ true)
 MayLink CentralShuts l = ⊤

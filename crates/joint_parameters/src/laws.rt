@@ -176,8 +176,9 @@ pub fn both_ends_have_equal_parameters()
 /// or the peripheral has passed the Instant of the indication in the packet, by fewer than 32,769
 /// events. So a link has to keep the other rules alone: an end sends a further PDU only after the
 /// one before was acknowledged, the central sends one only where the last PDU of the peripheral was
-/// taken or is data, and each end takes what it hears, but for data without room (sections 4.5.2,
-/// 4.5.9 and 5.5).
+/// taken or is data, and each end takes what it hears, but for data without room. A peripheral that
+/// hears a packet first sees its own PDU acknowledged, then fixes its next one, and then takes that
+/// of the central (sections 4.5.2, 4.5.9 and 5.5).
 pub fn a_link_by_turns_is_a_joint_run()
     ensures turn_comes { (central_rx peripheral_rx : ℕ) (first : Params) (slot turns : ℕ)
         (steps : List LinkStep) (step : LinkStep) → first.latency ≤ 499 → turns ≤ slot

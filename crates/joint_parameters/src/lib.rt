@@ -12,5 +12,6 @@ pub use crate::laws::{
     indications_arrive_in_order, instants_have_one_event, only_a_late_indication_ends_the_link,
 };
 pub use crate::rows::{
-    a_late_update_ends_the_link, an_update_comes_by_turns, an_update_holds_at_both_ends,
+    a_late_update_ends_the_link, a_request_is_fixed_before_a_map_is_taken,
+    an_update_comes_by_turns, an_update_holds_at_both_ends,
 };

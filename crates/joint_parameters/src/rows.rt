@@ -1,13 +1,17 @@
 //! Worked joint runs.
-ghost use Rattle.std.specs.Prelude.{◌≡◌, [], ◌∷◌, ℕ, List, Some, None, length, true};
+ghost use Rattle.std.specs.Prelude.{◌≡◌, [], ◌∷◌, ◌++◌, ℕ, List, Some, None, length, true};
 ghost use Rattle.ble_base.specs.ErrorCodes.{instant_passed};
 ghost use Rattle.ble_base.specs.declared.channel_map.ChannelMap.{ChannelMap};
 ghost use Rattle.control_model.specs.Worked.{six_slots};
-ghost use Rattle.joint_controls.specs.Joint.{beginning, is_clear, is_running, is_same_event};
+ghost use Rattle.phased_control.specs.Worked.{zero_response};
+ghost use Rattle.joint_controls.specs.Joint.{PeripheralAcked, PeripheralFixes, PeripheralTakes};
+ghost use Rattle.joint_controls.specs.Joint.{beginning, is_clear, is_fixed, is_running};
+ghost use Rattle.joint_controls.specs.Joint.{is_same_event, is_taken};
 ghost use Rattle.joint_controls.specs.Worked.{link_after};
 ghost use Rattle.joint_parameters.specs.Indications.{changes_taken};
-ghost use Rattle.joint_parameters.specs.Turns.{MayLinkAll, first_link};
-ghost use Rattle.joint_parameters.specs.Worked.{in_time, link_by_turns, too_late, update_by_turns};
+ghost use Rattle.joint_parameters.specs.Turns.{MayLinkAll, first_link, joint_steps};
+ghost use Rattle.joint_parameters.specs.Worked.{data_and_map, hears_map, in_time, link_by_turns};
+ghost use Rattle.joint_parameters.specs.Worked.{too_late, update_by_turns};
 
 /// An update holds at both ends from the event of its Instant on.
 pub fn an_update_holds_at_both_ends()
@@ -43,4 +47,18 @@ pub fn an_update_comes_by_turns()
         ≡ (link_by_turns map update_by_turns).joint.central.control.track.waits }
     ensures clear { (map : ChannelMap)
         → is_clear (link_by_turns map update_by_turns).joint.down ≡ true }
+{}
+
+/// As it hears a packet with a new map, a peripheral sees its data acknowledged, then fixes its
+/// request, and then takes the map.
+pub fn a_request_is_fixed_before_a_map_is_taken()
+    ensures comes { (map : ChannelMap) → MayLinkAll (data_and_map map ++ hears_map ∷ [])
+        (first_link 27 27 (six_slots map) 3 0) }
+    ensures steps { (map : ChannelMap)
+        → joint_steps hears_map (link_by_turns map (data_and_map map))
+        ≡ PeripheralAcked ∷ PeripheralFixes 9 ∷ PeripheralTakes 9 zero_response ∷ [] }
+    ensures fixed { (map : ChannelMap)
+        → is_fixed (link_by_turns map (data_and_map map ++ hears_map ∷ [])).joint.up ≡ true }
+    ensures taken { (map : ChannelMap)
+        → is_taken (link_by_turns map (data_and_map map ++ hears_map ∷ [])).joint.down ≡ true }
 {}
