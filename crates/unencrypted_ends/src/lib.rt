@@ -1,0 +1,11 @@
+//! Ends of a link that encrypt nothing: with their phase of encryption they go by their control
+//! part alone (Core 5.2, volume 6 part B, section 5.1.3; that links do not encrypt yet is our
+//! choice). Definitions and laws; no code.
+#![tactic(auto)]
+
+mod laws;
+
+pub use crate::laws::{
+    an_unencrypted_end_goes_by_its_control_part, an_unencrypted_end_sends_no_encryption,
+    an_unencrypted_end_stays_unencrypted, ends_begin_unencrypted,
+};
