@@ -1,0 +1,18 @@
+-- The lemmas of this crate.
+pub mod ControlSteps
+pub mod Acknowledging
+pub mod Moves
+pub mod Counts
+pub mod Numbering
+pub mod Sending
+pub mod Taking
+pub mod Repeating
+pub mod Llids
+pub mod Fixing
+pub mod Skipping
+pub mod Ending
+pub mod Exchanges
+pub mod Agreeing
+pub mod Pieces
+pub mod Pasts
+pub mod Received

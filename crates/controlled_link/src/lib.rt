@@ -1,0 +1,16 @@
+//! Definitions of one end of a link that carries control procedures: what it holds and what it
+//! notes, by what happens to it; and the laws of one end and of both ends of a link. None of them
+//! names code.
+#![tactic(auto)]
+
+mod laws;
+mod state;
+
+pub use crate::laws::{
+    a_packet_is_understood, a_packet_says_what_was_accepted, a_payload_is_sent_again,
+    a_payload_is_the_body, control_pdus_go_before_data, data_is_sent_in_order,
+    ends_stay_in_agreement, lengths_hold_a_second_exchange, notes_are_numbered,
+    nothing_is_taken_after_the_end, one_pdu_is_out_at_a_time, only_latency_skips_events,
+    past_grows, the_control_part_goes_by_its_steps, what_is_taken_was_given,
+};
+pub use crate::state::{KnownLengths, Leaving, PeerFacts, PeerVersion};
