@@ -1,0 +1,11 @@
+-- Proof of `ends::LinkEnd::again`.
+use Rattle.std.proofs.Common.{◌&&◌, not, ap, ◌∙◌}
+use Rattle.controlled_end.specs.Held.{Held}
+use Rattle.controlled_end.proofs.Keeping.{held_is}
+use Rattle.controlled_end.proofs.ends.LinkEnd.again.Goals as goal
+
+pub returns : goal.returns
+returns c = λ setup past knows.
+    c.continues.ensures
+    ∙ ap (λ (h : Held). h.event.heard && h.event.more && (not h.lengths.long && not h.lengths.changed))
+    (c.self.view_is ∙ held_is setup c.args.self.now past knows)

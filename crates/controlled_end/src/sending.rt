@@ -1,0 +1,236 @@
+//! What an end sends: its packet, and the notes of new PDUs.
+ghost use Rattle.std.specs.Prelude.{◌≡◌, ◌+◌, ◌<◌, ◌≤◌, ◌^◌, ◌++◌, true, not, IsSome, None};
+ghost use Rattle.std.specs.Prelude.{length};
+ghost use Rattle.arrayvec.specs.ArrayVec.{array_vec_len};
+ghost use Rattle.ack_bit.specs.AckBits.{header_of};
+ghost use Rattle.acl_banks.specs.Banks.{next_piece, packet_out};
+ghost use Rattle.air_frame.specs.Packet.{on_air};
+ghost use Rattle.data_pdu.specs.Header.{octets_of};
+ghost use Rattle.link_model.specs.Data.{is_data, is_empty};
+ghost use Rattle.link_model.specs.End.{event_sent};
+ghost use Rattle.controlled_link.specs.Sending.{leaving_sent, sent_notes_if};
+ghost use Rattle.controlled_end.specs.Held.{count_if};
+ghost use Rattle.controlled_end.specs.Pdus.{pdu_value};
+ghost use Rattle.controlled_end.specs.Sending.{carries_next, held_gone, held_gone_if, held_out};
+ghost use Rattle.controlled_end.specs.Sending.{more_out, pdu_fixed, pdu_out, sent_notes};
+ghost use Rattle.controlled_end.specs.Sending.{takes_leave, with_next_sent};
+ghost use Rattle.controlled_end.specs.Tied.{IsTied, bank_went_if};
+
+use crate::controls::{next_pdu, send};
+use crate::ends::LinkEnd;
+use crate::packets::packet;
+use crate::pdus::Pdu;
+use acl_banks::TxBank;
+use arrayvec::ArrayVec;
+use ble_base::{AIR_PACKET_OCTETS, Note, Outbox};
+use controlled_link::Leaving;
+use link_model::ConnectionEvent;
+use std::mem;
+use wire_fields::put_octets;
+
+impl LinkEnd {
+    /// Whether the control PDU that is fixed leaves the queue with the next packet.
+    pub(crate) fn takes_leave(&self) -> bool
+        ensures { result ≡ takes_leave self.now }
+    {
+        self.is_acked && self.fixes_control
+    }
+
+    /// The control PDU that is fixed leaves the queue, or does not: it is made, and counts as first
+    /// sent in this slot.
+    pub(crate) fn go_if(&mut self, goes: bool, slot: u64)
+        requires entered { 1 ≤ self.old.control.track.entered }
+        requires fixes { goes ≡ true → self.old.fixes_control ≡ true }
+        ensures held { self.new ≡ held_gone_if goes slot self.old }
+        ensures entered { 1 ≤ self.new.control.track.entered }
+    {
+        if goes {
+            self.fixed = next_pdu(&self.control);
+            send(&mut self.control, slot);
+            self.fixes_control = false;
+        }
+    }
+
+    /// The control PDU that is fixed leaves the queue where the last PDU is acknowledged.
+    pub(crate) fn go(&mut self, slot: u64)
+        requires entered { 1 ≤ self.old.control.track.entered }
+        ensures held { self.new ≡ held_gone slot self.old }
+        ensures entered { 1 ≤ self.new.control.track.entered }
+    {
+        self.go_if(self.takes_leave(), slot);
+    }
+
+    /// Whether the PDU that is fixed is empty.
+    fn fixes_nothing(&self) -> bool
+        requires entered { 1 ≤ self.now.control.track.entered }
+        ensures { result ≡ is_empty (pdu_fixed self.now) }
+    {
+        if self.fixes_control {
+            next_pdu(&self.control).is_empty()
+        } else {
+            self.fixed.is_empty()
+        }
+    }
+
+    /// Whether its packet says that more waits.
+    fn more_out(&self) -> bool
+        requires entered { 1 ≤ self.now.control.track.entered }
+        ensures { result ≡ more_out self.now }
+    {
+        if self.is_acked {
+            self.more
+        } else {
+            !self.fixes_nothing()
+        }
+    }
+
+    /// The packet of a PDU.
+    fn packet_of(&self, pdu: &Pdu) -> ArrayVec<u8, AIR_PACKET_OCTETS>
+        requires llid { pdu.now.llid < 4 }
+        requires entered { 1 ≤ self.now.control.track.entered }
+        ensures { result.items ≡ on_air self.now.event.channel self.now.setup.link.fields.access
+            self.now.setup.link.fields.crc_init
+            (octets_of (header_of self.now.bits (pdu_value pdu.now).llid (more_out self.now)
+            (length (pdu_value pdu.now).body)) ++ (pdu_value pdu.now).body) }
+    {
+        let header = self
+            .acknowledgement
+            .header(pdu.llid, self.more_out(), pdu.body.len() as u8);
+        packet(self.place(), header, pdu.body.as_slice())
+    }
+
+    /// The packet that it sends: of the last PDU again until that is acknowledged, and of the fixed
+    /// one after that.
+    pub(crate) fn next_packet(&self) -> ArrayVec<u8, AIR_PACKET_OCTETS>
+        requires entered { 1 ≤ self.now.control.track.entered }
+        ensures { result.items ≡ on_air self.now.event.channel self.now.setup.link.fields.access
+            self.now.setup.link.fields.crc_init
+            (octets_of (header_of self.now.bits (pdu_out self.now).llid (more_out self.now)
+            (length (pdu_out self.now).body)) ++ (pdu_out self.now).body) }
+    {
+        if self.is_acked {
+            self.packet_of(&self.fixed)
+        } else {
+            self.packet_of(&self.last)
+        }
+    }
+
+    /// The fixed PDU is the last one then. It is noted where it is not empty, and its piece is out
+    /// where it is data.
+    fn send_fixed<const T: usize>(&mut self, tx: &mut TxBank<T>, out: &mut Outbox)
+        requires acked { self.old.is_acked ≡ true }
+        requires tied { IsTied self.old tx.old }
+        requires room { array_vec_len out.old ≤ 59 }
+        ensures held { self.new ≡ with_next_sent self.old }
+        ensures bank { tx.new
+            ≡ bank_went_if (is_data self.old.fixed) tx.old self.old.setup.link.handle
+            (length self.old.fixed.body) }
+        ensures notes { out.new.items ≡ out.old.items ++ sent_notes_if
+            (not (is_empty self.old.fixed)) self.old.setup.link.handle self.old.sent
+            self.old.fixed }
+        ensures few { array_vec_len out.new ≤ array_vec_len out.old + 1 }
+    {
+        let handle = self.setup.handle;
+        went_if(
+            self.fixed.is_data(),
+            handle,
+            self.fixed.body.len() as u16,
+            tx,
+        );
+        self.sent = note_sent(handle, self.sent, &self.fixed, out);
+        self.last = mem::replace(&mut self.fixed, Pdu::empty());
+        self.more = false;
+        self.is_acked = false;
+    }
+
+    /// Where the last PDU is acknowledged, the fixed one is sent.
+    fn send_next<const T: usize>(&mut self, tx: &mut TxBank<T>, out: &mut Outbox)
+        requires tied { IsTied self.old tx.old }
+        requires room { array_vec_len out.old ≤ 59 }
+        ensures held { self.new ≡ with_next_sent self.old }
+        ensures bank { tx.new
+            ≡ bank_went_if (carries_next self.old) tx.old self.old.setup.link.handle
+            (length self.old.fixed.body) }
+        ensures notes { out.new.items ≡ out.old.items ++ sent_notes self.old }
+        ensures few { array_vec_len out.new ≤ array_vec_len out.old + 1 }
+    {
+        if self.is_acked {
+            self.send_fixed(tx, out);
+        }
+    }
+
+    /// It sends its packet in this slot.
+    pub(crate) fn send<const T: usize>(&mut self, slot: u64, tx: &mut TxBank<T>, out: &mut Outbox)
+        requires entered { 1 ≤ self.old.control.track.entered }
+        requires tied { IsTied self.old tx.old }
+        requires room { array_vec_len out.old ≤ 59 }
+        ensures held { self.new ≡ held_out slot self.old }
+        ensures bank { tx.new
+            ≡ bank_went_if (carries_next self.old) tx.old self.old.setup.link.handle
+            (length self.old.fixed.body) }
+        ensures notes { out.new.items ≡ out.old.items ++ sent_notes self.old }
+        ensures few { array_vec_len out.new ≤ array_vec_len out.old + 1 }
+    {
+        self.event = event_sent(self.event, slot, self.more_out());
+        self.leaving = leaving_sent(self.leaving);
+        self.send_next(tx, out);
+    }
+}
+
+/// An event after a packet with this MD bit was sent in a slot. The first exchange of an event is
+/// in the slot of its anchor.
+fn event_sent(event: ConnectionEvent, slot: u64, more: bool) -> ConnectionEvent
+    ensures { result ≡ event_sent slot more event }
+{
+    ConnectionEvent {
+        more: event.more || (slot == event.slot && more),
+        ..event
+    }
+}
+
+/// How the link is to end after a packet was sent: after LL_TERMINATE_IND of the peer was taken,
+/// that was the last one.
+fn leaving_sent(leaving: Leaving) -> Leaving
+    ensures { result ≡ leaving_sent leaving }
+{
+    Leaving {
+        answered: leaving.answered || leaving.ended_by_peer.is_some(),
+        ..leaving
+    }
+}
+
+/// The next piece of a link is out, of this number of octets, or none is.
+fn went_if<const T: usize>(went: bool, handle: u16, count: u16, tx: &mut TxBank<T>)
+    requires some { went ≡ true → 1 ≤ count }
+    requires next { went ≡ true → IsSome (next_piece tx.old handle count) }
+    requires none_out { went ≡ true → packet_out tx.old handle ≡ None }
+    ensures { tx.new ≡ bank_went_if went tx.old handle count }
+{
+    if went {
+        tx.went(handle, count);
+    }
+}
+
+/// Notes a new PDU with the next number where it is not empty, and gives the number of such PDUs
+/// then.
+fn note_sent(handle: u16, sent: u64, pdu: &Pdu, out: &mut Outbox) -> u64
+    requires count { sent < 2 ^ 33 }
+    requires room { array_vec_len out.old ≤ 59 }
+    ensures count { result ≡ count_if (not (is_empty (pdu_value pdu.now))) sent }
+    ensures notes { out.new.items ≡ out.old.items ++ sent_notes_if
+        (not (is_empty (pdu_value pdu.now))) handle sent (pdu_value pdu.now) }
+    ensures few { array_vec_len out.new ≤ array_vec_len out.old + 1 }
+{
+    if pdu.is_empty() {
+        return sent;
+    }
+    let mut body = ArrayVec::new();
+    put_octets(&mut body, pdu.body.as_slice());
+    out.push(Note::Sent {
+        handle,
+        number: sent + 1,
+        llid: pdu.llid,
+        body,
+    });
+    sent + 1
+}
