@@ -1,0 +1,26 @@
+-- The lemmas of this crate.
+pub mod Answering
+pub mod Beginning
+pub mod CentralHears
+pub mod ControlKept
+pub mod Counts
+pub mod First
+pub mod Fixing
+pub mod FixingNext
+pub mod HeardFacts
+pub mod HeardTurns
+pub mod Hosting
+pub mod Items
+pub mod LastPdus
+pub mod Lasting
+pub mod PeripheralHears
+pub mod PeripheralSteps
+pub mod Reaching
+pub mod Reading
+pub mod SeenAcknowledged
+pub mod Sending
+pub mod Showing
+pub mod TakingPdus
+pub mod TerminatingPdus
+pub mod Turning
+pub mod Ways
