@@ -49,7 +49,7 @@ fn slot_no(word: &str) -> SlotNo {
 }
 
 /// The error that two digits spell.
-pub(crate) fn code_of(told: &String, word: &str) -> ErrCode {
+fn code_of(told: &String, word: &str) -> ErrCode {
     ErrCode(u8::try_from(hex_number(*told.allocator(), word)).unwrap_or(u8::MAX))
 }
 

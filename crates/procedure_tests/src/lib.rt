@@ -1,13 +1,10 @@
-//! Tests of the control procedures of one end of a link, of its control part, and of the events
-//! that its host gets.
+//! Tests of the control procedures of one end of a link, and of its control part.
 #![tactic(auto)]
 
 #[cfg(test)]
 mod calls;
 #[cfg(test)]
 mod control_ends;
-#[cfg(test)]
-mod host_events;
 #[cfg(test)]
 mod plain;
 #[cfg(test)]
