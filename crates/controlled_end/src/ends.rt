@@ -196,7 +196,7 @@ impl LinkEnd {
         self.event.channel
     }
 
-    /// What it knows of the peer: its features and its version, as far as a PDU had them.
+    /// What it knows of the peer: its features and its version, each once a PDU with it was taken.
     pub fn peer(&self) -> PeerFacts
         ensures { (setup : Setup) (past : List Step) → Knows setup self.now past
             → result ≡ (facts_of setup past).peer }

@@ -19,5 +19,6 @@ mod taking;
 
 pub use crate::ends::{LinkEnd, LinkStep};
 pub use crate::laws::{a_bank_changes_alone, a_link_leaves_others, a_link_that_knows_is_tied};
-pub use controlled_link::{KnownLengths, PeerFacts, PeerVersion};
+pub use control_end::Entry;
+pub use controlled_link::{PeerFacts, PeerVersion};
 pub use link_model::LinkSetup;
