@@ -32,11 +32,11 @@ pub gone_same : (goes : Bool) (slot : ℕ) (facts : Facts) → IsGoneFrom facts 
 gone_same true slot facts = record { acknowledgement = refl; event = refl; last_good = refl; leaving = refl; peer = refl; payload = refl }
 gone_same false slot facts = record { acknowledgement = refl; event = refl; last_good = refl; leaving = refl; peer = refl; payload = refl }
 
-acked_fixed : (acked : Bool) (outgoing : Data) → (data_acked_if acked outgoing).fixed ≡ outgoing.fixed
+pub acked_fixed : (acked : Bool) (outgoing : Data) → (data_acked_if acked outgoing).fixed ≡ outgoing.fixed
 acked_fixed true outgoing = refl
 acked_fixed false outgoing = refl
 
-acked_payload : (acked : Bool) (outgoing : Data) → (data_acked_if acked outgoing).payload ≡ outgoing.payload
+pub acked_payload : (acked : Bool) (outgoing : Data) → (data_acked_if acked outgoing).payload ≡ outgoing.payload
 acked_payload true outgoing = refl
 acked_payload false outgoing = refl
 

@@ -108,12 +108,14 @@ module _ (central peripheral : Setup) (slot : ℕ) (more acks fresh : Bool) (c p
   abbrev last : Pdu
   last = p.acknowledgement.last
 
-  -- the link shows it while the run goes on, and that does while the link lasts at the central
+  -- the link shows it while the run goes on, and that does while the link lasts at the central; the run has the control
+  -- part also where it stops
   abbrev after_hearing : Joint → Facts → Type 0
   after_hearing j d =
       (is_running j ≡ true
       → Shows central peripheral (slot + 1) false (record { turns = (link_after (IsAnswered true slot) l).turns; joint = j }) d p)
       × (is_lasting d ≡ true → is_running j ≡ true)
+      × (j.central.control ≡ d.control)
 
   abbrev joint_by : Bool → Joint
   joint_by takes = taking_if takes slot (acking_if (is_taken l.joint.down) l.joint)
@@ -173,6 +175,7 @@ module _ (central peripheral : Setup) (slot : ℕ) (more acks fresh : Bool) (c p
               c.lengths leaving_seen refl shown free agreed
               (heard_rests slot more acks accepted last c central seen c.peer c.lengths leaving_seen seen_keeps s.central_rests past entered stays_open),
           λ lasting. running_from (record joint_seen { up = up; stopped = stopped }) not_stopped seen_lasts g.peripheral,
+          refl,
         ))
 
     nothing_taken : is_free l.joint.up ≡ true → ShowsWay l.joint.up p.acknowledgement (with_accepted accepted last c.acknowledgement)
@@ -248,6 +251,7 @@ module _ (central peripheral : Setup) (slot : ℕ) (more acks fresh : Bool) (c p
           λ lasting. let parts = and_parts (end_goes_on d) (is_none d.leaving.ended_by_peer) lasting in
               let ends = none_of took.ends parts.0 in
               running_from joint_took (ends_nothing_yet ctrl slot last before item.read_as ends parts.1) ends g.peripheral,
+          refl,
         )
 
   -- it takes what arrived
@@ -323,7 +327,7 @@ module _ (central peripheral : Setup) (ends : AreEnds central peripheral) (slot 
     out_last : c.control.table.out ≡ outgoing_on l.joint.down
     out_last = ap (λ (x : Phased). x.control.table.out) (sym s.central_part) ∙ (last_reached central peripheral ends l reached).central
 
-    abbrev step : LinkStep
+    abbrev pub step : LinkStep
     step = IsAnswered has_room slot
 
     abbrev takes : Bool
@@ -337,7 +341,7 @@ module _ (central peripheral : Setup) (ends : AreEnds central peripheral) (slot 
         joint_hears (is_taken l.joint.down) takes slot l.joint (comes central peripheral ends step l reached running (s.replies refl))
 
     abbrev heard_in : Joint → Facts → Type 0
-    heard_in j d = (is_running j ≡ true → shows_in j d) × (is_lasting d ≡ true → is_running j ≡ true)
+    heard_in j d = (is_running j ≡ true → shows_in j d) × (is_lasting d ≡ true → is_running j ≡ true) × (j.central.control ≡ d.control)
 
     hears_now : heard_in (link_after step l).joint (received central slot octets room c)
     hears_now =
@@ -347,6 +351,10 @@ module _ (central peripheral : Setup) (ends : AreEnds central peripheral) (slot 
         (sym (heard_as (stays_open central peripheral slot header.md acks_last is_fresh_pdu c p l s says g past entered out_last)))
         (hears_by central peripheral slot header.md acks_last is_fresh_pdu c p l s says g past entered out_last takes
         (is_fresh_pdu && has_room) arrival agreed_now))
+
+    -- also where the run stops by it
+    pub control_heard : (link_after step l).joint.central.control ≡ (received central slot octets room c).control
+    control_heard = hears_now.2
 
     pub shown_on : IsShown central peripheral (slot + 1) false (received central slot octets room c) p
     shown_on =

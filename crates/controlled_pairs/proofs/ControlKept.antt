@@ -103,7 +103,7 @@ acked_none c is =
 
 -- ---- neither ends the link
 
-table_ends : (may : Bool) (g : TableFacts) (c : Control) → (table_if may g c).ends ≡ c.ends
+pub table_ends : (may : Bool) (g : TableFacts) (c : Control) → (table_if may g c).ends ≡ c.ends
 table_ends true g c = refl
 table_ends false g c = refl
 

@@ -48,7 +48,7 @@ fixed_piece false waiting false o = record { llid = omega arith; short = omega a
 pub piece_no_control : (limit : ℕ) (pdu : Pdu) → IsPiece limit pdu → is_control pdu ≡ false
 piece_no_control limit pdu is = let less = is.llid in ne_eqb pdu.llid 3 (λ same. omega (arith, less, same))
 
-fixed_payload : (control : Bool) (waiting : ℕ) (goes : Bool) (o : Data) → (data_fixed_by control waiting goes o).payload ≡ o.payload
+pub fixed_payload : (control : Bool) (waiting : ℕ) (goes : Bool) (o : Data) → (data_fixed_by control waiting goes o).payload ≡ o.payload
 fixed_payload true waiting goes o = refl
 fixed_payload false waiting true o = refl
 fixed_payload false waiting false o = refl

@@ -135,11 +135,11 @@ module _ (setup : Setup) (turns : ℕ) (facts : Facts) (r : IsAtRest setup turns
         stays = r.stays;
       }
 
-given_fixed : (handle : ℕ) (start : Bool) (body : List ℕ) (o : Data) → (data_given handle start body o).fixed ≡ o.fixed
+pub given_fixed : (handle : ℕ) (start : Bool) (body : List ℕ) (o : Data) → (data_given handle start body o).fixed ≡ o.fixed
 given_fixed handle start [] o = refl
 given_fixed handle start (octet ∷ octets) o = refl
 
-given_payload : (handle : ℕ) (start : Bool) (body : List ℕ) (o : Data) → (data_given handle start body o).payload ≡ o.payload
+pub given_payload : (handle : ℕ) (start : Bool) (body : List ℕ) (o : Data) → (data_given handle start body o).payload ≡ o.payload
 given_payload handle start [] o = refl
 given_payload handle start (octet ∷ octets) o = refl
 

@@ -19,9 +19,10 @@ use Rattle.phased_control.specs.Phased.{Phased}
 use Rattle.unencrypted_ends.specs.Unencrypted.{plain_phased}
 use Rattle.joint_controls.specs.Joint.{Clear, Control as control_item, Data, Fixed, Item, Joint, JointStep, PeripheralAcked, PeripheralSends, PeripheralTakes, Way, after_all, is_free, is_running, is_taken, item_on_air, may, may_act, may_all, no_response, sent_up}
 use Rattle.joint_controls.specs.Joint.{after as joint_after}
-use Rattle.joint_controls.specs.Ends.{outgoing_on}
+use Rattle.joint_controls.specs.Ends.{AreStepsInRange, outgoing_on}
 use Rattle.joint_controls.proofs.Running.{GoesOn, goes_on, none_of}
 use Rattle.joint_parameters.specs.Turns.{Alone, FixesNothing, Fixing, IsHeard, IsPaired, Link, LinkStep, MayLink, after_acknowledgement, fixing_steps, joint_steps, link_after, step_if, takes_item}
+use Rattle.joint_parameters.proofs.Hearing.{range_before}
 use Rattle.joint_parameters.proofs.Pairing.{may_now, running_from}
 use Rattle.joint_parameters.proofs.Runs.{after_joined}
 use Rattle.link_model.specs.Acknowledgement.{Acknowledgement, Pdu, is_acked, received_by, with_accepted, with_acked}
@@ -51,7 +52,7 @@ use Rattle.controlled_pairs.proofs.PeripheralSteps.{may_parts, seen_after, sends
 use Rattle.controlled_pairs.proofs.LastPdus.{last_reached}
 use Rattle.controlled_pairs.proofs.Lasting.{lasts_before, lasts_before_if}
 use Rattle.controlled_pairs.proofs.Reaching.{IsReached, IsShown, comes, linked, paired, peripheral_transmits, reached_by, reached_next, shown}
-use Rattle.controlled_pairs.proofs.Reading.{AreHeard, is_read}
+use Rattle.controlled_pairs.proofs.Reading.{AreHeard, IsRead, is_read}
 use Rattle.controlled_pairs.proofs.SeenAcknowledged.{cleared, clear_seen, control_seen, ends_nothing}
 use Rattle.controlled_pairs.proofs.TakingPdus.{HasTaken, TakesNext, takes_next}
 use Rattle.controlled_pairs.proofs.Ways.{Arrival, arrives, last_same, last_taken, sent_again, way_same, way_seen, way_sent, way_sent_empty}
@@ -82,6 +83,22 @@ room_for : (room has_data : Bool) → has_data ≡ false → (room || not has_da
 room_for room true is = absurd (cc)
 room_for true false is = refl
 room_for false false is = refl
+
+-- ---- the joint run as the peripheral takes a PDU, or does not
+
+-- some steps lead to it, which leave the central, its way and the event of the peripheral as they were; the control part of
+-- the peripheral is this one then
+pub record TakesAt (s : Joint) (takes : Bool) (slot : ℕ) (now : Control) : Type 0 where
+  pub steps : List JointStep
+  pub in_range : AreStepsInRange steps
+  pub state : Joint
+  pub leads : after_all steps s ≡ state
+  pub comes : may_all (step_if takes (PeripheralTakes slot no_response)) state ≡ true
+  pub to : (after_all (step_if takes (PeripheralTakes slot no_response)) state).peripheral.control ≡ now
+  pub central : state.central ≡ s.central
+  pub down : state.down ≡ s.down
+  pub entered : state.peripheral.control.track.entered ≡ s.peripheral.control.track.entered
+  pub lasts : state.peripheral.control.ends ≡ None
 
 -- ---- both ends before it
 
@@ -133,7 +150,7 @@ module _ (central peripheral : Setup) (slot : ℕ) (l : Link) (c p : Facts) (hea
 
     -- ---- the packet reaches it
 
-    reaches : MayReach l.turns
+    pub reaches : MayReach l.turns
     reaches =
         record {
           central_open = p_paired.central_open;
@@ -266,12 +283,31 @@ module _ (central peripheral : Setup) (slot : ℕ) (l : Link) (c p : Facts) (hea
     abbrev now : Facts
     now = taken slot header.md acks p accepted pdu
 
+    takes_may : may_all (step_if takes (PeripheralTakes slot no_response))
+        (with_end (phased_of c) l.joint.down fixes.next_way false after_fixing.control (is_some after_fixing.peer.version)) ≡ true
+    takes_may = subst (λ (j : Joint). may_all (step_if takes (PeripheralTakes slot no_response)) j ≡ true) (fixed_joint ∙ knows_same) parts.1
+
     pub heard_joint : (link_after heard l).joint ≡ with_end (phased_of c) takes_pdu.next_down fixes.next_way takes_pdu.stopped now.control takes_pdu.knows
     heard_joint =
         after_joined (acked_steps ++ fixing_steps fixing slot) (step_if takes (PeripheralTakes slot no_response)) l.joint
         ∙ ap (after_all (step_if takes (PeripheralTakes slot no_response))) (fixed_joint ∙ knows_same)
-        ∙ takes_pdu.leads
-        (subst (λ (j : Joint). may_all (step_if takes (PeripheralTakes slot no_response)) j ≡ true) (fixed_joint ∙ knows_same) parts.1)
+        ∙ takes_pdu.leads takes_may
+
+    pub takes_at : TakesAt l.joint takes slot now.control
+    takes_at =
+        record {
+          steps = acked_steps ++ fixing_steps fixing slot;
+          in_range = range_before l.joint fixing slot;
+          state = with_end (phased_of c) l.joint.down fixes.next_way false after_fixing.control (is_some after_fixing.peer.version);
+          leads = fixed_joint ∙ knows_same;
+          comes = takes_may;
+          to = ap (λ (j : Joint). j.peripheral.control) (takes_pdu.leads takes_may);
+          central = sym s.central_part;
+          down = refl;
+          entered =
+              fixed_keeps.kept.entered ∙ seen_keeps.kept.entered ∙ ap (λ (x : Phased). x.control.track.entered) (sym s.peripheral_part);
+          lasts = fixed_lasts;
+        }
 
     -- ---- where the run goes on
 
@@ -501,7 +537,7 @@ module _ (central peripheral : Setup) (slot : ℕ) (l : Link) (c p : Facts) (hea
           (λ i. (is_fresh ((gone slot header.md acks p).acknowledgement i) header && room_now) && (is_empty pdu || not (open_then i)))
           ∙ and_true accepted (is_empty pdu)
 
-      received_now : received peripheral slot octets room p ≡ now
+      pub received_now : received peripheral slot octets room p ≡ now
       received_now =
           heard_as ∙ ap (λ (role : Role). facts_hearing role slot room header pdu p) m.ends.is_peripheral
           ∙ ap (λ (takes : Bool). taken_if takes pdu slot after_fixing) accepts_same
@@ -563,28 +599,43 @@ module _ (heard : AreHeard) (central peripheral : Setup) (slot : ℕ) (c p : Fac
   abbrev answer_now : Facts
   answer_now = hearing.answered peripheral slot octets room p
 
-  hears_on : AreReady central peripheral slot true c p → (l : Link) → IsReached central peripheral l → is_running l.joint ≡ true
-      → Shows central peripheral (slot + 1) false l c p → IsShown central peripheral (slot + 1) (replies_of peripheral p slot octets room) c answer_now
-  hears_on ready l reached running s =
-      let read = is_read heard central peripheral slot (slot + 1) c p channel octets ends.one_link.fields s.central_fits s.central_rests packet same in
-      hears_shown central peripheral slot l c p read.header
-      (record {
-        ends = ends;
-        reached = reached;
-        running = running;
-        shows = s;
-        out_last =
-            ap (λ (x : Phased). x.control.table.out) (sym s.peripheral_part) ∙ (last_reached central peripheral ends l reached).peripheral;
-        bits = read.bits;
-        out = read.out;
-        central_heard = ready.central_heard;
-        peripheral_heard = ready.peripheral_heard;
-        supervised = supervised;
-        transmits = begun.transmits_in refl;
-        listens = begun.listens_in refl;
-        has_fixed = ready.fixed refl;
-      })
-      room octets read.good (read.facts room)
+  module _ (ready : AreReady central peripheral slot true c p) (l : Link) (reached : IsReached central peripheral l) (running : is_running l.joint ≡ true)
+      (s : Shows central peripheral (slot + 1) false l c p) where
+    read : IsRead peripheral p slot octets c.acknowledgement
+    read = is_read heard central peripheral slot (slot + 1) c p channel octets ends.one_link.fields s.central_fits s.central_rests packet same
+
+    meets : Meets central peripheral slot l c p read.header
+    meets =
+        record {
+          ends = ends;
+          reached = reached;
+          running = running;
+          shows = s;
+          out_last =
+              ap (λ (x : Phased). x.control.table.out) (sym s.peripheral_part) ∙ (last_reached central peripheral ends l reached).peripheral;
+          bits = read.bits;
+          out = read.out;
+          central_heard = ready.central_heard;
+          peripheral_heard = ready.peripheral_heard;
+          supervised = supervised;
+          transmits = begun.transmits_in refl;
+          listens = begun.listens_in refl;
+          has_fixed = ready.fixed refl;
+        }
+
+    -- the packet reaches it by turns, and it takes the PDU or does not
+    pub reaches_now : MayReach l.turns
+    reaches_now = reaches central peripheral slot l c p read.header meets room
+
+    pub takes_now : TakesAt l.joint (takes_item (room || not (is_data c.acknowledgement.last)) (item_on_air l.joint.down)) slot
+        (received peripheral slot octets room p).control
+    takes_now =
+        subst (λ (f : Facts). TakesAt l.joint (takes_item (room || not (is_data c.acknowledgement.last)) (item_on_air l.joint.down)) slot f.control)
+        (sym (received_now central peripheral slot l c p read.header meets room octets read.good (read.facts room)))
+        (takes_at central peripheral slot l c p read.header meets room)
+
+    hears_on : IsShown central peripheral (slot + 1) (replies_of peripheral p slot octets room) c answer_now
+    hears_on = hears_shown central peripheral slot l c p read.header meets room octets read.good (read.facts room)
 
   lasts_then : is_lasting answer_now ≡ true → is_lasting p ≡ true
   lasts_then is =

@@ -11,7 +11,7 @@ use Rattle.link_model.proofs.Received.{IsHeardWhole}
 use Rattle.controlled_link.specs.Controls.{next_control, pdu_fixed, pdu_of_control}
 use Rattle.controlled_link.specs.Facts.{Facts}
 use Rattle.controlled_link.specs.End.{facts_after}
-use Rattle.controlled_link.specs.Packets.{FitsReceiver, good_pdu, header_sent, packet_sent, payload_sent, pdu_sent}
+use Rattle.controlled_link.specs.Packets.{good_pdu, header_sent, packet_sent, payload_sent, pdu_sent}
 use Rattle.controlled_link.specs.Receiving.{facts_hearing}
 use Rattle.controlled_link.specs.Sending.{control_gone, control_gone_if, facts_sent, fixed_sent, takes_leave}
 use Rattle.controlled_link.specs.Step.{PacketReceived}
@@ -86,14 +86,12 @@ pub record IsHeard (from to : Setup) (sender listener : Facts) : Type 0 where
       → facts_after to listener (PacketReceived slot (packet_sent from sender) room)
       ≡ facts_hearing to.link.role slot room (header_sent sender) (record { llid = (pdu_sent sender).llid; body = payload_sent sender }) listener
 
--- each packet is, of an end on the same channel, where it fits
+-- each packet that is understood is heard so
 abbrev pub AreHeard : Type 0
-AreHeard = (from to : Setup) (sender listener : Facts) → from.link.fields ≡ to.link.fields → sender.event.channel ≡ listener.event.channel
-    → (pdu_sent sender).llid < 4 → length (payload_sent sender) ≤ 255 → FitsReceiver sender to listener → IsHeard from to sender listener
+AreHeard = (from to : Setup) (sender listener : Facts) → IsUnderstood from sender to listener → IsHeard from to sender listener
 
 pub are_heard : IsHeardWhole → AreHeard
-are_heard whole from to sender listener fields channel llid octets fits =
-    let is : IsUnderstood from sender to listener = record { fields = fields; channel = channel; llid = llid; octets = octets; fits = fits } in
+are_heard whole from to sender listener is =
     record {
       good = ap (λ (pdu : Option (List ℕ)). is_some pdu) (heard_good whole from to sender listener is);
       facts = λ slot room. facts_heard whole from to sender listener is slot room;
@@ -107,7 +105,7 @@ pub record IsRead (to : Setup) (listener : Facts) (slot : ℕ) (octets : List �
   pub good : is_some (good_pdu to listener octets) ≡ true
   pub facts : (room : Bool) → received to slot octets room listener ≡ facts_hearing to.link.role slot room header from.last listener
 
-module _ (heard : AreHeard) (from to : Setup) (slot turns : ℕ) (facts listener : Facts) (channel : ℕ) (octets : List ℕ)
+module _ (from to : Setup) (slot turns : ℕ) (facts listener : Facts) (channel : ℕ) (octets : List ℕ)
     (fields : from.link.fields ≡ to.link.fields) (fits : length facts.acknowledgement.last.body ≤ to.link.max_rx)
     (rests : IsAtRest from turns facts) (is : IsPacketOf from slot facts channel octets) (same : channel ≡ listener.event.channel) where
   sent : HasSent is.before facts
@@ -119,20 +117,33 @@ module _ (heard : AreHeard) (from to : Setup) (slot turns : ℕ) (facts listener
   pdu_is : record { llid = (pdu_sent is.before).llid; body = payload_sent is.before } ≡ facts.acknowledgement.last
   pdu_is = λ i. record { llid = (sym sent.last i).llid; body = payload_is i }
 
+  pub understood : IsUnderstood from is.before to listener
+  understood =
+      record {
+        fields = fields;
+        channel = sym is.on_channel ∙ same;
+        llid = subst (λ (pdu : Pdu). pdu.llid < 4) sent.last rests.two_bits;
+        octets = subst (λ (body : List ℕ). length body ≤ 255) (sym payload_is) (omega (arith, rests.fits_any));
+        fits = subst (λ (body : List ℕ). length body ≤ to.link.max_rx) (sym payload_is) fits;
+      }
+
+module _ (heard : AreHeard) (from to : Setup) (slot turns : ℕ) (facts listener : Facts) (channel : ℕ) (octets : List ℕ)
+    (fields : from.link.fields ≡ to.link.fields) (fits : length facts.acknowledgement.last.body ≤ to.link.max_rx)
+    (rests : IsAtRest from turns facts) (is : IsPacketOf from slot facts channel octets) (same : channel ≡ listener.event.channel) where
   is_heard : IsHeard from to is.before listener
-  is_heard =
-      heard from to is.before listener fields (sym is.on_channel ∙ same)
-      (subst (λ (pdu : Pdu). pdu.llid < 4) sent.last rests.two_bits)
-      (subst (λ (body : List ℕ). length body ≤ 255) (sym payload_is) (omega (arith, rests.fits_any)))
-      (subst (λ (body : List ℕ). length body ≤ to.link.max_rx) (sym payload_is) fits)
+  is_heard = heard from to is.before listener (understood from to slot turns facts listener channel octets fields fits rests is same)
+
+  sent_before : HasSent is.before facts
+  sent_before = sent from to slot turns facts listener channel octets fields fits rests is same
 
   pub is_read : IsRead to listener slot octets facts.acknowledgement
   is_read =
       record {
         header = header_sent is.before;
-        bits = (ap is_odd (sym sent.acked), ap (λ (pdus : List Pdu). is_odd (length pdus)) (sym sent.accepted));
-        out = sent.out;
+        bits = (ap is_odd (sym sent_before.acked), ap (λ (pdus : List Pdu). is_odd (length pdus)) (sym sent_before.accepted));
+        out = sent_before.out;
         good = subst (λ (o : List ℕ). is_some (good_pdu to listener o) ≡ true) (sym is.packet) is_heard.good;
         facts = λ room. ap (λ (o : List ℕ). received to slot o room listener) is.packet ∙ is_heard.facts slot room
-            ∙ ap (λ (pdu : Pdu). facts_hearing to.link.role slot room (header_sent is.before) pdu listener) pdu_is;
+            ∙ ap (λ (pdu : Pdu). facts_hearing to.link.role slot room (header_sent is.before) pdu listener)
+            (pdu_is from to slot turns facts listener channel octets fields fits rests is same);
       }

@@ -27,7 +27,7 @@ use Rattle.controlled_link.specs.Receiving.{code_of, leaving_by, procedures_give
 use Rattle.controlled_pairs.proofs.Items.{never}
 
 module _ (f : TableFacts) (code slot : ℕ) (quiet : Bool) where
-  outcome_ends : outcome_of f quiet (Known (TerminateInd code)) ≡ terminate_taken f code
+  pub outcome_ends : outcome_of f quiet (Known (TerminateInd code)) ≡ terminate_taken f code
   outcome_ends = by f.progress
     where
       by : (p : Progress) → taken_by p f quiet (TerminateInd code) ≡ terminate_taken f code

@@ -5,4 +5,6 @@ pub mod Shown
 pub mod Turns
 pub mod Hearing
 pub mod Hosts
+pub mod Parting
+pub mod Sound
 pub mod Rows

@@ -1,0 +1,187 @@
+-- What the steps of the control part that take no PDU leave of an end whose link is to end.
+use Rattle.std.proofs.Common.{◌≡◌, ℕ, Bool, true, false, ◌&&◌, List, [], ◌∷◌, ◌++◌, remove, Option, Some, None, Result, Ok, Err, is_some, refl, sym, ap, ◌∙◌, if◌then◌else◌}
+use Rattle.ble_base.specs.declared.error_codes.ErrCode.{ErrCode}
+use Rattle.ble_base.specs.declared.roles.Role.{Role}
+use Rattle.ble_base.specs.declared.roles.Role.TheVariants.{Central, Peripheral}
+use Rattle.instants.specs.declared.indications.Indication.{Indication}
+use Rattle.instants.specs.Track.{next_number}
+use Rattle.procedure_values.specs.declared.asks.Ask.{Ask}
+use Rattle.procedure_values.specs.declared.asks.Ask.TheVariants.{Length, Update}
+use Rattle.procedure_values.specs.declared.drafts.Draft.{Draft}
+use Rattle.procedure_values.specs.declared.drafts.Outgoing.{Outgoing}
+use Rattle.procedure_values.specs.declared.drafts.Outgoing.TheVariants.{Disconnect, Nothing, Other, Rejection}
+use Rattle.procedure_values.specs.declared.drafts.Rejection.{Rejection as TheRejection}
+use Rattle.procedure_values.specs.declared.lengths.Lengths.{Lengths}
+use Rattle.procedure_values.specs.Drafts.{is_out}
+use Rattle.procedure_values.specs.Limits.{lengths_asked}
+use Rattle.procedure_stages.specs.declared.closing.Closing.{Closing}
+use Rattle.procedure_stages.specs.Closing.{is_open}
+use Rattle.procedure_stages.specs.InProgress.{is_host_asked}
+use Rattle.procedure_stages.specs.Kinds.{role_of}
+use Rattle.procedure_stages.specs.Queue.{QueueFacts, with_draft, with_rejection, without_next}
+use Rattle.procedures.specs.Beginning.{ask_at, begin_at, begin_step, first_draft, place_to_begin, with_first_draft}
+use Rattle.procedures.specs.Going.{entered_step, host_answer_step, is_answer, terminate_step}
+use Rattle.procedures.specs.Queue.{next_of}
+use Rattle.procedures.specs.Sending.{acked_step}
+use Rattle.procedures.specs.Table.{TableFacts}
+use Rattle.instants.specs.Track.{event_of}
+use Rattle.control_model.specs.Control.{Answers, Asks, Control, Disconnects, Enters, SeesAcknowledged, Sends, after, following, goes_out, table_if, went}
+use Rattle.control_model.proofs.Calls.{any_step, either_way}
+
+-- ---- a queue where nothing more is queued
+
+module _ (closing : Closing) (shut : is_open closing ≡ false) (q : QueueFacts) where
+  pub draft_left : (draft : Draft) → with_draft closing draft q ≡ q
+  draft_left draft = ap (λ (b : Bool). if b then record q { drafts = q.drafts ++ draft ∷ [] } else q) shut
+
+  pub rejection_left : (rejection : TheRejection) → with_rejection closing rejection q ≡ q
+  rejection_left rejection = ap (λ (b : Bool). if b then record q { rejections = q.rejections ++ rejection ∷ [] } else q) shut
+
+  first_left : (draft : Option Draft) → with_first_draft closing draft q ≡ q
+  first_left None = refl
+  first_left (Some draft) = draft_left draft
+
+-- what is sent leaves it: so where none waits none does
+pub none_sent : (outgoing : Outgoing) (q : QueueFacts) → q.rejections ≡ [] → (without_next outgoing q).rejections ≡ []
+none_sent Nothing q is = is
+none_sent (Rejection rejection) q is = ap (λ (rejections : List TheRejection). remove rejections 0) is
+none_sent (Disconnect code) q is = is
+none_sent (Other draft) q is = is
+
+no_disconnect : (outgoing : Outgoing) (q : QueueFacts) → q.disconnect ≡ None → (without_next outgoing q).disconnect ≡ None
+no_disconnect Nothing q is = is
+no_disconnect (Rejection rejection) q is = is
+no_disconnect (Disconnect code) q is = refl
+no_disconnect (Other draft) q is = is
+
+-- ---- a table
+
+-- what the peer receives is known as before; where the link is to end it stays so, and nothing is queued
+pub record LeavesTable (f g : TableFacts) : Type 0 where
+  pub peer_rx : g.lengths.peer_rx ≡ f.lengths.peer_rx
+  pub closing : is_open f.closing ≡ false → g.closing ≡ f.closing
+  pub rejections : is_open f.closing ≡ false → f.queue.rejections ≡ [] → g.queue.rejections ≡ []
+  pub disconnect : is_open f.closing ≡ false → f.queue.disconnect ≡ None → g.queue.disconnect ≡ None
+
+pub table_left : (f : TableFacts) → LeavesTable f f
+table_left f = record { peer_rx = refl; closing = λ shut. refl; rejections = λ shut is. is; disconnect = λ shut is. is }
+
+-- only its queue is another one, or the same where nothing is queued
+queue_left : (f g : TableFacts) → g.lengths ≡ f.lengths → g.closing ≡ f.closing → (is_open f.closing ≡ false → g.queue ≡ f.queue) → LeavesTable f g
+queue_left f g lengths closing queue =
+    record {
+      peer_rx = ap (λ (l : Lengths). l.peer_rx) lengths;
+      closing = λ shut. closing;
+      rejections = λ shut is. ap (λ (q : QueueFacts). q.rejections) (queue shut) ∙ is;
+      disconnect = λ shut is. ap (λ (q : QueueFacts). q.disconnect) (queue shut) ∙ is;
+    }
+
+table_then : (f g h : TableFacts) → LeavesTable f g → LeavesTable g h → LeavesTable f h
+table_then f g h one two =
+    record {
+      peer_rx = two.peer_rx ∙ one.peer_rx;
+      closing = λ shut. two.closing (ap is_open (one.closing shut) ∙ shut) ∙ one.closing shut;
+      rejections = λ shut is. two.rejections (ap is_open (one.closing shut) ∙ shut) (one.rejections shut is);
+      disconnect = λ shut is. two.disconnect (ap is_open (one.closing shut) ∙ shut) (one.disconnect shut is);
+    }
+
+entered_left : (f : TableFacts) (holds : Bool) → LeavesTable f (entered_step f holds).0
+entered_left f true = queue_left f (entered_step f true).0 refl refl (λ shut. refl)
+entered_left f false = table_left f
+
+begun_at : (f : TableFacts) (slot : ℕ) (place : Option ℕ) (ask : Option Ask) → LeavesTable f (begin_at f slot place ask).0
+begun_at f slot None ask = table_left f
+begun_at f slot (Some place) None = table_left f
+begun_at f slot (Some place) (Some ask) =
+    queue_left f (begin_at f slot (Some place) (Some ask)).0 refl refl (λ shut. first_left f.closing shut f.queue (first_draft f ask))
+
+begun_left : (f : TableFacts) (slot : ℕ) (quiet : Bool) → LeavesTable f (begin_step f slot quiet).0
+begun_left f slot quiet = begun_at f slot (place_to_begin f quiet) (ask_at (place_to_begin f quiet) f.wanted)
+
+peer_asked : (ask : Ask) (lengths : Lengths) → (lengths_asked ask lengths).peer_rx ≡ lengths.peer_rx
+peer_asked (Length tx) lengths = refl
+peer_asked (Update interval latency timeout) lengths = refl
+peer_asked ask lengths = refl
+
+answered_left : (f : TableFacts) (answer : Result Ask ErrCode) → LeavesTable f (host_answer_step f answer)
+answered_left f (Ok (Update interval latency timeout)) =
+    queue_left f (host_answer_step f (Ok (Update interval latency timeout))) refl refl (λ shut. draft_left f.closing shut f.queue _)
+answered_left f (Ok (Length tx)) = table_left f
+answered_left f (Ok ask) = table_left f
+answered_left f (Err code) = queue_left f (host_answer_step f (Err code)) refl refl (λ shut. rejection_left f.closing shut f.queue _)
+
+-- ---- the control part
+
+-- it takes nothing, and does not end the link
+pub record TakesNothing (c d : Control) : Type 0 where
+  pub ends : d.ends ≡ c.ends
+  pub table : LeavesTable c.table d.table
+
+pub takes_none : (c : Control) → TakesNothing c c
+takes_none c = record { ends = refl; table = table_left c.table }
+
+pub takes_then : (c d e : Control) → TakesNothing c d → TakesNothing d e → TakesNothing c e
+takes_then c d e one two =
+    record { ends = two.ends ∙ one.ends; table = table_then c.table d.table e.table one.table two.table }
+
+with_table : (c : Control) (g : TableFacts) → LeavesTable c.table g → TakesNothing c (record c { table = g })
+with_table c g left = record { ends = refl; table = left }
+
+with_table_if : (may : Bool) (c : Control) (g : TableFacts) → LeavesTable c.table g → TakesNothing c (table_if may g c)
+with_table_if true c g left = with_table c g left
+with_table_if false c g left = takes_none c
+
+pub enters_nothing : (slot : ℕ) (quiet : Bool) (c : Control) → TakesNothing c (after (Enters slot quiet) c)
+enters_nothing slot quiet c =
+    let f = (entered_step c.table (is_some (next_number c.track))).0 in
+    any_step (TakesNothing c) (Enters slot quiet) c
+    (record { ends = refl; table = table_then c.table f (begin_step f slot quiet).0 (entered_left c.table (is_some (next_number c.track))) (begun_left f slot quiet) })
+    (takes_none c)
+
+pub asks_nothing : (ask : Ask) (c : Control) → TakesNothing c (after (Asks ask) c)
+asks_nothing ask c =
+    any_step (TakesNothing c) (Asks ask) c
+    (with_table c _ (record { peer_rx = peer_asked ask c.table.lengths; closing = λ shut. refl; rejections = λ shut is. is; disconnect = λ shut is. is }))
+    (takes_none c)
+
+pub answers_nothing : (answer : Result Ask ErrCode) (c : Control) → TakesNothing c (after (Answers answer) c)
+answers_nothing answer c =
+    any_step (TakesNothing c) (Answers answer) c
+    (with_table_if (is_host_asked c.table.progress && is_answer answer) c (host_answer_step c.table answer) (answered_left c.table answer)) (takes_none c)
+
+-- a further Disconnect is none
+shut_left : (open_now : Bool) (reason : ErrCode) (c : Control) → is_open c.table.closing ≡ open_now → TakesNothing c (table_if open_now (terminate_step c.table reason) c)
+shut_left true reason c is =
+    with_table c (terminate_step c.table reason)
+    (record {
+      peer_rx = refl;
+      closing = λ shut. absurd (let no = sym is ∙ shut in cc);
+      rejections = λ shut. absurd (let no = sym is ∙ shut in cc);
+      disconnect = λ shut. absurd (let no = sym is ∙ shut in cc);
+    })
+shut_left false reason c is = takes_none c
+
+pub disconnects_nothing : (reason : ErrCode) (c : Control) → TakesNothing c (after (Disconnects reason) c)
+disconnects_nothing reason c =
+    any_step (TakesNothing c) (Disconnects reason) c (shut_left (is_open c.table.closing) reason c refl) (takes_none c)
+
+pub acked_nothing : (c : Control) → TakesNothing c (after SeesAcknowledged c)
+acked_nothing c =
+    any_step (TakesNothing c) SeesAcknowledged c
+    (with_table_if (is_out c.table.out) c (acked_step c.table).0 (queue_left c.table (acked_step c.table).0 refl refl (λ shut. refl))) (takes_none c)
+
+following_nothing : (role : Role) (indication : Option Indication) (c d : Control) → TakesNothing c d → TakesNothing c (following role indication d)
+following_nothing Central None c d is = is
+following_nothing Central (Some indication) c d is = record { ends = is.ends; table = is.table }
+following_nothing Peripheral indication c d is = is
+
+pub sends_nothing : (slot : ℕ) (quiet : Bool) (c : Control) → TakesNothing c (after (Sends slot quiet) c)
+sends_nothing slot quiet c =
+    let outgoing = next_of c.table (event_of c.track) quiet in
+    any_step (TakesNothing c) (Sends slot quiet) c
+    (either_way (TakesNothing c) (goes_out quiet c) _ c
+    (following_nothing (role_of c.table.progress) (went slot quiet c).1 c (record c { table = (went slot quiet c).0 })
+    (with_table c (went slot quiet c).0
+    (record { peer_rx = refl; closing = λ shut. refl; rejections = λ shut. none_sent outgoing c.table.queue; disconnect = λ shut. no_disconnect outgoing c.table.queue })))
+    (takes_none c))
+    (takes_none c)
