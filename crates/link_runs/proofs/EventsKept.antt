@@ -1,0 +1,95 @@
+-- An end that receives a packet, and sends one, is still in its event; and an end that ended the link by it does not answer.
+use Rattle.std.proofs.Common.{◌≡◌, ℕ, ◌&&◌, ◌||◌, not, Bool, true, false, List, Option, Some, None, is_none, is_some, refl, ap, ◌∙◌, if◌then◌else◌}
+use Rattle.ble_base.specs.ErrorCodes.{instant_passed}
+use Rattle.ble_base.specs.declared.error_codes.ErrCode.{ErrCode}
+use Rattle.ble_base.specs.declared.roles.Role.{Role}
+use Rattle.ble_base.specs.declared.roles.Role.TheVariants.{Central, Peripheral}
+use Rattle.data_pdu.specs.declared.ctrl.CtrlRead.{CtrlRead}
+use Rattle.data_pdu.specs.Header.{header_in}
+use Rattle.instants.specs.declared.indications.Indication.{Indication}
+use Rattle.instants.specs.Track.{track_after_take}
+use Rattle.procedures.specs.Table.{TableFacts}
+use Rattle.procedures.specs.Taking.{facts_with, outcome_of}
+use Rattle.control_model.specs.Control.{Control, SeesAcknowledged, Takes, after, ended, indicated_by, is_to_come, taken}
+use Rattle.control_model.proofs.Calls.{any_step, took_by}
+use Rattle.link_model.specs.Acknowledgement.{Pdu}
+use Rattle.link_model.specs.Packets.{pdu_of}
+use Rattle.link_model.specs.Setup.{Setup}
+use Rattle.controlled_link.specs.Controls.{is_procedure_pdu, is_quiet_now, read_of}
+use Rattle.controlled_link.specs.Facts.{Facts}
+use Rattle.controlled_link.specs.Packets.{good_pdu}
+use Rattle.controlled_link.specs.Receiving.{accepted_if, accepts, acknowledged_if, acks_control, answers_with_control, facts_before_taking, facts_received, has_acknowledged, heard_in_slot, procedures_take_if, replies_by, replies_of}
+use Rattle.controlled_link.specs.Sending.{control_gone_if, takes_leave}
+use Rattle.controlled_pairs.specs.Hearing.{answered, received}
+use Rattle.controlled_pairs.specs.Turns.{sent_if}
+use Rattle.controlled_pairs.proofs.ControlKept.{acked_kept, sent_kept}
+use Rattle.controlled_pairs.proofs.Items.{never}
+
+-- ---- the events that it entered
+
+abbrev IsInEvent : Facts → Facts → Type 0
+IsInEvent before now = now.control.track.entered ≡ before.control.track.entered
+
+taken_in_event : (c : Control) (g : TableFacts) (indication : Option Indication) → (taken g None indication c).track.entered ≡ c.track.entered
+taken_in_event c g None = refl
+taken_in_event c g (Some indication) = by (is_to_come c.track indication)
+  where
+    by : (b : Bool)
+        → (if b then record c { table = g; track = track_after_take c.track indication } else ended (record { 0 = instant_passed }) c).track.entered
+        ≡ c.track.entered
+    by true = refl
+    by false = refl
+
+takes_in_event : (c : Control) (read : CtrlRead) (slot : ℕ) (quiet : Bool) → (after (Takes read slot quiet) c).track.entered ≡ c.track.entered
+takes_in_event c read slot quiet =
+    any_step (λ (d : Control). d.track.entered ≡ c.track.entered) (Takes read slot quiet) c
+    (took_by (λ (d : Control). d.track.entered ≡ c.track.entered) c (λ code. refl) read slot quiet
+    (taken_in_event c (facts_with c.table slot (outcome_of c.table quiet read)) (indicated_by (outcome_of c.table quiet read).step.effect)))
+    refl
+
+acked_in_event : (acks : Bool) (c : Control) → (if acks then after SeesAcknowledged c else c).track.entered ≡ c.track.entered
+acked_in_event true c = (acked_kept c).entered
+acked_in_event false c = refl
+
+gone_in_event : (goes : Bool) (slot : ℕ) (facts : Facts) → IsInEvent facts (control_gone_if goes slot facts)
+gone_in_event true slot facts = (sent_kept facts.control slot (is_quiet_now facts)).entered
+gone_in_event false slot facts = refl
+
+procedures_in_event : (takes : Bool) (pdu : Pdu) (slot : ℕ) (facts : Facts) → IsInEvent facts (procedures_take_if takes pdu slot facts)
+procedures_in_event true pdu slot facts = takes_in_event facts.control (read_of pdu) slot (is_quiet_now facts)
+procedures_in_event false pdu slot facts = refl
+
+received_in_event : (role : Role) (slot : ℕ) (room : Bool) (pdu : Option (List ℕ)) (facts : Facts) → IsInEvent facts (facts_received role slot room pdu facts)
+received_in_event role slot room None facts = refl
+received_in_event role slot room (Some pdu) facts =
+    let heard = heard_in_slot slot (header_in pdu).md facts in
+    let acks = has_acknowledged facts (header_in pdu) in
+    let acked = acknowledged_if acks heard in
+    let now = facts_before_taking role slot (header_in pdu) facts in
+    let accepted = accepts room (header_in pdu) (pdu_of pdu) now in
+    procedures_in_event (accepted && is_procedure_pdu (pdu_of pdu)) (pdu_of pdu) slot (accepted_if accepted (pdu_of pdu) now)
+    ∙ gone_in_event (answers_with_control role acked) slot acked ∙ acked_in_event (acks_control acks heard) facts.control
+
+sent_in_event : (sends : Bool) (setup : Setup) (slot : ℕ) (facts : Facts) → IsInEvent facts (sent_if sends setup slot facts)
+sent_in_event true setup slot facts = gone_in_event (takes_leave facts) slot facts
+sent_in_event false setup slot facts = refl
+
+pub answered_in_event : (setup : Setup) (slot : ℕ) (octets : List ℕ) (room : Bool) (facts : Facts)
+    → (answered setup slot octets room facts).control.track.entered ≡ facts.control.track.entered
+answered_in_event setup slot octets room facts =
+    sent_in_event (replies_of setup facts slot octets room) setup slot (received setup slot octets room facts)
+    ∙ received_in_event setup.link.role slot room (good_pdu setup facts octets) facts
+
+-- ---- no answer
+
+no_reply_by : (role : Role) (pdu : Option (List ℕ)) → replies_by role true pdu ≡ false
+no_reply_by Central pdu = refl
+no_reply_by Peripheral pdu = never (is_some pdu)
+
+pub ended_no_reply : (setup : Setup) (slot : ℕ) (octets : List ℕ) (room : Bool) (facts : Facts) (code : ErrCode)
+    → (received setup slot octets room facts).control.ends ≡ Some code → replies_of setup facts slot octets room ≡ false
+unfolding replies_of
+ended_no_reply setup slot octets room facts code is =
+    let now = received setup slot octets room facts in
+    ap (λ (o : Option ErrCode). replies_by setup.link.role (not (is_none o) || now.leaving.acknowledged) (good_pdu setup facts octets)) is
+    ∙ no_reply_by setup.link.role (good_pdu setup facts octets)

@@ -1,0 +1,5 @@
+-- The definitions of this crate.
+pub mod Turn
+pub mod Open
+pub mod Runs
+pub mod Rows

@@ -1,0 +1,65 @@
+//! Laws of whole runs of one link. The bodies only call the laws that they rest on: the contracts
+//! are the laws.
+ghost use Rattle.std.specs.Prelude.{◌≡◌, ℕ, true, false, List, Some};
+ghost use Rattle.link_model.specs.Pair.{AreInAgreement};
+ghost use Rattle.link_model.specs.Setup.{Setup};
+ghost use Rattle.controlled_link.specs.Facts.{Facts};
+ghost use Rattle.controlled_link.specs.Times.{due_of};
+ghost use Rattle.controlled_pairs.specs.Ends.{AreEnds, is_lasting};
+ghost use Rattle.controlled_pairs.specs.Shown.{AreLinked};
+ghost use Rattle.controlled_pairs.specs.Sound.{AreSoundEnds};
+ghost use Rattle.link_runs.specs.Open.{AreOpenEnds, AreTerminated, GoOnUnlessLate, is_timeout};
+ghost use Rattle.link_runs.specs.Runs.{MayAllHost, MayHostTurn, ends_of, slot_after};
+ghost use Rattle.link_runs.specs.Turn.{Given, ends_in_turn};
+
+/// After any list of turns two ends that are open are linked, and the link lasts at both; or the
+/// central has taken LL_TERMINATE_IND. So it is whenever each end has the radio, whatever is lost
+/// between them, and with room for data or not (Core 5.2, volume 6 part B, sections 4.5 and 5.1.6).
+pub fn links_stay_linked_turn_by_turn()
+    ensures open_ends { (central peripheral : Setup) (turns : List Given) (c p : Facts)
+        → AreEnds central peripheral → MayAllHost central peripheral turns
+        → (ends_of central peripheral turns).central ≡ Some c
+        → (ends_of central peripheral turns).peripheral ≡ Some p
+        → AreOpenEnds central peripheral (slot_after central turns) c p }
+    ensures lasting { (central peripheral : Setup) (turns : List Given) (c p : Facts)
+        → AreEnds central peripheral → MayAllHost central peripheral turns
+        → (ends_of central peripheral turns).central ≡ Some c
+        → (ends_of central peripheral turns).peripheral ≡ Some p
+        → is_lasting c ≡ true → is_lasting p ≡ true
+        → AreLinked central peripheral (slot_after central turns) false c p }
+{
+    air_frame::laws::packet_tells_its_pdu();
+}
+
+/// After any list of turns the counts of two open ends agree. While the link lasts at both they have
+/// equal parameters in events of one number in which the same number of indications hold, and at
+/// most ten control PDUs wait at each. In no turn does a procedure end the link at the central; one
+/// of the peripheral ends it only with 0x28, where the Instant of the last indication that the
+/// central sent has passed there. So at the end of a turn an end is shut with 0x16, with the code of
+/// the peer, or a peripheral with 0x28, and at the start of a turn since a time has passed: never
+/// with 0x07, 0x23 or 0x2A, but where the host of the peer ended it with that (Core 5.2, volume 6
+/// part B, sections 4.5.9, 5.1.6, 5.3 and 5.5).
+pub fn each_link_is_sound()
+    ensures agreement { (central peripheral : Setup) (turns : List Given) (c p : Facts)
+        → AreEnds central peripheral → MayAllHost central peripheral turns
+        → (ends_of central peripheral turns).central ≡ Some c
+        → (ends_of central peripheral turns).peripheral ≡ Some p
+        → AreInAgreement c.acknowledgement p.acknowledgement }
+    ensures ends { (central peripheral : Setup) (turns : List Given) (c p : Facts)
+        → AreEnds central peripheral → MayAllHost central peripheral turns
+        → (ends_of central peripheral turns).central ≡ Some c
+        → (ends_of central peripheral turns).peripheral ≡ Some p
+        → is_lasting c ≡ true → is_lasting p ≡ true → AreSoundEnds central peripheral c p }
+    ensures procedures { (central peripheral : Setup) (turns : List Given) (given : Given)
+        → AreEnds central peripheral → MayAllHost central peripheral turns
+        → let ends = ends_of central peripheral turns in MayHostTurn central peripheral given ends
+        → GoOnUnlessLate (ends_in_turn central peripheral (slot_after central turns) given ends) }
+    ensures codes { (central peripheral : Setup) (turns : List Given) (given : Given)
+        → AreEnds central peripheral → MayAllHost central peripheral turns
+        → let ends = ends_of central peripheral turns in MayHostTurn central peripheral given ends
+        → AreTerminated (ends_in_turn central peripheral (slot_after central turns) given ends) }
+    ensures timeouts { (setup : Setup) (facts : Facts) (slot code : ℕ)
+        → due_of setup facts slot ≡ Some code → is_timeout code ≡ true }
+{
+    air_frame::laws::packet_tells_its_pdu();
+}
