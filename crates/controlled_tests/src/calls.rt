@@ -1,0 +1,96 @@
+//! Calls on one end of a link, and what each gives, as words.
+ghost use Rattle.procedure_values.specs.Wants.{IsAsk};
+
+use crate::ends::End;
+use crate::notes::put_reason;
+use ble_base::{ChannelMap, ErrCode, SlotNo};
+use procedures::Ask;
+use std::alloc::AllocError;
+use test_words::{Call, hex_number, octets_of, put_answer, put_number, put_value, slot};
+
+/// The most octets of data in one packet.
+const MOST: [u8; 251] = [7; 251];
+
+/// What a host asks: an update to a timeout of 1 s, a request for 40 ms, a map of the channels 0 to
+/// 32, at most 251 octets, a PHY update, the features of the peer, an encryption, or the version of
+/// the peer.
+pub(crate) fn ask_named(name: &str) -> Ask
+    ensures { IsAsk result }
+{
+    match name {
+        "update" => Ask::Update {
+            interval: 24,
+            latency: 0,
+            timeout: 100,
+        },
+        "request" => Ask::Request {
+            min: 32,
+            max: 32,
+            latency: 0,
+            timeout: 72,
+        },
+        "map" => Ask::Map(ChannelMap::new(0x01_FFFF_FFFF).unwrap_or_default()),
+        "length" => Ask::Length { tx: 251 },
+        "phy" => Ask::Phy,
+        "features" => Ask::Features,
+        "encrypt" => Ask::Encrypt {
+            rand: 0,
+            ediv: 0,
+            ltk: [0; 16],
+            skd_m: 2,
+            iv_m: 3,
+        },
+        _ => Ask::Version,
+    }
+}
+
+/// The error that two digits spell.
+pub(crate) fn code_of(told: &String, word: &str) -> ErrCode {
+    ErrCode(u8::try_from(hex_number(*told.allocator(), word)).unwrap_or(u8::MAX))
+}
+
+/// Makes a call of the host on an end.
+pub(crate) fn take(end: &mut End, call: Call<'_>, told: &mut String) -> Result<(), AllocError> {
+    let [first, second, ..] = call.words;
+    match call.name {
+        "ask" => end.link.ask(ask_named(first)),
+        "grant" => end.link.host_answer(Ok(ask_named("update"))),
+        "refuse" => end.link.host_answer(Err(code_of(told, first))),
+        "end" => end.finish(code_of(told, first), slot(second)),
+        _ => return look(end, call, told),
+    }
+    Ok(())
+}
+
+/// The host gives the octets that a word spells, or the most that one packet has.
+fn give(end: &mut End, word: &str, told: &mut String) -> Result<(), AllocError> {
+    if word == "most" {
+        return put_answer(told, end.give(&MOST));
+    }
+    let body = octets_of(*told.allocator(), word);
+    put_answer(told, end.give(body.as_slice()))
+}
+
+/// Gives data to an end, or writes what is known of it.
+fn look(end: &mut End, call: Call<'_>, told: &mut String) -> Result<(), AllocError> {
+    let first = call.words[0];
+    match call.name {
+        "give" => give(end, first, told),
+        "may_ask" => put_answer(told, end.link.may_ask(ask_named(first).kind())),
+        "awaits_host" => put_answer(told, end.link.awaits_host()),
+        "due" => put_reason(told, end.link.due(SlotNo(u64::from(slot(first))))),
+        _ => look_further(end, call.name, told),
+    }
+}
+
+/// Writes what is known of the event of an end and of the peer.
+fn look_further(end: &End, name: &str, told: &mut String) -> Result<(), AllocError> {
+    match name {
+        "lengths" => put_value(told, &end.link.lengths()),
+        "span" => put_number(told, u64::from(end.link.span())),
+        "timeout" => put_number(told, u64::from(end.link.params().timeout)),
+        "wants" => put_answer(told, end.wants()),
+        "knows_version" => put_answer(told, end.link.peer().version.is_some()),
+        _ => told.push_str(" which call?"),
+    }
+}

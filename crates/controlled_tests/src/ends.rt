@@ -1,0 +1,237 @@
+//! One end of a link, with its buffers and what it notes.
+ghost use Rattle.std.specs.Prelude.{◌≡◌, ◌<◌, ◌≤◌, ◌^◌, IsTrue, None};
+ghost use Rattle.arrayvec.specs.ArrayVec.{array_vec_len};
+ghost use Rattle.acl_banks.specs.Banks.{Bank, packet_out};
+ghost use Rattle.adv_pdu.specs.Ranges.{IsInRange};
+ghost use Rattle.instants.specs.Track.{next_anchor_of};
+ghost use Rattle.procedure_values.specs.Wants.{IsAsk};
+ghost use Rattle.control_end.specs.Answers.{goes_on};
+ghost use Rattle.controlled_end.specs.Tied.{IsTied};
+
+use acl_banks::{RxBank, TxBank};
+use adv_pdu::ConnectFields;
+use arrayvec::ArrayVec;
+use ble_base::{AIR_PACKET_OCTETS, Address, ChannelMap, ErrCode, Outbox, Role, SlotNo};
+use controlled_end::{LinkEnd, LinkSetup, LinkStep};
+use procedures::Effect;
+use std::alloc::{AllocError, Global};
+use std::marker::Model;
+
+/// The access address of the link.
+pub(crate) const ACCESS: u32 = 0x7176_4129;
+
+/// Where the CRC of the link begins.
+pub(crate) const CRC_INIT: u32 = 1;
+
+/// The handle of the link at each end.
+const HANDLE: u16 = 0;
+
+/// The slot of the anchor of event 0.
+const FIRST_ANCHOR: u64 = 2;
+
+/// One end of a link, its buffers, and the first slot in which it may take octets.
+#[derive(Drop)]
+pub(crate) struct End {
+    pub(crate) link: LinkEnd,
+    tx: TxBank<2>,
+    rx: RxBank<4>,
+    next: u64,
+    /// The slot of the anchor of the event entered last.
+    anchor: u64,
+    /// What it noted, and what came of the packet that it took last.
+    pub(crate) out: Outbox,
+    pub(crate) step: Option<LinkStep>,
+}
+
+impl Model for End {
+    ghost use Rattle.std.specs.Prelude.{◌≤◌, ℕ};
+    ghost use Rattle.controlled_end.specs.Tied.{IsBefore, IsTied};
+
+    ghost Value = { ℕ };
+
+    ghost view = { λ e. e.next };
+
+    ghost invariant = { λ e. (1 ≤ e.link.control.track.entered) × IsTied e.link e.tx
+        × IsBefore e.link e.next };
+}
+
+/// A link with 30 ms from one event to the next and a supervision timeout of 720 ms.
+fn fields() -> ConnectFields
+    ensures in_range { IsInRange result }
+    ensures crc_init { result.crc_init < 2 ^ 24 }
+    ensures win_offset { result.win_offset ≡ 0 }
+{
+    ConnectFields {
+        access: ACCESS,
+        crc_init: CRC_INIT,
+        win_size: 1,
+        win_offset: 0,
+        interval: 24,
+        latency: 0,
+        timeout: 72,
+        map: ChannelMap::default().bits(),
+        hop: 5,
+        sca: 0,
+    }
+}
+
+/// A new end of the link that a CONNECT_IND in slot 0 opens.
+#[tactic(auto, using(crate::proofs::Beginning::new_goes_on, crate::proofs::Beginning::new_anchor))]
+fn new_link(role: Role) -> LinkEnd
+    ensures goes_on { IsTrue (goes_on result.control) }
+    ensures anchor { next_anchor_of result.control.track ≡ 2 }
+    ensures last_good { result.last_good ≡ None }
+    ensures tied { (bank : Bank) → packet_out bank 0 ≡ None → IsTied result bank }
+{
+    let setup = LinkSetup {
+        role,
+        handle: HANDLE,
+        own: Address::default(),
+        peer: Address::default(),
+        fields: fields(),
+        two: true,
+        max_rx: 251,
+    };
+    LinkEnd::new(setup, SlotNo(0))
+}
+
+/// An end that has entered event 0.
+fn link_in_event_0(role: Role) -> LinkEnd
+    ensures entered { 1 ≤ result.control.track.entered }
+    ensures last_good { result.last_good ≡ None }
+    ensures tied { (bank : Bank) → packet_out bank 0 ≡ None → IsTied result bank }
+{
+    let mut link = new_link(role);
+    let mut out = Outbox::new();
+    link.enter(SlotNo(FIRST_ANCHOR), &mut out);
+    link
+}
+
+/// Makes room for what a call notes.
+fn make_room(out: &mut Outbox)
+    ensures { array_vec_len out.new ≤ 59 }
+{
+    if out.len() > 59 {
+        out.clear();
+    }
+}
+
+impl End {
+    /// An end that has entered event 0, and empty buffers.
+    pub(crate) fn new(alloc: Global, role: Role) -> Result<Self, AllocError> {
+        let tx = TxBank::make(alloc)?;
+        let rx = RxBank::make(alloc)?;
+        Ok(End {
+            link: link_in_event_0(role),
+            tx,
+            rx,
+            next: 0,
+            anchor: FIRST_ANCHOR,
+            out: Outbox::new(),
+            step: None,
+        })
+    }
+
+    /// A new end of the same role takes the place of this one.
+    pub(crate) fn begin_again(&mut self) {
+        self.tx.drop_link(HANDLE);
+        self.rx.drop_link(HANDLE);
+        self.link = link_in_event_0(self.link.setup().role);
+        self.next = 0;
+        self.anchor = FIRST_ANCHOR;
+        self.clear();
+    }
+
+    /// Forgets what it noted, and what came of the packet that it took last.
+    pub(crate) fn clear(&mut self) {
+        self.out.clear();
+        self.step = None;
+    }
+
+    /// A turn in this slot begins: it enters its next event, if the anchor of that is in this slot,
+    /// and fixes what it sends next.
+    pub(crate) fn begin_turn(&mut self, slot: u32) {
+        self.clear();
+        if self.link.next_anchor().0 == u64::from(slot) {
+            self.enter();
+        }
+        self.link.ready(&self.tx);
+    }
+
+    /// Enters the next event.
+    pub(crate) fn enter(&mut self) {
+        let slot = self.link.next_anchor();
+        if slot.0 < 1 << 32 {
+            self.anchor = slot.0;
+            make_room(&mut self.out);
+            self.link.enter(slot, &mut self.out);
+        }
+    }
+
+    /// Whether it has an exchange in this slot: that of the anchor, or the next one where the event
+    /// goes on.
+    pub(crate) fn is_in(&self, slot: u32) -> bool {
+        let slot = u64::from(slot);
+        slot == self.anchor || slot == self.anchor.saturating_add(1) && self.link.again()
+    }
+
+    /// Whether it wants the radio for the event entered last.
+    pub(crate) fn wants(&self) -> bool {
+        self.link.wants(&self.tx)
+    }
+
+    /// The packet that it sends in this slot.
+    pub(crate) fn send(&mut self, slot: u32) -> ArrayVec<u8, AIR_PACKET_OCTETS> {
+        make_room(&mut self.out);
+        self.link
+            .to_send(SlotNo(u64::from(slot)), &mut self.tx, &mut self.out)
+    }
+
+    /// Takes octets in this slot, if it took none since.
+    #[tactic(auto, using(controlled_end::proofs::Tying::credited_tied, controlled_end::proofs::Tying::before_later))]
+    pub(crate) fn hear(&mut self, octets: &[u8], slot: u32) {
+        let slot = u64::from(slot);
+        if slot < self.next {
+            return;
+        }
+        make_room(&mut self.out);
+        self.tx.credited(self.link.setup().handle);
+        let (tx, rx) = (&mut self.tx, &mut self.rx);
+        let step = self.link.heard(octets, SlotNo(slot), tx, rx, &mut self.out);
+        self.next = slot + 1;
+        self.step = Some(step);
+    }
+
+    /// What the layer above does with what it took.
+    pub(crate) fn effect(&self) -> Effect {
+        match self.step {
+            None => Effect::Nothing,
+            Some(step) => step.effect,
+        }
+    }
+
+    /// Whether it answers what it took.
+    pub(crate) fn replies(&self) -> bool {
+        match self.step {
+            None => false,
+            Some(step) => step.reply,
+        }
+    }
+
+    /// The host ends the link in this slot.
+    pub(crate) fn finish(&mut self, reason: ErrCode, slot: u32) {
+        self.link.end(reason, SlotNo(u64::from(slot)));
+    }
+
+    /// The host takes a piece of data.
+    pub(crate) fn hand_up(&mut self) {
+        self.rx.hand_up();
+    }
+
+    /// The host gives the start of a message. False where it has no octet, or the bank is full.
+    #[tactic(auto, using(controlled_end::proofs::Tying::offer_tied))]
+    pub(crate) fn give(&mut self, body: &[u8]) -> bool {
+        let handle = self.link.setup().handle;
+        !body.is_empty() && self.tx.offer(handle, true, body).is_ok()
+    }
+}
