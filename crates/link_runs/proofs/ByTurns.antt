@@ -18,7 +18,7 @@ use Rattle.controlled_pairs.proofs.Hosting.{central_hosts, peripheral_hosts}
 use Rattle.controlled_pairs.proofs.NothingNew.{host_still, sender_still, taker_still}
 use Rattle.controlled_pairs.proofs.Sounding.{are_sound}
 use Rattle.link_runs.specs.Open.{AreOpenEnds, GoOnUnlessLate}
-use Rattle.link_runs.specs.Turn.{Ends, Given, end_closed, end_started, ends_after_turn, ends_heard, ends_in_turn, facts_hosted, listens, open_if, peripheral_heard, transmits}
+use Rattle.link_runs.specs.Turn.{Ends, Given, end_after_turn, end_at_start, ends_after_turn, ends_heard, ends_in_turn, facts_hosted, listens, open_if, peripheral_heard, transmits}
 use Rattle.link_runs.specs.Runs.{MayAllHost, MayAllHostFrom, MayHostAll, MayHostEnd, MayHostTurn, ends_from, ends_of, first_ends, slot_after}
 use Rattle.link_runs.proofs.GoingOn.{hosted_ends_nothing, lasting_goes, lasting_took_none, open_goes_on, shut_by, still_lasts}
 use Rattle.link_runs.proofs.OneTurn.{AreAfterTurn, central_hosted, lasting_turn, parting_turn, peripheral_hosted}
@@ -40,7 +40,8 @@ module _ (central peripheral : Setup) where
 
   -- ---- the hosts of two open ends
 
-  module _ (slot : ℕ) (given : Given) (c p : Facts) (c_may : MayHostAll central given.central_host c) (p_may : MayHostAll peripheral given.peripheral_host p) where
+  module _ (slot : ℕ) (given : Given) (c p : Facts) (c_may : MayHostAll central given.central_host c)
+      (p_may : MayHostAll peripheral given.peripheral_host p) where
     abbrev c_now : Facts
     c_now = facts_hosted central given.central_host c
 
@@ -107,7 +108,7 @@ module _ (central peripheral : Setup) where
 
     record Goes (o q : Option Facts) : Type 0 where
       late : GoOnUnlessLate (heard o q)
-      keeps : Keeps (slot + 1) (end_closed central (heard o q).central) (end_closed peripheral (heard o q).peripheral)
+      keeps : Keeps (slot + 1) (end_after_turn central (heard o q).central) (end_after_turn peripheral (heard o q).peripheral)
 
     both_go : (c p : Facts) → AreAfterTurn central peripheral slot given c p → Goes (Some c) (Some p)
     both_go c p after_it =
@@ -155,7 +156,7 @@ module _ (central peripheral : Setup) where
     peripheral_starts false p goes = none_goes
 
     turn : (o q : Option Facts) → MayHostEnd central given.central_host o → MayHostEnd peripheral given.peripheral_host q → Keeps slot o q
-        → Goes (end_started central slot given.central_host o) (end_started peripheral slot given.peripheral_host q)
+        → Goes (end_at_start central slot given.central_host o) (end_at_start peripheral slot given.peripheral_host q)
     turn None None c_may p_may keeps = none_goes
     turn (Some c) None c_may p_may keeps =
         central_starts _ _ ((hosted_ends_nothing central given.central_host c c_may).procedures ∙ keeps)

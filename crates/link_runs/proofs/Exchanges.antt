@@ -29,7 +29,8 @@ module _ (setup : Setup) (slot turns : ℕ) (facts : Facts) (lasts : facts.contr
   -- it enters its event in this slot
   first_exchange : HasExchange slot (facts_entered setup slot facts)
   first_exchange =
-      let count = ap (λ (t : TrackFacts). t.entered) (enters_track facts.control slot true lasts) ∙ entered_next facts.control.track.waits facts.control.track in
+      let next = ap (λ (t : TrackFacts). t.entered) (enters_track facts.control slot true lasts) in
+      let count = next ∙ entered_next facts.control.track.waits facts.control.track in
       (omega (arith, count), inl refl)
 
   -- it received a good packet in the slot before

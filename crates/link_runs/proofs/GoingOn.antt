@@ -33,7 +33,8 @@ lasting_by facts goes took = (λ i. is_none (goes i) && is_none facts.leaving.en
     by None none = refl
     by (Some code) none = absurd (cc)
 
-pub hosted_ends_nothing : (setup : Setup) (steps : List Step) (facts : Facts) → MayHostAll setup steps facts → EndsNothing facts (facts_hosted setup steps facts)
+pub hosted_ends_nothing : (setup : Setup) (steps : List Step) (facts : Facts) → MayHostAll setup steps facts
+    → EndsNothing facts (facts_hosted setup steps facts)
 hosted_ends_nothing setup [] facts may = record { procedures = refl; peer = refl }
 hosted_ends_nothing setup (step ∷ steps) facts may =
     let first = host_ends_nothing setup facts step may.0 in

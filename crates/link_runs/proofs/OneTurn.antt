@@ -16,7 +16,7 @@ use Rattle.controlled_pairs.proofs.Hosting.{central_hosts, peripheral_hosts}
 use Rattle.controlled_pairs.proofs.PeripheralHears.{hears_linked}
 use Rattle.controlled_pairs.proofs.Reading.{AreHeard}
 use Rattle.controlled_pairs.proofs.Turning.{begun_hears, prepared_hears, turn_begun}
-use Rattle.link_runs.specs.Turn.{Given, answer, central_at, central_heard, central_ready, facts_hosted, is_answer_heard, is_heard, listens, packet, peripheral_at, peripheral_heard, peripheral_taken, transmits}
+use Rattle.link_runs.specs.Turn.{Given, answer, central_sent, central_heard, central_ready, facts_hosted, is_answer_heard, is_heard, listens, packet, peripheral_ready, peripheral_heard, peripheral_received, transmits}
 use Rattle.link_runs.specs.Runs.{MayHostAll}
 use Rattle.link_runs.proofs.Exchanges.{may_exchange}
 use Rattle.link_runs.proofs.Supervision.{heard_in_time}
@@ -92,10 +92,10 @@ module _ (central peripheral : Setup) (turns : ℕ) (answers : Bool) where
 
 module _ (central peripheral : Setup) (slot : ℕ) (given : Given) (c p : Facts) where
   abbrev c_at : Facts
-  c_at = central_at central peripheral slot given c
+  c_at = central_sent central peripheral slot given c
 
   abbrev p_at : Facts
-  p_at = peripheral_at central peripheral slot given p
+  p_at = peripheral_ready central peripheral slot given p
 
   abbrev transmits_now : Bool
   transmits_now = transmits central peripheral slot given c
@@ -144,7 +144,7 @@ module _ (central peripheral : Setup) (slot : ℕ) (given : Given) (c p : Facts)
   p_heard = peripheral_heard central peripheral slot given c p
 
   abbrev taken : Facts
-  taken = peripheral_taken central peripheral slot given c p
+  taken = peripheral_received central peripheral slot given c p
 
   abbrev answer_octets : List ℕ
   answer_octets = answer central peripheral slot given c p
@@ -203,14 +203,18 @@ module _ (central peripheral : Setup) (slot : ℕ) (given : Given) (c p : Facts)
     parting_after true is =
         let now = is_heard_now is in
         let packet_now = packet_of_central now.transmits_in in
-        let over = hears_the_end whole central peripheral ends.one_link.fields ends.peripheral_max.to c_at p_at parting_at slot _ sent_octets packet_now now.same given.peripheral_room in
-        let seen = has_seen whole central peripheral ends.one_link.fields ends.peripheral_max.to c_at p_at parting_at slot _ sent_octets packet_now now.same given.peripheral_room in
+        let most = ends.peripheral_max.to in
+        let fields = ends.one_link.fields in
+        let room = given.peripheral_room in
+        let over = hears_the_end whole central peripheral fields most c_at p_at parting_at slot _ sent_octets packet_now now.same room in
+        let seen = has_seen whole central peripheral fields most c_at p_at parting_at slot _ sent_octets packet_now now.same room in
         let c_is : c_heard ≡ c_at = unheard (ap (λ (b : Bool). heard_now && b) over.replies ∙ never heard_now) in
         let p_is : p_heard ≡ taken = ap p_heard_if is ∙ over.answers_none in
         record {
           central_goes_on = ap (λ (f : Facts). f.control.ends) c_is ∙ parting_at.took.goes_on;
           peripheral_goes_on = inl (ap (λ (f : Facts). f.control.ends) p_is ∙ seen.goes_on);
-          opens = λ c_open p_open. absurd (let no = (λ i. is_none (ending_of (sym p_is i))) ∙ p_open in let ending = ap (λ (o : Option ErrCode). is_none o) seen.ending in cc);
+          opens = λ c_open p_open.
+              absurd (shut_by (ending_of p_heard) (ap (λ (f : Facts). is_some (ending_of f)) p_is ∙ ap (λ (o : Option ErrCode). is_some o) seen.ending) p_open);
         }
     parting_after false is =
         let c_is : c_heard ≡ c_at = unheard (ap (λ (b : Bool). b && replies) is) in

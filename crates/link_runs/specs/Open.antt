@@ -1,5 +1,5 @@
--- How the two ends of a link are between two turns while both are open, and with which codes an end is shut (Core 5.2,
--- volume 6 part B, sections 4.5.2, 5.1.6, 5.2 and 5.5.1).
+-- How two open ends of a link are between two turns, and with which codes an end is shut (Core 5.2, volume 6 part B,
+-- sections 4.5.2, 5.1.6, 5.2 and 5.5.1).
 use Rattle.std.specs.Prelude.{◌≡◌, ◌⊎◌, ℕ, ◌==◌, ◌||◌, Bool, true, false, Option, Some, None, IfSome}
 use Rattle.ble_base.specs.ErrorCodes.{connection_not_established, connection_timeout, instant_passed, ll_response_timeout, terminated_by_local_host}
 use Rattle.ble_base.specs.declared.error_codes.ErrCode.{ErrCode}
@@ -28,7 +28,7 @@ AreOpenEnds central peripheral slot c p =
 
 -- ---- at the start of a turn
 
--- a code with which an end is shut since a time has passed (sections 4.5.2, 5.1.6 and 5.2)
+-- a code with which an end is shut because a time has passed (sections 4.5.2, 5.1.6 and 5.2)
 abbrev pub is_timeout : ℕ → Bool
 is_timeout code =
     (code == connection_not_established) || (code == connection_timeout) || (code == ll_response_timeout)
@@ -36,7 +36,7 @@ is_timeout code =
 
 -- ---- at the end of a turn
 
--- no procedure of the peripheral ended the link, or one did for an Instant that it has passed, with 0x28 (section 5.5.1)
+-- no procedure of the peripheral ended the link, or one did with 0x28, for an Instant that has passed (section 5.5.1)
 abbrev pub GoesOnUnlessLate : Option Facts → Facts → Type 0
 GoesOnUnlessLate None p = p.control.ends ≡ None
 GoesOnUnlessLate (Some c) p = (p.control.ends ≡ None) ⊎ EndsForInstant c p p.control.ends
@@ -46,14 +46,14 @@ pub record GoOnUnlessLate (ends : Ends) : Type 0 where
   pub central : IfSome ends.central (λ c. c.control.ends ≡ None)
   pub peripheral : IfSome ends.peripheral (GoesOnUnlessLate ends.central)
 
--- an end is shut with this code since its LL_TERMINATE_IND was acknowledged, or since the peer ended the link with the
--- code (section 5.1.6)
+-- an end is shut with this code because its LL_TERMINATE_IND was acknowledged, or because its peer ended the link with
+-- the code (section 5.1.6)
 abbrev pub IsTerminated : Leaving → ErrCode → Type 0
 IsTerminated leaving code =
     ((leaving.acknowledged ≡ true) × (code ≡ record { 0 = terminated_by_local_host }))
     ⊎ (leaving.ended_by_peer ≡ Some code)
 
--- each end that is shut is shut so, or at a peripheral with 0x28
+-- each end that is shut is shut so, or is a peripheral and shut with 0x28
 pub record AreTerminated (ends : Ends) : Type 0 where
   pub central : IfSome ends.central (λ c. (code : ErrCode) → ending_of c ≡ Some code → IsTerminated c.leaving code)
   pub peripheral :

@@ -14,11 +14,12 @@ abbrev pub MayHostAll : Setup → List Step → Facts → Type 0
 MayHostAll setup [] facts = ⊤
 MayHostAll setup (step ∷ steps) facts = MayHost step facts × MayHostAll setup steps (facts_after setup facts step)
 
--- nothing is asked of the host of an end that is shut
+-- of the host of an end that is shut nothing is asked
 abbrev pub MayHostEnd : Setup → List Step → Option Facts → Type 0
 MayHostEnd setup steps None = ⊤
 MayHostEnd setup steps (Some facts) = MayHostAll setup steps facts
 
+-- both hosts in one turn
 abbrev pub MayHostTurn : Setup → Setup → Given → Ends → Type 0
 MayHostTurn central peripheral given ends =
     MayHostEnd central given.central_host ends.central × MayHostEnd peripheral given.peripheral_host ends.peripheral
@@ -31,6 +32,7 @@ ends_from central peripheral slot ends [] = ends
 ends_from central peripheral slot ends (given ∷ turns) =
     ends_from central peripheral (slot + 1) (ends_after_turn central peripheral slot given ends) turns
 
+-- both hosts in each of these turns
 abbrev pub MayAllHostFrom : Setup → Setup → ℕ → Ends → List Given → Type 0
 MayAllHostFrom central peripheral slot ends [] = ⊤
 MayAllHostFrom central peripheral slot ends (given ∷ turns) =
@@ -39,6 +41,7 @@ MayAllHostFrom central peripheral slot ends (given ∷ turns) =
 
 -- ---- from the beginning of the link
 
+-- both ends as they begin
 abbrev pub first_ends : Setup → Setup → Ends
 first_ends central peripheral =
     record { central = Some (first_facts central); peripheral = Some (first_facts peripheral) }
@@ -52,6 +55,7 @@ ends_of central peripheral turns =
 abbrev pub slot_after : Setup → List Given → ℕ
 slot_after central turns = central.opened + 1 + length turns
 
+-- both hosts in each turn
 abbrev pub MayAllHost : Setup → Setup → List Given → Type 0
 MayAllHost central peripheral turns =
     MayAllHostFrom central peripheral (central.opened + 1) (first_ends central peripheral) turns

@@ -13,8 +13,9 @@ ghost use Rattle.link_runs.specs.Runs.{MayAllHost, MayHostTurn, ends_of, slot_af
 ghost use Rattle.link_runs.specs.Turn.{Given, ends_in_turn};
 
 /// After any list of turns two ends that are open are linked, and the link lasts at both; or the
-/// central has taken LL_TERMINATE_IND. So it is whenever each end has the radio, whatever is lost
-/// between them, and with room for data or not (Core 5.2, volume 6 part B, sections 4.5 and 5.1.6).
+/// central has taken LL_TERMINATE_IND, and is shut once it has sent. This holds whenever each end
+/// has the radio, whatever is lost between them, and with room for data or not (Core 5.2, volume 6
+/// part B, sections 4.5 and 5.1.6).
 pub fn links_stay_linked_turn_by_turn()
     ensures open_ends { (central peripheral : Setup) (turns : List Given) (c p : Facts)
         → AreEnds central peripheral → MayAllHost central peripheral turns
@@ -31,14 +32,14 @@ pub fn links_stay_linked_turn_by_turn()
     air_frame::laws::packet_tells_its_pdu();
 }
 
-/// After any list of turns the counts of two open ends agree. While the link lasts at both they have
-/// equal parameters in events of one number in which the same number of indications hold, and at
-/// most ten control PDUs wait at each. In no turn does a procedure end the link at the central; one
-/// of the peripheral ends it only with 0x28, where the Instant of the last indication that the
-/// central sent has passed there. So at the end of a turn an end is shut with 0x16, with the code of
-/// the peer, or a peripheral with 0x28, and at the start of a turn since a time has passed: never
-/// with 0x07, 0x23 or 0x2A, but where the host of the peer ended it with that (Core 5.2, volume 6
-/// part B, sections 4.5.9, 5.1.6, 5.3 and 5.5).
+/// After any list of turns the counts of two open ends agree. While the link lasts at both, they
+/// have equal parameters in events of one number in which the same number of indications hold, and
+/// at most ten control PDUs wait at each. In no turn does a procedure end the link at the central;
+/// one ends it at the peripheral only with 0x28, where the Instant of the last indication that the
+/// central sent has passed there. So at the end of a turn an end is shut with 0x16 or with the code
+/// of its peer, or a peripheral with 0x28; and at the start of a turn because a time has passed. No
+/// end is shut with 0x07, 0x23 or 0x2A, unless LL_TERMINATE_IND of its peer has that code (Core 5.2,
+/// volume 6 part B, sections 4.5.9, 5.1.6, 5.3 and 5.5).
 pub fn each_link_is_sound()
     ensures agreement { (central peripheral : Setup) (turns : List Given) (c p : Facts)
         → AreEnds central peripheral → MayAllHost central peripheral turns

@@ -25,8 +25,8 @@ pub fn a_peripheral_ends_a_link()
 {}
 
 /// The host of the central ends the link in slot 10. In slot 26 the peripheral takes
-/// LL_TERMINATE_IND and answers, and both ends are shut. Where the answer is lost, the central hears
-/// nothing more, and is shut as the supervision timeout of 720 ms has passed since slot 2.
+/// LL_TERMINATE_IND and answers, and both ends are shut. Where the answer is lost, the central
+/// hears nothing more, and is shut when the supervision timeout of 720 ms has passed since slot 2.
 pub fn a_central_ends_a_link()
     ensures shut { ends_by (central_leaves true 26) ≡ none_open }
     ensures peripheral { (ends_by (central_leaves false 26)).peripheral ≡ None }
@@ -35,12 +35,13 @@ pub fn a_central_ends_a_link()
 {}
 
 /// The host of the central asks for other parameters in slot 10. All packets are lost up to slot
-/// 169, and the peripheral takes LL_CONNECTION_UPDATE_IND in slot 170, the anchor of its Instant: so
-/// the parameters hold there from slot 194 on. Where all are lost up to slot 193, the peripheral
-/// takes it in slot 194, and is shut with 0x28.
+/// 169, and the peripheral takes LL_CONNECTION_UPDATE_IND in slot 170, the anchor of its Instant;
+/// so the parameters hold there from slot 194 on. Where all packets are lost up to slot 193, the
+/// peripheral takes it in slot 194, and is shut with 0x28.
 pub fn an_update_comes_too_late()
     ensures in_time { applied (ends_by (update_asked 169 ++ calm 25)).peripheral ≡ Some 1 }
-    ensures late { ended_with (ends_before (update_asked 193) (turn_with [] [] true true)).peripheral
+    ensures late { ended_with
+        (ends_before (update_asked 193) (turn_with [] [] true true)).peripheral
         ≡ Some (Some (record { 0 = 0x28 })) }
     ensures shut { (ends_by (update_asked 193 ++ calm 1)).peripheral ≡ None }
     ensures goes_on { is_some (ends_by (update_asked 193 ++ calm 1)).central ≡ true }

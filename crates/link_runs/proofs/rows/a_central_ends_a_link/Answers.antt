@@ -1,18 +1,18 @@
 -- The rows of `a_central_ends_a_link` compute.
 use Rattle.std.proofs.Common.{refl}
 use Rattle.air_frame.specs.Hearing.{heard_in}
-use Rattle.ble_base.specs.ChannelMap.{data_channels, used_channels}
 use Rattle.chan_select.specs.Channel.{channel_of}
 use Rattle.chan_select.specs.PseudoRandom.{mam, perm, prn, reversed_octet, stage}
 use Rattle.data_pdu.specs.Reading.{ctrl_of}
 use Rattle.data_pdu.specs.Layouts.{makers}
 use Rattle.frame_bits.specs.Crc.{crc, crc_octets, crc_of_bits, remainder}
-use Rattle.frame_bits.specs.Whitening.{mask_of, next_mask, whitening_bit, whitening_of}
+use Rattle.frame_bits.specs.Whitening.{mask_of, whitening_bit, whitening_of}
 use Rattle.wire_fields.specs.Field.{little_endian}
 use Rattle.controlled_link.specs.Packets.{good_pdu, packet_sent}
 use Rattle.controlled_link.specs.Receiving.{replies_of}
 use Rattle.link_runs.proofs.rows.a_central_ends_a_link.Goals as goal
 
 pub returns : goal.returns
-unfolding heard_in crc crc_octets crc_of_bits remainder mask_of next_mask whitening_bit whitening_of ctrl_of makers little_endian channel_of mam perm prn reversed_octet stage used_channels data_channels good_pdu packet_sent replies_of
+unfolding heard_in crc crc_octets crc_of_bits remainder mask_of whitening_bit whitening_of ctrl_of makers little_endian channel_of mam perm prn
+    reversed_octet stage good_pdu packet_sent replies_of
 returns c = record { shut = refl; peripheral = refl; central = refl; timeout = refl }

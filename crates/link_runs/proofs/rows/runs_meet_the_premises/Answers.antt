@@ -8,7 +8,7 @@ use Rattle.chan_select.specs.PseudoRandom.{mam, perm, prn, reversed_octet, stage
 use Rattle.data_pdu.specs.Reading.{ctrl_of}
 use Rattle.data_pdu.specs.Layouts.{makers}
 use Rattle.frame_bits.specs.Crc.{crc, crc_octets, crc_of_bits, remainder}
-use Rattle.frame_bits.specs.Whitening.{mask_of, next_mask, whitening_bit, whitening_of}
+use Rattle.frame_bits.specs.Whitening.{mask_of, whitening_bit, whitening_of}
 use Rattle.wire_fields.specs.Field.{little_endian}
 use Rattle.controlled_link.specs.Packets.{good_pdu, packet_sent}
 use Rattle.controlled_link.specs.Receiving.{replies_of}
@@ -62,7 +62,8 @@ returns-clause-peripheral_ends g =
 
 -- the central has begun no procedure by slot 10
 asking : MayHostEnd (central_with 0) (asks_update ∷ []) (ends_by (calm 9)).central
-unfolding heard_in crc crc_octets crc_of_bits remainder mask_of next_mask whitening_bit whitening_of ctrl_of makers little_endian channel_of mam perm prn reversed_octet stage used_channels data_channels good_pdu packet_sent replies_of
+unfolding heard_in crc crc_octets crc_of_bits remainder mask_of whitening_bit whitening_of ctrl_of makers little_endian channel_of mam perm prn
+    reversed_octet stage good_pdu packet_sent replies_of
 asking = (
   record {
     in_range =
