@@ -53,9 +53,9 @@ pub(crate) fn code_of(told: &String, word: &str) -> ErrCode {
 pub(crate) fn take(end: &mut End, call: Call<'_>, told: &mut String) -> Result<(), AllocError> {
     let [first, second, ..] = call.words;
     match call.name {
-        "ask" => end.link.ask(ask_named(first)),
-        "grant" => end.link.host_answer(Ok(ask_named("update"))),
-        "refuse" => end.link.host_answer(Err(code_of(told, first))),
+        "ask" => end.ask(ask_named(first)),
+        "grant" => end.answer(Ok(ask_named("update"))),
+        "refuse" => end.answer(Err(code_of(told, first))),
         "end" => end.finish(code_of(told, first), slot(second)),
         _ => return look(end, call, told),
     }

@@ -1,5 +1,6 @@
 //! One end of a link, with its buffers and what it notes.
 ghost use Rattle.std.specs.Prelude.{◌≡◌, ◌<◌, ◌≤◌, ◌^◌, IsTrue, None};
+ghost use Rattle.std.specs.Result.{ForOk};
 ghost use Rattle.arrayvec.specs.ArrayVec.{array_vec_len};
 ghost use Rattle.acl_banks.specs.Banks.{Bank, packet_out};
 ghost use Rattle.adv_pdu.specs.Ranges.{IsInRange};
@@ -13,7 +14,7 @@ use adv_pdu::ConnectFields;
 use arrayvec::ArrayVec;
 use ble_base::{AIR_PACKET_OCTETS, Address, ChannelMap, ErrCode, Outbox, Role, SlotNo};
 use controlled_end::{LinkEnd, LinkSetup, LinkStep};
-use procedures::Effect;
+use procedures::{Ask, Effect};
 use std::alloc::{AllocError, Global};
 use std::marker::Model;
 
@@ -216,6 +217,20 @@ impl End {
             None => false,
             Some(step) => step.reply,
         }
+    }
+
+    /// The host asks for a procedure.
+    pub(crate) fn ask(&mut self, ask: Ask)
+        requires { IsAsk ask }
+    {
+        self.link.ask(ask);
+    }
+
+    /// The host answers a request of the peer.
+    pub(crate) fn answer(&mut self, answer: Result<Ask, ErrCode>)
+        requires { ForOk answer IsAsk }
+    {
+        self.link.host_answer(answer);
     }
 
     /// The host ends the link in this slot.

@@ -66,28 +66,29 @@ impl Pair {
     /// Goes through a turn, and writes what both ends noted and why they end.
     fn take_turn(&mut self, call: Call<'_>, told: &mut String) -> Result<(), AllocError> {
         let [first, second, ..] = call.words;
-        self.exchange(slot(call.name), first == "x", second == "x");
+        let (a, b, slot) = (&mut self.a, &mut self.b, slot(call.name));
+        exchange(a, b, slot, first == "x", second == "x");
         put_turn(told, " a", &mut self.a)?;
         put_turn(told, " b", &mut self.b)
     }
+}
 
-    /// Both ends enter their events, and A sends. B hears it, unless that is lost, and may answer.
-    fn exchange(&mut self, slot: u32, loses_first: bool, loses_second: bool) {
-        self.a.begin_turn(slot);
-        self.b.begin_turn(slot);
-        if !self.a.is_in(slot) {
-            return;
-        }
-        let packet = self.a.send(slot);
-        if loses_first || !self.b.is_in(slot) {
-            return;
-        }
-        self.b.hear(packet.as_slice(), slot);
-        if self.b.replies() {
-            let reply = self.b.send(slot);
-            if !loses_second {
-                self.a.hear(reply.as_slice(), slot);
-            }
+/// Both ends enter their events, and A sends. B hears it, unless that is lost, and may answer.
+fn exchange(a: &mut End, b: &mut End, slot: u32, loses_first: bool, loses_second: bool) {
+    a.begin_turn(slot);
+    b.begin_turn(slot);
+    if !a.is_in(slot) {
+        return;
+    }
+    let packet = a.send(slot);
+    if loses_first || !b.is_in(slot) {
+        return;
+    }
+    b.hear(packet.as_slice(), slot);
+    if b.replies() {
+        let reply = b.send(slot);
+        if !loses_second {
+            a.hear(reply.as_slice(), slot);
         }
     }
 }

@@ -45,9 +45,9 @@ fn count(end: &mut End, tally: &mut Tally) {
 fn call(end: &mut End, tally: &mut Tally, slot: u32) {
     let value = octet(&mut tally.state);
     match octet(&mut tally.state) % 64 {
-        0..=23 => end.link.ask(ask_named(ASKS[usize::from(value % 8)])),
-        24..=27 => end.link.host_answer(Ok(ask_named("update"))),
-        28..=31 => end.link.host_answer(Err(ErrCode(value))),
+        0..=23 => end.ask(ask_named(ASKS[usize::from(value % 8)])),
+        24..=27 => end.answer(Ok(ask_named("update"))),
+        28..=31 => end.answer(Err(ErrCode(value))),
         32 => end.finish(ErrCode(value), slot),
         33..=47 => {
             end.give(&[value; 40]);
