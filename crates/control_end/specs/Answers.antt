@@ -1,6 +1,6 @@
 -- What each call on the control part of one end answers; nothing once it ended the link (Core 5.2, volume 6 part B,
 -- sections 5.1, 5.2 and 5.5).
-use Rattle.std.specs.Prelude.{ℕ, Bool, ◌&&◌, Option, None, is_some, is_none, if◌then◌else◌}
+use Rattle.std.specs.Prelude.{ℕ, Bool, true, false, ◌&&◌, Option, Some, None, is_some, is_none, if◌then◌else◌}
 use Rattle.ble_base.specs.declared.error_codes.ErrCode.{ErrCode}
 use Rattle.ble_base.specs.declared.procedure_kinds.Kind.{Kind}
 use Rattle.ble_base.specs.declared.roles.Role.{Role}
@@ -8,6 +8,8 @@ use Rattle.ble_base.specs.declared.roles.Role.TheVariants.{Central, Peripheral}
 use Rattle.data_pdu.specs.declared.ctrl.Ctrl.{Ctrl}
 use Rattle.data_pdu.specs.declared.ctrl.CtrlRead.{CtrlRead}
 use Rattle.instants.specs.declared.indications.Indication.{Indication}
+use Rattle.instants.specs.declared.indications.Indication.TheVariants.{Map, Update}
+use Rattle.instants.specs.declared.track.Change.{Change}
 use Rattle.instants.specs.Track.{next_number}
 use Rattle.procedure_values.specs.Drafts.{is_out}
 use Rattle.procedure_stages.specs.declared.steps.Effect.{Effect}
@@ -33,7 +35,16 @@ goes_on h = is_none h.ends
 -- ---- an event is entered
 
 abbrev pub no_entry : Entry
-no_entry = record { applied = None; done = None; began = None }
+no_entry = record { applied = None; updated = false; done = None; began = None }
+
+-- the indication that waits is an update of the parameters (section 5.1.1)
+abbrev pub is_update : Indication → Bool
+is_update (Update win_offset interval latency timeout instant) = true
+is_update (Map map instant) = false
+
+abbrev pub is_update_waiting : Option Change → Bool
+is_update_waiting None = false
+is_update_waiting (Some change) = is_update change.indication
 
 -- the table as the event is entered, and the procedure that is done
 abbrev pub entry_step : Held → TableFacts × Option Kind
@@ -44,6 +55,7 @@ entry_of slot quiet h =
     (if goes_on h
     then record {
       applied = next_number h.track;
+      updated = is_some (next_number h.track) && is_update_waiting h.track.waits;
       done = (entry_step h).1;
       began = (begin_step (entry_step h).0 slot quiet).1;
     }

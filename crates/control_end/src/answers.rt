@@ -1,8 +1,10 @@
 //! What an end answers as an event is entered, and as a control PDU is taken.
 ghost use Rattle.std.specs.Prelude.{◌≡◌};
-ghost use Rattle.control_end.specs.Answers.{no_entry, nothing_taken, effect_shown, step_shown};
+ghost use Rattle.control_end.specs.Answers.{effect_shown, is_update_waiting, no_entry};
+ghost use Rattle.control_end.specs.Answers.{nothing_taken, step_shown};
 
 use ble_base::{ErrCode, Kind};
+use instants::{Change, Indication};
 use procedures::{Effect, Step};
 
 /// What comes of an event that is entered, in this order.
@@ -11,6 +13,8 @@ pub struct Entry {
     /// The number of the indication that holds from this event on, counted from 1 (Core 5.2, volume
     /// 6 part B, section 5.5).
     pub applied: Option<u64>,
+    /// Whether that is an update of the parameters (Core 5.2, volume 6 part B, section 5.1.1).
+    pub updated: bool,
     /// The procedure of this end that is done by it.
     pub done: Option<Kind>,
     /// The procedure of this end that begins.
@@ -30,12 +34,23 @@ pub struct Taken {
     pub done: Option<Kind>,
 }
 
+/// Whether the indication that waits is an update of the parameters.
+pub(crate) fn is_update_waiting(waits: Option<Change>) -> bool
+    ensures { result ≡ is_update_waiting waits }
+{
+    match waits {
+        Some(change) => matches!(change.indication, Indication::Update { .. }),
+        None => false,
+    }
+}
+
 /// Nothing holds, is done or begins.
 pub(crate) fn no_entry() -> Entry
     ensures { result ≡ no_entry }
 {
     Entry {
         applied: None,
+        updated: false,
         done: None,
         began: None,
     }

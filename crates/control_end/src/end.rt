@@ -9,7 +9,7 @@ ghost use Rattle.control_model.specs.Control.{Step, first_control};
 ghost use Rattle.control_end.specs.Answers.{entry_of, goes_on, timeout_of};
 ghost use Rattle.control_end.specs.Held.{held_after, held_of};
 
-use crate::answers::{Entry, no_entry};
+use crate::answers::{Entry, is_update_waiting, no_entry};
 use ble_base::{ErrCode, EventNo, Role, SlotNo};
 use instants::{ParamTrack, Params};
 use procedures::ProcTable;
@@ -72,11 +72,13 @@ impl ControlEnd {
         if self.ends.is_some() {
             return no_entry();
         }
+        let is_update = is_update_waiting(self.track.waiting());
         let applied = self.track.enter();
         let done = self.table.entered(applied.is_some());
         let began = self.table.begin(slot, quiet);
         Entry {
             applied,
+            updated: applied.is_some() && is_update,
             done,
             began,
         }
