@@ -42,6 +42,7 @@ fn an_update_holds_at_both_ends(rt: HostRuntime) {
     peripheral.enter(SlotNo(2), true);
     let nothing = Entry {
         applied: None,
+        updated: false,
         done: None,
         began: None,
     };
@@ -71,6 +72,7 @@ fn an_update_holds_at_both_ends(rt: HostRuntime) {
     // From event 6 on both have the new one.
     let held = Entry {
         applied: Some(1),
+        updated: true,
         ..nothing
     };
     let done = Entry {
