@@ -32,6 +32,7 @@ fn no_entry() -> Entry
 {
     Entry {
         applied: None,
+        updated: false,
         done: None,
         began: None,
     }
