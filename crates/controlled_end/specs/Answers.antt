@@ -20,7 +20,7 @@ acked_received None facts = None
 acked_received (Some pdu) facts =
     acked_kind (acks_control (has_acknowledged facts (header_in pdu)) facts) facts
 
--- the same of octets on its channel
+-- the procedure of this end that octets on its channel complete, by what they acknowledge
 unfoldable pub acked_of : Setup → Facts → List ℕ → Option Kind
 acked_of setup facts octets = acked_received (good_pdu setup facts octets) facts
 
@@ -35,6 +35,6 @@ abbrev pub given_received : Role → ℕ → Bool → Option (List ℕ) → Fact
 given_received role slot room None facts = nothing_taken
 given_received role slot room (Some pdu) facts = given_hearing role slot room (header_in pdu) (pdu_of pdu) facts
 
--- the same of octets on its channel
+-- what the procedures give for the PDU in octets on its channel
 unfoldable pub given_of : Setup → Facts → ℕ → List ℕ → Bool → Taken
 given_of setup facts slot octets room = given_received setup.link.role slot room (good_pdu setup facts octets) facts

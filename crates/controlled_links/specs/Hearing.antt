@@ -17,6 +17,6 @@ step_hearing slot octets room link =
       acked = acked_of link.setup (facts_in link) octets;
     }
 
--- the same of the link that may be under a handle, once it entered an event
+-- what the link that may be under a handle does with octets that it hears, once it entered an event
 abbrev pub step_at : ℕ → List ℕ → Bool → Option OpenLink → Option LinkStep
 step_at slot octets room place = option_map (step_hearing slot octets room) (in_event place)

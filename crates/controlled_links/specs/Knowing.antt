@@ -23,7 +23,7 @@ pub record KnowsLink (held : HeldLink) (link : OpenLink) : Type 0 where
   pub end : KnowsEnd link.setup held.end link.past
   pub served : held.last_served ≡ link.last_served
 
--- the same of the link that may be in a place
+-- the code knows the link that may be in a place
 abbrev pub KnowsPlace : Option HeldLink → Option OpenLink → Type 0
 KnowsPlace None None = ⊤
 KnowsPlace (Some held) (Some link) = KnowsLink held link
@@ -78,7 +78,7 @@ pub record BankStep (change : OpenLink → OpenLink) (link : OpenLink) (before a
   pub holds : HoldsData link.setup.link.handle before (facts_in link).outgoing
       → HoldsData link.setup.link.handle after (facts_in (change link)).outgoing
 
--- the same of the link that may be under a handle
+-- the bank goes as a change of the link that may be under a handle says
 abbrev pub BankGoes : (OpenLink → OpenLink) → Option OpenLink → Bank → Bank → Type 0
 BankGoes change None before after = after ≡ before
 BankGoes change (Some link) before after = BankStep change link before after
@@ -94,7 +94,7 @@ pub record CanHear (slot : ℕ) (bank : Bank) (held : Held) : Type 0 where
   pub counts : credits_of bank held.setup.link.handle < 65535
   pub before : IsBefore held slot
 
--- the same of the link that may be under a handle
+-- the link that may be under a handle can hear in a slot
 abbrev pub CanHearIn : ℕ → Bank → Option HeldLink → Type 0
 CanHearIn slot bank None = ⊤
 CanHearIn slot bank (Some held) = CanHear slot bank held.end
@@ -120,7 +120,7 @@ pub record Enters (new : HeldLink) (link : OpenLink) (slot : ℕ) (before noted 
   pub entry : given ≡ entry_at slot (Some link)
   pub wants_radio : wants ≡ wants_entering slot link
 
--- the same of the link that may be under a handle, with what it adds to the plan
+-- the link that may be under a handle enters its event, with what it adds to the plan
 pub record EntersPlace (new : Option HeldLink) (place : Option OpenLink) (slot handle : ℕ) (before noted : List Note)
     (given : Option Entry) (wanted wants : List Want) : Type 0 where
   pub knows : KnowsPlace new (option_map (link_entered slot) place)

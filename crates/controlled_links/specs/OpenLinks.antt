@@ -32,7 +32,7 @@ abbrev pub link_from : ℕ → ℕ → Links → Option OpenLink
 link_from first handle [] = None
 link_from first handle (place ∷ links) = if first == handle then place else link_from (first + 1) handle links
 
--- the same of all links
+-- the link that may be under a handle
 abbrev pub link_at : ℕ → Links → Option OpenLink
 link_at handle links = link_from 0 handle links
 

@@ -9,7 +9,7 @@ pub record IsWithin (slot count : ℕ) (link : OpenLink) : Type 0 where
   pub heard : IfSome (facts_in link).last_good (λ good. good.slot < slot)
   pub complete : complete_in link ≤ count
 
--- the same of the link that may be under a handle
+-- the link that may be under a handle is within a slot and a count
 abbrev pub IsWithinAt : ℕ → ℕ → Option OpenLink → Type 0
 IsWithinAt slot count None = ⊤
 IsWithinAt slot count (Some link) = IsWithin slot count link

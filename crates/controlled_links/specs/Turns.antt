@@ -35,7 +35,7 @@ abbrev pub staying_by : Option ℕ → OpenLink → Option OpenLink
 staying_by None link = Some link
 staying_by (Some code) link = None
 
--- the same of the link that may be under a handle
+-- the place of the link that may be under a handle, empty where there is a reason to end it
 abbrev pub place_without : (OpenLink → Option ℕ) → Option OpenLink → Option OpenLink
 place_without reason place = option_and_then (λ link. staying_by (reason link) link) place
 
