@@ -11,7 +11,7 @@ use Rattle.acl_banks.specs.Banks.{Bank, bank_after_acked, bank_after_credited, b
 use Rattle.acl_banks.proofs.Order.{is_left, is_out}
 use Rattle.acl_banks.proofs.AllLinks.{other-acked, other-completed, other-drop, other-went, own-acked, own-completed, own-left, own-offer, own-offer-other, own-out, own-went}
 use Rattle.link_model.specs.Acknowledgement.{Pdu}
-use Rattle.link_model.specs.Data.{Data, data_acked_if, data_given, data_reported, data_sent_if, is_data, next_piece, pdu_with, unsent_of, is_completed as is_done}
+use Rattle.link_model.specs.Data.{Data, data_acked_if, data_given, data_reported, data_sent_if, is_data, pdu_with, unsent_of, is_completed as is_done}
 use Rattle.link_end.specs.Tied.{HoldsData, IsAfterAck, LeavesOthers, bank_went_if}
 
 -- ---- what a bank has under the handle is what waits
@@ -19,11 +19,6 @@ use Rattle.link_end.specs.Tied.{HoldsData, IsAfterAck, LeavesOthers, bank_went_i
 module _ (handle : ℕ) (bank : Bank) (outgoing : Data) (holds : HoldsData handle bank outgoing) where
   pub cut_same : (count : ℕ) → bank_next bank handle count ≡ option_map (piece_of count) (find is_left outgoing.packets)
   cut_same count = ap (option_map (piece_of count)) (own-left bank.packets handle ∙ ap (find is_left) holds.packets)
-
-  pub next_same : outgoing.limit ≡ 27 → bank_next bank handle 27 ≡ next_piece outgoing
-  next_same limit =
-      cut_same 27
-      ∙ ap (λ n. option_map (piece_of n) (find is_left outgoing.packets)) (sym limit)
 
   pub unsent_same : bank_unsent bank handle ≡ unsent_of outgoing
   unsent_same = ap (λ packets. flat_map unsent_octets packets) holds.packets

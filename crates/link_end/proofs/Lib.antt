@@ -1,4 +1,15 @@
 -- The lemmas of this crate.
 pub mod Banked
-pub mod Tying
+pub mod Counting
+pub mod Entered
+pub mod Events
+pub mod Fixed
+pub mod Heard
+pub mod Hosted
 pub mod Keeping
+pub mod Lengths
+pub mod Received
+pub mod Receptions
+pub mod Sent
+pub mod Sounds
+pub mod Tying

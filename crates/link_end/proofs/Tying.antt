@@ -1,5 +1,5 @@
 -- The calls on an end keep it tied to the bank.
-use Rattle.std.proofs.Common.{◌≡◌, ◌≢◌, ℕ, ◌<◌, ◌≤◌, IfSome, arith, Bool, true, false, not, ◌&&◌, ◌||◌, is_some, length, List, [], ◌∷◌, Option, Some, None, refl, ap, sym, ◌∙◌, subst, if◌then◌else◌}
+use Rattle.std.proofs.Common.{◌≡◌, ◌≢◌, ℕ, ◌+◌, ◌<◌, ◌≤◌, IfSome, arith, Bool, true, false, not, ◌&&◌, ◌||◌, is_some, length, List, [], ◌∷◌, Option, Some, None, refl, ap, sym, ◌∙◌, subst, if◌then◌else◌}
 use Rattle.std.specs.List.{find}
 use Rattle.std.specs.Option.{option_map, option_or}
 use Rattle.std.proofs.lemmas.List.Folds.{find-append}
@@ -9,14 +9,45 @@ use Rattle.acl_banks.specs.Packets.{DataPacket, has_unsent, new_packet, piece_of
 use Rattle.acl_banks.proofs.AllLinks.{out-offer, own-left, own-out}
 use Rattle.acl_banks.proofs.Octets.{piece-again}
 use Rattle.acl_banks.proofs.Order.{is_left, is_out}
+use Rattle.data_pdu.specs.declared.ctrl.Ctrl.{Ctrl}
+use Rattle.control_end.specs.Answers.{next_ctrl}
 use Rattle.link_model.specs.declared.events.Reception.{Reception}
 use Rattle.link_model.specs.declared.setup.LinkSetup.{LinkSetup}
 use Rattle.link_model.specs.Acknowledgement.{Pdu, empty_pdu}
-use Rattle.link_model.specs.Data.{is_data, pdu_with}
+use Rattle.link_model.specs.Data.{is_control, is_data, pdu_with}
+use Rattle.link_model.specs.Controls.{pdu_of_control}
+use Rattle.link_end.specs.Held.{Held, quiet_now}
+use Rattle.link_end.specs.Entering.{held_entered, held_entered_if}
+use Rattle.link_end.specs.Fixing.{control_is_next, data_goes, held_fixed, pdu_fixed_by}
 use Rattle.link_end.specs.declared.pdus.Got.{Got}
-use Rattle.link_end.specs.Held.{Held, acks_piece, carries_next, held_fixed, held_hearing, held_sent}
+use Rattle.link_end.specs.Receiving.{acks, acks_piece, answers_with_control, held_acked_if, held_heard, held_received}
+use Rattle.link_end.specs.Sending.{carries_next, held_gone, held_gone_if, held_out, takes_leave}
 use Rattle.link_end.specs.Tied.{IsAfterAck, IsBefore, IsTied, LeavesOthers, bank_went_if}
 use Rattle.link_end.proofs.Banked.{data_has_octets, next_after_acked, next_is_some, went_is_out}
+
+-- where the fixed PDU is data, it is the next piece, cut at its own length
+abbrev IsNext : Bank → ℕ → Pdu → Type 0
+IsNext bank handle fixed = is_data fixed ≡ true → pdu_with (next_piece bank handle (length fixed.body)) ≡ fixed
+
+-- a PDU that is no data is no piece
+not_next : (bank : Bank) (handle : ℕ) (fixed : Pdu) → is_data fixed ≡ false → IsNext bank handle fixed
+not_next bank handle fixed is holds = let no : ◌≡◌ {A = Bool} false true = sym is ∙ holds in absurd cc
+
+control_no_data : (control : Option Ctrl) → is_data (pdu_of_control control) ≡ false
+control_no_data None = refl
+control_no_data (Some ctrl) = refl
+
+-- ---- it enters an event
+
+tied_choice : (b : Bool) (one other : Held) (bank : Bank) → IsTied one bank → IsTied other bank → IsTied (if b then one else other) bank
+tied_choice true one other bank is also = is
+tied_choice false one other bank is also = also
+
+pub entered_tied : (goes : Bool) (slot : ℕ) (held new : Held) (bank : Bank) → new ≡ held_entered_if goes slot held → IsTied held bank
+    → IsTied new bank
+entered_tied goes slot held new bank is tied =
+    subst (λ (h : Held). IsTied h bank) (sym is)
+    (tied_choice goes (held_entered slot held) held bank (record { out = tied.out; next = tied.next }) tied)
 
 -- ---- it fixes a PDU
 
@@ -27,12 +58,38 @@ cut_again : (limit : ℕ) (found : Option DataPacket)
 cut_again limit None = refl
 cut_again limit (Some packet) = ap (λ piece. pdu_with (Some piece)) (piece-again limit packet)
 
-pub fixed_tied : (limit : ℕ) (more : Bool) (held new : Held) (bank : Bank)
-    → new ≡ held_fixed (next_piece bank held.setup.link.handle limit) more held → IsTied held bank → IsTied new bank
-fixed_tied limit more held new bank is tied =
+next_fixed : (control goes : Bool) (handle limit : ℕ) (bank : Bank)
+    → IsNext bank handle (pdu_fixed_by control goes (next_piece bank handle limit))
+next_fixed true goes handle limit bank = not_next bank handle empty_pdu refl
+next_fixed false false handle limit bank = not_next bank handle empty_pdu refl
+next_fixed false true handle limit bank = λ holds. cut_again limit (find (has_unsent handle) bank.packets)
+
+pub fixed_tied : (limit : ℕ) (left : Bool) (held new : Held) (bank : Bank)
+    → new ≡ held_fixed (next_piece bank held.setup.link.handle limit) left held → IsTied held bank → IsTied new bank
+fixed_tied limit left held new bank is tied =
     let handle = held.setup.link.handle in
     subst (λ (h : Held). IsTied h bank) (sym is)
-    (record { out = tied.out; next = λ holds. cut_again limit (find (has_unsent handle) bank.packets) })
+    (tied_choice (is_control held.fixed) _ _ bank tied
+    (record { out = tied.out; next = next_fixed (control_is_next held) (data_goes held) handle limit bank }))
+
+-- ---- a control PDU leaves the queue
+
+next_gone : (goes fixes : Bool) (control : Option Ctrl) (bank : Bank) (handle : ℕ) (fixed : Pdu) → IsNext bank handle fixed
+    → IsNext bank handle (if goes then (if fixes then pdu_of_control control else fixed) else fixed)
+next_gone true true control bank handle fixed next = not_next bank handle (pdu_of_control control) (control_no_data control)
+next_gone true false control bank handle fixed next = next
+next_gone false fixes control bank handle fixed next = next
+
+tied_gone : (goes : Bool) (slot : ℕ) (held : Held) (bank : Bank) → IsTied held bank → IsTied (held_gone_if goes slot held) bank
+tied_gone goes slot held bank tied =
+    record {
+      out = tied.out;
+      next = next_gone goes held.fixes_control (next_ctrl quiet_now held.control) bank held.setup.link.handle held.fixed tied.next;
+    }
+
+pub gone_tied : (slot : ℕ) (held new : Held) (bank : Bank) → new ≡ held_gone slot held → IsTied held bank → IsTied new bank
+gone_tied slot held new bank is tied =
+    subst (λ (h : Held). IsTied h bank) (sym is) (tied_gone (takes_leave held) slot held bank tied)
 
 -- ---- it sends
 
@@ -46,16 +103,13 @@ out_sent handle bank true true waits fixed last is_fixed is_last next out =
 out_sent handle bank true false waits fixed last is_fixed is_last next out = out ∙ sym is_fixed
 out_sent handle bank false carries waits fixed last is_fixed is_last next out = out ∙ sym is_last
 
-next_sent : (handle : ℕ) (bank : Bank) (is_acked carries : Bool) (fixed : Pdu)
-    → (is_data fixed ≡ true → pdu_with (next_piece bank handle (length fixed.body)) ≡ fixed)
-    → let left = (if is_acked then empty_pdu else fixed) in
-    is_data left ≡ true
-    → pdu_with (next_piece (bank_went_if (is_acked && carries) bank handle (length fixed.body)) handle (length left.body)) ≡ left
+next_sent : (handle : ℕ) (bank : Bank) (is_acked carries : Bool) (fixed : Pdu) → IsNext bank handle fixed
+    → IsNext (bank_went_if (is_acked && carries) bank handle (length fixed.body)) handle (if is_acked then empty_pdu else fixed)
 next_sent handle bank true carries fixed next holds = absurd cc
 next_sent handle bank false carries fixed next holds = next holds
 
 tied_sent : (slot : ℕ) (held : Held) (bank : Bank) → IsTied held bank
-    → IsTied (held_sent slot held) (bank_went_if (carries_next held) bank held.setup.link.handle (length held.fixed.body))
+    → IsTied (held_out slot held) (bank_went_if (carries_next held) bank held.setup.link.handle (length held.fixed.body))
 tied_sent slot held bank tied =
     let handle = held.setup.link.handle in
     record {
@@ -64,11 +118,11 @@ tied_sent slot held bank tied =
       next = next_sent handle bank held.is_acked (is_data held.fixed) held.fixed tied.next;
     }
 
-pub sent_tied : (slot : ℕ) (held new : Held) (before after : Bank) → new ≡ held_sent slot held
+pub sent_tied : (slot : ℕ) (held new : Held) (before after : Bank) → new ≡ held_out slot held
     → after ≡ bank_went_if (carries_next held) before held.setup.link.handle (length held.fixed.body) → IsTied held before → IsTied new after
 sent_tied slot held new before after is bank tied =
     subst (λ (h : Held). IsTied h after) (sym is)
-    (subst (IsTied (held_sent slot held)) (sym bank) (tied_sent slot held before tied))
+    (subst (IsTied (held_out slot held)) (sym bank) (tied_sent slot held before tied))
 
 -- ---- it receives
 
@@ -88,22 +142,45 @@ next_kept handle count before after true ack =
 next_kept handle count before after false ack = ap (λ (b : Bank). next_piece b handle count) ack.bank
 
 tied_heard : (slot : ℕ) (room : Bool) (got : Option Got) (held : Held) (before after : Bank) → IsTied held before
-    → IsAfterAck (acks_piece got held) held.setup.link.handle before after → IsTied (held_hearing slot room got held) after
+    → IsAfterAck (acks_piece got held) held.setup.link.handle before after → IsTied (held_received slot room got held) after
 tied_heard slot room None held before after tied ack = subst (IsTied held) (sym ack.bank) tied
 tied_heard slot room (Some got) held before after tied ack =
     let handle = held.setup.link.handle in
+    let now = held_acked_if (acks held got.header) (held_heard slot got.header.md held) in
     record {
       out = out_heard handle before after (acknowledges held.bits got.header) held.is_acked (is_data held.last) ack tied.out;
-      next = λ holds.
-          ap pdu_with (next_kept handle (length held.fixed.body) before after (acks_piece (Some got) held) ack) ∙ tied.next holds;
+      next = next_gone (answers_with_control held.setup.link.role now) now.fixes_control (next_ctrl quiet_now now.control) after handle held.fixed
+          (λ holds. ap pdu_with (next_kept handle (length held.fixed.body) before after (acks_piece (Some got) held) ack) ∙ tied.next holds);
     }
 
-pub heard_tied : (slot : ℕ) (room : Bool) (got : Option Got) (held new : Held) (before after : Bank) → new ≡ held_hearing slot room got held
+pub heard_tied : (slot : ℕ) (room : Bool) (got : Option Got) (held new : Held) (before after : Bank) → new ≡ held_received slot room got held
     → IsAfterAck (acks_piece got held) held.setup.link.handle before after → IsTied held before → IsTied new after
 heard_tied slot room got held new before after is ack tied =
     subst (λ (h : Held). IsTied h after) (sym is) (tied_heard slot room got held before after tied ack)
 
--- ---- what is done beside it
+heard_same : (slot : ℕ) (room : Bool) (got : Option Got) (held : Held) → (held_received slot room got held).setup ≡ held.setup
+heard_same slot room None held = refl
+heard_same slot room (Some got) held = refl
+
+pub heard_setup : (slot : ℕ) (room : Bool) (got : Option Got) (held new : Held) → new ≡ held_received slot room got held
+    → new.setup ≡ held.setup
+heard_setup slot room got held new is = ap (λ (h : Held). h.setup) is ∙ heard_same slot room got held
+
+heard_in_slot : (slot : ℕ) (room : Bool) (got : Option Got) (held : Held) → IsBefore held slot
+    → IsBefore (held_received slot room got held) (slot + 1)
+heard_in_slot slot room None held before = by held.last_good before
+  where
+    by : (last : Option Reception) → IfSome last (λ good. good.slot < slot) → IfSome last (λ good. good.slot < slot + 1)
+    by None before = tt
+    by (Some good) before = omega (arith, before)
+heard_in_slot slot room (Some got) held before = omega arith
+
+pub heard_before : (slot : ℕ) (room : Bool) (got : Option Got) (held new : Held) → new ≡ held_received slot room got held
+    → IsBefore held slot → IsBefore new (slot + 1)
+heard_before slot room got held new is before =
+    subst (λ (h : Held). IsBefore h (slot + 1)) (sym is) (heard_in_slot slot room got held before)
+
+-- ---- what is done besides
 
 -- a new end has nothing out and nothing fixed
 pub new_tied : (link : LinkSetup) (held : Held) (bank : Bank) → held.setup.link ≡ link → held.last ≡ empty_pdu → held.fixed ≡ empty_pdu
@@ -112,10 +189,9 @@ new_tied link held bank here last fixed none =
     let is_none : is_some (packet_out bank held.setup.link.handle) ≡ false =
     ap (λ (l : LinkSetup). is_some (packet_out bank l.handle)) here ∙ ap is_some none in
     let no_last : is_data held.last ≡ false = ap is_data last in
-    let no_fixed : is_data held.fixed ≡ false = ap is_data fixed in
     record {
       out = is_none ∙ sym (nothing (not held.is_acked) (is_data held.last) no_last);
-      next = λ holds. absurd cc;
+      next = not_next bank held.setup.link.handle held.fixed (ap is_data fixed);
     }
   where
     nothing : (b d : Bool) → d ≡ false → (b && d) ≡ false

@@ -37,6 +37,7 @@ bank_went_if went bank handle count = if went then bank_after_went bank handle c
 abbrev pub bank_acked_if : Bool → Bank → ℕ → Bank
 bank_acked_if acked bank handle = if acked then bank_after_acked bank handle else bank
 
+-- the same with what it leaves under the handle
 pub record IsAfterAck (acked : Bool) (handle : ℕ) (before after : Bank) : Type 0 where
   pub bank : after ≡ bank_acked_if acked before handle
   pub none_out : acked ≡ true → packet_out after handle ≡ None

@@ -1,83 +1,115 @@
 //! One end of a link.
-ghost use Rattle.std.specs.Prelude.{◌≡◌, ◌+◌, ◌<◌, ◌≤◌, ◌^◌, List, [], ◌∷◌, ◌++◌, None, length, nat_lt};
+ghost use Rattle.std.specs.Prelude.{◌≡◌, ◌+◌, ◌<◌, ◌≤◌, ◌^◌, List, [], ◌∷◌, ◌++◌};
+ghost use Rattle.std.specs.Prelude.{None, length, nat_lt, IsTrue};
 ghost use Rattle.std.specs.Option.{option_map};
+ghost use Rattle.std.specs.Result.{ForOk};
 ghost use Rattle.arrayvec.specs.ArrayVec.{array_vec_len};
 ghost use Rattle.acl_banks.specs.Banks.{Bank, credits_of, packet_out};
 ghost use Rattle.adv_pdu.specs.Ranges.{IsInRange};
 ghost use Rattle.instants.specs.Track.{next_anchor_of};
+ghost use Rattle.procedure_values.specs.Limits.{rx_of, tx_of};
+ghost use Rattle.procedure_values.specs.Wants.{IsAsk};
+ghost use Rattle.control_end.specs.Answers.{awaits_host, entry_of, goes_on, may_ask};
+ghost use Rattle.control_end.specs.Held.{held_of};
 ghost use Rattle.link_model.specs.Setup.{Setup};
-ghost use Rattle.link_model.specs.Step.{Step, EventEntered, PacketReceived, PacketSent, PduFixed};
-ghost use Rattle.link_model.specs.Packets.{packet_sent, verdict_of};
-ghost use Rattle.link_model.specs.Times.{due_of, has_second_exchange, span_of, wants_of};
-ghost use Rattle.link_model.specs.End.{facts_of, replies_of};
+ghost use Rattle.link_model.specs.Step.{Step, Disconnected, EventEntered};
+ghost use Rattle.link_model.specs.Step.{PacketReceived, PacketSent, PduFixed};
+ghost use Rattle.link_model.specs.Step.{ProcedureAsked, RequestAnswered};
+ghost use Rattle.link_model.specs.Facts.{params_of};
 ghost use Rattle.link_model.specs.Kept.{kept_of};
+ghost use Rattle.link_model.specs.Packets.{packet_sent, verdict_of};
+ghost use Rattle.link_model.specs.Receiving.{HasPayloadLengths, effect_of};
+ghost use Rattle.link_model.specs.Receiving.{effect_unless_known, replies_of};
+ghost use Rattle.link_model.specs.Times.{due_of, ending_of, has_second_exchange, span_of};
+ghost use Rattle.link_model.specs.Times.{wants_of};
+ghost use Rattle.link_model.specs.End.{facts_of};
+ghost use Rattle.link_end.specs.Answers.{acked_of, given_of};
+ghost use Rattle.link_end.specs.Held.{quiet_now};
 ghost use Rattle.link_end.specs.Knowing.{Goes, Knows};
 ghost use Rattle.link_end.specs.Tied.{HoldsData, IsBefore, IsTied, LeavesOthers};
 
+use crate::first::{first_anchor, first_params, no_event, no_lengths, no_peer, selector, stays};
 use crate::packets::verdict;
 use crate::pdus::Pdu;
-use crate::steps::{continues, first_anchor, first_params, selector};
+use crate::steps::{continues, span};
 use ack_bit::AckEnd;
 use acl_banks::{RxBank, TxBank};
 use arrayvec::ArrayVec;
-use ble_base::{AIR_PACKET_OCTETS, ErrCode, Outbox, SlotNo, Verdict};
+use ble_base::{AIR_PACKET_OCTETS, ErrCode, Kind, Outbox, SlotNo, Verdict};
 use chan_select::Selector;
-use instants::{ParamTrack, Params};
-use link_model::{ConnectionEvent, LinkSetup, Reception};
+use control_end::{ControlEnd, Entry};
+use instants::Params;
+use link_model::{ConnectionEvent, KnownLengths, Leaving, LinkSetup, PeerFacts, Reception};
+use procedures::{Ask, Effect};
 use std::marker::Model;
 
-/// The slots for which an event holds the radio, with one exchange in each (our choice).
-const SPAN: u8 = 2;
-
-/// What an end does with a packet that it received.
-#[derive(Clone, Copy, Debug, PartialEq, Eq, Default)]
+/// What comes of a packet that an end received.
+#[derive(Clone, Copy, Debug, PartialEq, Eq)]
 pub struct LinkStep {
     /// It answers the packet in the next phase of the turn.
     pub reply: bool,
+    /// What the layer above does with a control PDU that was taken.
+    pub effect: Effect,
+    /// The procedure of this end that the PDU refuses, and why.
+    pub refused: Option<(Kind, ErrCode)>,
+    /// The procedure of this end that the PDU completes.
+    pub done: Option<Kind>,
+    /// The procedure of this end that the acknowledgement completes.
+    pub acked: Option<Kind>,
 }
 
 /// One end of a link, from its CONNECT_IND on.
-#[derive(Debug, Drop)]
+#[derive(Drop)]
 pub struct LinkEnd {
     pub(crate) setup: LinkSetup,
     /// The slot of the CONNECT_IND.
     pub(crate) opened: u64,
-    pub(crate) parameters: ParamTrack,
+    pub(crate) control: ControlEnd,
+    pub(crate) peer: PeerFacts,
     pub(crate) selector: Selector,
     pub(crate) event: ConnectionEvent,
+    pub(crate) lengths: KnownLengths,
     pub(crate) acknowledgement: AckEnd,
     /// The PDU that was sent last is acknowledged.
     pub(crate) is_acked: bool,
-    /// The PDU that was sent last, and the one that is sent next.
+    /// The PDU that was sent last, and the one that is sent next: the next control PDU, or this
+    /// one.
     pub(crate) last: Pdu,
     pub(crate) fixed: Pdu,
-    /// A further piece waited as that was fixed.
+    pub(crate) fixes_control: bool,
+    /// A further PDU waited as that was fixed.
     pub(crate) more: bool,
     /// How many PDUs that are not empty were sent and taken.
     pub(crate) sent: u64,
     pub(crate) taken: u64,
     pub(crate) last_good: Option<Reception>,
+    pub(crate) leaving: Leaving,
 }
 
 impl Model for LinkEnd {
     ghost use Rattle.std.specs.Prelude.{◌≡◌, ◌+◌, ◌<◌, ◌≤◌, ◌^◌, IfSome, if◌then◌else◌};
     ghost use Rattle.link_model.specs.Setup.{algorithm_of};
     ghost use Rattle.link_end.specs.Held.{Held, heard_slots};
+    ghost use Rattle.link_end.specs.Sound.{IsSound};
 
     ghost Value = { Held };
 
     ghost view = { λ e. record {
       setup = record { link = e.setup; opened = e.opened };
-      parameters = e.parameters;
+      control = e.control;
+      peer = e.peer;
       event = e.event;
+      lengths = e.lengths;
       bits = e.acknowledgement;
       is_acked = e.is_acked;
       last = record { llid = e.last.llid; body = e.last.body.items };
       fixed = record { llid = e.fixed.llid; body = e.fixed.body.items };
+      fixes_control = e.fixes_control;
       more = e.more;
       sent = e.sent;
       taken = e.taken;
       last_good = e.last_good;
+      leaving = e.leaving;
     } };
 
     // A PDU is taken, and the next one can be sent, only with a good packet in a later slot.
@@ -86,7 +118,8 @@ impl Model for LinkEnd {
         × (e.selector ≡ algorithm_of e.setup)
         × IfSome e.last_good (λ good. (good.slot < 2 ^ 32) × (good.event < 2 ^ 32))
         × (e.last.llid < 4) × (e.fixed.llid < 4) × (e.taken ≤ heard_slots e.last_good)
-        × ((if e.is_acked then 1 else 0) + e.sent ≤ heard_slots e.last_good) };
+        × ((if e.is_acked then 1 else 0) + e.sent ≤ heard_slots e.last_good)
+        × IfSome e.leaving.disconnected (λ since. since < 2 ^ 32) × IsSound e.control };
 }
 
 impl LinkEnd {
@@ -105,20 +138,26 @@ impl LinkEnd {
         LinkEnd {
             setup,
             opened: slot.0,
-            parameters: ParamTrack::new(
+            control: ControlEnd::new(
+                setup.role,
+                setup.max_rx,
                 first_params(&setup),
                 first_anchor(setup.fields.win_offset, slot.0),
             ),
+            peer: no_peer(),
             selector: selector(&setup),
-            event: ConnectionEvent::default(),
+            event: no_event(),
+            lengths: no_lengths(),
             acknowledgement: AckEnd::new(),
             is_acked: false,
             last: Pdu::empty(),
             fixed: Pdu::empty(),
+            fixes_control: false,
             more: false,
             sent: 0,
             taken: 0,
             last_good: None,
+            leaving: stays(),
         }
     }
 
@@ -133,19 +172,19 @@ impl LinkEnd {
 
     /// The slot of the anchor of the next event.
     pub fn next_anchor(&self) -> SlotNo
-        ensures value { result.0 ≡ next_anchor_of self.now.parameters }
+        ensures value { result.0 ≡ next_anchor_of self.now.control.track }
         ensures known { (setup : Setup) (past : List Step) → Knows setup self.now past
-            → result.0 ≡ next_anchor_of (facts_of setup past).parameters }
+            → result.0 ≡ next_anchor_of (facts_of setup past).control.track }
     {
-        self.parameters.next_anchor()
+        self.control.next_anchor()
     }
 
     /// The parameters in the event entered last, and the first ones before any was.
     pub fn params(&self) -> Params
         ensures { (setup : Setup) (past : List Step) → Knows setup self.now past
-            → result ≡ (facts_of setup past).parameters.params }
+            → result ≡ params_of (facts_of setup past) }
     {
-        self.parameters.params()
+        self.control.params()
     }
 
     /// The data channel of the event entered last, 0 to 36.
@@ -157,26 +196,51 @@ impl LinkEnd {
         self.event.channel
     }
 
-    /// The slots for which an event holds the radio.
-    pub fn span(&self) -> u8
-        ensures { result ≡ span_of }
+    /// What it knows of the peer: its features and its version, each once a PDU with it was taken.
+    pub fn peer(&self) -> PeerFacts
+        ensures { (setup : Setup) (past : List Step) → Knows setup self.now past
+            → result ≡ (facts_of setup past).peer }
     {
-        SPAN
+        self.peer
+    }
+
+    /// The most octets of a payload that it receives, and the most that it transmits (Core 5.2,
+    /// volume 6 part B, section 4.5.10).
+    pub fn lengths(&self) -> (u16, u16)
+        ensures { (setup : Setup) (past : List Step) → Knows setup self.now past
+            → result ≡ (
+              rx_of (facts_of setup past).control.table.lengths,
+              tx_of (facts_of setup past).control.table.lengths,
+            ) }
+    {
+        self.control.lengths()
+    }
+
+    /// The slots for which an event holds the radio: two while no payload is longer than 27 octets,
+    /// else four.
+    pub fn span(&self) -> u8
+        ensures { (setup : Setup) (past : List Step) → Knows setup self.now past
+            → result ≡ span_of (facts_of setup past) }
+    {
+        span(self.lengths.long)
     }
 
     /// Whether the event entered last has a second exchange, in the slot after its anchor: a good
     /// packet was received in the first one, and a packet of that has an MD bit of 1 (Core 5.2,
-    /// volume 6 part B, section 4.5.6).
+    /// volume 6 part B, section 4.5.6). It has none where a payload may be longer than 27 octets,
+    /// or a length was changed since the event was entered.
     pub fn again(&self) -> bool
         ensures { (setup : Setup) (past : List Step) → Knows setup self.now past
             → result ≡ has_second_exchange (facts_of setup past) }
     {
-        continues(self.event)
+        continues(self.event, self.lengths)
     }
 
     /// The reason for which the link ends at the start of a turn in this slot: nothing good was
     /// received in six intervals since the CONNECT_IND, or in the supervision timeout since the
-    /// last good packet (Core 5.2, volume 6 part B, section 4.5.2).
+    /// last good packet (Core 5.2, volume 6 part B, section 4.5.2); the peer has not answered a
+    /// procedure in 40 s (section 5.2); or the supervision timeout has passed since the host's
+    /// Disconnect (section 5.1.6).
     pub fn due(&self, slot: SlotNo) -> Option<ErrCode>
         ensures { (setup : Setup) (past : List Step) → Knows setup self.now past
             → option_map (λ code. code.0) result ≡ due_of setup (facts_of setup past) slot.0 }
@@ -184,9 +248,22 @@ impl LinkEnd {
         self.reason(slot.0)
     }
 
+    /// The reason for which the link ends at the end of a turn: its own LL_TERMINATE_IND is
+    /// acknowledged, one of its procedures ended the link, or a packet was sent after
+    /// LL_TERMINATE_IND of the peer was taken (Core 5.2, volume 6 part B, section 5.1.6). It
+    /// changes nothing.
+    pub fn end_turn(&mut self) -> Option<ErrCode>
+        ensures reason { (setup : Setup) (past : List Step) → Knows setup self.old past
+            → result ≡ ending_of (facts_of setup past) }
+        ensures same { self.new ≡ self.old }
+    {
+        self.ending()
+    }
+
     /// Whether it wants the radio for the event entered last. A central wants it for each event, a
     /// peripheral for each that its latency does not let it skip: it skips none while it has a PDU
-    /// to send (Core 5.2, volume 6 part B, section 4.5.1).
+    /// to send, a procedure is in progress or an indication waits (Core 5.2, volume 6 part B,
+    /// section 4.5.1).
     pub fn wants<const T: usize>(&self, tx: &TxBank<T>) -> bool
         ensures { (setup : Setup) (past : List Step) → Knows setup self.now past
             → HoldsData setup.link.handle tx.now (facts_of setup past).outgoing
@@ -195,24 +272,39 @@ impl LinkEnd {
         !self.skips(tx)
     }
 
-    /// Enters the next event, whose anchor is in this slot, and notes it.
-    pub fn enter(&mut self, slot: SlotNo, out: &mut Outbox)
-        requires anchor { slot.0 ≡ next_anchor_of self.old.parameters }
+    /// Enters the next event, whose anchor is in this slot, and notes it: the indication that is in
+    /// force from then on, the event, and the procedures of this end that are done and that begin.
+    /// An end whose procedures ended the link does nothing.
+    pub fn enter(&mut self, slot: SlotNo, out: &mut Outbox) -> Entry
+        requires anchor { IsTrue (goes_on self.old.control)
+            → slot.0 ≡ next_anchor_of self.old.control.track }
         requires slot { slot.0 < 2 ^ 32 }
         requires room { array_vec_len out.old ≤ 59 }
         ensures goes { (setup : Setup) (past : List Step) → Knows setup self.old past
             → Goes setup self.new past (EventEntered slot.0) out.old.items out.new.items }
+        ensures entry { (setup : Setup) (past : List Step) → Knows setup self.old past
+            → result ≡ entry_of slot.0 quiet_now (held_of (facts_of setup past).control) }
         ensures few { array_vec_len out.new ≤ array_vec_len out.old + 5 }
         ensures handle { self.new.setup ≡ self.old.setup }
         ensures last_good { self.new.last_good ≡ self.old.last_good }
         ensures tied { (bank : Bank) → IsTied self.old bank → IsTied self.new bank }
+        ensures holds { (setup : Setup) (past : List Step) (bank : Bank)
+            → HoldsData setup.link.handle bank (facts_of setup past).outgoing
+            → HoldsData setup.link.handle bank
+            (facts_of setup (past ++ EventEntered slot.0 ∷ [])).outgoing }
+        ensures enters { IsTrue (goes_on self.old.control) → 1 ≤ self.new.control.track.entered }
+        ensures entered { 1 ≤ self.old.control.track.entered
+            → 1 ≤ self.new.control.track.entered }
     {
-        self.enter_event(slot.0, out);
+        self.enter_event(slot.0, out)
     }
 
-    /// Fixes the PDU that is sent next where the last one is acknowledged: the next piece of at most
-    /// 27 octets, or an empty PDU; and whether a further piece waits after it.
+    /// Fixes the PDU that is sent next where the last one is acknowledged, and whether a further
+    /// one waits after it. A control PDU that may be sent goes before data, and is made as it is
+    /// sent; else it is the next piece of at most the effective length, or an empty PDU. No data
+    /// goes once the host has ended the link.
     pub fn ready<const T: usize>(&mut self, tx: &TxBank<T>)
+        requires entered { 1 ≤ self.old.control.track.entered }
         requires tied { IsTied self.old tx.now }
         ensures knows { (setup : Setup) (past : List Step) → Knows setup self.old past
             → HoldsData setup.link.handle tx.now (facts_of setup past).outgoing
@@ -223,19 +315,23 @@ impl LinkEnd {
         ensures tied { IsTied self.new tx.now }
         ensures handle { self.new.setup ≡ self.old.setup }
         ensures last_good { self.new.last_good ≡ self.old.last_good }
+        ensures entered { 1 ≤ self.new.control.track.entered }
     {
         self.fix(tx);
     }
 
     /// The packet that it sends in this slot: octets in the order of the air, without preamble. It
     /// carries the last PDU again until that is acknowledged, and then the fixed one, which is
-    /// noted where it is not empty. A piece in that is out in the bank.
+    /// noted where it is not empty. A piece in that is out in the bank; a control PDU in that is
+    /// made here and leaves the queue.
+    #[tactic(auto, using(crate::proofs::Tying::gone_tied))]
     pub fn to_send<const T: usize>(
         &mut self,
         slot: SlotNo,
         tx: &mut TxBank<T>,
         out: &mut Outbox,
     ) -> ArrayVec<u8, AIR_PACKET_OCTETS>
+        requires entered { 1 ≤ self.old.control.track.entered }
         requires tied { IsTied self.old tx.old }
         requires slot { slot.0 < 2 ^ 32 }
         requires room { array_vec_len out.old ≤ 59 }
@@ -252,10 +348,90 @@ impl LinkEnd {
         ensures others { LeavesOthers self.old.setup.link.handle tx.old tx.new }
         ensures handle { self.new.setup ≡ self.old.setup }
         ensures last_good { self.new.last_good ≡ self.old.last_good }
+        ensures entered { 1 ≤ self.new.control.track.entered }
     {
+        self.go(slot.0);
         let packet = self.next_packet();
         self.send(slot.0, tx, out);
         packet
+    }
+
+    /// Whether the host may ask for a procedure of this kind: it is neither wanted nor running
+    /// here, and no procedure of this end ended the link.
+    pub fn may_ask(&self, kind: Kind) -> bool
+        ensures { (setup : Setup) (past : List Step) → Knows setup self.now past
+            → result ≡ may_ask kind (held_of (facts_of setup past).control) }
+    {
+        self.control.may_ask(kind)
+    }
+
+    /// The host asks for a procedure, with values in their ranges (Core 5.2, volume 6 part B,
+    /// section 5.1). It begins as an event is entered. A channel map that the link is to have
+    /// already changes nothing.
+    pub fn ask(&mut self, ask: Ask)
+        requires in_range { IsAsk ask }
+        ensures knows { (setup : Setup) (past : List Step) → Knows setup self.old past
+            → Knows setup self.new (past ++ ProcedureAsked ask ∷ []) }
+        ensures holds { (setup : Setup) (past : List Step) (bank : Bank)
+            → HoldsData setup.link.handle bank (facts_of setup past).outgoing
+            → HoldsData setup.link.handle bank
+            (facts_of setup (past ++ ProcedureAsked ask ∷ [])).outgoing }
+        ensures tied { (bank : Bank) → IsTied self.old bank → IsTied self.new bank }
+        ensures handle { self.new.setup ≡ self.old.setup }
+        ensures last_good { self.new.last_good ≡ self.old.last_good }
+        ensures entered { 1 ≤ self.old.control.track.entered
+            → 1 ≤ self.new.control.track.entered }
+    {
+        self.ask_unless_to_come(ask);
+    }
+
+    /// Whether a request of the peripheral waits for the host's answer (Core 5.2, volume 6 part B,
+    /// section 5.1.7).
+    pub fn awaits_host(&self) -> bool
+        ensures { (setup : Setup) (past : List Step) → Knows setup self.now past
+            → result ≡ awaits_host (held_of (facts_of setup past).control) }
+    {
+        self.control.awaits_host()
+    }
+
+    /// The host answers a request of the peripheral: it grants it with the values of an update, or
+    /// refuses it with an error (Core 5.2, volume 6 part B, section 5.1.7). Nothing happens where
+    /// no request waits, or the answer grants it by something else.
+    pub fn host_answer(&mut self, answer: Result<Ask, ErrCode>)
+        requires in_range { ForOk answer IsAsk }
+        ensures knows { (setup : Setup) (past : List Step) → Knows setup self.old past
+            → Knows setup self.new (past ++ RequestAnswered answer ∷ []) }
+        ensures holds { (setup : Setup) (past : List Step) (bank : Bank)
+            → HoldsData setup.link.handle bank (facts_of setup past).outgoing
+            → HoldsData setup.link.handle bank
+            (facts_of setup (past ++ RequestAnswered answer ∷ [])).outgoing }
+        ensures tied { (bank : Bank) → IsTied self.old bank → IsTied self.new bank }
+        ensures handle { self.new.setup ≡ self.old.setup }
+        ensures last_good { self.new.last_good ≡ self.old.last_good }
+        ensures entered { 1 ≤ self.old.control.track.entered
+            → 1 ≤ self.new.control.track.entered }
+    {
+        self.answer_request(answer);
+    }
+
+    /// The host ends the link in this slot, for this reason: LL_TERMINATE_IND is queued, unless the
+    /// link is to end already, and no data goes any more (Core 5.2, volume 6 part B, section
+    /// 5.1.6).
+    pub fn end(&mut self, reason: ErrCode, slot: SlotNo)
+        requires slot { slot.0 < 2 ^ 32 }
+        ensures knows { (setup : Setup) (past : List Step) → Knows setup self.old past
+            → Knows setup self.new (past ++ Disconnected reason slot.0 ∷ []) }
+        ensures holds { (setup : Setup) (past : List Step) (bank : Bank)
+            → HoldsData setup.link.handle bank (facts_of setup past).outgoing
+            → HoldsData setup.link.handle bank
+            (facts_of setup (past ++ Disconnected reason slot.0 ∷ [])).outgoing }
+        ensures tied { (bank : Bank) → IsTied self.old bank → IsTied self.new bank }
+        ensures handle { self.new.setup ≡ self.old.setup }
+        ensures last_good { self.new.last_good ≡ self.old.last_good }
+        ensures entered { 1 ≤ self.old.control.track.entered
+            → 1 ≤ self.new.control.track.entered }
+    {
+        self.disconnect(reason, slot.0);
     }
 
     /// What it makes of octets on its channel. They are in the order of the air, without preamble.
@@ -267,8 +443,11 @@ impl LinkEnd {
     }
 
     /// Takes octets on its channel in this slot. Only a good packet changes anything: first what it
-    /// acknowledges, and then its PDU. New data is kept for the host where there is room; without
-    /// room it is not accepted. A new PDU that is not empty is noted as it is accepted.
+    /// acknowledges, then the control PDU with which a peripheral answers counts as sent, and then
+    /// its PDU is looked at. New data is kept for the host where there is room; without room it is
+    /// not accepted. A new PDU that is not empty is noted as it is accepted, and the procedures of
+    /// this end take it where it is a control PDU. After its LL_TERMINATE_IND is acknowledged an
+    /// end takes nothing more.
     pub fn heard<const T: usize, const R: usize>(
         &mut self,
         octets: &[u8],
@@ -277,6 +456,7 @@ impl LinkEnd {
         rx: &mut RxBank<R>,
         out: &mut Outbox,
     ) -> LinkStep
+        requires entered { 1 ≤ self.old.control.track.entered }
         requires tied { IsTied self.old tx.old }
         requires counts { credits_of tx.old self.old.setup.link.handle < 65535 }
         requires before { IsBefore self.old slot.0 }
@@ -288,10 +468,23 @@ impl LinkEnd {
             out.old.items out.new.items }
         ensures few { array_vec_len out.new ≤ array_vec_len out.old + 5 }
         ensures reply { (setup : Setup) (past : List Step) → Knows setup self.old past
-            → result.reply ≡ replies_of setup (facts_of setup past) octets.now }
+            → result.reply ≡ replies_of setup (facts_of setup past) slot.0 octets.now
+            (nat_lt (length rx.old) R) }
+        ensures effect { (setup : Setup) (past : List Step) → Knows setup self.old past
+            → result.effect ≡ effect_of setup (facts_of setup past) slot.0 octets.now
+            (nat_lt (length rx.old) R) }
+        ensures payloads { HasPayloadLengths result.effect }
+        ensures refused { (setup : Setup) (past : List Step) → Knows setup self.old past
+            → result.refused ≡ (given_of setup (facts_of setup past) slot.0 octets.now
+            (nat_lt (length rx.old) R)).refused }
+        ensures done { (setup : Setup) (past : List Step) → Knows setup self.old past
+            → result.done ≡ (given_of setup (facts_of setup past) slot.0 octets.now
+            (nat_lt (length rx.old) R)).done }
+        ensures acked { (setup : Setup) (past : List Step) → Knows setup self.old past
+            → result.acked ≡ acked_of setup (facts_of setup past) octets.now }
         ensures kept { (setup : Setup) (past : List Step) → Knows setup self.old past
-            → rx.new ≡ rx.old
-            ++ kept_of setup (facts_of setup past) octets.now (nat_lt (length rx.old) R) }
+            → rx.new ≡ rx.old ++ kept_of setup (facts_of setup past) slot.0 octets.now
+            (nat_lt (length rx.old) R) }
         ensures holds { (setup : Setup) (past : List Step) → Knows setup self.old past
             → HoldsData setup.link.handle tx.old (facts_of setup past).outgoing
             → HoldsData setup.link.handle tx.new (facts_of setup
@@ -300,10 +493,33 @@ impl LinkEnd {
         ensures others { LeavesOthers self.old.setup.link.handle tx.old tx.new }
         ensures handle { self.new.setup ≡ self.old.setup }
         ensures last_good { IsBefore self.new (slot.0 + 1) }
+        ensures entered { 1 ≤ self.new.control.track.entered }
     {
+        let lengths = self.lengths;
         let got = self.good(octets);
-        let reply = self.replies(&got);
-        self.hear(got, slot.0, tx, rx, out);
-        LinkStep { reply }
+        let is_good = got.is_some();
+        let heard = self.hear(got, slot.0, tx, rx, out);
+        LinkStep {
+            reply: self.replies(is_good),
+            effect: effect_unless_known(lengths, heard.given.effect),
+            refused: heard.given.refused,
+            done: heard.given.done,
+            acked: heard.acked,
+        }
+    }
+}
+
+/// What the layer above does with a control PDU that was taken: lengths that the host knows already
+/// are nothing new.
+fn effect_unless_known(lengths: KnownLengths, effect: Effect) -> Effect
+    requires { HasPayloadLengths effect }
+    ensures value { result ≡ effect_unless_known lengths effect }
+    ensures payloads { HasPayloadLengths result }
+{
+    match effect {
+        Effect::Lengths { rx, tx } if rx == lengths.reported_rx && tx == lengths.reported_tx => {
+            Effect::Nothing
+        }
+        _ => effect,
     }
 }

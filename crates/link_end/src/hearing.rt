@@ -1,113 +1,54 @@
 //! What an end makes of octets that reach it: an acknowledgement, and a new PDU.
-ghost use Rattle.std.specs.Prelude.{◌≡◌, ◌+◌, ◌<◌, ◌≤◌, ◌^◌, ◌&&◌, ◌++◌, true, not, Some, None, [], ◌∷◌};
-ghost use Rattle.std.specs.Prelude.{length, nat_lt, IsSome, if◌then◌else◌};
+ghost use Rattle.std.specs.Prelude.{◌≡◌, ◌+◌, ◌<◌, ◌≤◌, ◌^◌, ◌&&◌, ◌++◌, true, false, not};
+ghost use Rattle.std.specs.Prelude.{[], ◌∷◌, Some, None, length, nat_lt, IsSome, if◌then◌else◌};
 ghost use Rattle.std.specs.Option.{option_map};
 ghost use Rattle.std.specs.Bool.{beq};
 ghost use Rattle.arrayvec.specs.ArrayVec.{array_vec_len};
-ghost use Rattle.ack_bit.specs.AckBits.{acknowledges, is_new};
 ghost use Rattle.acl_banks.specs.Banks.{credits_of, packet_out};
 ghost use Rattle.air_frame.specs.Hearing.{heard_in};
+ghost use Rattle.control_end.specs.Answers.{done_by_acknowledgement};
 ghost use Rattle.link_model.specs.Data.{is_data, is_empty};
-ghost use Rattle.link_model.specs.End.{event_heard};
-ghost use Rattle.link_model.specs.Packets.{good_in};
-ghost use Rattle.link_end.specs.Held.{accepts, acks, acks_piece, bits_received, count_if, got_of};
-ghost use Rattle.link_end.specs.Held.{held_hearing, held_received, kept_in, pdu_in, replies_to};
-ghost use Rattle.link_end.specs.Held.{took_note_if, took_notes_in};
-ghost use Rattle.link_model.specs.Kept.{kept_if};
+ghost use Rattle.link_model.specs.Events.{event_heard};
+ghost use Rattle.link_model.specs.Pieces.{kept_if};
+ghost use Rattle.link_model.specs.Verdicts.{good_in};
+ghost use Rattle.link_model.specs.Controls.{is_procedure_pdu};
+ghost use Rattle.link_model.specs.Entering.{done_notes};
+ghost use Rattle.link_model.specs.Receiving.{HasPayloadLengths, given_notes};
+ghost use Rattle.link_model.specs.Receiving.{leaving_acked_if, refused_notes};
+ghost use Rattle.link_end.specs.Held.{count_if, heard_slots};
+ghost use Rattle.link_end.specs.Pdus.{got_of, pdu_in};
+ghost use Rattle.link_end.specs.Receiving.{accepts, acked_in, acked_kind, acks, acks_piece};
+ghost use Rattle.link_end.specs.Receiving.{answers_with_control, bits_received};
+ghost use Rattle.link_end.specs.Receiving.{control_acked_if, given_if, given_in};
+ghost use Rattle.link_end.specs.Receiving.{has_ended, held_accepted_if, held_acked_if};
+ghost use Rattle.link_end.specs.Receiving.{held_before_taking};
+ghost use Rattle.link_end.specs.Receiving.{held_heard, held_hearing, held_received};
+ghost use Rattle.link_end.specs.Receiving.{held_taken_if, kept_in, received_notes};
+ghost use Rattle.link_end.specs.Receiving.{replies_to, taken_notes, took_note_if};
+ghost use Rattle.link_end.specs.Sending.{held_gone_if};
+ghost use Rattle.link_end.specs.Sound.{IsSound};
 ghost use Rattle.link_end.specs.Tied.{IsAfterAck, IsBefore, IsTied};
 
+use crate::controls::see_acked;
 use crate::ends::LinkEnd;
+use crate::entering::note_done;
 use crate::packets::good;
 use crate::pdus::{Got, START};
-use ack_bit::{AckEnd, AckSeen};
+use crate::taking::nothing_taken;
+use ack_bit::AckEnd;
 use acl_banks::{Piece, RxBank, TxBank};
-use ble_base::{Note, Outbox, Role};
+use ble_base::{ErrCode, Kind, Note, Outbox, Role};
+use control_end::{ControlEnd, Taken};
 use data_pdu::DataHeader;
-use link_model::{ConnectionEvent, Reception};
+use link_model::{ConnectionEvent, Leaving, Reception};
 
-impl LinkEnd {
-    /// The PDU of a good packet.
-    pub(crate) fn good(&self, octets: &[u8]) -> Option<Got>
-        ensures { result ≡ option_map got_of (good_in self.now.setup.link.max_rx
-            (heard_in self.now.event.channel self.now.setup.link.fields.access
-            self.now.setup.link.fields.crc_init octets.now)) }
-    {
-        good(self.place(), self.setup.max_rx, octets)
-    }
-
-    /// Whether it answers what it received: a peripheral answers each good packet.
-    pub(crate) fn replies(&self, got: &Option<Got>) -> bool
-        ensures { result ≡ replies_to self.now.setup.link.role got.now }
-    {
-        match self.setup.role {
-            Role::Central => false,
-            Role::Peripheral => got.is_some(),
-        }
-    }
-
-    /// Receives a good packet in this slot: first what it acknowledges, and then its PDU.
-    fn receive<const T: usize, const R: usize>(
-        &mut self,
-        got: Got,
-        slot: u64,
-        tx: &mut TxBank<T>,
-        rx: &mut RxBank<R>,
-        out: &mut Outbox,
-    )
-        requires tied { IsTied self.old tx.old }
-        requires counts { credits_of tx.old self.old.setup.link.handle < 65535 }
-        requires before { IsBefore self.old slot }
-        requires slot { slot < 2 ^ 32 }
-        requires room { array_vec_len out.old ≤ 59 }
-        ensures held { self.new ≡ held_received slot (nat_lt (length rx.old) R) got self.old }
-        ensures bank { IsAfterAck (acks_piece (Some got) self.old) self.old.setup.link.handle
-            tx.old tx.new }
-        ensures kept { rx.new
-            ≡ rx.old ++ kept_in (nat_lt (length rx.old) R) (Some got) self.old }
-        ensures notes { out.new.items ≡ out.old.items
-            ++ took_notes_in (nat_lt (length rx.old) R) (Some got) self.old }
-        ensures few { array_vec_len out.new ≤ array_vec_len out.old + 1 }
-    {
-        let header = got.header;
-        let handle = self.setup.handle;
-        let room = rx.room() || !got.is_data();
-        let seen = take_bits(&mut self.acknowledgement, self.is_acked, header, room);
-        acked_if(seen.acked && self.last.is_data(), handle, tx);
-        self.is_acked = seen.acked || self.is_acked;
-        self.taken = take_if(seen.fresh && room, handle, self.taken, got, rx, out);
-        self.event = event_heard(self.event, slot, header.md);
-        self.last_good = Some(Reception {
-            slot,
-            event: self.event.number,
-        });
-    }
-
-    /// Receives a packet in this slot, if it is good.
-    pub(crate) fn hear<const T: usize, const R: usize>(
-        &mut self,
-        got: Option<Got>,
-        slot: u64,
-        tx: &mut TxBank<T>,
-        rx: &mut RxBank<R>,
-        out: &mut Outbox,
-    )
-        requires tied { IsTied self.old tx.old }
-        requires counts { credits_of tx.old self.old.setup.link.handle < 65535 }
-        requires before { IsBefore self.old slot }
-        requires slot { slot < 2 ^ 32 }
-        requires room { array_vec_len out.old ≤ 59 }
-        ensures held { self.new ≡ held_hearing slot (nat_lt (length rx.old) R) got self.old }
-        ensures bank { IsAfterAck (acks_piece got self.old) self.old.setup.link.handle
-            tx.old tx.new }
-        ensures kept { rx.new ≡ rx.old ++ kept_in (nat_lt (length rx.old) R) got self.old }
-        ensures notes { out.new.items
-            ≡ out.old.items ++ took_notes_in (nat_lt (length rx.old) R) got self.old }
-        ensures few { array_vec_len out.new ≤ array_vec_len out.old + 1 }
-    {
-        if let Some(got) = got {
-            self.receive(got, slot, tx, rx, out);
-        }
-    }
+/// What comes of a packet that was received.
+#[derive(Drop)]
+pub(crate) struct Hearing {
+    /// The procedure that the acknowledgement completes.
+    pub(crate) acked: Option<Kind>,
+    /// What its procedures give for the new PDU.
+    pub(crate) given: Taken,
 }
 
 /// An event after a good packet with this MD bit was received in a slot.
@@ -121,29 +62,25 @@ fn event_heard(event: ConnectionEvent, slot: u64, more: bool) -> ConnectionEvent
     }
 }
 
-/// A header that acknowledges nothing where the last PDU, which has this SN, is acknowledged.
-fn unless_acked(header: DataHeader, is_acked: bool, sn: bool) -> DataHeader
-    ensures sn { result.sn ≡ header.sn }
-    ensures acknowledges { not (beq result.nesn sn) ≡ (not is_acked && not (beq header.nesn sn)) }
+/// A header that acknowledges the last PDU or not, and brings a new PDU or not, by the header that
+/// this end sends.
+fn header_for(own: DataHeader, acked: bool, accepted: bool) -> DataHeader
+    ensures acknowledges { not (beq result.nesn own.sn) ≡ acked }
+    ensures fresh { beq result.sn own.nesn ≡ accepted }
 {
     DataHeader {
-        nesn: if is_acked { sn } else { header.nesn },
-        ..header
+        nesn: if acked { !own.sn } else { own.sn },
+        sn: if accepted { own.nesn } else { !own.nesn },
+        ..own
     }
 }
 
-/// The two bits after a packet with this header. A PDU that is acknowledged already is not
-/// acknowledged again.
-fn take_bits(bits: &mut AckEnd, is_acked: bool, header: DataHeader, room: bool) -> AckSeen
-    ensures bits { bits.new ≡ bits_received (not is_acked && acknowledges bits.old header)
-        (is_new bits.old header && room) bits.old }
-    ensures seen { result ≡ record {
-      fresh = is_new bits.old header;
-      acked = not is_acked && acknowledges bits.old header;
-    } }
+/// The two bits after the last PDU was acknowledged or not, and a new one accepted or not.
+fn advance(bits: &mut AckEnd, acked: bool, accepted: bool)
+    ensures { bits.new ≡ bits_received acked accepted bits.old }
 {
-    let sn = bits.header(0, false, 0).sn;
-    bits.receive(unless_acked(header, is_acked, sn), room)
+    let own = bits.header(0, false, 0);
+    bits.receive(header_for(own, acked, accepted), true);
 }
 
 /// The piece of a link that is out was acknowledged, or was not.
@@ -155,6 +92,35 @@ fn acked_if<const T: usize>(acked: bool, handle: u16, tx: &mut TxBank<T>)
     if acked {
         tx.acked(handle);
     }
+}
+
+/// How the link is to end where its LL_TERMINATE_IND is acknowledged, or is not.
+fn leaving_acked_if(acked: bool, leaving: Leaving) -> Leaving
+    ensures { result ≡ leaving_acked_if acked leaving }
+{
+    Leaving {
+        acknowledged: leaving.acknowledged || acked,
+        ..leaving
+    }
+}
+
+/// The control PDU that was sent last is acknowledged, or is not. The answer is the procedure that
+/// it completes.
+fn control_acked_if(acked: bool, control: &mut ControlEnd) -> Option<Kind>
+    requires sound { IsSound control.old }
+    ensures step { control.new ≡ control_acked_if acked control.old }
+    ensures done { result ≡ (if acked then done_by_acknowledgement control.old else None) }
+    ensures sound { IsSound control.new }
+    ensures entered { 1 ≤ control.old.track.entered → 1 ≤ control.new.track.entered }
+{
+    if acked { see_acked(control) } else { None }
+}
+
+/// Whether one more piece can be kept for the host.
+fn has_room<const R: usize>(rx: &RxBank<R>) -> bool
+    ensures { result ≡ nat_lt (length rx.now) R }
+{
+    rx.room()
 }
 
 /// Keeps a piece for the host, or does not.
@@ -178,7 +144,7 @@ fn take<const R: usize>(
 ) -> u64
     requires space { is_data (pdu_in got) ≡ true → length rx.old < R }
     requires count { taken < 2 ^ 33 }
-    requires room { array_vec_len out.old ≤ 59 }
+    requires room { array_vec_len out.old ≤ 61 }
     ensures count { result ≡ count_if (not (is_empty (pdu_in got))) taken }
     ensures kept { rx.new ≡ rx.old ++ kept_if (is_data (pdu_in got)) handle (pdu_in got) }
     ensures notes { out.new.items ≡ out.old.items
@@ -215,7 +181,7 @@ fn take_if<const R: usize>(
 ) -> u64
     requires space { (accepted && is_data (pdu_in got)) ≡ true → length rx.old < R }
     requires count { taken < 2 ^ 33 }
-    requires room { array_vec_len out.old ≤ 59 }
+    requires room { array_vec_len out.old ≤ 61 }
     ensures count { result ≡ count_if (accepted && not (is_empty (pdu_in got))) taken }
     ensures kept { rx.new
         ≡ rx.old ++ kept_if (accepted && is_data (pdu_in got)) handle (pdu_in got) }
@@ -227,5 +193,287 @@ fn take_if<const R: usize>(
         take(handle, taken, got, rx, out)
     } else {
         taken
+    }
+}
+
+/// Notes a procedure of this end that the peer refused.
+fn note_refused(handle: u16, refused: Option<(Kind, ErrCode)>, out: &mut Outbox)
+    requires room { array_vec_len out.old ≤ 62 }
+    ensures notes { out.new.items ≡ out.old.items ++ refused_notes handle refused }
+    ensures few { array_vec_len out.new ≤ array_vec_len out.old + 1 }
+{
+    if let Some((kind, code)) = refused {
+        out.push(Note::Refused { handle, kind, code });
+    }
+}
+
+/// Notes what a control PDU that was taken did to the procedures of this end.
+fn note_given(handle: u16, given: &Taken, out: &mut Outbox)
+    requires room { array_vec_len out.old ≤ 61 }
+    ensures notes { out.new.items ≡ out.old.items ++ given_notes handle given.now }
+    ensures few { array_vec_len out.new ≤ array_vec_len out.old + 2 }
+{
+    note_refused(handle, given.refused, out);
+    note_done(handle, given.done, out);
+}
+
+impl LinkEnd {
+    /// The PDU of a good packet.
+    pub(crate) fn good(&self, octets: &[u8]) -> Option<Got>
+        ensures { result ≡ option_map got_of (good_in self.now.setup.link.max_rx
+            (heard_in self.now.event.channel self.now.setup.link.fields.access
+            self.now.setup.link.fields.crc_init octets.now)) }
+    {
+        good(self.place(), self.setup.max_rx, octets)
+    }
+
+    /// Whether a packet with this header acknowledges the PDU that was sent last.
+    fn acks(&self, header: DataHeader) -> bool
+        ensures { result ≡ acks self.now header }
+    {
+        !self.is_acked && header.nesn != self.acknowledgement.header(0, false, 0).sn
+    }
+
+    /// A good packet reached it in this slot.
+    fn note_good(&mut self, slot: u64, more: bool)
+        requires before { IsBefore self.old slot }
+        requires slot { slot < 2 ^ 32 }
+        ensures held { self.new ≡ held_heard slot more self.old }
+        ensures sent { self.new.sent < heard_slots self.new.last_good }
+        ensures taken { self.new.taken < heard_slots self.new.last_good }
+    {
+        self.event = event_heard(self.event, slot, more);
+        self.last_good = Some(Reception {
+            slot,
+            event: self.event.number,
+        });
+    }
+
+    /// Its last PDU is acknowledged, or is not. The answer is the procedure that it completes.
+    fn see_acked<const T: usize>(
+        &mut self,
+        acked: bool,
+        tx: &mut TxBank<T>,
+        out: &mut Outbox,
+    ) -> Option<Kind>
+        requires out { acked ≡ true → self.old.is_acked ≡ false }
+        requires sent { self.old.sent < heard_slots self.old.last_good }
+        requires tied { IsTied self.old tx.old }
+        requires counts { credits_of tx.old self.old.setup.link.handle < 65535 }
+        requires room { array_vec_len out.old ≤ 59 }
+        ensures held { self.new ≡ held_acked_if acked self.old }
+        ensures bank { IsAfterAck (acked && is_data self.old.last) self.old.setup.link.handle
+            tx.old tx.new }
+        ensures done { result ≡ acked_kind acked self.old }
+        ensures notes { out.new.items ≡ out.old.items
+            ++ done_notes self.old.setup.link.handle (acked_kind acked self.old) }
+        ensures few { array_vec_len out.new ≤ array_vec_len out.old + 1 }
+        ensures entered { 1 ≤ self.old.control.track.entered
+            → 1 ≤ self.new.control.track.entered }
+    {
+        let handle = self.setup.handle;
+        acked_if(acked && self.last.is_data(), handle, tx);
+        let done = control_acked_if(acked && self.last.is_control(), &mut self.control);
+        note_done(handle, done, out);
+        self.leaving = leaving_acked_if(acked && self.last.is_terminate(), self.leaving);
+        advance(&mut self.acknowledgement, acked, false);
+        self.is_acked = acked || self.is_acked;
+        done
+    }
+
+    /// Whether a peripheral answers with a control PDU.
+    fn answers_with_control(&self) -> bool
+        ensures { result ≡ answers_with_control self.now.setup.link.role self.now }
+    {
+        match self.setup.role {
+            Role::Central => false,
+            Role::Peripheral => self.takes_leave(),
+        }
+    }
+
+    /// Whether the PDU of a packet is new and accepted; data is, where there is room for it.
+    fn accepts(&self, room: bool, got: &Got) -> bool
+        ensures { result ≡ accepts room got.now.header (pdu_in got.now) self.now }
+    {
+        self.acknowledgement.is_new(got.header)
+            && (room || !got.is_data())
+            && (got.is_empty() || !self.leaving.acknowledged)
+    }
+
+    /// The new PDU is accepted, or is not.
+    fn accept_if<const R: usize>(
+        &mut self,
+        accepted: bool,
+        got: Got,
+        rx: &mut RxBank<R>,
+        out: &mut Outbox,
+    )
+        requires space { (accepted && is_data (pdu_in got)) ≡ true → length rx.old < R }
+        requires taken { self.old.taken < heard_slots self.old.last_good }
+        requires room { array_vec_len out.old ≤ 61 }
+        ensures held { self.new ≡ held_accepted_if accepted (pdu_in got) self.old }
+        ensures kept { rx.new ≡ rx.old
+            ++ kept_if (accepted && is_data (pdu_in got)) self.old.setup.link.handle (pdu_in got) }
+        ensures notes { out.new.items ≡ out.old.items
+            ++ took_note_if (accepted && not (is_empty (pdu_in got))) self.old.setup.link.handle
+            self.old.taken (pdu_in got) }
+        ensures few { array_vec_len out.new ≤ array_vec_len out.old + 1 }
+    {
+        advance(&mut self.acknowledgement, false, accepted);
+        self.taken = take_if(accepted, self.setup.handle, self.taken, got, rx, out);
+    }
+
+    /// The new PDU is taken, or is not. The answer is what its procedures give for it.
+    fn take_pdu<const R: usize>(
+        &mut self,
+        accepted: bool,
+        got: Got,
+        slot: u64,
+        rx: &mut RxBank<R>,
+        out: &mut Outbox,
+    ) -> Taken
+        requires entered { 1 ≤ self.old.control.track.entered }
+        requires space { (accepted && is_data (pdu_in got)) ≡ true → length rx.old < R }
+        requires taken { self.old.taken < heard_slots self.old.last_good }
+        requires room { array_vec_len out.old ≤ 60 }
+        ensures held { self.new ≡ held_taken_if accepted (pdu_in got) slot self.old }
+        ensures given { result
+            ≡ given_if (accepted && is_procedure_pdu (pdu_in got)) (pdu_in got) slot self.old }
+        ensures payloads { HasPayloadLengths result.effect }
+        ensures kept { rx.new ≡ rx.old
+            ++ kept_if (accepted && is_data (pdu_in got)) self.old.setup.link.handle (pdu_in got) }
+        ensures notes { out.new.items ≡ out.old.items
+            ++ taken_notes accepted (pdu_in got) slot self.old }
+        ensures few { array_vec_len out.new ≤ array_vec_len out.old + 3 }
+        ensures entered { 1 ≤ self.new.control.track.entered }
+    {
+        let handle = self.setup.handle;
+        let given = self.give_if(accepted && got.is_procedure_pdu(), &got, slot);
+        self.accept_if(accepted, got, rx, out);
+        note_given(handle, &given, out);
+        given
+    }
+
+    /// A good packet with this header reached it in this slot: its last PDU is acknowledged, or is
+    /// not, and the control PDU with which a peripheral answers counts as first sent. The answer is
+    /// the procedure that the acknowledgement completes.
+    fn receive_header<const T: usize>(
+        &mut self,
+        header: DataHeader,
+        slot: u64,
+        tx: &mut TxBank<T>,
+        out: &mut Outbox,
+    ) -> Option<Kind>
+        requires entered { 1 ≤ self.old.control.track.entered }
+        requires tied { IsTied self.old tx.old }
+        requires counts { credits_of tx.old self.old.setup.link.handle < 65535 }
+        requires before { IsBefore self.old slot }
+        requires slot { slot < 2 ^ 32 }
+        requires room { array_vec_len out.old ≤ 59 }
+        ensures held { self.new ≡ held_before_taking slot header self.old }
+        ensures bank { IsAfterAck (acks self.old header && is_data self.old.last)
+            self.old.setup.link.handle tx.old tx.new }
+        ensures done { result ≡ acked_kind (acks self.old header) self.old }
+        ensures notes { out.new.items ≡ out.old.items ++ done_notes self.old.setup.link.handle
+            (acked_kind (acks self.old header) self.old) }
+        ensures few { array_vec_len out.new ≤ array_vec_len out.old + 1 }
+        ensures taken { self.new.taken < heard_slots self.new.last_good }
+        ensures entered { 1 ≤ self.new.control.track.entered }
+    {
+        let acked = self.acks(header);
+        self.note_good(slot, header.md);
+        let done = self.see_acked(acked, tx, out);
+        self.go_if(self.answers_with_control(), slot);
+        done
+    }
+
+    /// Receives a good packet in this slot: first what it acknowledges, and then its PDU.
+    fn receive<const T: usize, const R: usize>(
+        &mut self,
+        got: Got,
+        slot: u64,
+        tx: &mut TxBank<T>,
+        rx: &mut RxBank<R>,
+        out: &mut Outbox,
+    ) -> Hearing
+        requires entered { 1 ≤ self.old.control.track.entered }
+        requires tied { IsTied self.old tx.old }
+        requires counts { credits_of tx.old self.old.setup.link.handle < 65535 }
+        requires before { IsBefore self.old slot }
+        requires slot { slot < 2 ^ 32 }
+        requires room { array_vec_len out.old ≤ 59 }
+        ensures held { self.new ≡ held_hearing slot (nat_lt (length rx.old) R) got self.old }
+        ensures bank { IsAfterAck (acks_piece (Some got) self.old) self.old.setup.link.handle
+            tx.old tx.new }
+        ensures kept { rx.new
+            ≡ rx.old ++ kept_in slot (nat_lt (length rx.old) R) (Some got) self.old }
+        ensures notes { out.new.items ≡ out.old.items
+            ++ received_notes slot (nat_lt (length rx.old) R) (Some got) self.old }
+        ensures acked { result.acked ≡ acked_in (Some got) self.old }
+        ensures given { result.given
+            ≡ given_in slot (nat_lt (length rx.old) R) (Some got) self.old }
+        ensures payloads { HasPayloadLengths result.given.effect }
+        ensures few { array_vec_len out.new ≤ array_vec_len out.old + 4 }
+        ensures entered { 1 ≤ self.new.control.track.entered }
+    {
+        let acked = self.receive_header(got.header, slot, tx, out);
+        let accepted = self.accepts(has_room(rx), &got);
+        let given = self.take_pdu(accepted, got, slot, rx, out);
+        Hearing { acked, given }
+    }
+
+    /// Receives a packet in this slot, if it is good.
+    pub(crate) fn hear<const T: usize, const R: usize>(
+        &mut self,
+        got: Option<Got>,
+        slot: u64,
+        tx: &mut TxBank<T>,
+        rx: &mut RxBank<R>,
+        out: &mut Outbox,
+    ) -> Hearing
+        requires entered { 1 ≤ self.old.control.track.entered }
+        requires tied { IsTied self.old tx.old }
+        requires counts { credits_of tx.old self.old.setup.link.handle < 65535 }
+        requires before { IsBefore self.old slot }
+        requires slot { slot < 2 ^ 32 }
+        requires room { array_vec_len out.old ≤ 59 }
+        ensures held { self.new ≡ held_received slot (nat_lt (length rx.old) R) got self.old }
+        ensures bank { IsAfterAck (acks_piece got self.old) self.old.setup.link.handle
+            tx.old tx.new }
+        ensures kept { rx.new ≡ rx.old ++ kept_in slot (nat_lt (length rx.old) R) got self.old }
+        ensures notes { out.new.items ≡ out.old.items
+            ++ received_notes slot (nat_lt (length rx.old) R) got self.old }
+        ensures acked { result.acked ≡ acked_in got self.old }
+        ensures given { result.given ≡ given_in slot (nat_lt (length rx.old) R) got self.old }
+        ensures payloads { HasPayloadLengths result.given.effect }
+        ensures few { array_vec_len out.new ≤ array_vec_len out.old + 4 }
+        ensures entered { 1 ≤ self.new.control.track.entered }
+    {
+        match got {
+            Some(got) => self.receive(got, slot, tx, rx, out),
+            None => Hearing {
+                acked: None,
+                given: nothing_taken(),
+            },
+        }
+    }
+
+    /// Whether it ended the link by what it received: by its procedures, or as its own
+    /// LL_TERMINATE_IND was acknowledged.
+    fn has_ended(&self) -> bool
+        ensures { result ≡ has_ended self.now }
+    {
+        self.control.ends().is_some() || self.leaving.acknowledged
+    }
+
+    /// Whether it answers what it received: a peripheral answers each good packet by which it did
+    /// not end the link.
+    pub(crate) fn replies(&self, is_good: bool) -> bool
+        ensures { result ≡ replies_to self.now.setup.link.role (has_ended self.now) is_good }
+    {
+        match self.setup.role {
+            Role::Central => false,
+            Role::Peripheral => is_good && !self.has_ended(),
+        }
     }
 }

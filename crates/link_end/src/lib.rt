@@ -1,15 +1,23 @@
-//! One end of a link: its connection events, its packets and its data, and when it ends (Core 5.2,
-//! volume 6 part B, section 4.5). A control PDU is acknowledged and noted, and otherwise ignored.
+//! One end of a link: its connection events, its packets, its data and its control procedures, and
+//! when it ends (Core 5.2, volume 6 part B, sections 4.5 and 5).
 #![tactic(auto)]
 
+mod controls;
 mod ends;
+mod entering;
+mod first;
+mod fixing;
 mod hearing;
+mod hosts;
 mod laws;
 mod packets;
 mod pdus;
+mod readers;
 mod sending;
 mod steps;
+mod taking;
 
 pub use crate::ends::{LinkEnd, LinkStep};
 pub use crate::laws::{a_bank_changes_alone, a_link_leaves_others, a_link_that_knows_is_tied};
-pub use link_model::LinkSetup;
+pub use control_end::Entry;
+pub use link_model::{LinkSetup, PeerFacts, PeerVersion};

@@ -4,8 +4,8 @@ ghost use Rattle.std.specs.Option.{option_map};
 ghost use Rattle.air_frame.specs.Packet.{on_air};
 ghost use Rattle.air_frame.specs.Hearing.{heard_in};
 ghost use Rattle.data_pdu.specs.Header.{octets_of};
-ghost use Rattle.link_model.specs.Packets.{good_in, verdict_by};
-ghost use Rattle.link_end.specs.Held.{got_of};
+ghost use Rattle.link_model.specs.Verdicts.{good_in, verdict_by};
+ghost use Rattle.link_end.specs.Pdus.{got_of};
 
 use crate::pdus::Got;
 use air_frame::{Heard, build, unframe};

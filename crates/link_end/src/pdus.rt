@@ -1,15 +1,19 @@
 //! The PDUs that an end keeps, and those that it receives.
 ghost use Rattle.std.specs.Prelude.{◌≡◌, ◌+◌, ◌<◌, ◌≤◌, ◌==◌, ◌&&◌, ◌||◌, not, length};
-ghost use Rattle.std.specs.Prelude.{Some, None, Option};
+ghost use Rattle.std.specs.Prelude.{Some, None, Option, IfSome};
+ghost use Rattle.data_pdu.specs.Ranges.{IsInRange};
+ghost use Rattle.data_pdu.specs.Reading.{IfKnown};
+ghost use Rattle.control_model.specs.Supported.{read_supported};
 ghost use Rattle.link_model.specs.Acknowledgement.{empty_pdu};
-ghost use Rattle.link_model.specs.Data.{is_data, is_empty, llid_of, pdu_with};
-ghost use Rattle.link_end.specs.Held.{got_of, pdu_in};
-ghost use Rattle.link_end.specs.Pdus.{pdu_value};
+ghost use Rattle.link_model.specs.Data.{is_control, is_data, is_empty, llid_of, pdu_with};
+ghost use Rattle.link_model.specs.Controls.{begins_with, is_procedure_pdu, is_terminate};
+ghost use Rattle.link_model.specs.Controls.{pdu_of_control, read_of};
+ghost use Rattle.link_end.specs.Pdus.{got_of, pdu_in, pdu_value};
 
 use acl_banks::Piece;
 use arrayvec::ArrayVec;
 use ble_base::PAYLOAD_OCTETS;
-use data_pdu::{DataHeader, read_header};
+use data_pdu::{Ctrl, CtrlRead, DataHeader, read_ctrl, read_header, write_ctrl};
 use wire_fields::put_octets;
 
 /// LLID of a PDU that continues a message of the host, and of an empty PDU.
@@ -17,6 +21,18 @@ const CONTINUATION: u8 = 1;
 
 /// LLID of a PDU that starts a message of the host.
 pub(crate) const START: u8 = 2;
+
+/// LLID of a control PDU.
+const CONTROL: u8 = 3;
+
+/// The opcode of LL_TERMINATE_IND (Core 5.2, volume 6 part B, section 2.4.2.3).
+const TERMINATE_IND: u8 = 0x02;
+
+/// The opcode of LL_ENC_REQ (Core 5.2, volume 6 part B, section 2.4.2.4).
+const ENC_REQ: u8 = 0x03;
+
+/// The opcode of LL_PAUSE_ENC_REQ (Core 5.2, volume 6 part B, section 2.4.2.11).
+const PAUSE_ENC_REQ: u8 = 0x0A;
 
 /// A PDU that an end sends.
 #[derive(Debug, Drop)]
@@ -57,6 +73,25 @@ impl Pdu {
         }
     }
 
+    /// The PDU of a control PDU, and an empty one where there is none.
+    pub(crate) fn of_control(ctrl: Option<Ctrl>) -> Pdu
+        requires { IfSome ctrl IsInRange }
+        ensures value { pdu_value result ≡ pdu_of_control ctrl }
+        ensures two_bits { result.llid < 4 }
+    {
+        match ctrl {
+            None => Pdu::empty(),
+            Some(ctrl) => {
+                let mut body = ArrayVec::new();
+                put_octets(&mut body, write_ctrl(&ctrl).as_slice());
+                Pdu {
+                    llid: CONTROL,
+                    body,
+                }
+            }
+        }
+    }
+
     pub(crate) fn is_data(&self) -> bool
         ensures { result ≡ is_data (pdu_value self.now) }
     {
@@ -67,6 +102,19 @@ impl Pdu {
         ensures { result ≡ is_empty (pdu_value self.now) }
     {
         is_empty(self.llid, self.body.len())
+    }
+
+    pub(crate) fn is_control(&self) -> bool
+        ensures { result ≡ is_control (pdu_value self.now) }
+    {
+        self.llid == CONTROL
+    }
+
+    /// Whether it is LL_TERMINATE_IND.
+    pub(crate) fn is_terminate(&self) -> bool
+        ensures { result ≡ is_terminate (pdu_value self.now) }
+    {
+        self.is_control() && begins_with(TERMINATE_IND, self.body.as_slice())
     }
 }
 
@@ -97,6 +145,21 @@ impl Got {
     {
         is_empty(self.header.llid, self.body.len())
     }
+
+    /// Whether it is a control PDU with an octet at least.
+    pub(crate) fn is_procedure_pdu(&self) -> bool
+        ensures { result ≡ is_procedure_pdu (pdu_in self.now) }
+    {
+        self.header.llid == CONTROL && !self.is_empty()
+    }
+
+    /// The control PDU that its body is.
+    pub(crate) fn read(&self) -> CtrlRead
+        ensures value { result ≡ read_of (pdu_in self.now) }
+        ensures in_range { IfKnown result IsInRange }
+    {
+        read_supported(read_ctrl(self.body.as_slice()))
+    }
 }
 
 /// LLID of a piece of a message.
@@ -118,4 +181,28 @@ fn is_empty(llid: u8, octets: usize) -> bool
     ensures { result ≡ (llid == 0 || octets == 0) }
 {
     llid == 0 || octets == 0
+}
+
+/// Whether octets begin with this opcode.
+fn begins_with(opcode: u8, octets: &[u8]) -> bool
+    ensures { result ≡ begins_with opcode octets.now }
+{
+    match octets {
+        [] => false,
+        [octet, ..] => *octet == opcode,
+    }
+}
+
+/// What was read, where a PDU that begins or pauses an encryption counts as unknown: no link is
+/// encrypted yet.
+fn read_supported(read: CtrlRead) -> CtrlRead
+    requires { IfKnown read IsInRange }
+    ensures value { result ≡ read_supported read }
+    ensures in_range { IfKnown result IsInRange }
+{
+    match read {
+        CtrlRead::Known(Ctrl::EncReq { .. }) => CtrlRead::Unknown(ENC_REQ),
+        CtrlRead::Known(Ctrl::PauseEncReq) => CtrlRead::Unknown(PAUSE_ENC_REQ),
+        _ => read,
+    }
 }

@@ -1,54 +1,92 @@
-//! What an end sends: the PDU that it fixes, its packet, and the notes of new PDUs.
-ghost use Rattle.std.specs.Prelude.{◌≡◌, ◌+◌, ◌<◌, ◌≤◌, ◌^◌, ◌++◌, true, not, IsSome, Some, None};
-ghost use Rattle.std.specs.Prelude.{length, nat_lt};
+//! What an end sends: its packet, and the notes of new PDUs.
+ghost use Rattle.std.specs.Prelude.{◌≡◌, ◌+◌, ◌<◌, ◌≤◌, ◌^◌, ◌++◌, true, not, IsSome, None};
+ghost use Rattle.std.specs.Prelude.{length};
 ghost use Rattle.arrayvec.specs.ArrayVec.{array_vec_len};
 ghost use Rattle.ack_bit.specs.AckBits.{header_of};
-ghost use Rattle.acl_banks.specs.Banks.{next_length, next_piece, packet_out, unsent_of};
+ghost use Rattle.acl_banks.specs.Banks.{next_piece, packet_out};
 ghost use Rattle.air_frame.specs.Packet.{on_air};
 ghost use Rattle.data_pdu.specs.Header.{octets_of};
 ghost use Rattle.link_model.specs.Data.{is_data, is_empty};
-ghost use Rattle.link_model.specs.End.{event_sent};
-ghost use Rattle.link_end.specs.Held.{carries_next, count_if, held_fixed, held_gone, held_sent};
-ghost use Rattle.link_end.specs.Held.{more_out, numbers_next, pdu_out, sent_note_if};
+ghost use Rattle.link_model.specs.Events.{event_sent};
+ghost use Rattle.link_model.specs.Sending.{leaving_sent, sent_notes_if};
+ghost use Rattle.link_end.specs.Held.{count_if};
 ghost use Rattle.link_end.specs.Pdus.{pdu_value};
+ghost use Rattle.link_end.specs.Sending.{carries_next, held_gone, held_gone_if, held_out};
+ghost use Rattle.link_end.specs.Sending.{more_out, pdu_fixed, pdu_out, sent_notes};
+ghost use Rattle.link_end.specs.Sending.{takes_leave, with_next_sent};
 ghost use Rattle.link_end.specs.Tied.{IsTied, bank_went_if};
 
+use crate::controls::{next_pdu, send};
 use crate::ends::LinkEnd;
 use crate::packets::packet;
 use crate::pdus::Pdu;
-use crate::steps::MOST_OCTETS;
 use acl_banks::TxBank;
 use arrayvec::ArrayVec;
 use ble_base::{AIR_PACKET_OCTETS, Note, Outbox};
-use link_model::ConnectionEvent;
+use link_model::{ConnectionEvent, Leaving};
 use std::mem;
 use wire_fields::put_octets;
 
 impl LinkEnd {
-    /// Fixes the PDU that it sends next, and whether a further piece waits after it.
-    pub(crate) fn fix<const T: usize>(&mut self, tx: &TxBank<T>)
-        ensures { self.new ≡ held_fixed (next_piece tx.now self.old.setup.link.handle 27)
-            (nat_lt (next_length tx.now self.old.setup.link.handle 27)
-            (length (unsent_of tx.now self.old.setup.link.handle))) self.old }
+    /// Whether the control PDU that is fixed leaves the queue with the next packet.
+    pub(crate) fn takes_leave(&self) -> bool
+        ensures { result ≡ takes_leave self.now }
     {
-        self.more = tx.waits(self.setup.handle, MOST_OCTETS);
-        self.fixed = Pdu::with(tx.peek(self.setup.handle, MOST_OCTETS));
+        self.is_acked && self.fixes_control
+    }
+
+    /// The control PDU that is fixed leaves the queue, or does not: it is made, and counts as first
+    /// sent in this slot.
+    pub(crate) fn go_if(&mut self, goes: bool, slot: u64)
+        requires entered { 1 ≤ self.old.control.track.entered }
+        requires fixes { goes ≡ true → self.old.fixes_control ≡ true }
+        ensures held { self.new ≡ held_gone_if goes slot self.old }
+        ensures entered { 1 ≤ self.new.control.track.entered }
+    {
+        if goes {
+            self.fixed = next_pdu(&self.control);
+            send(&mut self.control, slot);
+            self.fixes_control = false;
+        }
+    }
+
+    /// The control PDU that is fixed leaves the queue where the last PDU is acknowledged.
+    pub(crate) fn go(&mut self, slot: u64)
+        requires entered { 1 ≤ self.old.control.track.entered }
+        ensures held { self.new ≡ held_gone slot self.old }
+        ensures entered { 1 ≤ self.new.control.track.entered }
+    {
+        self.go_if(self.takes_leave(), slot);
+    }
+
+    /// Whether the PDU that is fixed is empty.
+    fn fixes_nothing(&self) -> bool
+        requires entered { 1 ≤ self.now.control.track.entered }
+        ensures { result ≡ is_empty (pdu_fixed self.now) }
+    {
+        if self.fixes_control {
+            next_pdu(&self.control).is_empty()
+        } else {
+            self.fixed.is_empty()
+        }
     }
 
     /// Whether its packet says that more waits.
     fn more_out(&self) -> bool
+        requires entered { 1 ≤ self.now.control.track.entered }
         ensures { result ≡ more_out self.now }
     {
         if self.is_acked {
             self.more
         } else {
-            !self.fixed.is_empty()
+            !self.fixes_nothing()
         }
     }
 
     /// The packet of a PDU.
     fn packet_of(&self, pdu: &Pdu) -> ArrayVec<u8, AIR_PACKET_OCTETS>
-        requires { pdu.now.llid < 4 }
+        requires llid { pdu.now.llid < 4 }
+        requires entered { 1 ≤ self.now.control.track.entered }
         ensures { result.items ≡ on_air self.now.event.channel self.now.setup.link.fields.access
             self.now.setup.link.fields.crc_init
             (octets_of (header_of self.now.bits (pdu_value pdu.now).llid (more_out self.now)
@@ -63,6 +101,7 @@ impl LinkEnd {
     /// The packet that it sends: of the last PDU again until that is acknowledged, and of the fixed
     /// one after that.
     pub(crate) fn next_packet(&self) -> ArrayVec<u8, AIR_PACKET_OCTETS>
+        requires entered { 1 ≤ self.now.control.track.entered }
         ensures { result.items ≡ on_air self.now.event.channel self.now.setup.link.fields.access
             self.now.setup.link.fields.crc_init
             (octets_of (header_of self.now.bits (pdu_out self.now).llid (more_out self.now)
@@ -81,11 +120,11 @@ impl LinkEnd {
         requires acked { self.old.is_acked ≡ true }
         requires tied { IsTied self.old tx.old }
         requires room { array_vec_len out.old ≤ 59 }
-        ensures held { self.new ≡ held_gone self.old }
+        ensures held { self.new ≡ with_next_sent self.old }
         ensures bank { tx.new
             ≡ bank_went_if (is_data self.old.fixed) tx.old self.old.setup.link.handle
             (length self.old.fixed.body) }
-        ensures notes { out.new.items ≡ out.old.items ++ sent_note_if
+        ensures notes { out.new.items ≡ out.old.items ++ sent_notes_if
             (not (is_empty self.old.fixed)) self.old.setup.link.handle self.old.sent
             self.old.fixed }
         ensures few { array_vec_len out.new ≤ array_vec_len out.old + 1 }
@@ -104,15 +143,14 @@ impl LinkEnd {
     }
 
     /// Where the last PDU is acknowledged, the fixed one is sent.
-    fn go_out<const T: usize>(&mut self, tx: &mut TxBank<T>, out: &mut Outbox)
+    fn send_next<const T: usize>(&mut self, tx: &mut TxBank<T>, out: &mut Outbox)
         requires tied { IsTied self.old tx.old }
         requires room { array_vec_len out.old ≤ 59 }
-        ensures held { self.new ≡ held_gone self.old }
+        ensures held { self.new ≡ with_next_sent self.old }
         ensures bank { tx.new
             ≡ bank_went_if (carries_next self.old) tx.old self.old.setup.link.handle
             (length self.old.fixed.body) }
-        ensures notes { out.new.items ≡ out.old.items ++ sent_note_if (numbers_next self.old)
-            self.old.setup.link.handle self.old.sent self.old.fixed }
+        ensures notes { out.new.items ≡ out.old.items ++ sent_notes self.old }
         ensures few { array_vec_len out.new ≤ array_vec_len out.old + 1 }
     {
         if self.is_acked {
@@ -122,18 +160,19 @@ impl LinkEnd {
 
     /// It sends its packet in this slot.
     pub(crate) fn send<const T: usize>(&mut self, slot: u64, tx: &mut TxBank<T>, out: &mut Outbox)
+        requires entered { 1 ≤ self.old.control.track.entered }
         requires tied { IsTied self.old tx.old }
         requires room { array_vec_len out.old ≤ 59 }
-        ensures held { self.new ≡ held_sent slot self.old }
+        ensures held { self.new ≡ held_out slot self.old }
         ensures bank { tx.new
             ≡ bank_went_if (carries_next self.old) tx.old self.old.setup.link.handle
             (length self.old.fixed.body) }
-        ensures notes { out.new.items ≡ out.old.items ++ sent_note_if (numbers_next self.old)
-            self.old.setup.link.handle self.old.sent self.old.fixed }
+        ensures notes { out.new.items ≡ out.old.items ++ sent_notes self.old }
         ensures few { array_vec_len out.new ≤ array_vec_len out.old + 1 }
     {
         self.event = event_sent(self.event, slot, self.more_out());
-        self.go_out(tx, out);
+        self.leaving = leaving_sent(self.leaving);
+        self.send_next(tx, out);
     }
 }
 
@@ -145,6 +184,17 @@ fn event_sent(event: ConnectionEvent, slot: u64, more: bool) -> ConnectionEvent
     ConnectionEvent {
         more: event.more || (slot == event.slot && more),
         ..event
+    }
+}
+
+/// How the link is to end after a packet was sent: after LL_TERMINATE_IND of the peer was taken,
+/// that was the last one.
+fn leaving_sent(leaving: Leaving) -> Leaving
+    ensures { result ≡ leaving_sent leaving }
+{
+    Leaving {
+        answered: leaving.answered || leaving.ended_by_peer.is_some(),
+        ..leaving
     }
 }
 
@@ -166,7 +216,7 @@ fn note_sent(handle: u16, sent: u64, pdu: &Pdu, out: &mut Outbox) -> u64
     requires count { sent < 2 ^ 33 }
     requires room { array_vec_len out.old ≤ 59 }
     ensures count { result ≡ count_if (not (is_empty (pdu_value pdu.now))) sent }
-    ensures notes { out.new.items ≡ out.old.items ++ sent_note_if
+    ensures notes { out.new.items ≡ out.old.items ++ sent_notes_if
         (not (is_empty (pdu_value pdu.now))) handle sent (pdu_value pdu.now) }
     ensures few { array_vec_len out.new ≤ array_vec_len out.old + 1 }
 {

@@ -1,31 +1,23 @@
-//! What one end of a link does, on what it holds.
+//! What one end of a link does as time passes, on what it holds.
 ghost use Rattle.std.specs.Prelude.{◌≡◌, ◌+◌, ◌<◌, ◌≤◌, ◌^◌, ◌==◌, ◌&&◌, ◌||◌, [], ◌∷◌, ◌++◌};
-ghost use Rattle.std.specs.Prelude.{IfSome, length};
+ghost use Rattle.std.specs.Prelude.{IfSome, length, not, if◌then◌else◌};
 ghost use Rattle.std.specs.Option.{option_map};
-ghost use Rattle.arrayvec.specs.ArrayVec.{array_vec_len};
 ghost use Rattle.acl_banks.specs.Banks.{unsent_of};
-ghost use Rattle.chan_select.specs.Channel.{channel_of};
-ghost use Rattle.instants.specs.Track.{event_of, is_free, next_anchor_of, next_number};
-ghost use Rattle.instants.specs.Track.{track_after_enter};
+ghost use Rattle.instants.specs.Track.{is_free};
+ghost use Rattle.procedure_stages.specs.InProgress.{is_busy};
+ghost use Rattle.procedure_stages.specs.Queue.{waiting_in};
 ghost use Rattle.link_model.specs.Data.{is_empty};
-ghost use Rattle.link_model.specs.Setup.{algorithm_of, first_anchor, first_params};
-ghost use Rattle.link_model.specs.Times.{has_failed, has_timed_out, is_recent, reason_due, skips_by};
-ghost use Rattle.link_model.specs.End.{applied_notes};
-ghost use Rattle.link_model.specs.declared.setup.LinkSetup.{LinkSetup};
-ghost use Rattle.adv_pdu.specs.Ranges.{IsInRange};
-ghost use Rattle.ble_base.specs.declared.notes.Note.TheVariants.{Enter};
-ghost use Rattle.link_end.specs.Held.{held_entered};
+ghost use Rattle.link_model.specs.Lost.{is_recent, reason_due, skips_by};
+ghost use Rattle.link_model.specs.Times.{ended_by_peer, ended_by_procedures, first_of};
+ghost use Rattle.link_model.specs.Times.{termination_due};
+ghost use Rattle.link_end.specs.Times.{due_by, ending_by, is_idle_with};
 
 use crate::ends::LinkEnd;
 use crate::packets::Place;
 use acl_banks::TxBank;
-use ble_base::{ChannelMap, ErrCode, EventNo, Note, Outbox, Role, SlotNo};
-use chan_select::Selector;
+use ble_base::{ErrCode, Role, SlotNo};
 use instants::Params;
-use link_model::{ConnectionEvent, LinkSetup, Reception};
-
-/// The slots from a CONNECT_IND to the earliest anchor of event 0 (our choice).
-const FIRST_ANCHOR: u64 = 2;
+use link_model::{ConnectionEvent, KnownLengths, Leaving, Reception};
 
 /// The intervals after which a link on which nothing good was received ends (Core 5.2, volume 6
 /// part B, section 4.5.2).
@@ -34,51 +26,14 @@ const FAILED_INTERVALS: u64 = 6;
 /// The slots in 10 ms, which is the unit of the supervision timeout.
 const TIMEOUT_SLOTS: u64 = 8;
 
-/// The most octets of a payload that is sent (Core 5.2, volume 6 part B, section 4.5.10).
-pub(crate) const MOST_OCTETS: u16 = 27;
+/// Octets of a piece, any number of them, by which it is known whether one waits.
+const ANY_OCTETS: u16 = 1;
 
-/// The first parameters of a link.
-pub(crate) fn first_params(setup: &LinkSetup) -> Params
-    requires { IsInRange setup.now.fields }
-    ensures { result ≡ first_params setup.now.fields }
-{
-    let Some(map) = ChannelMap::new(setup.fields.map) else {
-        unreachable!()
-    };
-    Params {
-        interval: setup.fields.interval,
-        latency: setup.fields.latency,
-        timeout: setup.fields.timeout,
-        map,
-    }
-}
-
-/// The slot of the anchor of event 0, of a link that was opened in this slot.
-pub(crate) fn first_anchor(win_offset: u16, slot: u64) -> SlotNo
-    requires { slot < 2 ^ 32 }
-    ensures value { result.0 ≡ slot + 2 + win_offset }
-    ensures bound { result.0 < 2 ^ 33 }
-{
-    SlotNo(slot + FIRST_ANCHOR + u64::from(win_offset))
-}
-
-/// How the channels of the link are selected.
-pub(crate) fn selector(setup: &LinkSetup) -> Selector
-    requires { IsInRange setup.now.fields }
-    ensures { result ≡ algorithm_of setup.now }
-{
-    if setup.two {
-        Selector::two(setup.fields.access)
-    } else {
-        Selector::one(setup.fields.hop)
-    }
-}
-
-/// The reason for which a link ends at the start of a turn.
-fn reason(opened: u64, params: Params, last_good: Option<Reception>, slot: u64) -> Option<ErrCode>
+/// The reason for which a link ends at the start of a turn since nothing good was received.
+fn reason(opened: u64, params: &Params, last_good: Option<Reception>, slot: u64) -> Option<ErrCode>
     requires opened { opened < 2 ^ 32 }
     requires good { IfSome last_good (λ good. good.slot < 2 ^ 32) }
-    ensures { option_map (λ code. code.0) result ≡ reason_due opened params last_good slot }
+    ensures { option_map (λ code. code.0) result ≡ reason_due opened params.now last_good slot }
 {
     match last_good {
         None if opened + FAILED_INTERVALS * u64::from(params.interval) <= slot => {
@@ -88,6 +43,31 @@ fn reason(opened: u64, params: Params, last_good: Option<Reception>, slot: u64) 
             Some(ErrCode::CONNECTION_TIMEOUT)
         }
         _ => None,
+    }
+}
+
+/// The reason for which a link ends at the start of a turn since the host's Disconnect was not
+/// acknowledged.
+fn termination(disconnected: Option<u64>, params: &Params, slot: u64) -> Option<ErrCode>
+    requires { IfSome disconnected (λ since. since < 2 ^ 32) }
+    ensures { option_map (λ code. code.0) result ≡ termination_due disconnected params.now slot }
+{
+    match disconnected {
+        Some(since) if since + TIMEOUT_SLOTS * u64::from(params.timeout) <= slot => {
+            Some(ErrCode::TERMINATED_BY_LOCAL_HOST)
+        }
+        _ => None,
+    }
+}
+
+/// The first of two reasons.
+fn first_of(one: Option<ErrCode>, other: Option<ErrCode>) -> Option<ErrCode>
+    ensures { option_map (λ code. code.0) result
+        ≡ first_of (option_map (λ code. code.0) one) (option_map (λ code. code.0) other) }
+{
+    match one {
+        Some(code) => Some(code),
+        None => other,
     }
 }
 
@@ -103,10 +83,38 @@ fn is_recent(last_good: Option<Reception>, event: u64, latency: u16) -> bool
 }
 
 /// Whether an event has a second exchange.
-pub(crate) fn continues(event: ConnectionEvent) -> bool
-    ensures { result ≡ (event.heard && event.more) }
+pub(crate) fn continues(event: ConnectionEvent, lengths: KnownLengths) -> bool
+    ensures { result ≡ (event.heard && event.more && (not lengths.long && not lengths.changed)) }
 {
-    event.heard && event.more
+    event.heard && event.more && (!lengths.long && !lengths.changed)
+}
+
+/// The slots for which an event holds the radio.
+pub(crate) fn span(long: bool) -> u8
+    ensures { result ≡ (if long then 4 else 2) }
+{
+    if long { 4 } else { 2 }
+}
+
+/// The reason for which the peer ends the link.
+fn ended_by_peer(leaving: Leaving) -> Option<ErrCode>
+    ensures { result ≡ ended_by_peer leaving }
+{
+    if leaving.answered {
+        leaving.ended_by_peer
+    } else {
+        None
+    }
+}
+
+/// The reason for which a procedure ends the link, or else the peer does.
+fn ended_by_procedures(ends: Option<ErrCode>, leaving: Leaving) -> Option<ErrCode>
+    ensures { result ≡ ended_by_procedures ends leaving }
+{
+    match ends {
+        Some(code) => Some(code),
+        None => ended_by_peer(leaving),
+    }
 }
 
 impl LinkEnd {
@@ -127,78 +135,60 @@ impl LinkEnd {
 
     /// The reason for which it ends at the start of a turn in this slot.
     pub(crate) fn reason(&self, slot: u64) -> Option<ErrCode>
-        ensures { option_map (λ code. code.0) result ≡ reason_due self.now.setup.opened
-            self.now.parameters.params self.now.last_good slot }
+        ensures { option_map (λ code. code.0) result ≡ due_by self.now slot }
     {
-        reason(self.opened, self.parameters.params(), self.last_good, slot)
+        let params = self.control.params();
+        first_of(
+            reason(self.opened, &params, self.last_good, slot),
+            first_of(
+                self.control.tick(SlotNo(slot)),
+                termination(self.leaving.disconnected, &params, slot),
+            ),
+        )
+    }
+
+    /// The reason for which it ends at the end of a turn.
+    pub(crate) fn ending(&self) -> Option<ErrCode>
+        ensures { result ≡ ending_by self.now }
+    {
+        if self.leaving.acknowledged {
+            return Some(ErrCode::TERMINATED_BY_LOCAL_HOST);
+        }
+        ended_by_procedures(self.control.ends(), self.leaving)
     }
 
     /// Whether it has nothing to send: the PDU that it sent last is acknowledged or empty, and no
-    /// data waits in the bank.
-    fn is_idle<const T: usize>(&self, tx: &TxBank<T>) -> bool
+    /// control PDU waits, nor data in the bank.
+    fn has_nothing_to_send<const T: usize>(&self, tx: &TxBank<T>) -> bool
         ensures { result ≡ ((self.now.is_acked || is_empty self.now.last)
-            && length (unsent_of tx.now self.now.setup.link.handle) == 0) }
+            && (waiting_in self.now.control.table.queue == 0)
+            && (length (unsent_of tx.now self.now.setup.link.handle) == 0)) }
     {
-        (self.is_acked || self.last.is_empty()) && nothing_waits(self.setup.handle, tx)
+        (self.is_acked || self.last.is_empty())
+            && self.control.waiting() == 0
+            && nothing_waits(self.setup.handle, tx)
+    }
+
+    /// Whether no procedure is in progress, and no indication waits.
+    fn is_settled(&self) -> bool
+        ensures { result ≡ (not (is_busy self.now.control.table.progress)
+            && is_free self.now.control.track) }
+    {
+        !self.control.is_busy() && self.control.is_free()
     }
 
     /// Whether it skips the event entered last.
     pub(crate) fn skips<const T: usize>(&self, tx: &TxBank<T>) -> bool
         ensures { result ≡ skips_by self.now.setup.link.role self.now.event self.now.last_good
-            (((self.now.is_acked || is_empty self.now.last)
-            && length (unsent_of tx.now self.now.setup.link.handle) == 0)
-            && is_free self.now.parameters) }
+            (is_idle_with (length (unsent_of tx.now self.now.setup.link.handle) == 0) self.now) }
     {
         match self.setup.role {
             Role::Central => false,
             Role::Peripheral => {
                 is_recent(self.last_good, self.event.number, self.event.latency)
-                    && (self.is_idle(tx) && self.parameters.free())
+                    && (self.has_nothing_to_send(tx) && self.is_settled())
             }
         }
-    }
-
-    /// Enters the next event, and gives the number of the indication that is in force from then on.
-    fn enter_next(&mut self, slot: u64) -> Option<u64>
-        requires { next_anchor_of self.old.parameters < 2 ^ 32 }
-        ensures held { self.new ≡ held_entered slot self.old }
-        ensures number { result ≡ next_number self.old.parameters }
-    {
-        let latency = self.parameters.params().latency;
-        let applied = self.parameters.enter();
-        let event = self.parameters.event();
-        self.event = ConnectionEvent {
-            number: event.0,
-            slot,
-            channel: self.selector.channel(event, &self.parameters.params().map),
-            latency,
-            heard: false,
-            more: false,
-        };
-        applied
-    }
-
-    /// Enters the next event, whose anchor is in this slot, and notes it.
-    pub(crate) fn enter_event(&mut self, slot: u64, out: &mut Outbox)
-        requires anchor { next_anchor_of self.old.parameters < 2 ^ 32 }
-        requires room { array_vec_len out.old ≤ 59 }
-        ensures held { self.new ≡ held_entered slot self.old }
-        ensures notes { out.new.items ≡ out.old.items
-            ++ (applied_notes self.new.setup.link.handle self.new.event.number
-            (next_number self.old.parameters)
-            ++ Enter self.new.setup.link.handle (record { 0 = self.new.event.number })
-            self.new.event.channel ∷ []) }
-        ensures few { array_vec_len out.new ≤ array_vec_len out.old + 5 }
-    {
-        let applied = self.enter_next(slot);
-        let handle = self.setup.handle;
-        let event = EventNo(self.event.number);
-        note_applied(handle, event, applied, out);
-        out.push(Note::Enter {
-            handle,
-            event,
-            channel: self.event.channel,
-        });
     }
 }
 
@@ -206,20 +196,5 @@ impl LinkEnd {
 fn nothing_waits<const T: usize>(handle: u16, tx: &TxBank<T>) -> bool
     ensures { result ≡ (length (unsent_of tx.now handle) == 0) }
 {
-    tx.peek(handle, MOST_OCTETS).is_none()
-}
-
-/// Notes the indication that is in force from an event on.
-fn note_applied(handle: u16, event: EventNo, applied: Option<u64>, out: &mut Outbox)
-    requires room { array_vec_len out.old ≤ 59 }
-    ensures notes { out.new.items ≡ out.old.items ++ applied_notes handle event.0 applied }
-    ensures few { array_vec_len out.new ≤ array_vec_len out.old + 1 }
-{
-    if let Some(number) = applied {
-        out.push(Note::Applied {
-            handle,
-            number,
-            event,
-        });
-    }
+    tx.peek(handle, ANY_OCTETS).is_none()
 }

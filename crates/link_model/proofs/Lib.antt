@@ -1,12 +1,20 @@
 -- The lemmas of this crate.
-pub mod InEvents
-pub mod Payloads
-pub mod Received
-pub mod Sending
-pub mod Pieces
-mod Repeating
-pub mod Taking
-pub mod Waiting
-pub mod Pairs
+pub mod Hearing
+pub mod Outgoing
+pub mod ControlSteps
+pub mod Acknowledging
+pub mod Moves
+pub mod Counts
 pub mod Numbering
+pub mod Sending
+pub mod Taking
+pub mod Repeating
+pub mod Llids
+pub mod Fixing
+pub mod Skipping
+pub mod Ending
+pub mod Exchanges
+pub mod Agreeing
+pub mod Pieces
 pub mod Pasts
+pub mod Received

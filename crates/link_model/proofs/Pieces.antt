@@ -7,14 +7,15 @@ use Rattle.std.proofs.lemmas.Bool.{eqb-true, eqb-false}
 use Rattle.std.proofs.lemmas.Bool.Decides.{nat_tests}
 use Rattle.std.proofs.lemmas.List.{append-nil, length-append, take-append-le, take_all}
 use Rattle.acl_banks.specs.Packets.{DataPacket, marked_octets, piece_of}
-use Rattle.acl_banks.proofs.Octets.{length-marked_octets, piece-again}
+use Rattle.acl_banks.proofs.Octets.{length-marked_octets}
 use Rattle.link_model.specs.Setup.{Setup}
-use Rattle.link_model.specs.Step.{Step}
 use Rattle.link_model.specs.Acknowledgement.{Acknowledgement, Pdu, is_acked}
 use Rattle.link_model.specs.Data.{Data, data_in, data_of, is_data, is_out, is_unsent, pdu_with}
-use Rattle.link_model.specs.Delivery.{acked_data, sent_data}
+use Rattle.link_model.specs.Data.{acked_data, sent_data}
+use Rattle.link_model.proofs.Outgoing.{all_acked, data-push, none_out, not_out}
+use Rattle.link_model.specs.Step.{Step}
 use Rattle.link_model.specs.End.{facts_of}
-use Rattle.link_model.proofs.Sending.{IsNext, IsTogether, all_acked, data-push, none_next, none_out, not_out, nothing_acked, nothing_out, past_holds, piece_next}
+use Rattle.link_model.proofs.Sending.{IsTogether, nothing_acked, nothing_out, past_together}
 
 -- no piece is out where all that was sent is acknowledged
 none_where_acked : (ack : Acknowledgement) (outgoing : Data) → IsTogether ack outgoing → acked_data ack ≡ sent_data ack
@@ -40,13 +41,13 @@ out_where_sent : (ack : Acknowledgement) (outgoing : Data) → IsTogether ack ou
     → is_data ack.last ≡ true → (out : Option DataPacket) → find is_out outgoing.packets ≡ out → is_some out ≡ true
 out_where_sent ack outgoing are waits holds (Some packet) found = refl
 out_where_sent ack outgoing are waits holds None found =
-    let front = are.last_sent.front in
+    let front = are.counts.last_sent.front in
     let count : ack.acked ≡ length front =
-    omega (arith, waits, are.one_at_a_time, ap length are.last_sent.sent_are, length-append front (ack.last ∷ [])) in
+    omega (arith, waits, are.counts.one_at_a_time, ap length are.counts.last_sent.sent_are, length-append front (ack.last ∷ [])) in
     let acked_are : acked_data ack ≡ data_of front =
-    ap (λ n. data_of (take n ack.sent)) count ∙ ap (λ pdus. data_of (take (length front) pdus)) are.last_sent.sent_are
+    ap (λ n. data_of (take n ack.sent)) count ∙ ap (λ pdus. data_of (take (length front) pdus)) are.counts.last_sent.sent_are
     ∙ ap data_of (take-append-le (length front) front (ack.last ∷ []) (omega arith) ∙ take_all (length front) front (omega arith)) in
-    let sent_are : sent_data ack ≡ data_of front ++ data_in ack.last = ap data_of are.last_sent.sent_are ∙ data-push front ack.last in
+    let sent_are : sent_data ack ≡ data_of front ++ data_in ack.last = ap data_of are.counts.last_sent.sent_are ∙ data-push front ack.last in
     let nothing = not_out outgoing.packets found in
     let all : sent_data ack ≡ acked_data ack = are.kept.sent ∙ ap (λ o. acked_data ack ++ o) nothing ∙ append-nil (acked_data ack) in
     absurd (omega (arith, data_some ack.last holds, ap length (sym sent_are ∙ all ∙ acked_are), length-append (data_of front) (data_in ack.last)))
@@ -56,11 +57,11 @@ piece_out_by : (acked carried : Bool) (ack : Acknowledgement) (outgoing : Data) 
 piece_out_by true carried ack outgoing is carries are =
     none_where_acked ack outgoing are (all_acked ack (omega (arith, eqb-true ack.acked (length ack.sent) is)))
 piece_out_by false true ack outgoing is carries are =
-    out_where_sent ack outgoing are (omega (arith, are.sent_only, eqb-false ack.acked (length ack.sent) is)) carries
+    out_where_sent ack outgoing are (omega (arith, are.counts.sent_only, eqb-false ack.acked (length ack.sent) is)) carries
     (find is_out outgoing.packets) refl
 piece_out_by false false ack outgoing is carries are =
     none_where_acked ack outgoing are
-    (nothing_acked ack outgoing are (omega (arith, are.sent_only, eqb-false ack.acked (length ack.sent) is))
+    (nothing_acked ack are.counts (omega (arith, are.counts.sent_only, eqb-false ack.acked (length ack.sent) is))
     (ap (λ b. if b then marked_octets (ack.last.llid == 2) ack.last.body else []) carries))
 
 pub piece_out_where_waits : (setup : Setup) (past : List Step) → let facts = facts_of setup past in
@@ -68,23 +69,9 @@ pub piece_out_where_waits : (setup : Setup) (past : List Step) → let facts = f
 piece_out_where_waits setup past =
     let facts = facts_of setup past in
     piece_out_by (is_acked facts.acknowledgement) (is_data facts.acknowledgement.last) facts.acknowledgement facts.outgoing refl refl
-    (past_holds setup past)
+    (past_together setup past)
 
-next_by : (packets : List DataPacket) (fixed : Pdu) → IsNext packets fixed → is_data fixed ≡ true
-    → pdu_with (option_map (piece_of (length fixed.body)) (find is_unsent packets)) ≡ fixed
-next_by packets fixed (none_next is) holds = let no : is_data fixed ≡ false = ap is_data is in absurd cc
-next_by packets fixed (piece_next packet limit some found is) holds =
-    ap (λ o. pdu_with (option_map (piece_of (length fixed.body)) o)) found
-    ∙ ap (λ (pdu : Pdu). pdu_with (Some (piece_of (length pdu.body) packet))) is
-    ∙ ap (λ piece. pdu_with (Some piece)) (piece-again limit packet) ∙ sym is
-
--- a fixed PDU of data carries the next piece, cut at its own length
 pub fixed_is_next : (setup : Setup) (past : List Step) → let outgoing = (facts_of setup past).outgoing in
     is_data outgoing.fixed ≡ true
     → pdu_with (option_map (piece_of (length outgoing.fixed.body)) (find is_unsent outgoing.packets)) ≡ outgoing.fixed
-fixed_is_next setup past holds =
-    let outgoing = (facts_of setup past).outgoing in
-    next_by outgoing.packets outgoing.fixed (past_holds setup past).next holds
-
-pub limit_is : (setup : Setup) (past : List Step) → (facts_of setup past).outgoing.limit ≡ 27
-limit_is setup past = (past_holds setup past).limit
+fixed_is_next setup past = (past_together setup past).next

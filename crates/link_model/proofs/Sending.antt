@@ -1,76 +1,66 @@
--- What an end sent, beside the packets that its host gave it, step by step.
-use Rattle.std.proofs.Common.{◌≡◌, ℕ, ◌+◌, ◌<◌, ◌≤◌, ◌==◌, nat_lt, Bool, true, false, cond, not, ◌&&◌, List, [], ◌∷◌, ◌++◌, fold, length, take, drop, Option, Some, None, refl, ap, sym, ◌∙◌, subst, arith, if◌then◌else◌}
+-- What an end sent, with the packets that its host gave it, move by move.
+use Rattle.std.proofs.Common.{◌≡◌, ℕ, ◌+◌, ◌≤◌, ◌==◌, nat_lt, Bool, true, false, cond, ◌&&◌, List, [], ◌∷◌, ◌++◌, length, take, drop, Option, Some, None, refl, ap, sym, ◌∙◌, subst, arith, if◌then◌else◌}
 use Rattle.std.specs.List.{find}
 use Rattle.std.specs.Option.{option_map, option_or}
 use Rattle.std.proofs.lemmas.Bool.{eqb-true, eqb-false}
 use Rattle.std.proofs.lemmas.Bool.Decides.{nat_tests}
-use Rattle.std.proofs.lemmas.Grind.{flat_map-append}
-use Rattle.std.proofs.lemmas.List.{append-nil, append_cancel_left, length-append, length-drop, length-take-le, take-append-le, take_all}
+use Rattle.std.proofs.lemmas.List.{append-nil, append_cancel_left, length-append, take-append-le, take_all}
 use Rattle.std.proofs.lemmas.List.Folds.{find-append}
-use Rattle.std.proofs.lemmas.Option.{none-some, same_Some}
-use Rattle.acl_banks.specs.Packets.{DataPacket, Marked, AreInOrder, IsFresh, is_all_sent, marked_octets, new_packet, octets_out, packet_after_acked, packet_after_went, piece_of, sent_length, with_first}
+use Rattle.std.proofs.lemmas.Option.{none-some}
+use Rattle.acl_banks.specs.Packets.{DataPacket, IsFresh, Marked, is_all_sent, marked_octets, new_packet, packet_after_acked, packet_after_went, piece_of, sent_length, with_first, without_first}
 use Rattle.acl_banks.specs.History.{Past}
-use Rattle.acl_banks.proofs.Octets.{length-marked_octets, length-piece_of, length-unsent_octets, went-piece}
-use Rattle.acl_banks.proofs.Order.{head_left, head_out, is_left-head, is_out-head, link-acked, link-completed, link-went, none_out-rest}
+use Rattle.acl_banks.proofs.Octets.{piece-again}
+use Rattle.acl_banks.proofs.Order.{IsHead, head_left, head_out, is_left-head, is_out-head, link-acked, link-completed, link-went}
 use Rattle.acl_banks.proofs.OneLink.{IsKept, all_counted, all_octets, kept-acked, kept-completed, kept-credited, kept-empty, kept-offer, kept-went, outs}
-use Rattle.ack_bit.specs.AckBits.{acknowledges}
-use Rattle.data_pdu.specs.Header.{header_in}
+use Rattle.data_pdu.specs.declared.ctrl.Ctrl.{Ctrl}
 use Rattle.link_model.specs.Setup.{Setup}
-use Rattle.link_model.specs.Step.{Step, DataGiven, EventEntered, PduFixed, PacketSent, PacketReceived, DataReported}
-use Rattle.link_model.specs.Acknowledgement.{Acknowledgement, Pdu, bits_of, empty_pdu, first_acknowledgement, is_acked, next_sent, received_by}
-use Rattle.link_model.specs.Data.{Data, data_acked, data_acked_if, data_completed, data_fixed, data_given, data_in, data_of, data_sent, data_sent_if, first_data, is_completed, is_data, is_out, is_unsent, llid_of, pdu_with}
-use Rattle.link_model.specs.Delivery.{IsInOrder, acked_data, sent_data}
-use Rattle.link_model.specs.Facts.{Facts, first_facts}
-use Rattle.link_model.specs.Packets.{good_pdu, pdu_of}
-use Rattle.link_model.specs.End.{facts_after, facts_of, facts_received, has_acknowledged, has_new_pdu, is_accepted}
+use Rattle.link_model.specs.Acknowledgement.{Acknowledgement, Pdu, empty_pdu, first_acknowledgement, is_acked, next_sent, with_accepted, with_acked}
+use Rattle.link_model.specs.Data.{Data, data_acked, data_acked_if, data_completed, data_given, data_in, data_of, data_reported, data_sent, data_sent_if, first_data, is_completed, is_data, is_out, is_unsent, llid_of, pdu_with}
+use Rattle.link_model.specs.Data.{acked_data, sent_data}
+use Rattle.link_model.proofs.Outgoing.{all_acked, data-push, none_out, not_out}
+use Rattle.link_model.specs.Controls.{pdu_of_control}
+use Rattle.link_model.specs.Facts.{Facts}
+use Rattle.link_model.specs.Fixing.{data_fixed_by}
+use Rattle.link_model.specs.Step.{Step}
+use Rattle.link_model.specs.End.{facts_of}
+use Rattle.link_model.specs.Delivery.{IsInOrder}
+use Rattle.link_model.proofs.Counts.{AreCounted, accepted_counted, acked_counted, first_counted, sent_counted}
+use Rattle.link_model.proofs.Moves.{EachMoveKeeps, past_keeps}
 
 -- what became of the data, as the bank of all links has it
 abbrev pub past_of : Acknowledgement → Data → Past
 past_of ack outgoing =
     record { packets = outgoing.given; sent = sent_data ack; acknowledged = acked_data ack; reported = outgoing.reported }
 
--- the fixed PDU is empty, or the next piece, cut at the limit of its time
-pub data IsNext (packets : List DataPacket) (fixed : Pdu) : Type 0 where
-  none_next : fixed ≡ empty_pdu → IsNext packets fixed
-  piece_next : (packet : DataPacket) (limit : ℕ) → 1 ≤ limit → find is_unsent packets ≡ Some packet
-      → fixed ≡ pdu_with (Some (piece_of limit packet)) → IsNext packets fixed
-
--- the last of the PDUs sent, and those before it
-pub record EndsIn (sent : List Pdu) (last : Pdu) : Type 0 where
-  pub front : List Pdu
-  pub sent_are : sent ≡ front ++ last ∷ []
+-- where the fixed PDU is data, it is the next piece, cut at its own length
+abbrev pub IsNext : List DataPacket → Pdu → Type 0
+IsNext packets fixed = is_data fixed ≡ true → pdu_with (option_map (piece_of (length fixed.body)) (find is_unsent packets)) ≡ fixed
 
 pub record IsTogether (ack : Acknowledgement) (outgoing : Data) : Type 0 where
   pub kept : IsKept outgoing.packets outgoing.complete (past_of ack outgoing)
-  pub last_sent : EndsIn ack.sent ack.last
-  pub sent_only : ack.acked ≤ length ack.sent
-  pub one_at_a_time : length ack.sent ≤ ack.acked + 1
-  pub limit : outgoing.limit ≡ 27
+  pub counts : AreCounted ack
   pub next : IsNext outgoing.packets outgoing.fixed
 
+-- a PDU that is no data is no piece
+not_next : (packets : List DataPacket) (fixed : Pdu) → is_data fixed ≡ false → IsNext packets fixed
+not_next packets fixed is holds = let no : ◌≡◌ {A = Bool} false true = sym is ∙ holds in absurd cc
+
+empty_next : (packets : List DataPacket) → IsNext packets empty_pdu
+empty_next packets = not_next packets empty_pdu refl
+
+control_no_data : (control : Option Ctrl) → is_data (pdu_of_control control) ≡ false
+control_no_data None = refl
+control_no_data (Some ctrl) = refl
+
 first_together : IsTogether first_acknowledgement first_data
-first_together =
-    record {
-      kept = kept-empty 0 refl;
-      last_sent = record { front = []; sent_are = refl };
-      sent_only = omega arith;
-      one_at_a_time = omega arith;
-      limit = refl;
-      next = none_next refl;
-    }
+first_together = record { kept = kept-empty 0 refl; counts = first_counted; next = empty_next [] }
 
 -- ---- the host gives a packet
 
-stays_first : (packets : List DataPacket) (given packet : DataPacket) → find is_unsent packets ≡ Some packet
-    → find is_unsent (packets ++ given ∷ []) ≡ Some packet
-stays_first packets given packet found =
-    find-append is_unsent packets (given ∷ []) ∙ ap (λ o. option_or o (find is_unsent (given ∷ []))) found
-
-next-given : (packets : List DataPacket) (fixed : Pdu) (given : DataPacket) → IsNext packets fixed
-    → IsNext (packets ++ given ∷ []) fixed
-next-given packets fixed given (none_next is) = none_next is
-next-given packets fixed given (piece_next packet limit some found is) =
-    piece_next packet limit some (stays_first packets given packet found) is
+next-given : (count : ℕ) (found given : Option DataPacket) (fixed : Pdu) → is_data fixed ≡ true
+    → pdu_with (option_map (piece_of count) found) ≡ fixed → pdu_with (option_map (piece_of count) (option_or found given)) ≡ fixed
+next-given count None given fixed holds is = let no : is_data fixed ≡ false = ap is_data (sym is) in absurd cc
+next-given count (Some packet) given fixed holds is = is
 
 given_together : (handle : ℕ) (start : Bool) (body : List ℕ) (ack : Acknowledgement) (outgoing : Data) → IsTogether ack outgoing
     → IsTogether ack (data_given handle start body outgoing)
@@ -78,65 +68,67 @@ given_together handle start [] ack outgoing are = are
 given_together handle start (octet ∷ octets) ack outgoing are =
     let packet = new_packet handle start (octet ∷ octets) in
     let fresh : IsFresh packet = record { some = omega arith; none_acknowledged = refl; none_out = refl } in
+    let count = length outgoing.fixed.body in
     record {
       kept = kept-offer outgoing.packets outgoing.complete (past_of ack outgoing) packet fresh are.kept;
-      last_sent = are.last_sent;
-      sent_only = are.sent_only;
-      one_at_a_time = are.one_at_a_time;
-      limit = are.limit;
-      next = next-given outgoing.packets outgoing.fixed packet are.next;
+      counts = are.counts;
+      next = λ holds.
+          ap (λ o. pdu_with (option_map (piece_of count) o)) (find-append is_unsent outgoing.packets (packet ∷ []))
+          ∙ next-given count (find is_unsent outgoing.packets) (find is_unsent (packet ∷ [])) outgoing.fixed holds (are.next holds);
+    }
+
+reported_together : (ack : Acknowledgement) (outgoing : Data) → IsTogether ack outgoing → IsTogether ack (data_reported outgoing)
+reported_together ack outgoing are =
+    record {
+      kept = kept-credited outgoing.packets outgoing.complete (past_of ack outgoing) are.kept;
+      counts = are.counts;
+      next = are.next;
     }
 
 -- ---- a PDU is fixed
 
-next-found : (packets : List DataPacket) (limit : ℕ) (first : Option DataPacket) → 1 ≤ limit → find is_unsent packets ≡ first
-    → IsNext packets (pdu_with (option_map (piece_of limit) first))
-next-found packets limit None some found = none_next refl
-next-found packets limit (Some packet) some found = piece_next packet limit some found refl
+-- a piece that is cut at its own length is that piece
+cut_again : (limit : ℕ) (found : Option DataPacket)
+    → let next = pdu_with (option_map (piece_of limit) found) in
+    pdu_with (option_map (piece_of (length next.body)) found) ≡ next
+cut_again limit None = refl
+cut_again limit (Some packet) = ap (λ piece. pdu_with (Some piece)) (piece-again limit packet)
 
-fixed_together : (ack : Acknowledgement) (outgoing : Data) → IsTogether ack outgoing → IsTogether ack (data_fixed [] [] outgoing)
-fixed_together ack outgoing are =
+fixed_together : (control : Bool) (waiting limit : ℕ) (goes : Bool) (ack : Acknowledgement) (outgoing : Data) → IsTogether ack outgoing
+    → IsTogether ack (data_fixed_by control waiting goes (record outgoing { limit = limit }))
+fixed_together true waiting limit goes ack outgoing are =
+    record { kept = are.kept; counts = are.counts; next = empty_next outgoing.packets }
+fixed_together false waiting limit false ack outgoing are =
+    record { kept = are.kept; counts = are.counts; next = empty_next outgoing.packets }
+fixed_together false waiting limit true ack outgoing are =
     record {
       kept = are.kept;
-      last_sent = are.last_sent;
-      sent_only = are.sent_only;
-      one_at_a_time = are.one_at_a_time;
-      limit = are.limit;
-      next = next-found outgoing.packets outgoing.limit (find is_unsent outgoing.packets) (omega (arith, are.limit)) refl;
+      counts = are.counts;
+      next = λ holds. cut_again limit (find is_unsent outgoing.packets);
+    }
+
+gone_together : (control : Option Ctrl) (ack : Acknowledgement) (outgoing : Data) → IsTogether ack outgoing
+    → IsTogether ack (record outgoing { fixed = pdu_of_control control })
+gone_together control ack outgoing are =
+    record {
+      kept = are.kept;
+      counts = are.counts;
+      next = not_next outgoing.packets (pdu_of_control control) (control_no_data control);
     }
 
 -- ---- nothing is out
-
-pub data-push : (sent : List Pdu) (pdu : Pdu) → data_of (sent ++ pdu ∷ []) ≡ data_of sent ++ data_in pdu
-data-push sent pdu =
-    flat_map-append data_in sent (pdu ∷ []) ∙ ap (λ octets. data_of sent ++ octets) (append-nil (data_in pdu))
-
--- all PDUs are acknowledged
-pub all_acked : (ack : Acknowledgement) → length ack.sent ≤ ack.acked → acked_data ack ≡ sent_data ack
-all_acked ack all = ap data_of (take_all ack.acked ack.sent all)
 
 pub nothing_out : (ack : Acknowledgement) (outgoing : Data) → IsTogether ack outgoing → acked_data ack ≡ sent_data ack
     → outs outgoing.packets ≡ []
 nothing_out ack outgoing are same =
     sym (append_cancel_left (acked_data ack) [] (outs outgoing.packets) (append-nil (acked_data ack) ∙ same ∙ are.kept.sent))
 
--- a first packet of which nothing is out
-length-out : (packet : DataPacket) → sent_length packet ≤ length packet.body → length (octets_out packet) ≡ packet.out
-length-out packet within =
-    let whole = marked_octets packet.start packet.body in
-    length-take-le packet.out (drop packet.acknowledged whole)
-    (omega (arith, length-drop packet.acknowledged whole, length-marked_octets packet.start packet.body))
-
-head_idle : (packet : DataPacket) (rest : List DataPacket) → sent_length packet ≤ length packet.body
-    → outs (packet ∷ rest) ≡ [] → packet.out ≡ 0
-head_idle packet rest within none =
-    omega (arith, length-out packet within, ap length none, length-append (octets_out packet) (outs rest))
-
-pub none_out : (packets : List DataPacket) → AreInOrder packets → outs packets ≡ [] → find is_out packets ≡ None
-none_out [] order none = refl
-none_out (packet ∷ rest) order none =
-    let idle : is_out packet ≡ false = ap (λ n. nat_lt 0 n) (head_idle packet rest order.0.within none) in
-    simp idle (none_out-rest rest order.1)
+head_idle : (packet : DataPacket) (rest : List DataPacket) → find is_out (packet ∷ rest) ≡ None → packet.out ≡ 0
+head_idle packet rest none = by_test (is_out packet) refl none
+  where
+    by_test : (b : Bool) → is_out packet ≡ b → cond b (Some packet) (find is_out rest) ≡ None → packet.out ≡ 0
+    by_test true e none = absurd (none-some packet (sym none))
+    by_test false e none = grind (arith, nat_tests)
 
 -- a past with other words for what was sent and what was acknowledged
 kept_at : (packets : List DataPacket) (count : ℕ) (past : Past) (sent acknowledged : List Marked) → past.sent ≡ sent
@@ -148,66 +140,58 @@ kept_at packets count past sent acknowledged same_sent same_acknowledged kept =
 
 -- ---- a PDU is sent
 
--- a piece with an octet is sent as data
-not_empty : (octets : List ℕ) → 0 < length octets → not (length octets == 0) ≡ true
-not_empty octets some = grind (arith, nat_tests)
-
-piece_is_data : (start : Bool) (octets : List ℕ) → 0 < length octets → is_data (record { llid = llid_of start; body = octets }) ≡ true
-piece_is_data true octets some = not_empty octets some
-piece_is_data false octets some = not_empty octets some
-
-piece_data : (start : Bool) (octets : List ℕ) → 0 < length octets
+-- what a PDU of data has in it is the octets of the piece
+piece_data : (start : Bool) (octets : List ℕ) → is_data (record { llid = llid_of start; body = octets }) ≡ true
     → data_in (record { llid = llid_of start; body = octets }) ≡ marked_octets start octets
-piece_data true octets some = ap (λ b. if b then marked_octets true octets else []) (not_empty octets some)
-piece_data false octets some = ap (λ b. if b then marked_octets false octets else []) (not_empty octets some)
+piece_data true octets holds = ap (λ b. if b then marked_octets true octets else []) holds
+piece_data false octets holds = ap (λ b. if b then marked_octets false octets else []) holds
 
-piece_some : (limit : ℕ) (packet : DataPacket) → 1 ≤ limit → is_unsent packet ≡ true
-    → 0 < length (piece_of limit packet).body.items
-piece_some limit packet some unsent =
-    let left : sent_length packet < length packet.body = grind (arith, nat_tests) in
-    omega (arith, some, length-piece_of limit packet, length-unsent_octets packet)
+no_data_in : (pdu : Pdu) → is_data pdu ≡ false → data_in pdu ≡ []
+no_data_in pdu is = ap (λ b. if b then marked_octets (pdu.llid == 2) pdu.body else []) is
 
--- what is kept as the fixed PDU is sent
-kept_sent : (ack : Acknowledgement) (outgoing : Data) → IsTogether ack outgoing → ack.acked ≡ length ack.sent
-    → IsNext outgoing.packets outgoing.fixed
-    → IsKept (data_sent outgoing).packets outgoing.complete
+abbrev packets_went : Bool → ℕ → List DataPacket → List DataPacket
+packets_went carries count packets = if carries then with_first is_unsent (packet_after_went count) packets else packets
+
+-- the next piece goes out, in a PDU of this number of octets
+piece_sent : (ack : Acknowledgement) (outgoing : Data) (found : Option DataPacket) → IsTogether ack outgoing → ack.acked ≡ length ack.sent
+    → is_data outgoing.fixed ≡ true → find is_unsent outgoing.packets ≡ found
+    → pdu_with (option_map (piece_of (length outgoing.fixed.body)) found) ≡ outgoing.fixed
+    → IsKept (with_first is_unsent (packet_after_went (length outgoing.fixed.body)) outgoing.packets) outgoing.complete
     (record (past_of ack outgoing) { sent = sent_data ack ++ data_in outgoing.fixed })
-kept_sent ack outgoing are all (none_next is) =
-    let nothing : data_in outgoing.fixed ≡ [] = ap data_in is in
-    let plain : is_data outgoing.fixed ≡ false = ap is_data is in
-    subst (λ (b : Bool). IsKept (if b then with_first is_unsent (packet_after_went (length outgoing.fixed.body)) outgoing.packets else outgoing.packets)
-    outgoing.complete (record (past_of ack outgoing) { sent = sent_data ack ++ data_in outgoing.fixed })) (sym plain)
-    (kept_at outgoing.packets outgoing.complete (past_of ack outgoing) (sent_data ack ++ data_in outgoing.fixed) (acked_data ack)
-    (sym (append-nil (sent_data ack)) ∙ ap (λ octets. sent_data ack ++ octets) (sym nothing)) refl are.kept)
-kept_sent ack outgoing are all (piece_next packet limit some found is) =
+piece_sent ack outgoing None are all holds found is = let no : is_data outgoing.fixed ≡ false = ap is_data (sym is) in absurd cc
+piece_sent ack outgoing (Some packet) are all holds found is =
+    let count = length outgoing.fixed.body in
     let order = are.kept.in_order in
     let nothing = nothing_out ack outgoing are (all_acked ack (omega (arith, all))) in
-    let head = head_left outgoing.packets packet order (none_out outgoing.packets order nothing) found in
-    let idle = head_idle packet head.rest head.in_work.within (ap outs (sym head.packets_are) ∙ nothing) in
+    let none = none_out outgoing.packets order nothing in
+    let head = head_left outgoing.packets packet order none found in
+    let idle = head_idle packet head.rest (ap (find is_out) (sym head.packets_are) ∙ none) in
     let left = is_left-head outgoing.packets packet found in
-    let full = piece_some limit packet some left in
-    let piece = piece_of limit packet in
+    let piece = piece_of count packet in
     let carried : data_in outgoing.fixed ≡ marked_octets piece.start piece.body.items =
-    ap data_in is ∙ piece_data piece.start piece.body.items full in
-    let holds : is_data outgoing.fixed ≡ true = ap is_data is ∙ piece_is_data piece.start piece.body.items full in
-    let count : packet_after_went (length outgoing.fixed.body) packet ≡ packet_after_went limit packet =
-    ap (λ (pdu : Pdu). packet_after_went (length pdu.body) packet) is ∙ went-piece limit packet in
+    ap data_in (sym is) ∙ piece_data piece.start piece.body.items (ap is_data is ∙ holds) in
     let before : IsKept (packet ∷ head.rest) outgoing.complete (past_of ack outgoing) =
     subst (λ (ps : List DataPacket). IsKept ps outgoing.complete (past_of ack outgoing)) head.packets_are are.kept in
-    let after = kept-went packet head.rest outgoing.complete limit (past_of ack outgoing) before idle in
-    let packets_are : (data_sent outgoing).packets ≡ packet_after_went limit packet ∷ head.rest =
-    ap (λ b. if b then with_first is_unsent (packet_after_went (length outgoing.fixed.body)) outgoing.packets else outgoing.packets) holds
-    ∙ link-went outgoing.packets packet (length outgoing.fixed.body) head left
-    ∙ ap (λ p. p ∷ head.rest) count in
+    let after = kept-went packet head.rest outgoing.complete count (past_of ack outgoing) before idle in
     subst (λ (ps : List DataPacket). IsKept ps outgoing.complete
-    (record (past_of ack outgoing) { sent = sent_data ack ++ data_in outgoing.fixed })) (sym packets_are)
-    (subst (λ (o : List Marked). IsKept (packet_after_went limit packet ∷ head.rest) outgoing.complete
+    (record (past_of ack outgoing) { sent = sent_data ack ++ data_in outgoing.fixed })) (sym (link-went outgoing.packets packet count head left))
+    (subst (λ (o : List Marked). IsKept (packet_after_went count packet ∷ head.rest) outgoing.complete
     (record (past_of ack outgoing) { sent = sent_data ack ++ o })) (sym carried) after)
+
+kept_sent : (carries : Bool) (ack : Acknowledgement) (outgoing : Data) → IsTogether ack outgoing → ack.acked ≡ length ack.sent
+    → is_data outgoing.fixed ≡ carries
+    → IsKept (packets_went carries (length outgoing.fixed.body) outgoing.packets) outgoing.complete
+    (record (past_of ack outgoing) { sent = sent_data ack ++ data_in outgoing.fixed })
+kept_sent true ack outgoing are all holds =
+    piece_sent ack outgoing (find is_unsent outgoing.packets) are all holds refl (are.next holds)
+kept_sent false ack outgoing are all holds =
+    kept_at outgoing.packets outgoing.complete (past_of ack outgoing) (sent_data ack ++ data_in outgoing.fixed) (acked_data ack)
+    (sym (append-nil (sent_data ack)) ∙ ap (λ octets. sent_data ack ++ octets) (sym (no_data_in outgoing.fixed holds))) refl are.kept
 
 sent_together : (is_new : Bool) (ack : Acknowledgement) (outgoing : Data) → is_acked ack ≡ is_new → IsTogether ack outgoing
     → IsTogether (next_sent is_new outgoing.fixed ack) (data_sent_if is_new outgoing)
 sent_together true ack outgoing is are =
-    let all : ack.acked ≡ length ack.sent = eqb-true _ _ is in
+    let all : ack.acked ≡ length ack.sent = eqb-true ack.acked (length ack.sent) is in
     let next = outgoing.fixed in
     record {
       kept = kept_at (data_sent outgoing).packets outgoing.complete
@@ -215,24 +199,14 @@ sent_together true ack outgoing is are =
           (data_of (ack.sent ++ next ∷ [])) (data_of (take ack.acked (ack.sent ++ next ∷ [])))
           (sym (data-push ack.sent next))
           (ap data_of (sym (take-append-le ack.acked ack.sent (next ∷ []) (omega (arith, all)))))
-          (kept_sent ack outgoing are all are.next);
-      last_sent = record { front = ack.sent; sent_are = refl };
-      sent_only = omega (arith, all, length-append ack.sent (next ∷ []));
-      one_at_a_time = omega (arith, all, length-append ack.sent (next ∷ []));
-      limit = are.limit;
-      next = none_next refl;
+          (kept_sent (is_data next) ack outgoing are all refl);
+      counts = sent_counted true next ack is are.counts;
+      next = empty_next (data_sent outgoing).packets;
     }
 sent_together false ack outgoing is are =
-    record {
-      kept = are.kept;
-      last_sent = are.last_sent;
-      sent_only = are.sent_only;
-      one_at_a_time = are.one_at_a_time;
-      limit = are.limit;
-      next = are.next;
-    }
+    record { kept = are.kept; counts = sent_counted false outgoing.fixed ack is are.counts; next = are.next }
 
--- ---- a packet is received
+-- ---- the PDU that was sent last is acknowledged
 
 -- where the last PDU is no data, it adds nothing to what is acknowledged
 acked_front : (ack : Acknowledgement) (front : List Pdu) → ack.sent ≡ front ++ ack.last ∷ [] → ack.acked ≡ length front
@@ -243,27 +217,16 @@ acked_front ack front sent_are count nothing =
     ∙ sym (append-nil (data_of front)) ∙ ap (λ octets. data_of front ++ octets) (sym nothing)
     ∙ sym (data-push front ack.last) ∙ ap data_of (sym sent_are)
 
-pub nothing_acked : (ack : Acknowledgement) (outgoing : Data) → IsTogether ack outgoing → ack.acked + 1 ≤ length ack.sent
-    → data_in ack.last ≡ [] → acked_data ack ≡ sent_data ack
-nothing_acked ack outgoing are waits nothing =
+pub nothing_acked : (ack : Acknowledgement) → AreCounted ack → ack.acked + 1 ≤ length ack.sent → data_in ack.last ≡ []
+    → acked_data ack ≡ sent_data ack
+nothing_acked ack are waits nothing =
     acked_front ack are.last_sent.front are.last_sent.sent_are
     (omega (arith, waits, are.one_at_a_time, ap length are.last_sent.sent_are, length-append are.last_sent.front (ack.last ∷ []))) nothing
 
 -- all that was sent is acknowledged then
 acked_more : (ack : Acknowledgement) (outgoing : Data) → IsTogether ack outgoing
     → acked_data ack ++ outs outgoing.packets ≡ data_of (take (ack.acked + 1) ack.sent)
-acked_more ack outgoing are = sym are.kept.sent ∙ ap data_of (sym (take_all (ack.acked + 1) ack.sent are.one_at_a_time))
-
-pub not_out : (packets : List DataPacket) → find is_out packets ≡ None → outs packets ≡ []
-not_out [] none = refl
-not_out (packet ∷ rest) none = by_test (is_out packet) refl none (not_out rest)
-  where
-    by_test : (b : Bool) → is_out packet ≡ b → cond b (Some packet) (find is_out rest) ≡ None → (find is_out rest ≡ None → outs rest ≡ [])
-        → outs (packet ∷ rest) ≡ []
-    by_test true e none later = absurd (none-some packet (sym none))
-    by_test false e none later =
-        let idle : packet.out ≡ 0 = grind (arith, nat_tests) in
-        rw idle (later none)
+acked_more ack outgoing are = sym are.kept.sent ∙ ap data_of (sym (take_all (ack.acked + 1) ack.sent are.counts.one_at_a_time))
 
 none_changed : (packets : List DataPacket) → find is_out packets ≡ None → with_first is_out packet_after_acked packets ≡ packets
 none_changed [] none = refl
@@ -278,167 +241,144 @@ none_changed (packet ∷ rest) none = by_test (is_out packet) refl none (none_ch
 -- the next piece stays the next one
 next_completed : (packet : DataPacket) (rest : List DataPacket) (fixed : Pdu) → is_all_sent packet ≡ true
     → IsNext (packet ∷ rest) fixed → IsNext rest fixed
-next_completed packet rest fixed all (none_next is) = none_next is
-next_completed packet rest fixed all (piece_next next limit some found is) =
+next_completed packet rest fixed all next holds =
     let sent : is_unsent packet ≡ false = grind (arith, nat_tests) in
-    piece_next next limit some (sym (ap (λ b. cond b (Some packet) (find is_unsent rest)) sent) ∙ found) is
+    sym (ap (λ b. pdu_with (option_map (piece_of (length fixed.body)) (cond b (Some packet) (find is_unsent rest)))) sent) ∙ next holds
 
-next_acked : (packet : DataPacket) (rest : List DataPacket) (fixed : Pdu) → is_unsent packet ≡ true
-    → IsNext (packet ∷ rest) fixed → IsNext (packet_after_acked packet ∷ rest) fixed
-next_acked packet rest fixed left (none_next is) = none_next is
-next_acked packet rest fixed left (piece_next next limit some found is) =
-    let same : packet ≡ next = same_Some packet next (sym (ap (λ b. cond b (Some packet) (find is_unsent rest)) left) ∙ found) in
-    let count : sent_length (packet_after_acked packet) ≡ sent_length packet = omega arith in
-    let later : is_unsent (packet_after_acked packet) ≡ true = ap (λ n. nat_lt n (length packet.body)) count ∙ left in
-    piece_next (packet_after_acked packet) limit some
-    (ap (λ b. cond b (Some (packet_after_acked packet)) (find is_unsent rest)) later)
-    (is ∙ ap (λ (p : DataPacket). pdu_with (Some (piece_of limit p))) (sym same)
-    ∙ ap (λ n. pdu_with (Some (record { start = packet.start && (n == 0); body = record { items = take limit (drop n packet.body) } })))
-    (sym count))
+piece_mapped : (count : ℕ) (unsent : Bool) (packet : DataPacket) (later : Option DataPacket)
+    → option_map (piece_of count) (cond unsent (Some packet) later) ≡ cond unsent (Some (piece_of count packet)) (option_map (piece_of count) later)
+piece_mapped count true packet later = refl
+piece_mapped count false packet later = refl
 
--- the piece that is out is acknowledged
+piece_acked : (count : ℕ) (packet : DataPacket) (rest : List DataPacket)
+    → option_map (piece_of count) (find is_unsent (packet_after_acked packet ∷ rest)) ≡ option_map (piece_of count) (find is_unsent (packet ∷ rest))
+piece_acked count packet rest =
+    let same : sent_length (packet_after_acked packet) ≡ sent_length packet = omega arith in
+    piece_mapped count (is_unsent (packet_after_acked packet)) (packet_after_acked packet) (find is_unsent rest)
+    ∙ ap (λ n. cond (nat_lt n (length packet.body))
+    (Some (record { start = packet.start && (n == 0); body = record { items = take count (drop n packet.body) } }))
+    (option_map (piece_of count) (find is_unsent rest))) same
+    ∙ sym (piece_mapped count (is_unsent packet) packet (find is_unsent rest))
+
+next_acked : (packet : DataPacket) (rest : List DataPacket) (fixed : Pdu) → IsNext (packet ∷ rest) fixed
+    → IsNext (packet_after_acked packet ∷ rest) fixed
+next_acked packet rest fixed next holds = ap pdu_with (piece_acked (length fixed.body) packet rest) ∙ next holds
+
+-- what is kept, and the next piece, once all that is out is acknowledged
+record IsAfterAck (packets : List DataPacket) (complete : ℕ) (ack : Acknowledgement) (outgoing : Data) : Type 0 where
+  kept : IsKept packets complete (record (past_of ack outgoing) { acknowledged = acked_data ack ++ outs outgoing.packets })
+  next : IsNext packets outgoing.fixed
+
+abbrev packets_acked : Bool → List DataPacket → List DataPacket
+packets_acked all packets = if all then without_first is_out packets else with_first is_out packet_after_acked packets
+
+-- what is out in these packets is what is out in those
+same_out : (packets : List DataPacket) (complete : ℕ) (before after : List DataPacket) (ack : Acknowledgement) (outgoing : Data) → before ≡ after
+    → IsKept packets complete (record (past_of ack outgoing) { acknowledged = acked_data ack ++ outs before })
+    → IsKept packets complete (record (past_of ack outgoing) { acknowledged = acked_data ack ++ outs after })
+same_out packets complete before after ack outgoing same =
+    subst (λ (ps : List DataPacket). IsKept packets complete (record (past_of ack outgoing) { acknowledged = acked_data ack ++ outs ps })) same
+
+-- the piece of the first packet is acknowledged, which is complete by that or is not
+head_acked : (all : Bool) (ack : Acknowledgement) (outgoing : Data) (packet : DataPacket) (rest : List DataPacket)
+    → is_all_sent packet ≡ all → outgoing.packets ≡ packet ∷ rest
+    → packets_acked all outgoing.packets ≡ (if all then rest else packet_after_acked packet ∷ rest) → IsTogether ack outgoing
+    → IsAfterAck (packets_acked all outgoing.packets) (if all then outgoing.complete + 1 else outgoing.complete) ack outgoing
+head_acked true ack outgoing packet rest is packets_are left are =
+    let before = subst (λ (ps : List DataPacket). IsKept ps outgoing.complete (past_of ack outgoing)) packets_are are.kept in
+    let next = subst (λ (ps : List DataPacket). IsNext ps outgoing.fixed) packets_are are.next in
+    subst (λ (ps : List DataPacket). IsAfterAck ps (outgoing.complete + 1) ack outgoing) (sym left)
+    (record {
+      kept = same_out rest (outgoing.complete + 1) (packet ∷ rest) outgoing.packets ack outgoing (sym packets_are)
+          (kept-completed packet rest outgoing.complete (past_of ack outgoing) before is);
+      next = next_completed packet rest outgoing.fixed is next;
+    })
+head_acked false ack outgoing packet rest is packets_are left are =
+    let before = subst (λ (ps : List DataPacket). IsKept ps outgoing.complete (past_of ack outgoing)) packets_are are.kept in
+    let next = subst (λ (ps : List DataPacket). IsNext ps outgoing.fixed) packets_are are.next in
+    subst (λ (ps : List DataPacket). IsAfterAck ps outgoing.complete ack outgoing) (sym left)
+    (record {
+      kept = same_out (packet_after_acked packet ∷ rest) outgoing.complete (packet ∷ rest) outgoing.packets ack outgoing (sym packets_are)
+          (kept-acked packet rest outgoing.complete (past_of ack outgoing) before is);
+      next = next_acked packet rest outgoing.fixed next;
+    })
+
+packets_left : (all : Bool) (packets : List DataPacket) (packet : DataPacket) (head : IsHead packets packet) → is_out packet ≡ true
+    → packets_acked all packets ≡ (if all then head.rest else packet_after_acked packet ∷ head.rest)
+packets_left true packets packet head out = link-completed packets packet head out
+packets_left false packets packet head out = link-acked packets packet head out
+
+-- the piece that is out is acknowledged, or none is out
 kept_acked : (ack : Acknowledgement) (outgoing : Data) → IsTogether ack outgoing → (out : Option DataPacket)
     → find is_out outgoing.packets ≡ out
-    → let after = data_completed (is_completed out) outgoing in
-    IsKept after.packets after.complete (record (past_of ack outgoing) { acknowledged = acked_data ack ++ outs outgoing.packets })
-    × IsNext after.packets outgoing.fixed
+    → let after = data_completed (is_completed out) outgoing in IsAfterAck after.packets after.complete ack outgoing
 kept_acked ack outgoing are None found =
-    let packets_are = none_changed outgoing.packets found in
     let same : acked_data ack ≡ acked_data ack ++ outs outgoing.packets =
-    sym (append-nil (acked_data ack)) ∙ ap (λ octets. acked_data ack ++ octets) (sym (not_out outgoing.packets found)) in (
-      subst (λ (ps : List DataPacket). IsKept ps outgoing.complete (record (past_of ack outgoing) { acknowledged = acked_data ack ++ outs outgoing.packets }))
-          (sym packets_are)
-          (kept_at outgoing.packets outgoing.complete (past_of ack outgoing) (sent_data ack) (acked_data ack ++ outs outgoing.packets) refl same are.kept),
-      subst (λ (ps : List DataPacket). IsNext ps outgoing.fixed) (sym packets_are) are.next,
-    )
-kept_acked ack outgoing are (Some packet) found = by_length (is_all_sent packet) refl
-  where
-    by_length : (all : Bool) → is_all_sent packet ≡ all
-        → let after = data_completed all outgoing in
-        IsKept after.packets after.complete (record (past_of ack outgoing) { acknowledged = acked_data ack ++ outs outgoing.packets })
-        × IsNext after.packets outgoing.fixed
-    by_length true all =
-        let head = head_out outgoing.packets packet are.kept.in_order found in
-        let packets_are = link-completed outgoing.packets packet head (is_out-head outgoing.packets packet found) in
-        let before : IsKept (packet ∷ head.rest) outgoing.complete (past_of ack outgoing) =
-        subst (λ (ps : List DataPacket). IsKept ps outgoing.complete (past_of ack outgoing)) head.packets_are are.kept in
-        let after = kept-completed packet head.rest outgoing.complete (past_of ack outgoing) before all in
-        let next : IsNext (packet ∷ head.rest) outgoing.fixed =
-        subst (λ (ps : List DataPacket). IsNext ps outgoing.fixed) head.packets_are are.next in (
-          subst (λ (ps : List DataPacket). IsKept ps (outgoing.complete + 1) (record (past_of ack outgoing) { acknowledged = acked_data ack ++ outs outgoing.packets }))
-              (sym packets_are)
-              (subst (λ (ps : List DataPacket). IsKept head.rest (outgoing.complete + 1) (record (past_of ack outgoing) { acknowledged = acked_data ack ++ outs ps }))
-              (sym head.packets_are) after),
-          subst (λ (ps : List DataPacket). IsNext ps outgoing.fixed) (sym packets_are)
-              (next_completed packet head.rest outgoing.fixed all next),
-        )
-    by_length false part =
-        let head = head_out outgoing.packets packet are.kept.in_order found in
-        let packets_are = link-acked outgoing.packets packet head (is_out-head outgoing.packets packet found) in
-        let before : IsKept (packet ∷ head.rest) outgoing.complete (past_of ack outgoing) =
-        subst (λ (ps : List DataPacket). IsKept ps outgoing.complete (past_of ack outgoing)) head.packets_are are.kept in
-        let after = kept-acked packet head.rest outgoing.complete (past_of ack outgoing) before part in
-        let within = head.in_work.within in
-        let left : is_unsent packet ≡ true = grind (arith, nat_tests) in
-        let next : IsNext (packet ∷ head.rest) outgoing.fixed =
-        subst (λ (ps : List DataPacket). IsNext ps outgoing.fixed) head.packets_are are.next in (
-          subst (λ (ps : List DataPacket). IsKept ps outgoing.complete (record (past_of ack outgoing) { acknowledged = acked_data ack ++ outs outgoing.packets }))
-              (sym packets_are)
-              (subst (λ (ps : List DataPacket). IsKept (packet_after_acked packet ∷ head.rest) outgoing.complete (record (past_of ack outgoing) { acknowledged = acked_data ack ++ outs ps }))
-              (sym head.packets_are) after),
-          subst (λ (ps : List DataPacket). IsNext ps outgoing.fixed) (sym packets_are)
-              (next_acked packet head.rest outgoing.fixed left next),
-        )
+    sym (append-nil (acked_data ack)) ∙ ap (λ octets. acked_data ack ++ octets) (sym (not_out outgoing.packets found)) in
+    subst (λ (ps : List DataPacket). IsAfterAck ps outgoing.complete ack outgoing) (sym (none_changed outgoing.packets found))
+    (record {
+      kept = kept_at outgoing.packets outgoing.complete (past_of ack outgoing) (sent_data ack) (acked_data ack ++ outs outgoing.packets) refl same are.kept;
+      next = are.next;
+    })
+kept_acked ack outgoing are (Some packet) found =
+    let head = head_out outgoing.packets packet are.kept.in_order found in
+    head_acked (is_all_sent packet) ack outgoing packet head.rest refl head.packets_are
+    (packets_left (is_all_sent packet) outgoing.packets packet head (is_out-head outgoing.packets packet found)) are
 
--- the PDU that was sent last is acknowledged: it was data, or it was not
-acked_together : (carried accepted : Bool) (pdu : Pdu) (ack : Acknowledgement) (outgoing : Data) → is_data ack.last ≡ carried
-    → IsTogether ack outgoing → ack.acked + 1 ≤ length ack.sent
-    → IsTogether (received_by true accepted pdu ack) (data_acked_if carried outgoing)
-acked_together true accepted pdu ack outgoing is are waits =
+-- the PDU that is acknowledged was data, or it was not
+acked_together : (carried : Bool) (ack : Acknowledgement) (outgoing : Data) → is_data ack.last ≡ carried → ack.acked + 1 ≤ length ack.sent
+    → AreCounted (with_acked true ack) → IsTogether ack outgoing → IsTogether (with_acked true ack) (data_acked_if carried outgoing)
+acked_together true ack outgoing is waits counts are =
     let after = kept_acked ack outgoing are (find is_out outgoing.packets) refl in
     record {
       kept = kept_at (data_acked outgoing).packets (data_acked outgoing).complete
           (record (past_of ack outgoing) { acknowledged = acked_data ack ++ outs outgoing.packets })
-          (sent_data ack) (data_of (take (ack.acked + 1) ack.sent)) refl (acked_more ack outgoing are) after.0;
-      last_sent = are.last_sent;
-      sent_only = waits;
-      one_at_a_time = omega (arith, are.one_at_a_time);
-      limit = are.limit;
-      next = after.1;
+          (sent_data ack) (data_of (take (ack.acked + 1) ack.sent)) refl (acked_more ack outgoing are) after.kept;
+      counts = counts;
+      next = after.next;
     }
-acked_together false accepted pdu ack outgoing is are waits =
-    let nothing : data_in ack.last ≡ [] = ap (λ b. if b then marked_octets (ack.last.llid == 2) ack.last.body else []) is in
-    let same = nothing_acked ack outgoing are waits nothing in
+acked_together false ack outgoing is waits counts are =
+    let same = nothing_acked ack are.counts waits (no_data_in ack.last is) in
     record {
       kept = kept_at outgoing.packets outgoing.complete (past_of ack outgoing) (sent_data ack) (data_of (take (ack.acked + 1) ack.sent))
-          refl (same ∙ ap data_of (sym (take_all (ack.acked + 1) ack.sent are.one_at_a_time))) are.kept;
-      last_sent = are.last_sent;
-      sent_only = waits;
-      one_at_a_time = omega (arith, are.one_at_a_time);
-      limit = are.limit;
+          refl (same ∙ ap data_of (sym (take_all (ack.acked + 1) ack.sent are.counts.one_at_a_time))) are.kept;
+      counts = counts;
       next = are.next;
     }
 
--- only a PDU that is out is acknowledged
-waits_where : (all says : Bool) (ack : Acknowledgement) → is_acked ack ≡ all → ack.acked ≤ length ack.sent → (not all && says) ≡ true
-    → ack.acked + 1 ≤ length ack.sent
-waits_where true says ack is within acked = absurd cc
-waits_where false says ack is within acked = omega (arith, within, eqb-false ack.acked (length ack.sent) is)
+heard_together : (acked : Bool) (ack : Acknowledgement) (outgoing : Data) → (acked ≡ true → is_acked ack ≡ false) → IsTogether ack outgoing
+    → IsTogether (with_acked acked ack) (data_acked_if (acked && is_data ack.last) outgoing)
+heard_together true ack outgoing out are =
+    let waits : ack.acked + 1 ≤ length ack.sent =
+    omega (arith, are.counts.sent_only, eqb-false ack.acked (length ack.sent) (out refl)) in
+    acked_together (is_data ack.last) ack outgoing refl waits (acked_counted true ack out are.counts) are
+heard_together false ack outgoing out are =
+    record { kept = are.kept; counts = acked_counted false ack out are.counts; next = are.next }
 
-heard_together : (acked accepted : Bool) (pdu : Pdu) (ack : Acknowledgement) (outgoing : Data)
-    → (acked ≡ true → ack.acked + 1 ≤ length ack.sent) → IsTogether ack outgoing
-    → IsTogether (received_by acked accepted pdu ack) (data_acked_if (acked && is_data ack.last) outgoing)
-heard_together true accepted pdu ack outgoing waits are =
-    acked_together (is_data ack.last) accepted pdu ack outgoing refl are (waits refl)
-heard_together false accepted pdu ack outgoing waits are =
+accepted_together : (accepted : Bool) (pdu : Pdu) (ack : Acknowledgement) (outgoing : Data) → IsTogether ack outgoing
+    → IsTogether (with_accepted accepted pdu ack) outgoing
+accepted_together accepted pdu ack outgoing are =
+    record { kept = are.kept; counts = accepted_counted accepted pdu ack are.counts; next = are.next }
+
+-- ---- all moves
+
+stays_together : EachMoveKeeps IsTogether
+stays_together =
     record {
-      kept = are.kept;
-      last_sent = are.last_sent;
-      sent_only = are.sent_only;
-      one_at_a_time = are.one_at_a_time;
-      limit = are.limit;
-      next = are.next;
+      first = first_together;
+      given = given_together;
+      reported = reported_together;
+      fixed = fixed_together;
+      gone = λ control ack outgoing all are. gone_together control ack outgoing are;
+      sent = λ ack outgoing are. sent_together (is_acked ack) ack outgoing refl are;
+      acked = heard_together;
+      accepted = accepted_together;
     }
 
--- ---- all steps
+pub past_together : (setup : Setup) (past : List Step) → let facts = facts_of setup past in IsTogether facts.acknowledgement facts.outgoing
+past_together setup past = past_keeps IsTogether stays_together setup past
 
-abbrev pub Holds : Facts → Type 0
-Holds facts = IsTogether facts.acknowledgement facts.outgoing
-
-received_holds : (slot : ℕ) (room : Bool) (pdu : Option (List ℕ)) (facts : Facts) → Holds facts → Holds (facts_received slot room pdu facts)
-received_holds slot room None facts are = are
-received_holds slot room (Some pdu) facts are =
-    let ack = facts.acknowledgement in
-    heard_together (has_acknowledged facts (header_in pdu)) (is_accepted room (has_new_pdu facts (header_in pdu)) (pdu_of pdu)) (pdu_of pdu)
-    ack facts.outgoing (waits_where (is_acked ack) (acknowledges (bits_of ack) (header_in pdu)) ack refl are.sent_only) are
-
-step_holds : (setup : Setup) (facts : Facts) (step : Step) → Holds facts → Holds (facts_after setup facts step)
-step_holds setup facts (DataGiven start body) are =
-    given_together setup.link.handle start body facts.acknowledgement facts.outgoing are
-step_holds setup facts (EventEntered slot) are = are
-step_holds setup facts PduFixed are = fixed_together facts.acknowledgement facts.outgoing are
-step_holds setup facts (PacketSent slot) are =
-    sent_together (is_acked facts.acknowledgement) facts.acknowledgement facts.outgoing refl are
-step_holds setup facts (PacketReceived slot octets room) are = received_holds slot room (good_pdu setup facts octets) facts are
-step_holds setup facts DataReported are =
-    record {
-      kept = kept-credited facts.outgoing.packets facts.outgoing.complete (past_of facts.acknowledgement facts.outgoing) are.kept;
-      last_sent = are.last_sent;
-      sent_only = are.sent_only;
-      one_at_a_time = are.one_at_a_time;
-      limit = are.limit;
-      next = are.next;
-    }
-
-steps_hold : (setup : Setup) (facts : Facts) (steps : List Step) → Holds facts → Holds (fold (facts_after setup) facts steps)
-steps_hold setup facts [] are = are
-steps_hold setup facts (step ∷ steps) are = steps_hold setup (facts_after setup facts step) steps (step_holds setup facts step are)
-
-pub past_holds : (setup : Setup) (past : List Step) → Holds (facts_of setup past)
-unfolding facts_of
-past_holds setup past = steps_hold setup (first_facts setup) past first_together
-
-pub in_order : (facts : Facts) → Holds facts → IsInOrder facts
+pub in_order : (facts : Facts) → IsTogether facts.acknowledgement facts.outgoing → IsInOrder facts
 in_order facts are =
     let past = past_of facts.acknowledgement facts.outgoing in
     record {
@@ -447,8 +387,4 @@ in_order facts are =
     }
 
 pub past_in_order : (setup : Setup) (past : List Step) → IsInOrder (facts_of setup past)
-past_in_order setup past = in_order (facts_of setup past) (past_holds setup past)
-
-pub past_counted : (setup : Setup) (past : List Step) → let ack = (facts_of setup past).acknowledgement in
-    (ack.acked ≤ length ack.sent) × (length ack.sent ≤ ack.acked + 1)
-past_counted setup past = let are = past_holds setup past in (are.sent_only, are.one_at_a_time)
+past_in_order setup past = in_order (facts_of setup past) (past_together setup past)

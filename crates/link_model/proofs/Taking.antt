@@ -7,13 +7,14 @@ use Rattle.std.proofs.Math.Seq.{take-append_seam}
 use Rattle.acl_banks.specs.Packets.{Marked}
 use Rattle.acl_banks.specs.History.{HostData, octets_of, whole_packets}
 use Rattle.link_model.specs.Setup.{Setup}
-use Rattle.link_model.specs.Step.{Step}
 use Rattle.link_model.specs.Acknowledgement.{Pdu}
 use Rattle.link_model.specs.Data.{data_in, data_of, unsent_of}
-use Rattle.link_model.specs.Delivery.{IsDelivered, IsInOrder, acked_data}
+use Rattle.link_model.specs.Data.{acked_data}
+use Rattle.link_model.specs.OneLink.{AreInAgreement}
 use Rattle.link_model.specs.Facts.{Facts}
+use Rattle.link_model.specs.Step.{Step}
 use Rattle.link_model.specs.End.{facts_of}
-use Rattle.link_model.specs.Pair.{AreInAgreement}
+use Rattle.link_model.specs.Delivery.{IsDelivered, IsInOrder}
 use Rattle.link_model.proofs.Sending.{past_in_order}
 
 -- the first PDUs have the first data

@@ -1,13 +1,13 @@
 -- The data of one end of a link: what its host gave it and what became of that (Core 5.2, volume 4 part E, section 4.1;
 -- volume 6 part B, sections 2.4.1 and 4.5.10).
-use Rattle.std.specs.Prelude.{ℕ, ◌+◌, ◌==◌, ◌&&◌, ◌||◌, nat_lt, Bool, true, false, not, List, [], ◌∷◌, ◌++◌, length, Option, Some, None, is_some, if◌then◌else◌}
+use Rattle.std.specs.Prelude.{ℕ, ◌+◌, ◌==◌, ◌&&◌, ◌||◌, nat_lt, Bool, true, false, not, List, [], ◌∷◌, ◌++◌, length, take, Option, Some, None, is_some, if◌then◌else◌}
 use Rattle.std.specs.List.{filter, find, flat_map}
 use Rattle.std.specs.Option.{option_map}
 use Rattle.ble_base.specs.Limits.{first_payload_octets}
 use Rattle.acl_banks.specs.declared.pieces.Piece.{Piece}
 use Rattle.acl_banks.specs.History.{HostData}
 use Rattle.acl_banks.specs.Packets.{DataPacket, Marked, is_all_sent, marked_octets, new_packet, packet_after_acked, packet_after_went, piece_of, sent_length, unsent_octets, with_first, without_first}
-use Rattle.link_model.specs.Acknowledgement.{Pdu, empty_pdu}
+use Rattle.link_model.specs.Acknowledgement.{Acknowledgement, Pdu, empty_pdu}
 use Rattle.link_model.specs.Payload.{payload_of}
 
 pub record Data : Type 0 where
@@ -169,3 +169,16 @@ data_acked_if acked outgoing = if acked then data_acked outgoing else outgoing
 -- the complete packets are reported to the host (volume 4 part E, section 7.7.19)
 abbrev pub data_reported : Data → Data
 data_reported outgoing = record outgoing { complete = 0; reported = outgoing.reported + outgoing.complete }
+
+-- ---- what is accepted, and what was sent
+
+-- a new PDU is accepted; one with data only where there is room for it (section 4.5.9)
+abbrev pub is_accepted : Bool → Bool → Pdu → Bool
+is_accepted room fresh pdu = fresh && (room || not (is_data pdu))
+
+-- the data of the PDUs that an end sent, each once, and that of those which are acknowledged
+abbrev pub sent_data : Acknowledgement → List Marked
+sent_data ack = data_of ack.sent
+
+abbrev pub acked_data : Acknowledgement → List Marked
+acked_data ack = data_of (take ack.acked ack.sent)

@@ -1,40 +1,45 @@
--- The connection events of a link on which no indication changes anything (Core 5.2, volume 6 part B, sections 4.5.1,
--- 4.5.3 and 4.5.8).
-use Rattle.std.specs.Prelude.{◌≡◌, ℕ, zero, suc, ◌+◌, ◌*◌, ◌-◌, List, fold, None}
+-- A connection event of a link: as it is entered, and as packets are sent and heard in it (Core 5.2, volume 6 part B,
+-- sections 4.5.1, 4.5.6 and 4.5.8).
+use Rattle.std.specs.Prelude.{ℕ, ◌==◌, ◌&&◌, ◌||◌, Bool, false, List, [], ◌∷◌, Option, Some, None}
+use Rattle.ble_base.specs.declared.notes.Note.{Note}
+use Rattle.ble_base.specs.declared.notes.Note.TheVariants.{Applied}
 use Rattle.chan_select.specs.Channel.{channel_of}
-use Rattle.instants.specs.Track.{next_anchor_of}
-use Rattle.link_model.specs.Setup.{Setup, algorithm_of, first_anchor, first_params}
-use Rattle.link_model.specs.Step.{Step, EventEntered}
-use Rattle.link_model.specs.Facts.{Facts}
+use Rattle.instants.specs.Track.{TrackFacts, event_of}
+use Rattle.link_model.specs.declared.events.ConnectionEvent.{ConnectionEvent}
+use Rattle.link_model.specs.Setup.{Setup, algorithm_of}
 
-abbrev pub count_entry : ℕ → Step → ℕ
-count_entry count (EventEntered slot) = count + 1
-count_entry count other = count
+-- before the first event nothing is listened for; the number, the slot and the channel mean nothing then
+abbrev pub no_event : ConnectionEvent
+no_event = record { number = 0; slot = 0; channel = 0; latency = 0; heard = false; more = false }
 
--- how many events were entered
-abbrev pub entries_in : List Step → ℕ
-entries_in past = fold count_entry 0 past
+-- ---- it is entered, with its anchor in this slot (section 4.5.1)
 
--- the slot of the anchor of an event: event 0 has the first one, and each next event comes an interval later
-abbrev pub anchor_of : Setup → ℕ → ℕ
-anchor_of setup event = first_anchor setup + event * setup.link.fields.interval
+abbrev pub event_entered : Setup → ℕ → ℕ → TrackFacts → ConnectionEvent
+event_entered setup slot latency parameters =
+    record {
+      number = event_of parameters;
+      slot = slot;
+      channel = channel_of (algorithm_of setup.link) (event_of parameters) parameters.params.map;
+      latency = latency;
+      heard = false;
+      more = false;
+    }
 
--- the channel after this number of events was entered: that of the last of them
-abbrev pub channel_after : Setup → ℕ → ℕ
-channel_after setup zero = 0
-channel_after setup (suc event) = channel_of (algorithm_of setup.link) event setup.link.fields.map
+-- the indication that is in force from this event on
+abbrev pub applied_notes : ℕ → ℕ → Option ℕ → List Note
+applied_notes handle event None = []
+applied_notes handle event (Some number) = Applied handle number (record { 0 = event }) ∷ []
 
--- an end that has entered this number of events is where its CONNECT_IND says
-pub record IsInEvent (setup : Setup) (entered : ℕ) (facts : Facts) : Type 0 where
-  pub entered_events : facts.parameters.entered ≡ entered
-  -- the parameters are those of the CONNECT_IND
-  pub params : facts.parameters.params ≡ first_params setup.link.fields
-  -- no indication waits or is in force
-  pub free : facts.parameters.waits ≡ None
-  pub unchanged : facts.parameters.applied ≡ 0
-  -- the anchor of the event that was entered last, and that of the next one
-  pub anchor : facts.parameters.anchor ≡ anchor_of setup (entered - 1)
-  pub next_anchor : next_anchor_of facts.parameters ≡ anchor_of setup entered
-  -- the event that was entered last, by its number and its channel
-  pub number : facts.event.number ≡ entered - 1
-  pub channel : facts.event.channel ≡ channel_after setup entered
+-- ---- packets in it: one in the slot of the anchor is in the first exchange (section 4.5.6)
+
+-- a packet is sent
+abbrev pub event_sent : ℕ → Bool → ConnectionEvent → ConnectionEvent
+event_sent slot more event = record event { more = event.more || ((slot == event.slot) && more) }
+
+-- a good packet is received
+abbrev pub event_heard : ℕ → Bool → ConnectionEvent → ConnectionEvent
+event_heard slot more event =
+    record event {
+      heard = event.heard || (slot == event.slot);
+      more = event.more || ((slot == event.slot) && more);
+    }

@@ -1,9 +1,15 @@
 -- What happens to one end of a link, step by step (our choice).
-use Rattle.std.specs.Prelude.{ℕ, Bool, List}
+use Rattle.std.specs.Prelude.{ℕ, Bool, List, Result}
+use Rattle.ble_base.specs.declared.error_codes.ErrCode.{ErrCode}
+use Rattle.procedure_values.specs.declared.asks.Ask.{Ask}
 
 pub data Step : Type 0 where
   -- its host gives it a packet of data: the start of a message, or a continuation
   DataGiven : (start : Bool) (body : List ℕ) → Step
+  -- its host asks for a procedure, answers a request of the peer, or ends the link in this slot
+  ProcedureAsked : (ask : Ask) → Step
+  RequestAnswered : (answer : Result Ask ErrCode) → Step
+  Disconnected : (reason : ErrCode) (slot : ℕ) → Step
   -- it enters the next connection event, the anchor of which is in this slot
   EventEntered : (slot : ℕ) → Step
   -- a turn begins in which it may send: it fixes its next PDU

@@ -1,174 +1,152 @@
-//! Laws of one end of a link, and of both. The bodies only call the laws that they rest on: the
-//! contracts are the laws.
-ghost use Rattle.std.specs.Prelude.{◌≡◌, ◌≤◌, ◌+◌, ◌&&◌, ℕ, Bool, true, List, [], ◌∷◌, ◌++◌};
-ghost use Rattle.std.specs.Prelude.{Option, Some, None, false, length, nat_lt, take};
+//! Laws of one end of a link that carries control procedures. The bodies only call the laws that
+//! they rest on: the contracts are the laws.
+ghost use Rattle.std.specs.Prelude.{◌≡◌, ◌<◌, ◌≤◌, ◌+◌, ◌-◌, ℕ, nat_lt, Bool, true, false, List};
+ghost use Rattle.std.specs.Prelude.{[], ◌∷◌, ◌++◌, length, take, Some, None, slice_get};
+ghost use Rattle.std.specs.Prelude.{◌&&◌, not, is_some};
+ghost use Rattle.std.specs.List.{AllByRecursion, filter, find};
+ghost use Rattle.std.specs.Option.{option_map};
+ghost use Rattle.acl_banks.specs.Packets.{piece_of};
 ghost use Rattle.ble_base.specs.declared.roles.Role.TheVariants.{Central};
 ghost use Rattle.ble_base.specs.declared.verdicts.Verdict.TheVariants.{Good};
+ghost use Rattle.ack_bit.specs.Nonempty.{nonempty};
+ghost use Rattle.data_pdu.specs.declared.ctrl.Ctrl.{Ctrl};
 ghost use Rattle.data_pdu.specs.declared.header.DataHeader.{DataHeader};
-ghost use Rattle.data_pdu.specs.Header.{header_in, octets_of};
-ghost use Rattle.link_model.specs.Setup.{Setup};
-ghost use Rattle.link_model.specs.Step.{Step, PduFixed};
-ghost use Rattle.link_model.specs.Facts.{Facts};
-ghost use Rattle.acl_banks.specs.declared.pieces.Piece.{Piece};
-ghost use Rattle.link_model.specs.Acknowledgement.{Acknowledgement, Pdu, is_acked, received_by};
+ghost use Rattle.data_pdu.specs.Header.{header_in};
+ghost use Rattle.instants.specs.Track.{is_free};
+ghost use Rattle.procedure_values.specs.Limits.{tx_of};
+ghost use Rattle.procedure_stages.specs.InProgress.{is_busy};
+ghost use Rattle.procedure_stages.specs.Kinds.{role_of};
+ghost use Rattle.procedure_stages.specs.Queue.{waiting_in};
+ghost use Rattle.control_model.specs.Control.{after_all, first_control};
+ghost use Rattle.control_model.specs.Control.{Step as ControlStep};
+ghost use Rattle.control_model.specs.Waits.{AreInRange};
+ghost use Rattle.link_model.specs.Setup.{Setup, first_anchor, first_params};
+ghost use Rattle.link_model.specs.Acknowledgement.{Acknowledgement, Pdu, empty_pdu, is_acked};
+ghost use Rattle.link_model.specs.Data.{is_control, is_data, is_empty, is_out, is_unsent};
+ghost use Rattle.link_model.specs.Data.{next_piece, pdu_with, unsent_of};
+ghost use Rattle.link_model.specs.Numbers.{is_took_note};
+ghost use Rattle.link_model.specs.Verdicts.{pdu_of};
+ghost use Rattle.link_model.specs.OneLink.{AreInAgreement};
 ghost use Rattle.link_model.specs.Payload.{payload_of};
-ghost use Rattle.link_model.specs.Data.{data_acked_if, is_data, next_of, next_piece, pdu_with};
-ghost use Rattle.link_model.specs.Data.{unsent_of, waits_behind};
-ghost use Rattle.link_model.specs.Packets.{FitsReceiver, good_pdu, header_sent, packet_sent};
-ghost use Rattle.link_model.specs.Packets.{payload_sent, pdu_of, pdu_sent};
-ghost use Rattle.link_model.specs.Packets.{verdict_of};
+ghost use Rattle.link_model.specs.Facts.{Facts};
+ghost use Rattle.link_model.specs.Controls.{is_long, next_control, pdu_fixed, pdu_of_control};
+ghost use Rattle.link_model.specs.Step.{Step, PacketReceived, PacketSent, PduFixed};
+ghost use Rattle.link_model.specs.Fixing.{data_cut, data_goes};
+ghost use Rattle.link_model.specs.Packets.{good_pdu, header_sent, packet_sent, payload_sent};
+ghost use Rattle.link_model.specs.Packets.{pdu_sent, verdict_of};
+ghost use Rattle.link_model.specs.Hearing.{IsUnderstood, is_on_air, pdu_heard, pdu_octets};
+ghost use Rattle.link_model.specs.Sending.{facts_sent};
+ghost use Rattle.link_model.specs.Receiving.{accepts, facts_hearing, notes_hearing};
+ghost use Rattle.link_model.specs.Times.{has_second_exchange, wants_of};
+ghost use Rattle.link_model.specs.ControlSteps.{AreAsksInRange, control_steps_in};
+ghost use Rattle.link_model.specs.ControlSteps.{control_steps_of, is_owed};
 ghost use Rattle.link_model.specs.Delivery.{AreNumbered, IsDelivered, IsInOrder};
-ghost use Rattle.link_model.specs.Times.{has_nothing_to_send, wants_of};
-ghost use Rattle.link_model.specs.End.{event_heard, facts_after, facts_hearing, facts_of, facts_sent};
-ghost use Rattle.link_model.specs.End.{has_acknowledged, has_new_pdu, is_accepted};
-ghost use Rattle.link_model.specs.Events.{IsInEvent, entries_in};
-ghost use Rattle.link_model.specs.Pair.{AreInAgreement, AreInOneEvent, AreOneLink, Move, pair_of};
-ghost use Rattle.link_model.specs.Pair.{receiver_after, sender_after};
+ghost use Rattle.link_model.specs.End.{facts_after, facts_of, notes_after, notes_of};
 
-/// With one more step, an end holds what that step makes of what it held.
-#[tactic(auto, unfolding(crate::specs::End::facts_of))]
+/// With one more step, an end holds what that step makes of what it held, and notes what it notes
+/// in that step after all that it noted before.
+#[tactic(auto, using(crate::proofs::Pasts::grows, crate::proofs::Pasts::notes_grow))]
 pub fn past_grows()
-    ensures { (setup : Setup) (past : List Step) (step : Step)
+    ensures facts { (setup : Setup) (past : List Step) (step : Step)
         → facts_of setup (past ++ step ∷ []) ≡ facts_after setup (facts_of setup past) step }
-{}
-
-/// Whatever an end sends and receives, its events are those of its CONNECT_IND: the anchor of event
-/// e is e intervals after the first one, and the channel of each event is that of its number (Core
-/// 5.2, volume 6 part B, sections 4.5.1, 4.5.3 and 4.5.8).
-#[tactic(auto, using(crate::proofs::InEvents::past_in))]
-pub fn events_follow_the_connect_ind()
-    ensures { (setup : Setup) (past : List Step)
-        → IsInEvent setup (entries_in past) (facts_of setup past) }
-{}
-
-/// Two ends of one link that have entered the same number of events are in one event: they have one
-/// anchor, one set of parameters and one channel, whatever each of them sent and received.
-#[tactic(auto, using(crate::proofs::InEvents::pasts_agree))]
-pub fn ends_agree_in_each_event()
-    ensures { (one other : Setup) (past ahead : List Step) → AreOneLink one other
-        → entries_in past ≡ entries_in ahead
-        → AreInOneEvent (facts_of one past) (facts_of other ahead) }
+    ensures notes { (setup : Setup) (past : List Step) (step : Step)
+        → notes_of setup (past ++ step ∷ [])
+        ≡ notes_of setup past ++ notes_after setup (facts_of setup past) step }
 {}
 
 /// The packet that an end sends is good at the other end of the link where that listens on its
-/// channel and its payload is not longer than what that receives, and what is read in it is its
-/// header and its PDU. Each end receives payloads of at least 27 octets (Core 5.2, volume 6 part B,
-/// section 4.5.10), and none sends a longer one yet, so each packet fits.
+/// channel and its payload is not longer than what that receives. What is read in it is its header,
+/// and its LLID and its payload as one PDU; that is what the other end hears (Core 5.2, volume 6
+/// part B, sections 2.4 and 4.5.10). Each PDU that an end sends has the LLID 1, 2 or 3.
 pub fn a_packet_is_understood()
-    ensures fits { (from to : Setup) (past : List Step) (listener : Facts) → 27 ≤ to.link.max_rx
-        → FitsReceiver (facts_of from past) to listener }
-    ensures good { (from to : Setup) (past : List Step) (listener : Facts) → AreOneLink from to
-        → FitsReceiver (facts_of from past) to listener
-        → (facts_of from past).event.channel ≡ listener.event.channel
-        → verdict_of to listener (packet_sent from (facts_of from past)) ≡ Good }
-    ensures pdu { (from to : Setup) (past : List Step) (listener : Facts) → AreOneLink from to
-        → FitsReceiver (facts_of from past) to listener
-        → (facts_of from past).event.channel ≡ listener.event.channel
-        → let sender = facts_of from past in
-        good_pdu to listener (packet_sent from sender)
-        ≡ Some (octets_of (header_sent sender) ++ payload_sent sender) }
-    ensures header { (from : Setup) (past : List Step) → let sender = facts_of from past in
-        header_in (octets_of (header_sent sender) ++ payload_sent sender)
-        ≡ header_sent sender }
-    ensures body { (from : Setup) (past : List Step) → let sender = facts_of from past in
-        pdu_of (octets_of (header_sent sender) ++ payload_sent sender) ≡ pdu_sent sender }
+    ensures good { (from to : Setup) (sender listener : Facts)
+        → IsUnderstood from sender to listener
+        → verdict_of to listener (packet_sent from sender) ≡ Good }
+    ensures pdu { (from to : Setup) (sender listener : Facts)
+        → IsUnderstood from sender to listener
+        → good_pdu to listener (packet_sent from sender) ≡ Some (pdu_octets sender) }
+    ensures header { (sender : Facts) → (pdu_sent sender).llid < 4
+        → header_in (pdu_octets sender) ≡ header_sent sender }
+    ensures body { (sender : Facts) → (pdu_sent sender).llid < 4
+        → pdu_of (pdu_octets sender) ≡ pdu_heard sender }
+    ensures facts { (from to : Setup) (sender listener : Facts) (slot : ℕ) (room : Bool)
+        → IsUnderstood from sender to listener
+        → facts_after to listener (PacketReceived slot (packet_sent from sender) room)
+        ≡ facts_hearing to.link.role slot room (header_sent sender) (pdu_heard sender) listener }
+    ensures notes { (from to : Setup) (sender listener : Facts) (slot : ℕ) (room : Bool)
+        → IsUnderstood from sender to listener
+        → notes_after to listener (PacketReceived slot (packet_sent from sender) room)
+        ≡ notes_hearing to slot room (header_sent sender) (pdu_heard sender) listener }
+    ensures llid { (setup : Setup) (past : List Step) → let pdu = pdu_sent (facts_of setup past) in
+        (0 < pdu.llid) × (pdu.llid < 4) }
 {
     air_frame::laws::packet_tells_its_pdu();
 }
 
-/// Whatever packets are lost, whatever the hosts give and whatever there is room for, and whenever
-/// each end enters its events: SN and NESN of each end are the numbers of its PDUs that are
-/// acknowledged and of those that it accepted, modulo 2. Each end accepts what the other sent, in
-/// order, all but at most the last PDU. It takes for acknowledged only what the other accepted.
-pub fn ends_stay_in_agreement()
-    ensures agree { (central peripheral : Setup) (moves : List Move)
-        → AreOneLink central peripheral
-        → 27 ≤ central.link.max_rx → 27 ≤ peripheral.link.max_rx
-        → AreInAgreement (pair_of central peripheral moves).central.acknowledgement
-        (pair_of central peripheral moves).peripheral.acknowledgement }
-    ensures accepted { (one other : Acknowledgement) → AreInAgreement one other
-        → other.accepted ≡ take (length other.accepted) one.sent }
-    ensures at_most_one_ahead { (one other : Acknowledgement) → AreInAgreement one other
-        → length one.sent ≤ length other.accepted + 1 }
-    ensures acknowledged { (one other : Acknowledgement) → AreInAgreement one other
-        → one.acked ≤ length other.accepted }
-    ensures both_ways { (one other : Acknowledgement) → AreInAgreement one other
-        → AreInAgreement other one }
-{
-    air_frame::laws::packet_tells_its_pdu();
-}
+/// The control part of an end goes by the control steps of its past, one after the other, from the
+/// first one of its link. They are in range where what its host asks and answers is, none of them
+/// queues a PDU of an encryption, and none of them changes the role of the end.
+pub fn the_control_part_goes_by_its_steps()
+    ensures step { (setup : Setup) (facts : Facts) (step : Step)
+        → (facts_after setup facts step).control
+        ≡ after_all (control_steps_in setup facts step) facts.control }
+    ensures past { (setup : Setup) (past : List Step) → (facts_of setup past).control
+        ≡ after_all (control_steps_of setup past)
+        (first_control setup.link.role setup.link.max_rx (first_params setup.link.fields)
+        (first_anchor setup)) }
+    ensures grows { (setup : Setup) (past : List Step) (step : Step)
+        → control_steps_of setup (past ++ step ∷ [])
+        ≡ control_steps_of setup past ++ control_steps_in setup (facts_of setup past) step }
+    ensures in_range { (setup : Setup) (past : List Step) → AreAsksInRange past
+        → AreInRange (control_steps_of setup past) }
+    ensures none_owed { (setup : Setup) (past : List Step)
+        → AllByRecursion (λ (step : ControlStep). is_owed step ≡ false)
+        (control_steps_of setup past) }
+    ensures role { (setup : Setup) (past : List Step)
+        → role_of (facts_of setup past).control.table.progress ≡ setup.link.role }
+{}
 
-/// A packet that is received tells exactly what was accepted, and no bit is needed to say it: the
-/// end that received it then takes for acknowledged as many of its PDUs as the sender accepted.
-/// Where it has room, it has accepted as many as the sender sent (Core 5.2, volume 6 part B,
-/// section 4.5.9).
-pub fn a_packet_tells_what_was_accepted()
-    ensures acknowledged { (from to : Setup) (past : List Step) (slot : ℕ) (room : Bool)
-        (listener : Facts) → AreOneLink from to → FitsReceiver (facts_of from past) to listener
-        → (facts_of from past).event.channel ≡ listener.event.channel
-        → AreInAgreement (facts_of from past).acknowledgement listener.acknowledgement
-        → (receiver_after from (facts_of from past) to slot room listener).acknowledgement.acked
-        ≡ length (facts_of from past).acknowledgement.accepted }
-    ensures accepted { (from to : Setup) (past : List Step) (slot : ℕ) (listener : Facts)
-        → AreOneLink from to → FitsReceiver (facts_of from past) to listener
-        → (facts_of from past).event.channel ≡ listener.event.channel
-        → AreInAgreement (facts_of from past).acknowledgement listener.acknowledgement
-        → let sender = facts_of from past in
-        length (receiver_after from sender to slot true listener).acknowledgement.accepted
-        ≡ length (sender_after from slot sender).acknowledgement.sent }
-{
-    air_frame::laws::packet_tells_its_pdu();
-}
+/// Whatever an end receives, it takes no PDU for acknowledged that it did not send, and sends none
+/// before the one before it is acknowledged; and what it sends again is the last of those sent.
+#[tactic(auto, using(crate::proofs::Counts::past_counted, crate::proofs::Counts::past_last))]
+pub fn one_pdu_is_out_at_a_time()
+    ensures counts { (setup : Setup) (past : List Step)
+        → let ack = (facts_of setup past).acknowledgement in
+        (ack.acked ≤ length ack.sent) × (length ack.sent ≤ ack.acked + 1) }
+    ensures last { (setup : Setup) (past : List Step)
+        → let ack = (facts_of setup past).acknowledgement in
+        slice_get ack.sent (length ack.sent - 1) ≡ Some ack.last }
+{}
+
+/// What an end notes of the PDUs that it sends and of those that it takes are the PDUs that are not
+/// empty, each once and in order, with the numbers 1, 2 and so on in each direction.
+pub fn notes_are_numbered()
+    ensures { (setup : Setup) (past : List Step) → AreNumbered setup past }
+{}
 
 /// Whatever happens to an end, the octets that its host gave are sent or wait, in order, and each
-/// of them once; and the packets that it has counted as complete are those of which the last octet
-/// was acknowledged (Core 5.2, volume 4 part E, section 4.1).
+/// of them once, with pieces of any length; and the packets that it has counted as complete are
+/// those of which the last octet was acknowledged (Core 5.2, volume 4 part E, section 4.1). Where
+/// the fixed PDU is data, it is the next piece, cut at its own length, whatever the limit is by
+/// now. A piece is out exactly where the PDU that was sent last is data and is not acknowledged.
 pub fn data_is_sent_in_order()
-    ensures { (setup : Setup) (past : List Step) → IsInOrder (facts_of setup past) }
+    ensures in_order { (setup : Setup) (past : List Step) → IsInOrder (facts_of setup past) }
+    ensures next { (setup : Setup) (past : List Step)
+        → let outgoing = (facts_of setup past).outgoing in is_data outgoing.fixed ≡ true
+        → pdu_with (option_map (piece_of (length outgoing.fixed.body))
+        (find is_unsent outgoing.packets)) ≡ outgoing.fixed }
+    ensures out { (setup : Setup) (past : List Step) → let facts = facts_of setup past in
+        is_some (find is_out facts.outgoing.packets)
+        ≡ (not (is_acked facts.acknowledgement) && is_data facts.acknowledgement.last) }
 {}
 
-/// A control PDU that may be sent goes out before data, and MD in its packet is 0 only where nothing
-/// waits behind it: no other control PDU, also none that is held back, and no piece of data. Where
-/// none may be sent, the next piece goes out, or an empty PDU where there is none, and MD tells
-/// whether octets of data wait behind it (Core 5.2, volume 6 part B, section 4.5.6).
-#[tactic(auto, using(crate::proofs::Waiting::none_behind))]
-pub fn control_pdus_go_before_data()
-    ensures control { (control : Pdu) (controls : List Pdu) (piece : Option Piece)
-        → next_of (control ∷ controls) piece ≡ control }
-    ensures behind_control { (control : Pdu) (controls held : List Pdu) (piece : Option Piece)
-        (unsent : ℕ) → waits_behind (control ∷ controls) held piece unsent ≡ false
-        → (controls ≡ []) × (held ≡ []) × (piece ≡ None) }
-    ensures data { (piece : Option Piece) → next_of [] piece ≡ pdu_with piece }
-    ensures behind_data { (held : List Pdu) (piece : Option Piece) (unsent : ℕ)
-        → waits_behind [] held piece unsent ≡ nat_lt (length (pdu_with piece).body) unsent }
-{}
-
-/// As long as links have no control PDUs, the PDU that an end fixes is the next piece of its data,
-/// or an empty one, and MD tells whether octets wait behind it.
-#[tactic(auto)]
-pub fn the_next_piece_is_fixed()
-    ensures fixed { (setup : Setup) (facts : Facts)
-        → (facts_after setup facts PduFixed).outgoing.fixed ≡ pdu_with (next_piece facts.outgoing) }
-    ensures more { (setup : Setup) (facts : Facts) → (facts_after setup facts PduFixed).outgoing.more
-        ≡ nat_lt (length (pdu_with (next_piece facts.outgoing)).body)
-        (length (unsent_of facts.outgoing)) }
-{}
-
-/// Of what exists now, the steps of a reception make this together: the event and the last good
-/// packet, what is acknowledged and what is accepted, and the data that is acknowledged.
-#[tactic(auto)]
-pub fn a_reception_is_its_steps()
-    ensures { (slot : ℕ) (room : Bool) (header : DataHeader) (pdu : Pdu) (facts : Facts)
-        → facts_hearing slot room header pdu facts ≡ record facts {
-          event = event_heard slot header.md facts.event;
-          acknowledgement =
-              received_by (has_acknowledged facts header)
-              (is_accepted room (has_new_pdu facts header) pdu) pdu facts.acknowledgement;
-          outgoing =
-              data_acked_if (has_acknowledged facts header && is_data facts.acknowledgement.last)
-              facts.outgoing;
-          last_good = Some (record { slot = slot; event = facts.event.number });
-        } }
+/// Where two ends are in agreement, what one took of data is the first octets of what the host of
+/// the other gave, with the starts of messages where they were; and each packet that was reported
+/// as complete there was taken whole here.
+pub fn what_is_taken_was_given()
+    ensures { (setup : Setup) (past : List Step) (other : Facts)
+        → AreInAgreement (facts_of setup past).acknowledgement other.acknowledgement
+        → IsDelivered (facts_of setup past) other }
 {}
 
 /// What an end sends again has the payload octets of its first packet: until the last PDU is
@@ -181,46 +159,164 @@ pub fn a_payload_is_sent_again()
         → is_acked facts.acknowledgement ≡ false
         → (facts_after setup facts step).outgoing.payload ≡ facts.outgoing.payload }
     ensures first { (facts : Facts) (slot : ℕ) → is_acked facts.acknowledgement ≡ true
-        → (facts_sent slot facts).outgoing.payload ≡ payload_of facts.outgoing.fixed }
+        → (facts_sent slot facts).outgoing.payload ≡ payload_of (pdu_fixed facts) }
 {}
 
 /// As long as no payload is sealed, the payload of a packet is the body of its PDU.
-#[tactic(auto, using(crate::proofs::Payloads::past_payload))]
+#[tactic(auto, using(crate::proofs::Repeating::past_payload))]
 pub fn a_payload_is_the_body()
     ensures { (setup : Setup) (past : List Step) → payload_sent (facts_of setup past)
         ≡ (pdu_sent (facts_of setup past)).body }
 {}
 
-/// Whatever an end receives, it takes no PDU for acknowledged that it did not send, and sends none
-/// before the one before it is acknowledged.
-#[tactic(auto, using(crate::proofs::Sending::past_counted))]
-pub fn one_pdu_is_out_at_a_time()
-    ensures { (setup : Setup) (past : List Step) → let ack = (facts_of setup past).acknowledgement in
-        (ack.acked ≤ length ack.sent) × (length ack.sent ≤ ack.acked + 1) }
+/// As a turn begins, a control PDU that has left the queue and is not sent stays fixed, and is the
+/// one that goes. Else, where a control PDU may be sent, that one is fixed, and MD is 0 only where
+/// nothing else waits: no other control PDU, also none that may not be sent yet, and no piece of
+/// data. Where none may be sent and data goes, the next piece of at most the effective length is
+/// fixed, or an empty PDU where there is none, and MD says whether octets of data wait after it.
+/// Where no data goes, an empty PDU is fixed, with MD 0 (Core 5.2, volume 6 part B, sections 4.5.6
+/// and 4.5.10).
+pub fn control_pdus_go_before_data()
+    ensures stays { (setup : Setup) (facts : Facts) → is_control facts.outgoing.fixed ≡ true
+        → facts_after setup facts PduFixed ≡ facts }
+    ensures left { (setup : Setup) (past : List Step) → let facts = facts_of setup past in
+        is_control facts.outgoing.fixed ≡ true → pdu_fixed facts ≡ facts.outgoing.fixed }
+    ensures control { (setup : Setup) (facts : Facts) (ctrl : Ctrl)
+        → is_control facts.outgoing.fixed ≡ false → next_control facts ≡ Some ctrl
+        → pdu_fixed (facts_after setup facts PduFixed) ≡ pdu_of_control (Some ctrl) }
+    ensures after_control { (setup : Setup) (facts : Facts) (ctrl : Ctrl)
+        → is_control facts.outgoing.fixed ≡ false → next_control facts ≡ Some ctrl
+        → (facts_after setup facts PduFixed).outgoing.more ≡ false
+        → (waiting_in facts.control.table.queue ≤ 1) × (next_piece (data_cut facts) ≡ None) }
+    ensures data { (setup : Setup) (facts : Facts) → is_control facts.outgoing.fixed ≡ false
+        → next_control facts ≡ None → data_goes facts ≡ true
+        → pdu_fixed (facts_after setup facts PduFixed) ≡ pdu_with (next_piece (data_cut facts)) }
+    ensures after_data { (setup : Setup) (facts : Facts) → is_control facts.outgoing.fixed ≡ false
+        → next_control facts ≡ None → data_goes facts ≡ true
+        → (facts_after setup facts PduFixed).outgoing.more
+        ≡ nat_lt (length (pdu_with (next_piece (data_cut facts))).body)
+        (length (unsent_of facts.outgoing)) }
+    ensures short { (facts : Facts) → length (pdu_with (next_piece (data_cut facts))).body
+        ≤ tx_of facts.control.table.lengths }
+    ensures nothing { (setup : Setup) (facts : Facts) → is_control facts.outgoing.fixed ≡ false
+        → next_control facts ≡ None → data_goes facts ≡ false
+        → pdu_fixed (facts_after setup facts PduFixed) ≡ empty_pdu }
+    ensures after_nothing { (setup : Setup) (facts : Facts)
+        → is_control facts.outgoing.fixed ≡ false → next_control facts ≡ None
+        → data_goes facts ≡ false
+        → (facts_after setup facts PduFixed).outgoing.more ≡ false }
 {}
 
-/// Where two ends are in agreement, what one took of data is the first octets of what the host of
-/// the other gave, with the starts of messages where they were; and each packet that was reported
-/// as complete there was taken whole here.
-pub fn what_is_taken_was_given()
-    ensures { (setup : Setup) (past : List Step) (other : Facts)
-        → AreInAgreement (facts_of setup past).acknowledgement other.acknowledgement
-        → IsDelivered (facts_of setup past) other }
-{}
-
-/// What an end notes of the PDUs that it sends and of those that it takes are the PDUs that are not
-/// empty, each once and in order, with the numbers 1, 2 and so on in each direction.
-pub fn notes_are_numbered()
-    ensures { (setup : Setup) (past : List Step) → AreNumbered setup past }
-{}
-
-/// A central wants every event, and so does a peripheral whose latency is 0, or one that has a PDU
-/// to send: one with a payload that is not acknowledged yet, or data that waits.
+/// A central wants every event, and so does a peripheral whose latency is 0. A peripheral wants an
+/// event too where a PDU with a payload is not acknowledged, a control PDU or data waits, a
+/// procedure is in progress, or an indication waits (Core 5.2, volume 6 part B, section 4.5.1).
 pub fn only_latency_skips_events()
     ensures central { (setup : Setup) (facts : Facts) → setup.link.role ≡ Central
         → wants_of setup facts ≡ true }
     ensures no_latency { (setup : Setup) (facts : Facts) → facts.event.latency ≡ 0
         → wants_of setup facts ≡ true }
-    ensures data_waits { (setup : Setup) (facts : Facts) → has_nothing_to_send facts ≡ false
+    ensures unacknowledged { (setup : Setup) (facts : Facts)
+        → is_acked facts.acknowledgement ≡ false → is_empty facts.acknowledgement.last ≡ false
         → wants_of setup facts ≡ true }
+    ensures control_waits { (setup : Setup) (facts : Facts)
+        → 0 < waiting_in facts.control.table.queue → wants_of setup facts ≡ true }
+    ensures data_waits { (setup : Setup) (facts : Facts)
+        → 0 < length (unsent_of facts.outgoing) → wants_of setup facts ≡ true }
+    ensures procedure { (setup : Setup) (facts : Facts)
+        → is_busy facts.control.table.progress ≡ true → wants_of setup facts ≡ true }
+    ensures indication_waits { (setup : Setup) (facts : Facts)
+        → is_free facts.control.track ≡ false → wants_of setup facts ≡ true }
 {}
+
+/// An event has no second exchange where an effective length was over 27 octets as it was entered,
+/// or was changed since. So where it has one, no effective length is over 27 octets.
+pub fn lengths_hold_a_second_exchange()
+    ensures long { (facts : Facts) → facts.lengths.long ≡ true
+        → has_second_exchange facts ≡ false }
+    ensures changed { (facts : Facts) → facts.lengths.changed ≡ true
+        → has_second_exchange facts ≡ false }
+    ensures short { (setup : Setup) (past : List Step) → let facts = facts_of setup past in
+        has_second_exchange facts ≡ true → is_long facts.control.table.lengths ≡ false }
+{}
+
+/// An end whose LL_TERMINATE_IND is acknowledged accepts no PDU that is not empty, and notes none,
+/// also in the packet that acknowledges it; and it stays acknowledged (Core 5.2, volume 6 part B,
+/// section 5.1.6).
+pub fn nothing_is_taken_after_the_end()
+    ensures stays { (setup : Setup) (facts : Facts) (step : Step)
+        → facts.leaving.acknowledged ≡ true
+        → (facts_after setup facts step).leaving.acknowledged ≡ true }
+    ensures refused { (room : Bool) (header : DataHeader) (pdu : Pdu) (facts : Facts)
+        → facts.leaving.acknowledged ≡ true → is_empty pdu ≡ false
+        → accepts room header pdu facts ≡ false }
+    ensures accepted { (setup : Setup) (facts : Facts) (step : Step)
+        → (facts_after setup facts step).leaving.acknowledged ≡ true
+        → nonempty is_empty (facts_after setup facts step).acknowledgement.accepted
+        ≡ nonempty is_empty facts.acknowledgement.accepted }
+    ensures noted { (setup : Setup) (facts : Facts) (step : Step)
+        → (facts_after setup facts step).leaving.acknowledged ≡ true
+        → filter is_took_note (notes_after setup facts step) ≡ [] }
+{}
+
+/// Two ends are in agreement as their link begins, and stay so: where one of them sends, also where
+/// the other does not hear it; where the other hears that packet, with room for it or with none;
+/// and in all that they do apart from that. So SN and NESN of each end are the numbers of its PDUs
+/// that are acknowledged and of those that it accepted, modulo 2. Each end accepts what the other
+/// sent, in order, all but at most the last PDU, and takes for acknowledged only what the other
+/// accepted.
+pub fn ends_stay_in_agreement()
+    ensures begin { (one other : Setup) → AreInAgreement (facts_of one []).acknowledgement
+        (facts_of other []).acknowledgement }
+    ensures both_ways { (one other : Acknowledgement) → AreInAgreement one other
+        → AreInAgreement other one }
+    ensures sent { (from : Setup) (slot : ℕ) (sender : Facts) (other : Acknowledgement)
+        → AreInAgreement sender.acknowledgement other
+        → AreInAgreement (facts_after from sender (PacketSent slot)).acknowledgement other }
+    ensures heard { (from to : Setup) (sender listener : Facts) (slot : ℕ) (room : Bool)
+        → IsUnderstood from sender to listener
+        → payload_sent sender ≡ (pdu_sent sender).body
+        → AreInAgreement (facts_after from sender (PacketSent slot)).acknowledgement
+        listener.acknowledgement
+        → AreInAgreement (facts_after from sender (PacketSent slot)).acknowledgement
+        (facts_after to listener
+        (PacketReceived slot (packet_sent from sender) room)).acknowledgement }
+    ensures unheard { (setup : Setup) (facts : Facts) (slot : ℕ) (octets : List ℕ) (room : Bool)
+        → good_pdu setup facts octets ≡ None
+        → facts_after setup facts (PacketReceived slot octets room) ≡ facts }
+    ensures others { (setup : Setup) (facts : Facts) (step : Step) → is_on_air step ≡ false
+        → (facts_after setup facts step).acknowledgement ≡ facts.acknowledgement }
+    ensures accepted { (one other : Acknowledgement) → AreInAgreement one other
+        → other.accepted ≡ take (length other.accepted) one.sent }
+    ensures at_most_one_ahead { (one other : Acknowledgement) → AreInAgreement one other
+        → length one.sent ≤ length other.accepted + 1 }
+    ensures acknowledged { (one other : Acknowledgement) → AreInAgreement one other
+        → one.acked ≤ length other.accepted }
+{
+    air_frame::laws::packet_tells_its_pdu();
+}
+
+/// A packet that is received says exactly what was accepted, and no bit is needed for it: the PDUs
+/// that the end takes for acknowledged are then, by their number, those that the sender accepted.
+/// Where it has room, and its LL_TERMINATE_IND is not acknowledged, it has accepted all that the
+/// sender sent (Core 5.2, volume 6 part B, section 4.5.9).
+pub fn a_packet_says_what_was_accepted()
+    ensures acknowledged { (from to : Setup) (sender listener : Facts) (slot : ℕ) (room : Bool)
+        → IsUnderstood from sender to listener
+        → payload_sent sender ≡ (pdu_sent sender).body
+        → AreInAgreement (facts_after from sender (PacketSent slot)).acknowledgement
+        listener.acknowledgement
+        → (facts_after to listener
+        (PacketReceived slot (packet_sent from sender) room)).acknowledgement.acked
+        ≡ length sender.acknowledgement.accepted }
+    ensures accepted { (from to : Setup) (sender listener : Facts) (slot : ℕ)
+        → IsUnderstood from sender to listener
+        → payload_sent sender ≡ (pdu_sent sender).body
+        → AreInAgreement (facts_after from sender (PacketSent slot)).acknowledgement
+        listener.acknowledgement
+        → let after = facts_after to listener
+        (PacketReceived slot (packet_sent from sender) true) in
+        after.leaving.acknowledged ≡ false → length after.acknowledgement.accepted
+        ≡ length (facts_after from sender (PacketSent slot)).acknowledgement.sent }
+{
+    air_frame::laws::packet_tells_its_pdu();
+}

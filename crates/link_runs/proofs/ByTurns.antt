@@ -1,22 +1,22 @@
 -- Runs of one link, turn by turn: what is kept from turn to turn, whether both ends are open or one is shut.
 use Rattle.std.proofs.Common.{◌≡◌, inl, inr, ℕ, ◌+◌, Bool, true, false, List, [], ◌∷◌, length, Option, Some, None, is_none, refl, ap, subst, ◌∙◌, arith}
 use Rattle.ble_base.specs.declared.error_codes.ErrCode.{ErrCode}
-use Rattle.link_model.proofs.Received.{IsHeardWhole}
-use Rattle.link_model.specs.Pair.{AreInAgreement}
+use Rattle.link_model.proofs.Hearing.{IsHeardWhole}
+use Rattle.link_model.specs.OneLink.{AreInAgreement}
 use Rattle.link_model.specs.Setup.{Setup}
-use Rattle.controlled_link.specs.End.{facts_after}
-use Rattle.controlled_link.specs.Facts.{Facts}
-use Rattle.controlled_link.specs.Step.{DataReported, Step}
-use Rattle.controlled_link.specs.Times.{due_of}
-use Rattle.controlled_pairs.specs.Ends.{AreEnds, is_lasting}
-use Rattle.controlled_pairs.specs.Parting.{ArePartingFrom}
-use Rattle.controlled_pairs.specs.Shown.{AreLinked}
-use Rattle.controlled_pairs.specs.Sound.{AreSoundEnds}
-use Rattle.controlled_pairs.proofs.EndingNothing.{begun_ends_nothing, prepared_ends_nothing}
-use Rattle.controlled_pairs.proofs.First.{first_linked}
-use Rattle.controlled_pairs.proofs.Hosting.{central_hosts, peripheral_hosts}
-use Rattle.controlled_pairs.proofs.NothingNew.{host_still, sender_still, taker_still}
-use Rattle.controlled_pairs.proofs.Sounding.{are_sound}
+use Rattle.link_model.specs.End.{facts_after}
+use Rattle.link_model.specs.Facts.{Facts}
+use Rattle.link_model.specs.Step.{DataReported, Step}
+use Rattle.link_model.specs.Times.{due_of}
+use Rattle.link_pairs.specs.Ends.{AreEnds, is_lasting}
+use Rattle.link_pairs.specs.Parting.{ArePartingFrom}
+use Rattle.link_pairs.specs.Shown.{AreLinked}
+use Rattle.link_pairs.specs.Sound.{AreSoundEnds}
+use Rattle.link_pairs.proofs.EndingNothing.{begun_ends_nothing, prepared_ends_nothing}
+use Rattle.link_pairs.proofs.First.{first_linked}
+use Rattle.link_pairs.proofs.Hosting.{central_hosts, peripheral_hosts}
+use Rattle.link_pairs.proofs.NothingNew.{host_still, sender_still, taker_still}
+use Rattle.link_pairs.proofs.Sounding.{are_sound}
 use Rattle.link_runs.specs.Open.{AreOpenEnds, GoOnUnlessLate}
 use Rattle.link_runs.specs.Turn.{Ends, Given, end_after_turn, end_at_start, ends_after_turn, ends_heard, ends_in_turn, facts_hosted, listens, open_if, peripheral_heard, transmits}
 use Rattle.link_runs.specs.Runs.{MayAllHost, MayAllHostFrom, MayHostAll, MayHostEnd, MayHostTurn, ends_from, ends_of, first_ends, slot_after}

@@ -13,17 +13,17 @@ use Rattle.procedures.specs.Taking.{facts_with, outcome_of}
 use Rattle.control_model.specs.Control.{Control, SeesAcknowledged, Takes, after, ended, indicated_by, is_to_come, taken}
 use Rattle.control_model.proofs.Calls.{any_step, took_by}
 use Rattle.link_model.specs.Acknowledgement.{Pdu}
-use Rattle.link_model.specs.Packets.{pdu_of}
+use Rattle.link_model.specs.Verdicts.{pdu_of}
 use Rattle.link_model.specs.Setup.{Setup}
-use Rattle.controlled_link.specs.Controls.{is_procedure_pdu, is_quiet_now, read_of}
-use Rattle.controlled_link.specs.Facts.{Facts}
-use Rattle.controlled_link.specs.Packets.{good_pdu}
-use Rattle.controlled_link.specs.Receiving.{accepted_if, accepts, acknowledged_if, acks_control, answers_with_control, facts_before_taking, facts_received, has_acknowledged, heard_in_slot, procedures_take_if, replies_by, replies_of}
-use Rattle.controlled_link.specs.Sending.{control_gone_if, takes_leave}
-use Rattle.controlled_pairs.specs.Hearing.{answered, received}
-use Rattle.controlled_pairs.specs.Turns.{sent_if}
-use Rattle.controlled_pairs.proofs.ControlKept.{acked_kept, sent_kept}
-use Rattle.controlled_pairs.proofs.Items.{never}
+use Rattle.link_model.specs.Controls.{is_procedure_pdu, is_quiet_now, read_of}
+use Rattle.link_model.specs.Facts.{Facts}
+use Rattle.link_model.specs.Packets.{good_pdu}
+use Rattle.link_model.specs.Receiving.{accepted_if, accepts, acknowledged_if, acks_control, answers_with_control, facts_before_taking, facts_received, has_acknowledged, heard_in_slot, procedures_take_if, replies_by, replies_of}
+use Rattle.link_model.specs.Sending.{control_gone_if, takes_leave}
+use Rattle.link_pairs.specs.Hearing.{answered, received}
+use Rattle.link_pairs.specs.Turns.{sent_if}
+use Rattle.link_pairs.proofs.ControlKept.{acked_kept, sent_kept}
+use Rattle.link_pairs.proofs.Items.{never}
 
 -- ---- the events that it entered
 

@@ -6,13 +6,13 @@ use Rattle.instants.specs.Track.{TrackFacts, is_due, next_anchor_of, track_chang
 use Rattle.control_model.proofs.Moving.{enters_track}
 use Rattle.joint_controls.proofs.Running.{none_of}
 use Rattle.link_model.specs.Setup.{Setup}
-use Rattle.controlled_link.specs.Controls.{goes_on}
-use Rattle.controlled_link.specs.Entering.{facts_entered}
-use Rattle.controlled_link.specs.Facts.{Facts}
-use Rattle.controlled_link.specs.Times.{has_second_exchange, wants_of}
-use Rattle.controlled_pairs.specs.Ends.{HasExchange, IsAtRest, is_lasting}
-use Rattle.controlled_pairs.specs.Turns.{MayExchange, entered_in}
-use Rattle.controlled_pairs.proofs.Beginning.{entered_is}
+use Rattle.link_model.specs.Controls.{goes_on}
+use Rattle.link_model.specs.Entering.{facts_entered}
+use Rattle.link_model.specs.Facts.{Facts}
+use Rattle.link_model.specs.Times.{has_second_exchange, wants_of}
+use Rattle.link_pairs.specs.Ends.{HasExchange, IsAtRest, is_lasting}
+use Rattle.link_pairs.specs.Turns.{MayExchange, entered_in}
+use Rattle.link_pairs.proofs.Beginning.{entered_is}
 use Rattle.link_runs.specs.Turn.{is_second, wants_slot}
 
 -- ---- the events that it entered

@@ -5,14 +5,14 @@ use Rattle.joint_controls.proofs.Running.{none_of}
 use Rattle.ble_base.specs.ErrorCodes.{terminated_by_local_host}
 use Rattle.ble_base.specs.declared.error_codes.ErrCode.{ErrCode}
 use Rattle.link_model.specs.Setup.{Setup}
-use Rattle.controlled_link.specs.declared.state.Leaving.{Leaving}
-use Rattle.controlled_link.specs.Facts.{Facts}
-use Rattle.controlled_link.specs.End.{facts_after}
-use Rattle.controlled_link.specs.Step.{Step}
-use Rattle.controlled_link.specs.Times.{ended_by_procedures, ending_of}
-use Rattle.controlled_pairs.specs.Ends.{is_lasting}
-use Rattle.controlled_pairs.specs.Sound.{EndsNothing}
-use Rattle.controlled_pairs.proofs.EndingNothing.{host_ends_nothing}
+use Rattle.link_model.specs.declared.state.Leaving.{Leaving}
+use Rattle.link_model.specs.Facts.{Facts}
+use Rattle.link_model.specs.End.{facts_after}
+use Rattle.link_model.specs.Step.{Step}
+use Rattle.link_model.specs.Times.{ended_by_procedures, ending_of}
+use Rattle.link_pairs.specs.Ends.{is_lasting}
+use Rattle.link_pairs.specs.Sound.{EndsNothing}
+use Rattle.link_pairs.proofs.EndingNothing.{host_ends_nothing}
 use Rattle.link_runs.specs.Turn.{facts_hosted}
 use Rattle.link_runs.specs.Runs.{MayHostAll}
 

@@ -3,39 +3,39 @@ use Rattle.std.proofs.Common.{◌==◌, ◌⊎◌, inl, inr, ◌-◌, Some, None
 use Rattle.std.proofs.lemmas.Bool.{and_from, and_parts, eqb-true}
 use Rattle.link_model.specs.declared.events.Reception.{Reception}
 use Rattle.link_model.specs.Setup.{Setup}
-use Rattle.controlled_link.specs.Facts.{Facts}
-use Rattle.controlled_link.specs.Receiving.{replies_of}
-use Rattle.controlled_link.specs.Step.{Step}
-use Rattle.controlled_link.specs.Times.{due_of}
-use Rattle.controlled_pairs.specs.Ends.{AreEnds, heard_turns, is_lasting, turns_at}
-use Rattle.controlled_pairs.specs.Hearing.{IsPacketOf, answered, received}
-use Rattle.controlled_pairs.specs.Shown.{AreLinked, Shows, link_of}
-use Rattle.controlled_pairs.specs.Turns.{HaveBegun, sent_if}
-use Rattle.controlled_pairs.proofs.CentralHears.{hears}
-use Rattle.controlled_pairs.proofs.Hosting.{central_hosts, peripheral_hosts}
-use Rattle.controlled_pairs.proofs.PeripheralHears.{hears_linked}
-use Rattle.controlled_pairs.proofs.Reading.{AreHeard}
-use Rattle.controlled_pairs.proofs.Turning.{begun_hears, prepared_hears, turn_begun}
+use Rattle.link_model.specs.Facts.{Facts}
+use Rattle.link_model.specs.Receiving.{replies_of}
+use Rattle.link_model.specs.Step.{Step}
+use Rattle.link_model.specs.Times.{due_of}
+use Rattle.link_pairs.specs.Ends.{AreEnds, heard_turns, is_lasting, turns_at}
+use Rattle.link_pairs.specs.Hearing.{IsPacketOf, answered, received}
+use Rattle.link_pairs.specs.Shown.{AreLinked, Shows, link_of}
+use Rattle.link_pairs.specs.Turns.{HaveBegun, sent_if}
+use Rattle.link_pairs.proofs.CentralHears.{hears}
+use Rattle.link_pairs.proofs.Hosting.{central_hosts, peripheral_hosts}
+use Rattle.link_pairs.proofs.PeripheralHears.{hears_linked}
+use Rattle.link_pairs.proofs.Reading.{AreHeard}
+use Rattle.link_pairs.proofs.Turning.{begun_hears, prepared_hears, turn_begun}
 use Rattle.link_runs.specs.Turn.{Given, answer, central_sent, central_heard, central_ready, facts_hosted, is_answer_heard, is_heard, listens, packet, peripheral_ready, peripheral_heard, peripheral_received, transmits}
 use Rattle.link_runs.specs.Runs.{MayHostAll}
 use Rattle.link_runs.proofs.Exchanges.{may_exchange}
 use Rattle.link_runs.proofs.Supervision.{heard_in_time}
 use Rattle.ble_base.specs.declared.error_codes.ErrCode.{ErrCode}
 use Rattle.joint_controls.specs.Joint.{has_passed, last_change}
-use Rattle.link_model.proofs.Received.{IsHeardWhole}
-use Rattle.controlled_link.specs.Times.{ending_of}
-use Rattle.controlled_pairs.specs.Parting.{ArePartingFrom}
-use Rattle.controlled_pairs.specs.Sound.{EndsForInstant}
-use Rattle.controlled_pairs.proofs.Ending.{answered_ends}
-use Rattle.controlled_pairs.proofs.Ending.{central_lasts as central_goes, peripheral_lasts as peripheral_goes}
-use Rattle.controlled_pairs.proofs.EndingNothing.{begun_ends_nothing, prepared_ends_nothing}
-use Rattle.controlled_pairs.proofs.Items.{never}
-use Rattle.controlled_pairs.proofs.NothingNew.{prepared_still, sender_still}
-use Rattle.controlled_pairs.proofs.PartingBegins.{central_took, peripheral_took}
-use Rattle.controlled_pairs.proofs.PartingEndings.{taker_ends}
-use Rattle.controlled_pairs.proofs.Reading.{are_heard}
-use Rattle.controlled_pairs.proofs.SenderHears.{has_seen, hears_the_end}
-use Rattle.controlled_pairs.proofs.TakerSends.{begun_parting}
+use Rattle.link_model.proofs.Hearing.{IsHeardWhole}
+use Rattle.link_model.specs.Times.{ending_of}
+use Rattle.link_pairs.specs.Parting.{ArePartingFrom}
+use Rattle.link_pairs.specs.Sound.{EndsForInstant}
+use Rattle.link_pairs.proofs.Ending.{answered_ends}
+use Rattle.link_pairs.proofs.Ending.{central_lasts as central_goes, peripheral_lasts as peripheral_goes}
+use Rattle.link_pairs.proofs.EndingNothing.{begun_ends_nothing, prepared_ends_nothing}
+use Rattle.link_pairs.proofs.Items.{never}
+use Rattle.link_pairs.proofs.NothingNew.{prepared_still, sender_still}
+use Rattle.link_pairs.proofs.PartingBegins.{central_took, peripheral_took}
+use Rattle.link_pairs.proofs.PartingEndings.{taker_ends}
+use Rattle.link_pairs.proofs.Reading.{are_heard}
+use Rattle.link_pairs.proofs.SenderHears.{has_seen, hears_the_end}
+use Rattle.link_pairs.proofs.TakerSends.{begun_parting}
 use Rattle.link_runs.specs.Open.{AreOpenEnds, GoesOnUnlessLate, IsLastingLink}
 use Rattle.link_runs.proofs.EventsKept.{answered_in_event, ended_no_reply}
 use Rattle.link_runs.proofs.GoingOn.{lasting_by, lasting_goes, lasting_took_none, open_goes_on, shut_by, still_lasts}

@@ -6,12 +6,12 @@ use Rattle.ble_base.specs.declared.error_codes.ErrCode.{ErrCode}
 use Rattle.instants.specs.declared.indications.Params.{Params}
 use Rattle.link_model.specs.declared.events.Reception.{Reception}
 use Rattle.link_model.specs.Setup.{Setup}
-use Rattle.link_model.specs.Times.{has_failed, has_timed_out, reason_due}
+use Rattle.link_model.specs.Lost.{has_failed, has_timed_out, reason_due}
 use Rattle.control_end.specs.Answers.{goes_on as held_goes_on, timeout_of}
 use Rattle.control_end.specs.Held.{held_of}
-use Rattle.controlled_link.specs.declared.state.Leaving.{Leaving}
-use Rattle.controlled_link.specs.Facts.{Facts, params_of}
-use Rattle.controlled_link.specs.Times.{due_of, ended_by_procedures, ending_of, first_of, termination_due}
+use Rattle.link_model.specs.declared.state.Leaving.{Leaving}
+use Rattle.link_model.specs.Facts.{Facts, params_of}
+use Rattle.link_model.specs.Times.{due_of, ended_by_procedures, ending_of, first_of, termination_due}
 use Rattle.link_runs.specs.Open.{AreTerminated, GoOnUnlessLate, GoesOnUnlessLate, IsTerminated, is_timeout}
 
 -- ---- at the end of a turn

@@ -5,10 +5,10 @@ use Rattle.control_octets.specs.Fitting.{TimesFit}
 use Rattle.instants.specs.declared.indications.Params.{Params}
 use Rattle.link_model.specs.declared.events.Reception.{Reception}
 use Rattle.link_model.specs.Setup.{Setup}
-use Rattle.link_model.specs.Times.{has_failed, has_timed_out, reason_due}
-use Rattle.controlled_link.specs.Facts.{Facts, params_of}
-use Rattle.controlled_link.specs.Times.{due_of, first_of}
-use Rattle.controlled_pairs.specs.Ends.{IsAtRest, heard_turns, turns_at}
+use Rattle.link_model.specs.Lost.{has_failed, has_timed_out, reason_due}
+use Rattle.link_model.specs.Facts.{Facts, params_of}
+use Rattle.link_model.specs.Times.{due_of, first_of}
+use Rattle.link_pairs.specs.Ends.{IsAtRest, heard_turns, turns_at}
 
 none_first : (one other : Option ℕ) → is_none (first_of one other) ≡ true → is_none one ≡ true
 none_first None other is = refl

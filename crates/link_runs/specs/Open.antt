@@ -4,13 +4,13 @@ use Rattle.std.specs.Prelude.{◌≡◌, ◌⊎◌, ℕ, ◌==◌, ◌||◌, Boo
 use Rattle.ble_base.specs.ErrorCodes.{connection_not_established, connection_timeout, instant_passed, ll_response_timeout, terminated_by_local_host}
 use Rattle.ble_base.specs.declared.error_codes.ErrCode.{ErrCode}
 use Rattle.link_model.specs.Setup.{Setup}
-use Rattle.controlled_link.specs.declared.state.Leaving.{Leaving}
-use Rattle.controlled_link.specs.Facts.{Facts}
-use Rattle.controlled_link.specs.Times.{ending_of}
-use Rattle.controlled_pairs.specs.Ends.{is_lasting}
-use Rattle.controlled_pairs.specs.Parting.{ArePartingFrom}
-use Rattle.controlled_pairs.specs.Shown.{AreLinked}
-use Rattle.controlled_pairs.specs.Sound.{EndsForInstant}
+use Rattle.link_model.specs.declared.state.Leaving.{Leaving}
+use Rattle.link_model.specs.Facts.{Facts}
+use Rattle.link_model.specs.Times.{ending_of}
+use Rattle.link_pairs.specs.Ends.{is_lasting}
+use Rattle.link_pairs.specs.Parting.{ArePartingFrom}
+use Rattle.link_pairs.specs.Shown.{AreLinked}
+use Rattle.link_pairs.specs.Sound.{EndsForInstant}
 use Rattle.link_runs.specs.Turn.{Ends}
 
 -- ---- between two turns

@@ -4,8 +4,8 @@ use Rattle.std.specs.Option.{option_map}
 use Rattle.ble_base.specs.declared.error_codes.ErrCode.{ErrCode}
 use Rattle.procedure_values.specs.declared.asks.Ask.TheVariants.{Update}
 use Rattle.link_model.specs.Rows.{central_with, peripheral_with}
-use Rattle.controlled_link.specs.Facts.{Facts}
-use Rattle.controlled_link.specs.Step.{Disconnected, ProcedureAsked, Step}
+use Rattle.link_model.specs.Facts.{Facts}
+use Rattle.link_model.specs.Step.{Disconnected, ProcedureAsked, Step}
 use Rattle.link_runs.specs.Runs.{ends_of, slot_after}
 use Rattle.link_runs.specs.Turn.{Ends, Given, ends_in_turn}
 

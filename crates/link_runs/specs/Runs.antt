@@ -1,10 +1,10 @@
 -- Runs of one link, turn by turn, and what its hosts may do in them (our choice).
 use Rattle.std.specs.Prelude.{ℕ, ◌+◌, List, [], ◌∷◌, Option, Some, None, length, ⊤}
 use Rattle.link_model.specs.Setup.{Setup}
-use Rattle.controlled_link.specs.Facts.{Facts, first_facts}
-use Rattle.controlled_link.specs.End.{facts_after}
-use Rattle.controlled_link.specs.Step.{Step}
-use Rattle.controlled_pairs.specs.Hosts.{MayHost}
+use Rattle.link_model.specs.Facts.{Facts, first_facts}
+use Rattle.link_model.specs.End.{facts_after}
+use Rattle.link_model.specs.Step.{Step}
+use Rattle.link_pairs.specs.Hosts.{MayHost}
 use Rattle.link_runs.specs.Turn.{Ends, Given, ends_after_turn}
 
 -- ---- what the hosts may do

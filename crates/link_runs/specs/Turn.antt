@@ -3,14 +3,14 @@
 use Rattle.std.specs.Prelude.{ℕ, ◌+◌, ◌==◌, ◌&&◌, Bool, true, false, List, Option, Some, None, is_none, fold, if◌then◌else◌}
 use Rattle.instants.specs.Track.{next_anchor_of}
 use Rattle.link_model.specs.Setup.{Setup}
-use Rattle.controlled_link.specs.Facts.{Facts}
-use Rattle.controlled_link.specs.End.{facts_after}
-use Rattle.controlled_link.specs.Packets.{packet_sent}
-use Rattle.controlled_link.specs.Receiving.{replies_of}
-use Rattle.controlled_link.specs.Step.{Step, DataReported}
-use Rattle.controlled_link.specs.Times.{due_of, ending_of, has_second_exchange, wants_of}
-use Rattle.controlled_pairs.specs.Hearing.{answered, received}
-use Rattle.controlled_pairs.specs.Turns.{central_begun, entered_in, prepared}
+use Rattle.link_model.specs.Facts.{Facts}
+use Rattle.link_model.specs.End.{facts_after}
+use Rattle.link_model.specs.Packets.{packet_sent}
+use Rattle.link_model.specs.Receiving.{replies_of}
+use Rattle.link_model.specs.Step.{Step, DataReported}
+use Rattle.link_model.specs.Times.{due_of, ending_of, has_second_exchange, wants_of}
+use Rattle.link_pairs.specs.Hearing.{answered, received}
+use Rattle.link_pairs.specs.Turns.{central_begun, entered_in, prepared}
 
 -- both ends of a link, each with what it holds until it is shut
 pub record Ends : Type 0 where

@@ -1,13 +1,13 @@
 //! Laws of whole runs of one link. The bodies only call the laws that they rest on: the contracts
 //! are the laws.
 ghost use Rattle.std.specs.Prelude.{◌≡◌, ℕ, true, false, List, Some};
-ghost use Rattle.link_model.specs.Pair.{AreInAgreement};
+ghost use Rattle.link_model.specs.OneLink.{AreInAgreement};
 ghost use Rattle.link_model.specs.Setup.{Setup};
-ghost use Rattle.controlled_link.specs.Facts.{Facts};
-ghost use Rattle.controlled_link.specs.Times.{due_of};
-ghost use Rattle.controlled_pairs.specs.Ends.{AreEnds, is_lasting};
-ghost use Rattle.controlled_pairs.specs.Shown.{AreLinked};
-ghost use Rattle.controlled_pairs.specs.Sound.{AreSoundEnds};
+ghost use Rattle.link_model.specs.Facts.{Facts};
+ghost use Rattle.link_model.specs.Times.{due_of};
+ghost use Rattle.link_pairs.specs.Ends.{AreEnds, is_lasting};
+ghost use Rattle.link_pairs.specs.Shown.{AreLinked};
+ghost use Rattle.link_pairs.specs.Sound.{AreSoundEnds};
 ghost use Rattle.link_runs.specs.Open.{AreOpenEnds, AreTerminated, GoOnUnlessLate, is_timeout};
 ghost use Rattle.link_runs.specs.Runs.{MayAllHost, MayHostTurn, ends_of, slot_after};
 ghost use Rattle.link_runs.specs.Turn.{Given, ends_in_turn};

@@ -1,20 +1,14 @@
 -- The data of each link in the bank, after a change of one link.
-use Rattle.std.proofs.Common.{◌≡◌, ◌≢◌, ℕ, zero, suc, ◌+◌, ◌==◌, Bool, true, false, List, [], ◌∷◌, get_or, set, Option, Some, None, if◌then◌else◌, refl, ap, sym, ◌∙◌, subst}
-use Rattle.std.specs.List.{filter}
+use Rattle.std.proofs.Common.{◌≡◌, ◌≢◌, ℕ, ◌+◌, ◌==◌, Bool, true, false, [], ◌∷◌, Option, Some, None, if◌then◌else◌, refl, ap, sym, ◌∙◌, subst}
 use Rattle.std.specs.Option.{option_map}
 use Rattle.std.proofs.lemmas.Bool.{eqb-true, eqb-false}
-use Rattle.acl_banks.specs.Packets.{is_of}
-use Rattle.acl_banks.specs.Banks.{Bank, bank_after_drop, credits_of}
-use Rattle.acl_banks.proofs.Links.{none-filter}
+use Rattle.acl_banks.specs.Banks.{Bank}
 use Rattle.link_end.specs.Tied.{HoldsData, LeavesOthers}
 use Rattle.open_links.specs.OpenLinks.{Links, OpenLink, HasHandle, HaveHandles, facts_in, link_at, link_from, with_change, with_change_from}
-use Rattle.open_links.specs.Knowing.{BankGoes, HasNone, HoldsUnder}
+use Rattle.open_links.specs.Ended.{HasNone}
+use Rattle.open_links.proofs.Dropping.{LeavesAt}
+use Rattle.open_links.specs.Knowing.{BankGoes, HoldsUnder}
 use Rattle.open_links.proofs.Handles.{changed_is, has_its_handle, other_stays}
-
--- what a bank has under a handle is as it was
-abbrev pub LeavesAt : ℕ → Bank → Bank → Type 0
-LeavesAt handle before after =
-    (filter (is_of handle) after.packets ≡ filter (is_of handle) before.packets) × (credits_of after handle ≡ credits_of before handle)
 
 pub holds_left : (handle : ℕ) (before after : Bank) (place : Option OpenLink) → LeavesAt handle before after
     → HoldsUnder handle before place → HoldsUnder handle after place
@@ -77,11 +71,3 @@ put_is handle known bank none holds first (place ∷ links) =
         (if test then known ∷ links else place ∷ with_change_from (first + 1) handle (λ place. known) links))
     by_test true e rest = rw e holds
     by_test false e rest = rw e rest
-
-set_zero : (xs : List ℕ) (i : ℕ) → get_or (set xs i 0) i 0 ≡ 0
-set_zero [] i = refl
-set_zero (x ∷ xs) zero = refl
-set_zero (x ∷ xs) (suc i) = set_zero xs i
-
-pub dropped : (handle : ℕ) (bank : Bank) → HasNone handle (bank_after_drop bank handle)
-dropped handle bank = record { packets = none-filter (is_of handle) bank.packets; complete = set_zero bank.counts handle }

@@ -4,7 +4,8 @@ use Rattle.std.specs.List.{filter}
 use Rattle.acl_banks.specs.Packets.{is_of}
 use Rattle.acl_banks.specs.Banks.{Bank, credits_of}
 use Rattle.open_links.specs.OpenLinks.{link_from}
-use Rattle.open_links.specs.Knowing.{HeldLink, HeldLinks, HasNone, HoldsUnder, Knows, KnowsPlace, KnowsPlaces}
+use Rattle.open_links.specs.Ended.{HasNone}
+use Rattle.open_links.specs.Knowing.{HeldLink, HeldLinks, HoldsUnder, Knows, KnowsPlace, KnowsPlaces}
 use Rattle.open_links.specs.Sound.{AreSound, IsWithinAt}
 use Rattle.open_links.proofs.Handles.{none_have}
 

@@ -1,117 +1,242 @@
--- A link enters each event in the slot of its anchor.
-use Rattle.std.proofs.Common.{◌≡◌, ℕ, ◌+◌, ◌*◌, ◌<◌, ◌≤◌, ◌==◌, Bool, true, false, List, [], ◌∷◌, ◌++◌, length, refl, ap, ◌∙◌, subst, sym, arith}
-use Rattle.std.proofs.lemmas.Bool.{eqb-true}
-use Rattle.std.proofs.lemmas.List.Sums.{fold-append}
-use Rattle.std.proofs.Math.Nat.{lt_of_not-le, mul-le-mul_right}
+-- The next anchor of a link that goes on is never in an earlier slot (Core 5.2, volume 6 part B, section 4.5.1).
+use Rattle.std.proofs.Common.{◌≡◌, ℕ, ◌+◌, ◌<◌, ◌≤◌, ◌&&◌, Bool, true, false, nat_lt, List, [], ◌∷◌, ◌++◌, length, Option, Some, None, is_none, refl, ap, sym, ◌∙◌, subst, arith, if◌then◌else◌}
+use Rattle.std.proofs.lemmas.Bool.{and_parts, eqb-true, eqb-false}
+use Rattle.ble_base.specs.declared.error_codes.ErrCode.{ErrCode}
+use Rattle.adv_pdu.specs.Ranges.{IsInRange}
+use Rattle.instants.specs.Track.{TrackFacts, next_anchor_of, track_after_enter}
+use Rattle.ble_base.specs.declared.roles.Role.TheVariants.{Central}
+use Rattle.procedure_stages.specs.Kinds.{role_of}
+use Rattle.procedure_values.specs.declared.asks.Ask.{Ask}
+use Rattle.control_model.specs.Control.{Answers, Asks, Disconnects}
+use Rattle.control_model.proofs.Indicating.{Indicates}
+use Rattle.control_model.proofs.Moving.{enters_track as moves_track, table_alone}
+use Rattle.link_model.specs.Data.{is_control}
 use Rattle.link_model.specs.Setup.{Setup}
-use Rattle.link_model.specs.Step.{Step, EventEntered}
-use Rattle.link_model.specs.End.{facts_of}
-use Rattle.link_model.specs.Events.{IsInEvent, anchor_of, count_entry, entries_in}
-use Rattle.open_links.specs.OpenLinks.{OpenLink, link_after, new_link}
-use Rattle.open_links.specs.Turns.{entered_if, is_anchor, link_entered}
-use Rattle.open_links.specs.Slots.{Exchange, Given, Fixes, Sends, Hears, Reports, IsOnTime, link_exchanging, link_through, step_of}
-use Rattle.open_links.proofs.Ends.{entered_setup}
+use Rattle.link_model.specs.Facts.{Facts}
+use Rattle.link_model.specs.Controls.{goes_on, is_quiet_now}
+use Rattle.link_model.specs.ControlSteps.{AreAsksInRange, IsAskInRange}
+use Rattle.link_model.specs.End.{facts_after, facts_of}
+use Rattle.link_model.specs.Entering.{facts_entered_if}
+use Rattle.link_model.specs.Fixing.{fixed_anew}
+use Rattle.link_model.specs.Hosts.{asked_unless, is_to_come}
+use Rattle.link_model.specs.Sending.{control_gone_if, takes_leave}
+use Rattle.link_model.specs.Step.{Step, DataGiven, DataReported, Disconnected, EventEntered, PacketReceived, PacketSent, PduFixed, ProcedureAsked, RequestAnswered}
+use Rattle.link_model.proofs.Pasts.{grows}
+use Rattle.open_links.specs.OpenLinks.{OpenLink, facts_in, has_entered, link_after, new_link}
+use Rattle.open_links.specs.Slots.{Exchange, Given, Asked, Answered, Ended, Fixes, Sends, Hears, Reports, IsInReach, IsOnTime, MayExchange, MayGoThrough, link_exchanging, link_through, step_of}
+use Rattle.open_links.specs.Turns.{enters_in, entered_if, is_anchor, link_entered}
+use Rattle.open_links.proofs.Anchors.{IsInPlace, enters, moves_on, next_after_enter, one_more_entered, sent_later, stays_in_place, went_on}
+use Rattle.open_links.proofs.Intervals.{HasIntervals, has_intervals, past_indicates}
 
--- an end is in the events of its CONNECT_IND
-abbrev pub FollowEvents : Type 0
-FollowEvents = (setup : Setup) (past : List Step) → IsInEvent setup (entries_in past) (facts_of setup past)
+-- ---- what holds of a link in each slot
 
-pub anchor_is : FollowEvents → (slot : ℕ) (link : OpenLink)
-    → is_anchor slot link ≡ (anchor_of link.setup (entries_in link.past) == slot)
-anchor_is follow slot link = ap (λ anchor. anchor == slot) (follow link.setup link.past).next_anchor
+-- its first fields, and all that its host asked and answered, are in range
+record IsSound (link : OpenLink) : Type 0 where
+  fields : IsInRange link.setup.link.fields
+  asks : AreAsksInRange link.past
+
+intervals_in : (link : OpenLink) → IsSound link → HasIntervals (facts_in link).control.track
+intervals_in link sound = has_intervals link.setup link.past sound.fields sound.asks
+
+asks_more : (past : List Step) (step : Step) → AreAsksInRange past → IsAskInRange step → AreAsksInRange (past ++ step ∷ [])
+asks_more [] step are is = (is, tt)
+asks_more (first ∷ past) step are is = (are.0, asks_more past step are.1 is)
+
+sound_after : (step : Step) (link : OpenLink) → IsAskInRange step → IsSound link → IsSound (link_after step link)
+sound_after step link is sound = record { fields = sound.fields; asks = asks_more link.past step sound.asks is }
 
 pub new_on_time : (setup : Setup) → IsOnTime (setup.opened + 1) (new_link setup)
-new_on_time setup =
+unfolding facts_of
+new_on_time setup = record { next = λ goes. omega arith }
+
+-- ---- it enters its event
+
+-- the track of an end that enters an event
+entered_track : (setup : Setup) (slot : ℕ) (facts : Facts) (goes : Bool) → goes_on facts ≡ goes → goes ≡ true
+    → (facts_entered_if goes setup slot facts).control.track ≡ track_after_enter facts.control.track
+entered_track setup slot facts true is goes = moves_track facts.control slot (is_quiet_now facts) (none_of facts.control.ends is)
+  where
+    none_of : (ends : Option ErrCode) → is_none ends ≡ true → ends ≡ None
+    none_of None is = refl
+    none_of (Some code) is = absurd cc
+entered_track setup slot facts false is goes = absurd cc
+
+track_after_entry : (slot : ℕ) (link : OpenLink) → goes_on (facts_in link) ≡ true
+    → (facts_in (link_after (EventEntered slot) link)).control.track ≡ track_after_enter (facts_in link).control.track
+track_after_entry slot link goes =
+    ap (λ (facts : Facts). facts.control.track) (grows link.setup link.past (EventEntered slot))
+    ∙ entered_track link.setup slot (facts_in link) (goes_on (facts_in link)) refl goes
+
+entry_on_time : (slot : ℕ) (link : OpenLink) → IsSound link → goes_on (facts_in link) ≡ true → is_anchor slot link ≡ true
+    → IsOnTime (slot + 1) (link_after (EventEntered slot) link)
+entry_on_time slot link sound goes at =
+    let track = (facts_in link).control.track in
+    let here : next_anchor_of track ≡ slot = eqb-true (next_anchor_of track) slot at in
+    let later = next_after_enter track (intervals_in link sound) in
     record {
-      entered = λ event before. absurd (omega (arith, before));
-      all = λ event before. absurd (grind (arith, before));
+      next = λ still. subst (λ (t : TrackFacts). slot + 1 ≤ next_anchor_of t) (sym (track_after_entry slot link goes)) (omega (arith, here, later));
     }
 
--- ---- a slot
-
--- what an end does besides enters no event
-exchange_enters_none : (slot : ℕ) (exchange : Exchange) (past : List Step) → entries_in (past ++ step_of slot exchange ∷ []) ≡ entries_in past
-exchange_enters_none slot (Given start body) past = fold-append count_entry 0 past (step_of slot (Given start body) ∷ [])
-exchange_enters_none slot Fixes past = fold-append count_entry 0 past (step_of slot Fixes ∷ [])
-exchange_enters_none slot Sends past = fold-append count_entry 0 past (step_of slot Sends ∷ [])
-exchange_enters_none slot (Hears octets room) past = fold-append count_entry 0 past (step_of slot (Hears octets room) ∷ [])
-exchange_enters_none slot Reports past = fold-append count_entry 0 past (step_of slot Reports ∷ [])
-
--- a link that is elsewhere in no other way than by its past, with the same number of entries
-same_on_time : (slot : ℕ) (one other : OpenLink) → other.setup ≡ one.setup → entries_in other.past ≡ entries_in one.past
-    → IsOnTime slot one → IsOnTime slot other
-same_on_time slot one other setup entries on_time =
-    record {
-      entered = λ event before. rw setup (on_time.entered event (omega (arith, entries, before)));
-      all = λ event before. rw entries (on_time.all event (subst (λ s. anchor_of s event < slot) setup before));
-    }
-
-exchanging_on_time : (now slot : ℕ) (exchanges : List Exchange) (link : OpenLink) → IsOnTime now link
-    → IsOnTime now (link_exchanging slot exchanges link)
-exchanging_on_time now slot [] link on_time = on_time
-exchanging_on_time now slot (exchange ∷ exchanges) link on_time =
-    exchanging_on_time now slot exchanges (link_after (step_of slot exchange) link)
-    (same_on_time now link (link_after (step_of slot exchange) link) refl (exchange_enters_none slot exchange link.past) on_time)
-
-exchanging_setup : (slot : ℕ) (exchanges : List Exchange) (link : OpenLink) → (link_exchanging slot exchanges link).setup ≡ link.setup
-exchanging_setup slot [] link = refl
-exchanging_setup slot (exchange ∷ exchanges) link = exchanging_setup slot exchanges (link_after (step_of slot exchange) link)
-
-later_anchor : (setup : Setup) (one other : ℕ) → one ≤ other → anchor_of setup one ≤ anchor_of setup other
-later_anchor setup one other below =
-    let times : one * setup.link.fields.interval ≤ other * setup.link.fields.interval =
-    mul-le-mul_right setup.link.fields.interval below in
-    omega (arith, times)
-
--- one whose next anchor is elsewhere has entered the events up to the next slot, too
-stays_on_time : (slot : ℕ) (link : OpenLink) → (anchor_of link.setup (entries_in link.past) == slot) ≡ false
+-- one that enters none has its anchor in another slot, or does not go on
+waits_on_time : (slot : ℕ) (link : OpenLink) (goes at : Bool) → goes_on (facts_in link) ≡ goes → is_anchor slot link ≡ at → (goes && at) ≡ false
     → IsOnTime slot link → IsOnTime (slot + 1) link
-stays_on_time slot link elsewhere on_time =
-    let count = entries_in link.past in
-    let next : slot < anchor_of link.setup count + 1 = lt_of_not-le (λ (before : anchor_of link.setup count + 1 ≤ slot).
-    absurd (omega (arith, on_time.all count (omega (arith, before))))) in
+waits_on_time slot link true true is_going is_at none on_time = absurd cc
+waits_on_time slot link true false is_going is_at none on_time =
+    let next = on_time.next is_going in
+    let elsewhere = eqb-false (next_anchor_of (facts_in link).control.track) slot is_at in
+    record { next = λ still. omega (arith, next, elsewhere) }
+waits_on_time slot link false at is_going is_at none on_time =
+    record { next = λ still. let no_more : ◌≡◌ {A = Bool} false true = sym is_going ∙ still in absurd cc }
+
+sound_entered : (test : Bool) (slot : ℕ) (link : OpenLink) → IsSound link → IsSound (entered_if test slot link)
+sound_entered true slot link sound = sound_after (EventEntered slot) link tt sound
+sound_entered false slot link sound = sound
+
+enters_on_time : (slot : ℕ) (link : OpenLink) → IsSound link → IsOnTime slot link → IsOnTime (slot + 1) (link_entered slot link)
+enters_on_time slot link sound on_time = by_test (goes_on (facts_in link)) (is_anchor slot link) refl refl
+  where
+    by_test : (goes at : Bool) → goes_on (facts_in link) ≡ goes → is_anchor slot link ≡ at → IsOnTime (slot + 1) (entered_if (goes && at) slot link)
+    by_test true true is_going is_at = entry_on_time slot link sound is_going is_at
+    by_test true false is_going is_at = waits_on_time slot link true false is_going is_at refl on_time
+    by_test false at is_going is_at = waits_on_time slot link false at is_going is_at refl on_time
+
+-- ---- what else it does in a slot
+
+step_enters_none : (slot : ℕ) (exchange : Exchange) → enters (step_of slot exchange) ≡ false
+step_enters_none slot (Given start body) = refl
+step_enters_none slot other = refl
+
+place_after : (step : Step) (link : OpenLink) → enters step ≡ false
+    → IsInPlace (facts_in link).control.track (facts_in (link_after step link)).control.track
+place_after step link none =
+    subst (λ (facts : Facts). IsInPlace (facts_in link).control.track facts.control.track) (sym (grows link.setup link.past step))
+    (stays_in_place link.setup (facts_in link) step none)
+
+went_on_before : (step : Step) (link : OpenLink) → goes_on (facts_in (link_after step link)) ≡ true → goes_on (facts_in link) ≡ true
+went_on_before step link goes =
+    went_on link.setup (facts_in link) step (subst (λ (facts : Facts). goes_on facts ≡ true) (grows link.setup link.past step) goes)
+
+-- the host leaves the track
+asked_track : (comes : Bool) (ask : Ask) (facts : Facts) → (asked_unless comes ask facts).control.track ≡ facts.control.track
+asked_track true ask facts = refl
+asked_track false ask facts = table_alone facts.control (Asks ask) refl
+
+fixed_track : (stays : Bool) (facts : Facts) → (if stays then facts else fixed_anew facts).control.track ≡ facts.control.track
+fixed_track true facts = refl
+fixed_track false facts = refl
+
+same_on_time : (slot : ℕ) (step : Step) (link : OpenLink)
+    → (facts_after link.setup (facts_in link) step).control.track ≡ (facts_in link).control.track → IsOnTime slot link
+    → IsOnTime slot (link_after step link)
+same_on_time slot step link same on_time =
+    let track = ap (λ (facts : Facts). facts.control.track) (grows link.setup link.past step) ∙ same in
     record {
-      entered = λ event before. omega (arith, on_time.entered event before);
-      all = λ event before. lt_of_not-le (λ over.
-          let after = later_anchor link.setup count event over in
-          absurd (grind (arith, elsewhere, next, after, before)));
+      next = λ goes. subst (λ (t : TrackFacts). slot ≤ next_anchor_of t) (sym track) (on_time.next (went_on_before step link goes));
     }
 
--- one whose next anchor is in the slot enters its event
-enters_at_anchor : (slot : ℕ) (link : OpenLink) → (anchor_of link.setup (entries_in link.past) == slot) ≡ true
-    → 1 ≤ link.setup.link.fields.interval → IsOnTime (slot + 1) (link_after (EventEntered slot) link)
-enters_at_anchor slot link at some =
-    let count = entries_in link.past in
-    let here : anchor_of link.setup count ≡ slot = eqb-true (anchor_of link.setup count) slot at in
-    let more : entries_in (link.past ++ EventEntered slot ∷ []) ≡ count + 1 =
-    fold-append count_entry 0 link.past (EventEntered slot ∷ []) in
-    let following : slot + 1 ≤ anchor_of link.setup (count + 1) = omega (arith, here, some) in
+-- it sends
+gone_later : (goes : Bool) (slot : ℕ) (facts : Facts) → (role_of facts.control.table.progress ≡ Central → Indicates facts.control)
+    → next_anchor_of facts.control.track ≤ next_anchor_of (control_gone_if goes slot facts).control.track
+gone_later true slot facts central = sent_later facts.control slot (is_quiet_now facts) central
+gone_later false slot facts central = omega arith
+
+sends_on_time : (slot at : ℕ) (link : OpenLink) → IsSound link → IsOnTime slot link → IsOnTime slot (link_after (PacketSent at) link)
+sends_on_time slot at link sound on_time =
+    let facts = facts_in link in
+    let later = gone_later (takes_leave facts) at facts (past_indicates link.setup link.past sound.fields sound.asks) in
     record {
-      entered = λ event before.
-          let up_to = later_anchor link.setup event count (omega (arith, more, before)) in
-          omega (arith, here, up_to);
-      all = λ event before. rw more (lt_of_not-le (λ over.
-          let after = later_anchor link.setup (count + 1) event over in
-          absurd (omega (arith, following, after, before))));
+      next = λ goes.
+          let next = on_time.next (went_on_before (PacketSent at) link goes) in
+          subst (λ (facts : Facts). slot ≤ next_anchor_of facts.control.track) (sym (grows link.setup link.past (PacketSent at)))
+          (omega (arith, next, later));
     }
 
-next_slot : (slot : ℕ) (link : OpenLink) (test : Bool) → (anchor_of link.setup (entries_in link.past) == slot) ≡ test
-    → 1 ≤ link.setup.link.fields.interval → IsOnTime slot link → IsOnTime (slot + 1) (entered_if test slot link)
-next_slot slot link false elsewhere some on_time = stays_on_time slot link elsewhere on_time
-next_slot slot link true at some on_time = enters_at_anchor slot link at some
+-- octets reach it in an exchange of its event
+reached_on_time : (slot : ℕ) (step : Step) (link : OpenLink) → IsSound (link_after step link) → enters step ≡ false
+    → slot ≤ (facts_in link).control.track.anchor + 1 → IsOnTime (slot + 1) link → IsOnTime (slot + 1) (link_after step link)
+reached_on_time slot step link sound none reach on_time =
+    record {
+      next = λ goes. moves_on (facts_in link).control.track (facts_in (link_after step link)).control.track slot (place_after step link none)
+          (intervals_in (link_after step link) sound) reach (on_time.next (went_on_before step link goes));
+    }
 
-enters_on_time : FollowEvents → (slot : ℕ) (link : OpenLink) → 1 ≤ link.setup.link.fields.interval → IsOnTime slot link
-    → IsOnTime (slot + 1) (link_entered slot link)
-enters_on_time follow slot link some on_time =
-    next_slot slot link (is_anchor slot link) (sym (anchor_is follow slot link)) some on_time
+exchange_on_time : (slot : ℕ) (exchange : Exchange) (link : OpenLink) → IsSound link → IsSound (link_after (step_of slot exchange) link)
+    → IsInReach slot exchange link → IsOnTime (slot + 1) link → IsOnTime (slot + 1) (link_after (step_of slot exchange) link)
+exchange_on_time slot (Given start body) link before sound reach on_time = same_on_time (slot + 1) (DataGiven start body) link refl on_time
+exchange_on_time slot (Asked ask) link before sound reach on_time =
+    same_on_time (slot + 1) (ProcedureAsked ask) link (asked_track (is_to_come ask (facts_in link)) ask (facts_in link)) on_time
+exchange_on_time slot (Answered answer) link before sound reach on_time =
+    same_on_time (slot + 1) (RequestAnswered answer) link (table_alone (facts_in link).control (Answers answer) refl) on_time
+exchange_on_time slot (Ended reason) link before sound reach on_time =
+    same_on_time (slot + 1) (Disconnected reason slot) link (table_alone (facts_in link).control (Disconnects reason) refl) on_time
+exchange_on_time slot Fixes link before sound reach on_time =
+    same_on_time (slot + 1) PduFixed link (fixed_track (is_control (facts_in link).outgoing.fixed) (facts_in link)) on_time
+exchange_on_time slot Sends link before sound reach on_time = sends_on_time (slot + 1) slot link before on_time
+exchange_on_time slot (Hears octets room) link before sound reach on_time =
+    reached_on_time slot (PacketReceived slot octets room) link sound refl reach on_time
+exchange_on_time slot Reports link before sound reach on_time = same_on_time (slot + 1) DataReported link refl on_time
 
-pub through_on_time : FollowEvents → (slot : ℕ) (slots : List (List Exchange)) (link : OpenLink)
-    → 1 ≤ link.setup.link.fields.interval → IsOnTime slot link → IsOnTime (slot + length slots) (link_through slot slots link)
-through_on_time follow slot [] link some on_time = subst (λ n. IsOnTime n link) (omega arith) on_time
-through_on_time follow slot (exchanges ∷ slots) link some on_time =
+-- ---- slot after slot
+
+record IsSoundOnTime (slot : ℕ) (link : OpenLink) : Type 0 where
+  sound : IsSound link
+  on_time : IsOnTime slot link
+
+exchanging_on_time : (slot : ℕ) (exchanges : List Exchange) (link : OpenLink) → MayExchange slot exchanges link
+    → IsSoundOnTime (slot + 1) link → IsSoundOnTime (slot + 1) (link_exchanging slot exchanges link)
+exchanging_on_time slot [] link may is = is
+exchanging_on_time slot (exchange ∷ exchanges) link may is =
+    let sound = sound_after (step_of slot exchange) link may.0 is.sound in
+    exchanging_on_time slot exchanges (link_after (step_of slot exchange) link) may.2
+    (record { sound = sound; on_time = exchange_on_time slot exchange link is.sound sound may.1 is.on_time })
+
+through_by : (slot : ℕ) (slots : List (List Exchange)) (link : OpenLink) → MayGoThrough slot slots link → IsSoundOnTime slot link
+    → IsOnTime (slot + length slots) (link_through slot slots link)
+through_by slot [] link may is = subst (λ n. IsOnTime n link) (omega arith) is.on_time
+through_by slot (exchanges ∷ slots) link may is =
     let entered = link_entered slot link in
     let there = link_exchanging slot exchanges entered in
-    let setup = exchanging_setup slot exchanges entered ∙ entered_setup (is_anchor slot link) slot link in
     subst (λ n. IsOnTime n (link_through (slot + 1) slots there)) (omega arith)
-    (through_on_time follow (slot + 1) slots there (subst (λ s. 1 ≤ s.link.fields.interval) (sym setup) some)
-    (exchanging_on_time (slot + 1) slot exchanges entered (enters_on_time follow slot link some on_time)))
+    (through_by (slot + 1) slots there may.1
+    (exchanging_on_time slot exchanges entered may.0
+    (record { sound = sound_entered (enters_in slot link) slot link is.sound; on_time = enters_on_time slot link is.sound is.on_time })))
+
+pub through_on_time : (slot : ℕ) (slots : List (List Exchange)) (link : OpenLink) → IsInRange link.setup.link.fields → AreAsksInRange link.past
+    → MayGoThrough slot slots link → IsOnTime slot link → IsOnTime (slot + length slots) (link_through slot slots link)
+through_on_time slot slots link fields asks may on_time =
+    through_by slot slots link may (record { sound = record { fields = fields; asks = asks }; on_time = on_time })
+
+-- ---- a link that entered an event
+
+positive : (n : ℕ) → nat_lt 0 n ≡ true → 0 < n
+positive n is = grind (arith, is)
+
+some_entered : (n : ℕ) → 0 < n → nat_lt 0 n ≡ true
+some_entered n is = grind (arith, is)
+
+pub enters_an_event : (slot : ℕ) (link : OpenLink) → enters_in slot link ≡ true → has_entered (link_entered slot link) ≡ true
+enters_an_event slot link is = by_test (enters_in slot link) refl is
+  where
+    by_test : (test : Bool) → enters_in slot link ≡ test → test ≡ true → has_entered (entered_if test slot link) ≡ true
+    by_test true e is =
+        let goes = (and_parts (goes_on (facts_in link)) (is_anchor slot link) e).0 in
+        subst (λ (t : TrackFacts). nat_lt 0 t.entered ≡ true) (sym (track_after_entry slot link goes))
+        (some_entered _ (omega (arith, one_more_entered (facts_in link).control.track)))
+    by_test false e is = absurd cc
+
+still_entered : (step : Step) (link : OpenLink) (test : Bool) → enters step ≡ test → has_entered link ≡ true → has_entered (link_after step link) ≡ true
+still_entered step link false none is = ap (λ n. nat_lt 0 n) (place_after step link none).entered ∙ is
+still_entered (EventEntered slot) link true none is =
+    subst (λ (facts : Facts). nat_lt 0 facts.control.track.entered ≡ true) (sym (grows link.setup link.past (EventEntered slot)))
+    (by_test (goes_on (facts_in link)) refl)
+  where
+    by_test : (goes : Bool) → goes_on (facts_in link) ≡ goes
+        → nat_lt 0 (facts_entered_if goes link.setup slot (facts_in link)).control.track.entered ≡ true
+    by_test true goes =
+        subst (λ (t : TrackFacts). nat_lt 0 t.entered ≡ true) (sym (entered_track link.setup slot (facts_in link) true goes refl))
+        (some_entered _ (omega (arith, one_more_entered (facts_in link).control.track)))
+    by_test false goes = is
+still_entered other link true none is = absurd cc
+
+pub stays_entered : (step : Step) (link : OpenLink) → has_entered link ≡ true → has_entered (link_after step link) ≡ true
+stays_entered step link is = still_entered step link (enters step) refl is

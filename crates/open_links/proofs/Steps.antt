@@ -1,11 +1,12 @@
 -- Each call on the links that know their pasts: they know the pasts after it.
 use Rattle.std.proofs.Common.{◌≡◌, ℕ, ◌+◌, ◌<◌, ◌≤◌, nat_lt, Bool, true, false, List, [], ◌∷◌, fold, length, map, Option, Some, None, is_some, if◌then◌else◌, refl, sym, ◌∙◌, subst}
 use Rattle.std.specs.Option.{option_map}
+use Rattle.ble_base.specs.declared.channel_map.ChannelMap.{ChannelMap}
 use Rattle.acl_banks.specs.declared.pieces.Piece.{Piece}
 use Rattle.acl_banks.specs.Packets.{new_packet}
 use Rattle.acl_banks.specs.Banks.{Bank, bank_after_credited, bank_after_drop, bank_after_offer, taken_buffers}
 use Rattle.link_model.specs.Setup.{Setup}
-use Rattle.link_model.specs.Step.{DataGiven, DataReported}
+use Rattle.link_model.specs.Step.{Step, DataGiven, DataReported, EventEntered}
 use Rattle.link_end.specs.Tied.{HoldsData}
 use Rattle.link_end.proofs.Banked.{drop_leaves, offer_leaves}
 use Rattle.link_end.proofs.Keeping.{begun, given_holds}
@@ -13,16 +14,21 @@ use Rattle.open_links.specs.declared.ended.LinkEnded.{LinkEnded}
 use Rattle.open_links.specs.declared.offers.Completed.{Completed}
 use Rattle.open_links.specs.declared.offers.Offer.{Offer}
 use Rattle.open_links.specs.declared.offers.Offer.TheVariants.{NoLink, Empty, Overflow, Kept}
+use Rattle.open_links.specs.Ended.{received_without}
+use Rattle.open_links.specs.Offered.{bank_offered}
+use Rattle.open_links.proofs.Dropping.{dropped}
 use Rattle.open_links.specs.OpenLinks.{Links, OpenLink, HasHandle, HaveHandles, facts_in, handles_from, link_after, link_at, link_from, link_served, new_link, with_change, with_link, without_link, without_links}
-use Rattle.open_links.specs.Data.{buffers_taken, complete_in, completed_from, links_given, links_offered, links_reported, offer_by, received_past, received_without}
-use Rattle.open_links.specs.Turns.{ends_from, links_entered, links_staying}
-use Rattle.open_links.specs.Knowing.{BankGoes, BankStep, CanHearIn, HeldLink, HeldLinks, HoldsPlace, HoldsPlaces, HoldsUnder, IsTiedIn, Knows, KnowsPlace, KnowsPlaces, bank_offered, held_from}
+use Rattle.open_links.specs.Data.{buffers_taken, complete_in, completed_from, links_given, links_offered, links_reported, offer_by, received_past}
+use Rattle.open_links.specs.Turns.{ends_by, enters_in, link_entered, links_without}
+use Rattle.open_links.specs.Hosts.{links_asked_map}
+use Rattle.open_links.specs.Knowing.{BankGoes, BankStep, CanHearIn, HeldLink, HeldLinks, HoldsPlace, HoldsPlaces, HoldsUnder, IsTiedIn, Knows, KnowsPlace, KnowsPlaces, held_from}
 use Rattle.open_links.specs.Sound.{AreSound, IsWithin}
 use Rattle.open_links.proofs.Handles.{changed_have, has_its_handle, opened_has, other_stays, shut_have}
-use Rattle.open_links.proofs.Ends.{enter_with_handles, stay_with_handles}
+use Rattle.open_links.proofs.Ends.{stay_with_handles}
+use Rattle.open_links.proofs.Unmoved.{LeavesData, asked_map_setup, entered_leaves, left_bank, step_bank_if}
 use Rattle.open_links.proofs.UnderHandles.{given_places, held_at, hears_at, hold_places, reported_places, some_where_held, tied_at}
-use Rattle.open_links.proofs.Banks.{data_changed, dropped, one_changed, put_is}
-use Rattle.open_links.proofs.Sweeps.{ended_data, entering_data, reported_data, shut_data}
+use Rattle.open_links.proofs.Banks.{data_changed, one_changed, put_is}
+use Rattle.open_links.proofs.Sweeps.{ended_data, mapped_data, reported_data, shut_data}
 use Rattle.open_links.proofs.Taken.{taken_is}
 use Rattle.open_links.proofs.Within.{AreWithin, change_within}
 
@@ -122,6 +128,17 @@ changed_sound change handle held new same sound places bank later more within =
     (bank links known) refl)
     (λ links inside. change_within held.heard_to held.unreported new.heard_to new.unreported change handle links later more within inside)
 
+-- a step that moves no data leaves the bank
+pub left_goes : (step : Step) → LeavesData step → (place : Option OpenLink) (bank : Bank) → BankGoes (link_after step) place bank bank
+left_goes step leaves None bank = refl
+left_goes step leaves (Some link) bank = left_bank step leaves link bank
+
+pub entered_goes : (slot : ℕ) (place : Option OpenLink) (bank : Bank) → BankGoes (link_entered slot) place bank bank
+entered_goes slot None bank = refl
+entered_goes slot (Some link) bank =
+    step_bank_if (enters_in slot link) (link_entered slot) (EventEntered slot) link bank bank refl
+    (λ e. left_bank (EventEntered slot) (entered_leaves slot) link bank) (λ e. refl)
+
 -- ---- a link is opened or shut
 
 pub open_known : (setup : Setup) (held new : HeldLinks) (links : Links) (before after : List (ℕ × Piece)) → Knows held links before
@@ -181,32 +198,17 @@ shut_all_known held new links before known places bank received =
       pieces = received;
     }
 
-pub due_known : (slot : ℕ) (held new : HeldLinks) (links : Links) (before after : List (ℕ × Piece)) → Knows held links before
-    → KnowsPlaces new.places (links_staying slot links)
-    → new.bank ≡ fold bank_after_drop held.bank (map (λ (one : LinkEnded). one.handle) (ends_from slot 0 links))
-    → new.received ≡ after → Knows new (links_staying slot links) after
+pub ended_known : (reason : OpenLink → Option ℕ) (held new : HeldLinks) (links : Links) (before after : List (ℕ × Piece))
+    → Knows held links before → KnowsPlaces new.places (links_without reason links)
+    → new.bank ≡ fold bank_after_drop held.bank (map (λ (one : LinkEnded). one.handle) (ends_by reason 0 links))
+    → new.received ≡ after → Knows new (links_without reason links) after
 unfolding Knows
-due_known slot held new links before after known places bank received =
+ended_known reason held new links before after known places bank received =
     record {
       places = places;
-      handles = stay_with_handles slot 0 links known.handles;
-      data_of = λ other. subst (λ bank. HoldsUnder other bank (link_at other (links_staying slot links))) (sym bank)
-          (ended_data slot links held.bank known.data_of other);
-      pieces = received;
-    }
-
--- ---- events
-
-pub enter_known : (slot : ℕ) (held new : HeldLinks) (links : Links) (before after : List (ℕ × Piece)) → Knows held links before
-    → KnowsPlaces new.places (links_entered slot links) → new.bank ≡ held.bank → new.received ≡ after
-    → Knows new (links_entered slot links) after
-unfolding Knows
-enter_known slot held new links before after known places bank received =
-    record {
-      places = places;
-      handles = enter_with_handles slot 0 links known.handles;
-      data_of = λ other. subst (λ bank. HoldsUnder other bank (link_at other (links_entered slot links))) (sym bank)
-          (entering_data slot links held.bank known.data_of other);
+      handles = stay_with_handles reason 0 links known.handles;
+      data_of = λ other. subst (λ bank. HoldsUnder other bank (link_at other (links_without reason links))) (sym bank)
+          (ended_data reason links held.bank known.data_of other);
       pieces = received;
     }
 
@@ -280,6 +282,27 @@ report_known held new links before after known places bank received =
       handles = reported_handles 0 links known.handles;
       data_of = λ other. subst (λ bank. HoldsUnder other bank (link_at other (links_reported links))) (sym bank)
           (reported_data links held.bank known.data_of other);
+      pieces = received;
+    }
+
+-- ---- a map is asked for on all links
+
+pub mapped_handles : (map : ChannelMap) (first : ℕ) (links : Links) → HaveHandles first links → HaveHandles first (links_asked_map map links)
+mapped_handles map first [] have = tt
+mapped_handles map first (None ∷ links) (has, have) = (tt, mapped_handles map (first + 1) links have)
+mapped_handles map first (Some link ∷ links) (has, have) =
+    (rw (asked_map_setup map link) has, mapped_handles map (first + 1) links have)
+
+pub mapped_known : (map : ChannelMap) (held new : HeldLinks) (links : Links) (before after : List (ℕ × Piece)) → Knows held links before
+    → KnowsPlaces new.places (links_asked_map map links) → new.bank ≡ held.bank → new.received ≡ after
+    → Knows new (links_asked_map map links) after
+unfolding Knows
+mapped_known map held new links before after known places bank received =
+    record {
+      places = places;
+      handles = mapped_handles map 0 links known.handles;
+      data_of = λ other. subst (λ bank. HoldsUnder other bank (link_at other (links_asked_map map links))) (sym bank)
+          (mapped_data map links held.bank known.handles known.data_of other);
       pieces = received;
     }
 

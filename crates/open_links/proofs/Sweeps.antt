@@ -2,20 +2,29 @@
 use Rattle.std.proofs.Common.{◌≡◌, ◌≢◌, ℕ, zero, suc, ◌+◌, ◌<◌, ◌≤◌, ◌==◌, Bool, true, false, nat_lt, List, [], ◌∷◌, ◌++◌, fold, map, Option, Some, None, is_some, if◌then◌else◌, refl, ap, sym, ◌∙◌, subst, arith}
 use Rattle.std.specs.Option.{option_map}
 use Rattle.std.proofs.lemmas.Bool.{eqb-true}
+use Rattle.ble_base.specs.declared.channel_map.ChannelMap.{ChannelMap}
+use Rattle.ble_base.specs.declared.roles.Role.{Role}
+use Rattle.ble_base.specs.declared.roles.Role.TheVariants.{Central, Peripheral}
+use Rattle.procedure_values.specs.declared.asks.Ask.TheVariants.{Map as map_ask}
 use Rattle.acl_banks.specs.Banks.{Bank, bank_after_credited, bank_after_drop}
-use Rattle.link_model.specs.Step.{DataReported}
+use Rattle.link_model.specs.Step.{DataReported, ProcedureAsked}
 use Rattle.link_model.proofs.Pasts.{grows}
 use Rattle.link_end.specs.Tied.{HoldsData, LeavesOthers}
 use Rattle.link_end.proofs.Banked.{credited_leaves, drop_leaves, holds_reported}
 use Rattle.open_links.specs.declared.ended.LinkEnded.{LinkEnded}
 use Rattle.open_links.specs.declared.offers.Completed.{Completed}
-use Rattle.open_links.specs.OpenLinks.{Links, OpenLink, facts_in, handles_from, link_after, link_at, link_from, without_links}
-use Rattle.open_links.specs.Data.{complete_in, completed_by, completed_from, link_reported, links_reported}
-use Rattle.open_links.specs.Turns.{end_by, ends_from, entered_if, is_anchor, link_entered, links_entered, links_staying, place_staying, reason_at, reason_in, staying_by}
+use Rattle.open_links.specs.Offered.{completed_by}
+use Rattle.open_links.specs.Ended.{end_by}
+use Rattle.open_links.proofs.Dropping.{LeavesAt, dropped}
+use Rattle.open_links.specs.OpenLinks.{Links, OpenLink, HasHandle, HaveHandles, facts_in, handles_from, link_after, link_at, link_from, without_links}
+use Rattle.open_links.specs.Data.{complete_in, completed_from, link_reported, links_reported}
+use Rattle.open_links.specs.Turns.{ends_by, links_without, place_without, reason_at, staying_by}
 use Rattle.open_links.specs.Knowing.{HoldsUnder}
-use Rattle.open_links.proofs.Handles.{here, later}
-use Rattle.open_links.proofs.UnderHandles.{entered_data, map_at}
-use Rattle.open_links.proofs.Banks.{LeavesAt, dropped, holds_left}
+use Rattle.open_links.proofs.Handles.{has_its_handle, here, later}
+use Rattle.open_links.specs.Hosts.{asked_map_by, link_asked_map, links_asked_map}
+use Rattle.open_links.proofs.Unmoved.{asked_leaves, left_bank}
+use Rattle.open_links.proofs.UnderHandles.{map_at}
+use Rattle.open_links.proofs.Banks.{holds_left}
 
 -- the handles, from this one on, of the places that pass a test
 abbrev handles_where : (Option OpenLink → Bool) → ℕ → Links → List ℕ
@@ -90,47 +99,48 @@ module _ (test : Option OpenLink → Bool) (change : Option OpenLink → Option 
 
 -- ---- links that end
 
-end_passed : (slot handle : ℕ) (bank : Bank) (place : Option OpenLink) → is_some (reason_at slot place) ≡ true → HoldsUnder handle bank place
-    → HoldsUnder handle (bank_after_drop bank handle) (place_staying slot place)
-end_passed slot handle bank None passes holds = absurd cc
-end_passed slot handle bank (Some link) passes holds = by_reason (reason_in slot link) passes
-  where
-    by_reason : (reason : Option ℕ) → is_some reason ≡ true → HoldsUnder handle (bank_after_drop bank handle) (staying_by reason link)
-    by_reason None passes = absurd cc
-    by_reason (Some reason) passes = dropped handle bank
+module _ (reason : OpenLink → Option ℕ) where
+  end_passed : (handle : ℕ) (bank : Bank) (place : Option OpenLink) → is_some (reason_at reason place) ≡ true → HoldsUnder handle bank place
+      → HoldsUnder handle (bank_after_drop bank handle) (place_without reason place)
+  end_passed handle bank None passes holds = absurd cc
+  end_passed handle bank (Some link) passes holds = by_reason (reason link) passes
+    where
+      by_reason : (code : Option ℕ) → is_some code ≡ true → HoldsUnder handle (bank_after_drop bank handle) (staying_by code link)
+      by_reason None passes = absurd cc
+      by_reason (Some code) passes = dropped handle bank
 
-end_failed : (slot handle : ℕ) (bank : Bank) (place : Option OpenLink) → is_some (reason_at slot place) ≡ false → HoldsUnder handle bank place
-    → HoldsUnder handle bank (place_staying slot place)
-end_failed slot handle bank None fails holds = holds
-end_failed slot handle bank (Some link) fails holds = by_reason (reason_in slot link) fails
-  where
-    by_reason : (reason : Option ℕ) → is_some reason ≡ false → HoldsUnder handle bank (staying_by reason link)
-    by_reason None fails = holds
-    by_reason (Some reason) fails = absurd cc
+  end_failed : (handle : ℕ) (bank : Bank) (place : Option OpenLink) → is_some (reason_at reason place) ≡ false → HoldsUnder handle bank place
+      → HoldsUnder handle bank (place_without reason place)
+  end_failed handle bank None fails holds = holds
+  end_failed handle bank (Some link) fails holds = by_reason (reason link) fails
+    where
+      by_reason : (code : Option ℕ) → is_some code ≡ false → HoldsUnder handle bank (staying_by code link)
+      by_reason None fails = holds
+      by_reason (Some code) fails = absurd cc
 
-end_handles : (slot first : ℕ) (links : Links)
-    → map (λ (one : LinkEnded). one.handle) (ends_from slot first links) ≡ handles_where (λ place. is_some (reason_at slot place)) first links
-end_handles slot first [] = refl
-end_handles slot first (None ∷ links) = end_handles slot (first + 1) links
-end_handles slot first (Some link ∷ links) = by_reason (reason_in slot link) (end_handles slot (first + 1) links)
-  where
-    by_reason : (reason : Option ℕ)
-        → map (λ (one : LinkEnded). one.handle) (ends_from slot (first + 1) links)
-        ≡ handles_where (λ place. is_some (reason_at slot place)) (first + 1) links
-        → map (λ (one : LinkEnded). one.handle) (end_by first reason ++ ends_from slot (first + 1) links)
-        ≡ (if is_some reason then first ∷ handles_where (λ place. is_some (reason_at slot place)) (first + 1) links
-        else handles_where (λ place. is_some (reason_at slot place)) (first + 1) links)
-    by_reason None rest = rest
-    by_reason (Some reason) rest = ap (λ handles. first ∷ handles) rest
+  end_handles : (first : ℕ) (links : Links)
+      → map (λ (one : LinkEnded). one.handle) (ends_by reason first links) ≡ handles_where (λ place. is_some (reason_at reason place)) first links
+  end_handles first [] = refl
+  end_handles first (None ∷ links) = end_handles (first + 1) links
+  end_handles first (Some link ∷ links) = by_reason (reason link) (end_handles (first + 1) links)
+    where
+      by_reason : (code : Option ℕ)
+          → map (λ (one : LinkEnded). one.handle) (ends_by reason (first + 1) links)
+          ≡ handles_where (λ place. is_some (reason_at reason place)) (first + 1) links
+          → map (λ (one : LinkEnded). one.handle) (end_by first code ++ ends_by reason (first + 1) links)
+          ≡ (if is_some code then first ∷ handles_where (λ place. is_some (reason_at reason place)) (first + 1) links
+          else handles_where (λ place. is_some (reason_at reason place)) (first + 1) links)
+      by_reason None rest = rest
+      by_reason (Some code) rest = ap (λ handles. first ∷ handles) rest
 
-pub ended_data : (slot : ℕ) (links : Links) (bank : Bank) → ((handle : ℕ) → HoldsUnder handle bank (link_at handle links))
-    → (handle : ℕ) → HoldsUnder handle (fold bank_after_drop bank (map (λ (one : LinkEnded). one.handle) (ends_from slot 0 links)))
-    (link_at handle (links_staying slot links))
-ended_data slot links bank holds handle =
-    subst (λ handles. HoldsUnder handle (fold bank_after_drop bank handles) (link_at handle (links_staying slot links)))
-    (sym (end_handles slot 0 links))
-    (swept_all (λ place. is_some (reason_at slot place)) (place_staying slot) bank_after_drop drop_leaves (end_passed slot) (end_failed slot)
-    links bank holds handle)
+  pub ended_data : (links : Links) (bank : Bank) → ((handle : ℕ) → HoldsUnder handle bank (link_at handle links))
+      → (handle : ℕ) → HoldsUnder handle (fold bank_after_drop bank (map (λ (one : LinkEnded). one.handle) (ends_by reason 0 links)))
+      (link_at handle (links_without reason links))
+  ended_data links bank holds handle =
+      subst (λ handles. HoldsUnder handle (fold bank_after_drop bank handles) (link_at handle (links_without reason links)))
+      (sym (end_handles 0 links))
+      (swept_all (λ place. is_some (reason_at reason place)) (place_without reason) bank_after_drop drop_leaves end_passed end_failed
+      links bank holds handle)
 
 -- ---- all links are shut
 
@@ -202,20 +212,23 @@ reported_data links bank holds handle =
     (sym (report_handles 0 links))
     (swept_all reports (option_map link_reported) bank_after_credited credited_leaves report_passed report_failed links bank holds handle)
 
--- ---- links enter their events
+-- ---- a map is asked for on all links
 
-entered_at : (test : Bool) (slot handle : ℕ) (bank : Bank) (link : OpenLink) → HoldsUnder handle bank (Some link)
-    → HoldsUnder handle bank (Some (entered_if test slot link))
-entered_at true slot handle bank link holds = entered_data handle slot bank link.setup link.past holds
-entered_at false slot handle bank link holds = holds
+asked_at : (map : ChannelMap) (handle : ℕ) (bank : Bank) (place : Option OpenLink) → HasHandle handle place → HoldsUnder handle bank place
+    → HoldsUnder handle bank (option_map (link_asked_map map) place)
+asked_at map handle bank None has holds = holds
+asked_at map handle bank (Some link) has holds = by_role link.setup.link.role
+  where
+    by_role : (role : Role) → HoldsUnder handle bank (Some (asked_map_by role map link))
+    by_role Central =
+        subst (λ n. HoldsData n bank (facts_in (link_after (ProcedureAsked (map_ask map)) link)).outgoing) has
+        ((left_bank (ProcedureAsked (map_ask map)) (asked_leaves (map_ask map)) link bank).holds
+        (subst (λ n. HoldsData n bank (facts_in link).outgoing) (sym has) holds))
+    by_role Peripheral = holds
 
-entering_at : (slot handle : ℕ) (bank : Bank) (place : Option OpenLink) → HoldsUnder handle bank place
-    → HoldsUnder handle bank (option_map (link_entered slot) place)
-entering_at slot handle bank None holds = holds
-entering_at slot handle bank (Some link) holds = entered_at (is_anchor slot link) slot handle bank link holds
-
-pub entering_data : (slot : ℕ) (links : Links) (bank : Bank) → ((handle : ℕ) → HoldsUnder handle bank (link_at handle links))
-    → (handle : ℕ) → HoldsUnder handle bank (link_at handle (links_entered slot links))
-entering_data slot links bank holds handle =
-    subst (HoldsUnder handle bank) (sym (map_at (option_map (link_entered slot)) 0 handle links refl))
-    (entering_at slot handle bank (link_at handle links) (holds handle))
+pub mapped_data : (map : ChannelMap) (links : Links) (bank : Bank) → HaveHandles 0 links
+    → ((handle : ℕ) → HoldsUnder handle bank (link_at handle links))
+    → (handle : ℕ) → HoldsUnder handle bank (link_at handle (links_asked_map map links))
+mapped_data map links bank have holds handle =
+    subst (HoldsUnder handle bank) (sym (map_at (option_map (link_asked_map map)) 0 handle links refl))
+    (asked_at map handle bank (link_at handle links) (has_its_handle 0 handle links have) (holds handle))

@@ -1,11 +1,9 @@
 -- What is held under each handle, and the links that it knows.
 use Rattle.std.proofs.Common.{◌≡◌, ℕ, ◌+◌, ◌<◌, ◌≤◌, ◌==◌, Bool, true, false, nat_lt, List, [], ◌∷◌, ◌++◌, map, Option, Some, None, IfSome, is_some, if◌then◌else◌, refl, ap, sym, ◌∙◌, subst, arith}
 use Rattle.std.specs.Option.{option_map}
-use Rattle.link_model.specs.Setup.{Setup}
-use Rattle.link_model.specs.Step.{Step, DataGiven, DataReported, EventEntered}
+use Rattle.link_model.specs.Step.{Step, DataGiven, DataReported}
 use Rattle.link_model.specs.End.{facts_of}
 use Rattle.link_model.specs.declared.events.Reception.{Reception}
-use Rattle.link_model.proofs.Pasts.{grows}
 use Rattle.acl_banks.specs.Banks.{Bank, credits_of}
 use Rattle.link_end.specs.Held.{Held}
 use Rattle.link_end.specs.Tied.{HoldsData, LeavesOthers}
@@ -37,6 +35,12 @@ some_where_held None None knows = refl
 some_where_held None (Some link) knows = absurd knows
 some_where_held (Some held) None knows = absurd knows
 some_where_held (Some held) (Some link) knows = refl
+
+-- what is read of a link, where one is held
+pub read_at : {A : Type 0} (read : OpenLink → A) (value : A) (held : HeldLink) (place : Option OpenLink) → KnowsPlace (Some held) place
+    → ((link : OpenLink) → KnowsLink held link → value ≡ read link) → Some value ≡ option_map read place
+read_at read value held None knows is = absurd knows
+read_at read value held (Some link) knows is = ap (λ v. Some v) (is link knows)
 
 -- what the calls on an end need
 pub tied_at : (place : Option HeldLink) (link : Option OpenLink) (handle : ℕ) (bank : Bank) → KnowsPlace place link
@@ -167,9 +171,3 @@ hold_places bank first (Some link ∷ links) (has, have) holds = (
   hold_places bank (first + 1) links have (λ handle from.
       subst (HoldsUnder handle bank) (later first handle (Some link) links (omega (arith, from))) (holds handle (omega (arith, from)))),
 )
-
-pub entered_data : (handle slot : ℕ) (bank : Bank) (setup : Setup) (past : List Step)
-    → HoldsData handle bank (facts_of setup past).outgoing
-    → HoldsData handle bank (facts_of setup (past ++ EventEntered slot ∷ [])).outgoing
-entered_data handle slot bank setup past holds =
-    subst (λ facts. HoldsData handle bank facts.outgoing) (sym (grows setup past (EventEntered slot))) holds

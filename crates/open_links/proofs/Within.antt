@@ -1,23 +1,36 @@
 -- No link has heard anything later, or has more complete packets, than the counts of the controller say.
-use Rattle.std.proofs.Common.{◌≡◌, ℕ, ◌+◌, ◌<◌, ◌≤◌, ◌==◌, Bool, true, false, nat_lt, List, [], ◌∷◌, map, Option, Some, None, IfSome, if◌then◌else◌, refl, sym, subst, arith}
+use Rattle.std.proofs.Common.{◌≡◌, ℕ, ◌+◌, ◌<◌, ◌≤◌, ◌==◌, ◌&&◌, Bool, true, false, nat_lt, List, [], ◌∷◌, map, Option, Some, None, IfSome, if◌then◌else◌, refl, sym, ◌∙◌, subst, arith}
 use Rattle.std.specs.Option.{option_map}
 use Rattle.std.proofs.lemmas.Bool.{eqb-true, eqb-false}
+use Rattle.ble_base.specs.declared.channel_map.ChannelMap.{ChannelMap}
+use Rattle.ble_base.specs.declared.roles.Role.{Role}
+use Rattle.ble_base.specs.declared.roles.Role.TheVariants.{Central, Peripheral}
+use Rattle.procedure_values.specs.declared.asks.Ask.TheVariants.{Map as map_ask}
+use Rattle.data_pdu.specs.declared.header.DataHeader.{DataHeader}
+use Rattle.data_pdu.specs.Header.{header_in}
 use Rattle.link_model.specs.Setup.{Setup}
-use Rattle.link_model.specs.Step.{Step, DataGiven, DataReported, EventEntered, PacketReceived, PacketSent, PduFixed}
-use Rattle.link_model.specs.Data.{Data, data_acked_if, data_completed, data_given, data_sent_if}
-use Rattle.link_model.specs.Facts.{Facts}
-use Rattle.link_model.specs.Acknowledgement.{is_acked}
-use Rattle.link_model.specs.Packets.{good_pdu}
-use Rattle.link_model.specs.End.{facts_after, facts_of, facts_received}
+use Rattle.link_model.specs.Acknowledgement.{Pdu, is_acked}
+use Rattle.link_model.specs.Data.{Data, data_acked_if, data_completed, data_given, data_sent_if, is_control, is_data}
+use Rattle.link_model.specs.Verdicts.{pdu_of}
 use Rattle.link_model.specs.declared.events.Reception.{Reception}
+use Rattle.link_model.specs.Facts.{Facts}
+use Rattle.link_model.specs.Controls.{is_procedure_pdu}
+use Rattle.link_model.specs.Fixing.{data_cut, data_fixed_by, data_goes, fixed_anew}
+use Rattle.link_model.specs.Packets.{good_pdu}
+use Rattle.link_model.specs.Receiving.{accepted_if, accepts, acknowledged_if, answers_with_control, facts_before_taking, facts_hearing, facts_received, has_acknowledged, heard_in_slot, procedures_take_if}
+use Rattle.link_model.specs.Sending.{control_gone_if, takes_leave}
+use Rattle.link_model.specs.Step.{Step, DataGiven, DataReported, EventEntered, PacketReceived, PacketSent, PduFixed, ProcedureAsked}
+use Rattle.link_model.specs.End.{facts_after, facts_of}
 use Rattle.link_model.proofs.Pasts.{grows}
 use Rattle.open_links.specs.declared.offers.Offer.{Offer}
 use Rattle.open_links.specs.declared.offers.Offer.TheVariants.{NoLink, Empty, Overflow, Kept}
-use Rattle.open_links.specs.OpenLinks.{Links, OpenLink, facts_in, link_after, link_at, link_from, new_link, with_change, with_change_from}
+use Rattle.open_links.specs.OpenLinks.{Links, OpenLink, facts_in, has_entered, link_after, link_after_in_event, link_at, link_from, new_link, with_change, with_change_from}
 use Rattle.open_links.specs.Data.{complete_in, link_reported, links_offered, links_reported}
-use Rattle.open_links.specs.Turns.{entered_if, is_anchor, link_entered, links_entered, links_staying, place_staying, reason_in, staying_by}
+use Rattle.open_links.specs.Hosts.{asked_map_by, link_asked_map, links_asked_map}
+use Rattle.open_links.specs.Turns.{enters_in, link_entered, links_without, place_without, staying_by}
 use Rattle.open_links.specs.Sound.{IsWithin, IsWithinAt}
 use Rattle.open_links.proofs.Handles.{changed_is, other_stays}
+use Rattle.open_links.proofs.Unmoved.{asked_leaves, entered_leaves, left_within, step_within_if}
 use Rattle.open_links.proofs.UnderHandles.{map_at}
 
 -- ---- a link
@@ -32,42 +45,100 @@ stepped slot count step link heard complete =
       complete = subst (λ (facts : Facts). facts.outgoing.complete ≤ count) same complete;
     }
 
+-- a step that leaves the last good packet and the count of complete packets
+kept : (slot count : ℕ) (step : Step) (link : OpenLink)
+    → (facts_after link.setup (facts_in link) step).last_good ≡ (facts_in link).last_good
+    → (facts_after link.setup (facts_in link) step).outgoing.complete ≡ complete_in link
+    → IsWithin slot count link → IsWithin slot count (link_after step link)
+kept slot count step link good complete within =
+    stepped slot count step link
+    (subst (λ (last : Option Reception). IfSome last (λ good. good.slot < slot)) (sym good) within.heard)
+    (omega (arith, within.complete, complete))
+
 given_complete : (handle : ℕ) (start : Bool) (body : List ℕ) (outgoing : Data) → (data_given handle start body outgoing).complete ≡ outgoing.complete
 given_complete handle start [] outgoing = refl
 given_complete handle start (octet ∷ octets) outgoing = refl
+
+pub within_given : (slot count : ℕ) (start : Bool) (body : List ℕ) (link : OpenLink) → IsWithin slot count link
+    → IsWithin slot count (link_after (DataGiven start body) link)
+within_given slot count start body link within =
+    kept slot count (DataGiven start body) link refl (given_complete link.setup.link.handle start body (facts_in link).outgoing) within
+
+-- ---- it fixes a PDU, and sends
+
+fixed_complete : (control : Bool) (waiting : ℕ) (goes : Bool) (outgoing : Data)
+    → (data_fixed_by control waiting goes outgoing).complete ≡ outgoing.complete
+fixed_complete true waiting goes outgoing = refl
+fixed_complete false waiting true outgoing = refl
+fixed_complete false waiting false outgoing = refl
+
+fixed_good : (stays : Bool) (facts : Facts) → (if stays then facts else fixed_anew facts).last_good ≡ facts.last_good
+fixed_good true facts = refl
+fixed_good false facts = refl
+
+fixed_if_complete : (stays : Bool) (facts : Facts) → (if stays then facts else fixed_anew facts).outgoing.complete ≡ facts.outgoing.complete
+fixed_if_complete true facts = refl
+fixed_if_complete false facts = fixed_complete _ _ (data_goes facts) (data_cut facts)
+
+within_fixed : (slot count : ℕ) (link : OpenLink) → IsWithin slot count link → IsWithin slot count (link_after PduFixed link)
+within_fixed slot count link within =
+    let stays = is_control (facts_in link).outgoing.fixed in
+    kept slot count PduFixed link (fixed_good stays (facts_in link)) (fixed_if_complete stays (facts_in link)) within
+
+gone_good : (goes : Bool) (slot : ℕ) (facts : Facts) → (control_gone_if goes slot facts).last_good ≡ facts.last_good
+gone_good true slot facts = refl
+gone_good false slot facts = refl
+
+gone_complete : (goes : Bool) (slot : ℕ) (facts : Facts) → (control_gone_if goes slot facts).outgoing.complete ≡ facts.outgoing.complete
+gone_complete true slot facts = refl
+gone_complete false slot facts = refl
 
 sent_complete : (test : Bool) (outgoing : Data) → (data_sent_if test outgoing).complete ≡ outgoing.complete
 sent_complete true outgoing = refl
 sent_complete false outgoing = refl
 
-pub within_given : (slot count : ℕ) (start : Bool) (body : List ℕ) (link : OpenLink) → IsWithin slot count link
-    → IsWithin slot count (link_after (DataGiven start body) link)
-within_given slot count start body link within =
-    stepped slot count (DataGiven start body) link within.heard
-    (omega (arith, within.complete, given_complete link.setup.link.handle start body (facts_in link).outgoing))
-
-pub within_fixed : (slot count : ℕ) (link : OpenLink) → IsWithin slot count link → IsWithin slot count (link_after PduFixed link)
-within_fixed slot count link within = stepped slot count PduFixed link within.heard within.complete
-
-pub within_sent : (slot count at : ℕ) (link : OpenLink) → IsWithin slot count link → IsWithin slot count (link_after (PacketSent at) link)
+within_sent : (slot count at : ℕ) (link : OpenLink) → IsWithin slot count link → IsWithin slot count (link_after (PacketSent at) link)
 within_sent slot count at link within =
-    stepped slot count (PacketSent at) link within.heard
-    (omega (arith, within.complete, sent_complete (is_acked (facts_in link).acknowledgement) (facts_in link).outgoing))
+    let facts = facts_in link in
+    let now = control_gone_if (takes_leave facts) at facts in
+    kept slot count (PacketSent at) link (gone_good (takes_leave facts) at facts)
+    (sent_complete (is_acked now.acknowledgement) now.outgoing ∙ gone_complete (takes_leave facts) at facts) within
 
-within_entered : (slot count at : ℕ) (test : Bool) (link : OpenLink) → IsWithin slot count link → IsWithin slot count (entered_if test at link)
-within_entered slot count at false link within = within
-within_entered slot count at true link within = stepped slot count (EventEntered at) link within.heard within.complete
+pub within_fixed_in_event : (slot count : ℕ) (link : OpenLink) → IsWithin slot count link → IsWithin slot count (link_after_in_event PduFixed link)
+within_fixed_in_event slot count link within =
+    step_within_if (has_entered link) (link_after_in_event PduFixed link) PduFixed link slot count refl (within_fixed slot count link within) within
+
+pub within_sent_in_event : (slot count at : ℕ) (link : OpenLink) → IsWithin slot count link
+    → IsWithin slot count (link_after_in_event (PacketSent at) link)
+within_sent_in_event slot count at link within =
+    step_within_if (has_entered link) (link_after_in_event (PacketSent at) link) (PacketSent at) link slot count refl
+    (within_sent slot count at link within) within
+
+-- ---- it enters an event, its complete packets are reported, and a map is asked for
+
+pub within_entered : (slot count at : ℕ) (link : OpenLink) → IsWithin slot count link → IsWithin slot count (link_entered at link)
+within_entered slot count at link within =
+    step_within_if (enters_in at link) (link_entered at link) (EventEntered at) link slot count refl
+    (left_within (EventEntered at) (entered_leaves at) slot count link within) within
 
 within_reported : (slot count : ℕ) (test : Bool) (link : OpenLink) → nat_lt 0 (complete_in link) ≡ test → IsWithin slot count link
     → IsWithin slot 0 (if test then link_after DataReported link else link)
 within_reported slot count true link e within = stepped slot 0 DataReported link within.heard (omega arith)
 within_reported slot count false link e within = record { heard = within.heard; complete = grind (arith, e) }
 
+within_asked_map : (slot count : ℕ) (map : ChannelMap) (link : OpenLink) → IsWithin slot count link → IsWithin slot count (link_asked_map map link)
+within_asked_map slot count map link within = by_role link.setup.link.role
+  where
+    by_role : (role : Role) → IsWithin slot count (asked_map_by role map link)
+    by_role Central = left_within (ProcedureAsked (map_ask map)) (asked_leaves (map_ask map)) slot count link within
+    by_role Peripheral = within
+
 pub new_within : (slot count : ℕ) (setup : Setup) → IsWithin slot count (new_link setup)
 unfolding facts_of
 new_within slot count setup = record { heard = tt; complete = omega arith }
 
--- it takes octets, in a slot that is later than all before
+-- ---- it takes octets, in a slot that is later than all before
+
 later_heard : (last : Option Reception) (slot later : ℕ) → slot ≤ later → IfSome last (λ good. good.slot < slot) → IfSome last (λ good. good.slot < later)
 later_heard None slot later order heard = tt
 later_heard (Some good) slot later order heard = omega (arith, order, heard)
@@ -80,31 +151,71 @@ acked_more : (acked : Bool) (outgoing : Data) → (data_acked_if acked outgoing)
 acked_more true outgoing = completed_more _ outgoing
 acked_more false outgoing = omega arith
 
-heard_last : (at : ℕ) (room : Bool) (pdu : Option (List ℕ)) (facts : Facts) (slot : ℕ) → slot ≤ at
+taken_good : (takes : Bool) (pdu : Pdu) (at : ℕ) (facts : Facts) → (procedures_take_if takes pdu at facts).last_good ≡ facts.last_good
+taken_good true pdu at facts = refl
+taken_good false pdu at facts = refl
+
+taken_complete : (takes : Bool) (pdu : Pdu) (at : ℕ) (facts : Facts)
+    → (procedures_take_if takes pdu at facts).outgoing.complete ≡ facts.outgoing.complete
+taken_complete true pdu at facts = refl
+taken_complete false pdu at facts = refl
+
+module _ (role : Role) (at : ℕ) (room : Bool) (header : DataHeader) (pdu : Pdu) (facts : Facts) where
+  abbrev own : Facts
+  own = acknowledged_if (has_acknowledged facts header) (heard_in_slot at header.md facts)
+
+  abbrev now : Facts
+  now = facts_before_taking role at header facts
+
+  abbrev takes : Bool
+  takes = accepts room header pdu now && is_procedure_pdu pdu
+
+  hearing_good : (facts_hearing role at room header pdu facts).last_good ≡ Some (record { slot = at; event = facts.event.number })
+  hearing_good =
+      taken_good takes pdu at (accepted_if (accepts room header pdu now) pdu now) ∙ gone_good (answers_with_control role own) at own
+
+  hearing_more : (facts_hearing role at room header pdu facts).outgoing.complete ≤ facts.outgoing.complete + 1
+  hearing_more =
+      let same = taken_complete takes pdu at (accepted_if (accepts room header pdu now) pdu now)
+      ∙ gone_complete (answers_with_control role own) at own in
+      let more = acked_more (has_acknowledged facts header && is_data facts.acknowledgement.last) facts.outgoing in
+      omega (arith, same, more)
+
+heard_last : (role : Role) (at : ℕ) (room : Bool) (pdu : Option (List ℕ)) (facts : Facts) (slot : ℕ) → slot ≤ at
     → IfSome facts.last_good (λ good. good.slot < slot)
-    → IfSome (facts_received at room pdu facts).last_good (λ good. good.slot < at + 1)
-heard_last at room None facts slot order heard = later_heard facts.last_good slot (at + 1) (omega (arith, order)) heard
-heard_last at room (Some pdu) facts slot order heard = omega arith
+    → IfSome (facts_received role at room pdu facts).last_good (λ good. good.slot < at + 1)
+heard_last role at room None facts slot order heard = later_heard facts.last_good slot (at + 1) (omega (arith, order)) heard
+heard_last role at room (Some octets) facts slot order heard =
+    subst (λ (last : Option Reception). IfSome last (λ good. good.slot < at + 1))
+    (sym (hearing_good role at room (header_in octets) (pdu_of octets) facts)) (omega arith)
 
-heard_more : (at : ℕ) (room : Bool) (pdu : Option (List ℕ)) (facts : Facts)
-    → (facts_received at room pdu facts).outgoing.complete ≤ facts.outgoing.complete + 1
-heard_more at room None facts = omega arith
-heard_more at room (Some pdu) facts = acked_more _ facts.outgoing
+heard_more : (role : Role) (at : ℕ) (room : Bool) (pdu : Option (List ℕ)) (facts : Facts)
+    → (facts_received role at room pdu facts).outgoing.complete ≤ facts.outgoing.complete + 1
+heard_more role at room None facts = omega arith
+heard_more role at room (Some octets) facts = hearing_more role at room (header_in octets) (pdu_of octets) facts
 
-pub within_heard : (slot count at : ℕ) (octets : List ℕ) (room : Bool) (link : OpenLink) → slot ≤ at → IsWithin slot count link
+within_heard : (slot count at : ℕ) (octets : List ℕ) (room : Bool) (link : OpenLink) → slot ≤ at → IsWithin slot count link
     → IsWithin (at + 1) (count + 1) (link_after (PacketReceived at octets room) link)
 within_heard slot count at octets room link order within =
+    let role = link.setup.link.role in
     let pdu = good_pdu link.setup (facts_in link) octets in
     stepped (at + 1) (count + 1) (PacketReceived at octets room) link
-    (heard_last at room pdu (facts_in link) slot order within.heard)
-    (omega (arith, within.complete, heard_more at room pdu (facts_in link)))
+    (heard_last role at room pdu (facts_in link) slot order within.heard)
+    (omega (arith, within.complete, heard_more role at room pdu (facts_in link)))
 
-pub within_more : (slot count later more : ℕ) (link : OpenLink) → slot ≤ later → count ≤ more → IsWithin slot count link → IsWithin later more link
+within_more : (slot count later more : ℕ) (link : OpenLink) → slot ≤ later → count ≤ more → IsWithin slot count link → IsWithin later more link
 within_more slot count later more link order fewer within =
     record {
       heard = later_heard (facts_in link).last_good slot later order within.heard;
       complete = omega (arith, fewer, within.complete);
     }
+
+pub within_heard_in_event : (slot count at : ℕ) (octets : List ℕ) (room : Bool) (link : OpenLink) → slot ≤ at → IsWithin slot count link
+    → IsWithin (at + 1) (count + 1) (link_after_in_event (PacketReceived at octets room) link)
+within_heard_in_event slot count at octets room link order within =
+    step_within_if (has_entered link) (link_after_in_event (PacketReceived at octets room) link) (PacketReceived at octets room) link
+    (at + 1) (count + 1) refl (within_heard slot count at octets room link order within)
+    (within_more slot count (at + 1) (count + 1) link (omega (arith, order)) (omega arith) within)
 
 -- ---- all links
 
@@ -171,11 +282,10 @@ all_within : (slot count later more : ℕ) (change : Option OpenLink → Option 
 all_within slot count later more change links none keeps within handle =
     subst (IsWithinAt later more) (sym (map_at change 0 handle links none)) (keeps (link_at handle links) (within handle))
 
-pub enter_within : (slot count at : ℕ) (links : Links) → AreWithin slot count links → AreWithin slot count (links_entered at links)
-enter_within slot count at links within =
-    all_within slot count slot count (option_map (link_entered at)) links refl
-    (mapped_at slot count slot count (link_entered at)
-    (λ link inside. within_entered slot count at (is_anchor at link) link inside)) within
+pub map_within : (slot count : ℕ) (map : ChannelMap) (links : Links) → AreWithin slot count links → AreWithin slot count (links_asked_map map links)
+map_within slot count map links within =
+    all_within slot count slot count (option_map (link_asked_map map)) links refl
+    (mapped_at slot count slot count (link_asked_map map) (λ link inside. within_asked_map slot count map link inside)) within
 
 pub report_within : (slot count : ℕ) (links : Links) → AreWithin slot count links → AreWithin slot 0 (links_reported links)
 report_within slot count links within =
@@ -183,16 +293,17 @@ report_within slot count links within =
     (mapped_at slot count slot 0 link_reported
     (λ link inside. within_reported slot count (nat_lt 0 (complete_in link)) link refl inside)) within
 
-pub stay_within : (slot count at : ℕ) (links : Links) → AreWithin slot count links → AreWithin slot count (links_staying at links)
-stay_within slot count at links within = all_within slot count slot count (place_staying at) links refl stays within
+pub stay_within : (reason : OpenLink → Option ℕ) (slot count : ℕ) (links : Links) → AreWithin slot count links
+    → AreWithin slot count (links_without reason links)
+stay_within reason slot count links within = all_within slot count slot count (place_without reason) links refl stays within
   where
-    by_reason : (reason : Option ℕ) (link : OpenLink) → IsWithin slot count link → IsWithinAt slot count (staying_by reason link)
+    by_reason : (code : Option ℕ) (link : OpenLink) → IsWithin slot count link → IsWithinAt slot count (staying_by code link)
     by_reason None link inside = inside
-    by_reason (Some reason) link inside = tt
+    by_reason (Some code) link inside = tt
 
-    stays : (place : Option OpenLink) → IsWithinAt slot count place → IsWithinAt slot count (place_staying at place)
+    stays : (place : Option OpenLink) → IsWithinAt slot count place → IsWithinAt slot count (place_without reason place)
     stays None inside = tt
-    stays (Some link) inside = by_reason (reason_in at link) link inside
+    stays (Some link) inside = by_reason (reason link) link inside
 
 pub none_within : (slot count : ℕ) (links : Links) → AreWithin slot count (map (λ place. None) links)
 none_within slot count links handle =

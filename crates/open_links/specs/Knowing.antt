@@ -1,28 +1,29 @@
 -- Open links, as the code holds them, that know their pasts, with the data of these in the banks.
 use Rattle.std.specs.Prelude.{◌≡◌, ℕ, ◌+◌, ◌<◌, ◌==◌, Bool, List, [], ◌∷◌, ◌++◌, Option, Some, None, ⊤, if◌then◌else◌}
-use Rattle.std.specs.List.{filter}
+use Rattle.std.specs.Option.{option_map}
 use Rattle.ble_base.specs.declared.notes.Note.{Note}
 use Rattle.acl_banks.specs.declared.pieces.Piece.{Piece}
-use Rattle.acl_banks.specs.Packets.{is_of, new_packet}
-use Rattle.acl_banks.specs.Banks.{Bank, bank_after_offer, credits_of}
+use Rattle.acl_banks.specs.Banks.{Bank, credits_of}
 use Rattle.slot_plan.specs.declared.Want.{Want}
+use Rattle.control_end.specs.declared.answers.Entry.{Entry}
+use Rattle.open_links.specs.Ended.{HasNone}
 use Rattle.link_end.specs.Held.{Held}
 use Rattle.link_end.specs.Knowing.{Knows as KnowsEnd}
 use Rattle.link_end.specs.Tied.{HoldsData, IsBefore, IsTied, LeavesOthers}
-use Rattle.open_links.specs.declared.offers.Offer.{Offer}
-use Rattle.open_links.specs.declared.offers.Offer.TheVariants.{Kept}
 use Rattle.open_links.specs.OpenLinks.{Links, OpenLink, HaveHandles, facts_in, link_at}
-use Rattle.open_links.specs.Turns.{is_anchor, link_entered, links_entered, notes_entering, notes_if, want_if, wants_entering, wants_from}
+use Rattle.open_links.specs.Turns.{entry_at, link_entered, notes_entering, want_entering, wants_entering}
 
 -- a link, as the code holds it
 pub record HeldLink : Type 0 where
   pub end : Held
   pub last_served : ℕ
 
+-- a link that is held is this one
 pub record KnowsLink (held : HeldLink) (link : OpenLink) : Type 0 where
   pub end : KnowsEnd link.setup held.end link.past
   pub served : held.last_served ≡ link.last_served
 
+-- the code knows the link that may be in a place
 abbrev pub KnowsPlace : Option HeldLink → Option OpenLink → Type 0
 KnowsPlace None None = ⊤
 KnowsPlace (Some held) (Some link) = KnowsLink held link
@@ -41,6 +42,7 @@ held_from first handle (place ∷ places) = if first == handle then place else h
 
 -- ---- the links with their data
 
+-- all links, as the code holds them
 pub record HeldLinks : Type 0 where
   -- what is under each handle
   pub places : List (Option HeldLink)
@@ -52,29 +54,21 @@ pub record HeldLinks : Type 0 where
   pub heard_to : ℕ
   pub unreported : ℕ
 
--- a bank has nothing under a handle
-pub record HasNone (handle : ℕ) (bank : Bank) : Type 0 where
-  pub packets : filter (is_of handle) bank.packets ≡ []
-  pub complete : credits_of bank handle ≡ 0
-
 -- a bank has the data of the link that may be under a handle
 abbrev pub HoldsUnder : ℕ → Bank → Option OpenLink → Type 0
 HoldsUnder handle bank None = HasNone handle bank
 HoldsUnder handle bank (Some link) = HoldsData handle bank (facts_in link).outgoing
 
+-- the links that are held are these, each under its handle, with their data, and these pieces wait for the host
 pub record KnowsAll (held : HeldLinks) (links : Links) (received : List (ℕ × Piece)) : Type 0 where
   pub places : KnowsPlaces held.places links
   pub handles : HaveHandles 0 links
   pub data_of : (handle : ℕ) → HoldsUnder handle held.bank (link_at handle links)
   pub pieces : held.received ≡ received
 
+-- the same as one word
 unfoldable pub Knows : HeldLinks → Links → List (ℕ × Piece) → Type 0
 Knows held links received = KnowsAll held links received
-
--- a bank after a packet of the host, and what became of that
-abbrev pub bank_offered : Offer → ℕ → Bool → List ℕ → Bank → Bank
-bank_offered Kept handle start body bank = bank_after_offer bank (new_packet handle start body)
-bank_offered other handle start body bank = bank
 
 -- ---- a change of the link under a handle
 
@@ -84,6 +78,7 @@ pub record BankStep (change : OpenLink → OpenLink) (link : OpenLink) (before a
   pub holds : HoldsData link.setup.link.handle before (facts_in link).outgoing
       → HoldsData link.setup.link.handle after (facts_in (change link)).outgoing
 
+-- the bank goes as a change of the link that may be under a handle says
 abbrev pub BankGoes : (OpenLink → OpenLink) → Option OpenLink → Bank → Bank → Type 0
 BankGoes change None before after = after ≡ before
 BankGoes change (Some link) before after = BankStep change link before after
@@ -99,38 +94,36 @@ pub record CanHear (slot : ℕ) (bank : Bank) (held : Held) : Type 0 where
   pub counts : credits_of bank held.setup.link.handle < 65535
   pub before : IsBefore held slot
 
+-- the link that may be under a handle can hear in a slot
 abbrev pub CanHearIn : ℕ → Bank → Option HeldLink → Type 0
 CanHearIn slot bank None = ⊤
 CanHearIn slot bank (Some held) = CanHear slot bank held.end
 
--- ---- all links enter their events
+-- ---- a link enters its event
 
--- a bank has the data of a link, and of all links
+-- a bank has the data of the link that may be in a place
 abbrev pub HoldsPlace : Bank → Option OpenLink → Type 0
 HoldsPlace bank None = ⊤
 HoldsPlace bank (Some link) = HoldsData link.setup.link.handle bank (facts_in link).outgoing
 
+-- a bank has the data of all links
 abbrev pub HoldsPlaces : Bank → Links → Type 0
 HoldsPlaces bank [] = ⊤
 HoldsPlaces bank (place ∷ links) = HoldsPlace bank place × HoldsPlaces bank links
 
--- a link as its slot begins: it knows its past, has added exactly these notes, and says whether it wants the radio
-pub record Enters (new : HeldLink) (link : OpenLink) (slot : ℕ) (before noted : List Note) (wants : Bool) : Type 0 where
+-- a link as its slot begins: it knows its past, has added exactly these notes, gives what comes of its event, and says
+-- whether it wants the radio
+pub record Enters (new : HeldLink) (link : OpenLink) (slot : ℕ) (before noted : List Note)
+    (given : Option Entry) (wants : Bool) : Type 0 where
   pub knows : KnowsLink new (link_entered slot link)
-  pub notes : noted ≡ before ++ notes_if (is_anchor slot link) slot link
+  pub notes : noted ≡ before ++ notes_entering slot (Some link)
+  pub entry : given ≡ entry_at slot (Some link)
   pub wants_radio : wants ≡ wants_entering slot link
 
--- the same of the link that may be under a handle, with what it adds to the plan
-abbrev pub EntersPlace : Option OpenLink → Option HeldLink → ℕ → ℕ → List Note → List Note → List Want → List Want → Type 0
-EntersPlace None new slot handle before noted wanted wants = KnowsPlace new None × (noted ≡ before) × (wants ≡ wanted)
-EntersPlace (Some link) new slot handle before noted wanted wants =
-    KnowsPlace new (Some (link_entered slot link))
-    × (noted ≡ before ++ notes_if (is_anchor slot link) slot link)
-    × (wants ≡ wanted ++ want_if (wants_entering slot link) handle link.last_served)
-
--- all of them, from this handle on
-pub record EnterAll (new : List (Option HeldLink)) (links : Links) (slot handle : ℕ) (before noted : List Note)
-    (wanted wants : List Want) : Type 0 where
-  pub know : KnowsPlaces new (links_entered slot links)
-  pub notes : noted ≡ before ++ notes_entering slot links
-  pub want : wants ≡ wanted ++ wants_from slot handle links
+-- the link that may be under a handle enters its event, with what it adds to the plan
+pub record EntersPlace (new : Option HeldLink) (place : Option OpenLink) (slot handle : ℕ) (before noted : List Note)
+    (given : Option Entry) (wanted wants : List Want) : Type 0 where
+  pub knows : KnowsPlace new (option_map (link_entered slot) place)
+  pub notes : noted ≡ before ++ notes_entering slot place
+  pub entry : given ≡ entry_at slot place
+  pub want : wants ≡ wanted ++ want_entering slot handle place

@@ -9,10 +9,12 @@ pub record IsWithin (slot count : ℕ) (link : OpenLink) : Type 0 where
   pub heard : IfSome (facts_in link).last_good (λ good. good.slot < slot)
   pub complete : complete_in link ≤ count
 
+-- the link that may be under a handle is within a slot and a count
 abbrev pub IsWithinAt : ℕ → ℕ → Option OpenLink → Type 0
 IsWithinAt slot count None = ⊤
 IsWithinAt slot count (Some link) = IsWithin slot count link
 
+-- the links that are held know some pasts
 pub record AreSound (held : HeldLinks) : Type 0 where
   pub links : Links
   pub know : Knows held links held.received

@@ -1,9 +1,12 @@
 //! Links that end, and their data.
-ghost use Rattle.std.specs.Prelude.{◌≡◌, ◌<◌, ◌≤◌, ◌==◌, ◌+◌, ◌^◌, ◌++◌, not, fold, map, Option, [], length, if◌then◌else◌};
+ghost use Rattle.std.specs.Prelude.{◌≡◌, ◌<◌, ◌≤◌, ◌+◌, ◌^◌, ◌++◌, fold, map, Option, [], length};
+ghost use Rattle.std.specs.Prelude.{if◌then◌else◌};
 ghost use Rattle.acl_banks.specs.Banks.{bank_after_drop};
-ghost use Rattle.open_links.specs.Data.{received_ended, received_without};
+ghost use Rattle.open_links.specs.Ended.{received_ended, received_without};
+ghost use Rattle.open_links.specs.Ended.{end_by};
 ghost use Rattle.open_links.specs.OpenLinks.{Links, OpenLink, handles_from, without_links};
-ghost use Rattle.open_links.specs.Turns.{end_by, ends_from, links_staying, reason_in, staying_by};
+ghost use Rattle.open_links.specs.Turns.{due_in, ending_in, ends_by, links_without};
+ghost use Rattle.open_links.specs.Turns.{staying_by};
 ghost use Rattle.open_links.specs.Knowing.{KnowsLink, KnowsPlace, KnowsPlaces};
 
 use crate::LinkEnded;
@@ -26,9 +29,9 @@ pub(crate) fn shut_due_from(
     requires handle { handle + length places.old < 2 ^ 16 }
     requires room { length ended.old.items + length places.old ≤ 6 }
     ensures knows { (links : Links) → KnowsPlaces places.old links
-        → KnowsPlaces places.new (links_staying slot.0 links) }
+        → KnowsPlaces places.new (links_without (due_in slot.0) links) }
     ensures ends { (links : Links) → KnowsPlaces places.old links
-        → ended.new.items ≡ ended.old.items ++ ends_from slot.0 handle links }
+        → ended.new.items ≡ ended.old.items ++ ends_by (due_in slot.0) handle links }
     ensures places { length places.new ≡ length places.old }
 {
     let Some((first, rest)) = places.split_first_mut() else {
@@ -41,6 +44,34 @@ pub(crate) fn shut_due_from(
         }
     }
     shut_due_from(rest, handle + 1, slot, ended);
+}
+
+/// The links from this handle on that end at the end of a turn are removed, and added to those that
+/// ended.
+pub(crate) fn shut_ended_from(
+    places: &mut [Option<OpenEnd>],
+    handle: u16,
+    ended: &mut ArrayVec<LinkEnded, MOST_LINKS>,
+)
+    requires handle { handle + length places.old < 2 ^ 16 }
+    requires room { length ended.old.items + length places.old ≤ 6 }
+    ensures knows { (links : Links) → KnowsPlaces places.old links
+        → KnowsPlaces places.new (links_without ending_in links) }
+    ensures ends { (links : Links) → KnowsPlaces places.old links
+        → ended.new.items ≡ ended.old.items ++ ends_by ending_in handle links }
+    ensures few { length ended.new.items ≤ length ended.old.items + length places.old }
+    ensures places { length places.new ≡ length places.old }
+{
+    let Some((first, rest)) = places.split_first_mut() else {
+        return;
+    };
+    if let Some(link) = first {
+        if let Some(reason) = link.end.end_turn() {
+            ended.push(LinkEnded { handle, reason });
+            *first = None;
+        }
+    }
+    shut_ended_from(rest, handle + 1, ended);
 }
 
 /// The links from this handle on are removed, and their handles are added.

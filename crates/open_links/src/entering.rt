@@ -1,88 +1,120 @@
-//! Links that enter their events.
-ghost use Rattle.std.specs.Prelude.{◌≡◌, ◌<◌, ◌≤◌, ◌*◌, ◌+◌, ◌^◌, ◌++◌, Option, Some, length};
+//! A link that enters its event.
+ghost use Rattle.std.specs.Prelude.{◌≡◌, ◌<◌, ◌≤◌, ◌+◌, ◌^◌, ◌++◌, Option, Some, length};
+ghost use Rattle.std.specs.Option.{option_map};
 ghost use Rattle.arrayvec.specs.ArrayVec.{array_vec_len};
 ghost use Rattle.slot_plan.specs.declared.Want.{Want};
-ghost use Rattle.open_links.specs.OpenLinks.{Links, OpenLink};
-ghost use Rattle.open_links.specs.Knowing.{EnterAll, Enters, EntersPlace, HoldsPlace};
-ghost use Rattle.open_links.specs.Knowing.{HoldsPlaces, KnowsLink, KnowsPlace, KnowsPlaces};
+ghost use Rattle.open_links.specs.Wants.{want_if};
+ghost use Rattle.open_links.specs.OpenLinks.{Links, OpenLink, link_from, with_change_from};
+ghost use Rattle.open_links.specs.Turns.{entry_at, link_entered, notes_entering};
+ghost use Rattle.open_links.specs.Turns.{want_entering};
+ghost use Rattle.open_links.specs.Knowing.{Enters, EntersPlace, HoldsPlace};
+ghost use Rattle.open_links.specs.Knowing.{KnowsLink, KnowsPlace, KnowsPlaces};
 
 use crate::places::OpenEnd;
 use acl_banks::TxBank;
 use ble_base::{Outbox, SlotNo};
+use link_end::Entry;
 use slot_plan::{Activity, Plan};
 
 impl OpenEnd {
-    /// Enters its event, if its next anchor is in this slot, and notes it. It says whether it wants
-    /// the radio for it.
-    #[tactic(auto, using(crate::proofs::UnderHandles::entered_data))]
-    fn enter<const T: usize>(&mut self, slot: SlotNo, tx: &TxBank<T>, out: &mut Outbox) -> bool
+    /// Enters its event, if it goes on and its next anchor is in this slot, and notes it. It gives
+    /// what comes of the event, and says whether it wants the radio for it.
+    fn enter<const T: usize>(
+        &mut self,
+        slot: SlotNo,
+        tx: &TxBank<T>,
+        out: &mut Outbox,
+    ) -> (Option<Entry>, bool)
         requires slot { slot.0 < 2 ^ 32 }
         requires room { array_vec_len out.old ≤ 59 }
         ensures enters { (link : OpenLink) → KnowsLink self.old link
             → HoldsPlace tx.now (Some link)
-            → Enters self.new link slot.0 out.old.items out.new.items result }
+            → Enters self.new link slot.0 out.old.items out.new.items result.0 result.1 }
         ensures few { array_vec_len out.new ≤ array_vec_len out.old + 5 }
     {
-        if self.end.next_anchor() != slot {
-            return false;
+        if !self.end.goes_on() || self.end.next_anchor() != slot {
+            return (None, false);
         }
-        self.end.enter(slot, out);
-        self.end.wants(tx)
+        let entry = self.end.enter(slot, out);
+        (Some(entry), self.end.wants(tx))
+    }
+}
+
+/// The link under this handle is added to the plan, or is not.
+fn add_want(wants: bool, handle: u16, last_served: u64, plan: &mut Plan)
+    requires { length plan.old.wants < 16 }
+    ensures wants { plan.new.wants ≡ plan.old.wants ++ want_if wants handle last_served }
+    ensures hold { plan.new.hold ≡ plan.old.hold }
+    ensures few { length plan.new.wants ≤ length plan.old.wants + 1 }
+{
+    if wants {
+        plan.want(Activity::Link(handle), SlotNo(last_served));
     }
 }
 
 /// The link that may be in a place enters its event in this slot, and is added to the plan where it
 /// wants the radio.
-fn enter_place<const T: usize>(
+fn enter<const T: usize>(
     place: &mut Option<OpenEnd>,
     handle: u16,
     slot: SlotNo,
     tx: &TxBank<T>,
     plan: &mut Plan,
     out: &mut Outbox,
-)
+) -> Option<Entry>
     requires slot { slot.0 < 2 ^ 32 }
     requires room { array_vec_len out.old ≤ 59 }
     requires wants { length plan.old.wants < 16 }
-    ensures enter { (known : Option OpenLink) → KnowsPlace place.old known
-        → HoldsPlace tx.now known → EntersPlace known place.new slot.0 handle out.old.items
-        out.new.items plan.old.wants plan.new.wants }
+    ensures enters { (link : Option OpenLink) → KnowsPlace place.old link → HoldsPlace tx.now link
+        → EntersPlace place.new link slot.0 handle out.old.items out.new.items result
+        plan.old.wants plan.new.wants }
     ensures hold { plan.new.hold ≡ plan.old.hold }
     ensures few { array_vec_len out.new ≤ array_vec_len out.old + 5 }
     ensures few_wants { length plan.new.wants ≤ length plan.old.wants + 1 }
 {
-    if let Some(link) = place {
-        let last_served = SlotNo(link.last_served);
-        if link.enter(slot, tx, out) {
-            plan.want(Activity::Link(handle), last_served);
-        }
-    }
+    let Some(link) = place else {
+        return None;
+    };
+    let (entry, wants) = link.enter(slot, tx, out);
+    add_want(wants, handle, link.last_served, plan);
+    entry
 }
 
-/// The links from this handle on enter their events in this slot.
+/// The link under a handle enters its event in this slot.
 pub(crate) fn enter_from<const T: usize>(
-    links: &mut [Option<OpenEnd>],
+    places: &mut [Option<OpenEnd>],
+    first: u16,
     handle: u16,
     slot: SlotNo,
     tx: &TxBank<T>,
     plan: &mut Plan,
     out: &mut Outbox,
-)
+) -> Option<Entry>
+    requires first { first + length places.old < 2 ^ 16 }
     requires slot { slot.0 < 2 ^ 32 }
-    requires handle { handle + length links.old < 2 ^ 16 }
-    requires room { array_vec_len out.old + 5 * length links.old ≤ 64 }
-    requires wants { length plan.old.wants + length links.old ≤ 16 }
-    ensures enter { (known : Links) → KnowsPlaces links.old known
-        → HoldsPlaces tx.now known
-        → EnterAll links.new known slot.0 handle out.old.items out.new.items plan.old.wants plan.new.wants }
+    requires room { array_vec_len out.old ≤ 59 }
+    requires wants { length plan.old.wants < 16 }
+    ensures knows { (links : Links) → KnowsPlaces places.old links
+        → HoldsPlace tx.now (link_from first handle links) → KnowsPlaces places.new
+        (with_change_from first handle (option_map (link_entered slot.0)) links) }
+    ensures notes { (links : Links) → KnowsPlaces places.old links
+        → HoldsPlace tx.now (link_from first handle links) → out.new.items
+        ≡ out.old.items ++ notes_entering slot.0 (link_from first handle links) }
+    ensures entry { (links : Links) → KnowsPlaces places.old links
+        → HoldsPlace tx.now (link_from first handle links)
+        → result ≡ entry_at slot.0 (link_from first handle links) }
+    ensures wants { (links : Links) → KnowsPlaces places.old links
+        → HoldsPlace tx.now (link_from first handle links) → plan.new.wants
+        ≡ plan.old.wants ++ want_entering slot.0 handle (link_from first handle links) }
     ensures hold { plan.new.hold ≡ plan.old.hold }
-    ensures few { array_vec_len out.new ≤ array_vec_len out.old + 5 * length links.old }
-    ensures few_wants { length plan.new.wants ≤ length plan.old.wants + length links.old }
-    ensures places { length links.new ≡ length links.old }
+    ensures few { array_vec_len out.new ≤ array_vec_len out.old + 5 }
+    ensures few_wants { length plan.new.wants ≤ length plan.old.wants + 1 }
+    ensures places { length places.new ≡ length places.old }
 {
-    let Some((first, rest)) = links.split_first_mut() else {
-        return;
-    };
-    enter_place(first, handle, slot, tx, plan, out);
-    enter_from(rest, handle + 1, slot, tx, plan, out);
+    let (place, rest) = places.split_first_mut()?;
+    if first == handle {
+        enter(place, handle, slot, tx, plan, out)
+    } else {
+        enter_from(rest, first + 1, handle, slot, tx, plan, out)
+    }
 }

@@ -1,22 +1,31 @@
-//! Laws of the open links. The bodies only call the laws that they rest on: the contracts are the
-//! laws.
-ghost use Rattle.std.specs.Prelude.{◌≡◌, ◌≢◌, ◌<◌, ◌≤◌, ◌+◌, ◌==◌, ℕ, Bool, List, Option};
+//! Laws of the open links. The bodies do nothing: the contracts are the laws.
+ghost use Rattle.std.specs.Prelude.{◌≡◌, ◌≢◌, ◌<◌, ◌≤◌, ◌+◌, ℕ, Bool, true, List, Option, Result};
 ghost use Rattle.std.specs.Prelude.{Some, None, length, replicate};
 ghost use Rattle.std.specs.Option.{option_map};
-ghost use Rattle.link_model.specs.Setup.{Setup};
+ghost use Rattle.ble_base.specs.declared.channel_map.ChannelMap.{ChannelMap};
+ghost use Rattle.ble_base.specs.declared.error_codes.ErrCode.{ErrCode};
 ghost use Rattle.acl_banks.specs.declared.pieces.Piece.{Piece};
 ghost use Rattle.acl_banks.specs.Banks.{taken_buffers};
-ghost use Rattle.link_model.specs.Step.{DataGiven, PduFixed, Step};
-ghost use Rattle.link_model.specs.Events.{anchor_of, entries_in};
-ghost use Rattle.open_links.specs.Data.{buffers_taken, link_reported, links_fixed, links_given};
-ghost use Rattle.open_links.specs.Data.{links_reported};
+ghost use Rattle.adv_pdu.specs.Ranges.{IsInRange};
+ghost use Rattle.procedure_values.specs.declared.asks.Ask.{Ask};
+ghost use Rattle.link_model.specs.Setup.{Setup};
+ghost use Rattle.open_links.specs.Ended.{HandlesAscend, IsAmong};
+ghost use Rattle.link_model.specs.ControlSteps.{AreAsksInRange};
+ghost use Rattle.link_model.specs.Step.{DataGiven, Disconnected, PduFixed, ProcedureAsked};
+ghost use Rattle.link_model.specs.Step.{RequestAnswered, Step};
+ghost use Rattle.open_links.specs.Data.{buffers_taken, link_reported, links_fixed};
+ghost use Rattle.open_links.specs.Data.{links_given, links_reported};
+ghost use Rattle.open_links.specs.Hosts.{link_asked_map, links_answered, links_asked};
+ghost use Rattle.open_links.specs.Hosts.{links_asked_map, links_disconnected};
 ghost use Rattle.open_links.specs.Knowing.{HeldLinks, Knows};
-ghost use Rattle.open_links.specs.OpenLinks.{Links, OpenLink, HaveHandles, IsFreeHandle, free_from};
-ghost use Rattle.open_links.specs.OpenLinks.{link_after, link_at, link_served, new_link};
-ghost use Rattle.open_links.specs.OpenLinks.{with_change, with_link, without_link, without_links};
-ghost use Rattle.open_links.specs.Turns.{HandlesAscend, IsAmong, ends_from, is_anchor};
-ghost use Rattle.open_links.specs.Turns.{links_entered, links_staying, place_staying, reason_at};
-ghost use Rattle.open_links.specs.Slots.{Exchange, IsOnTime, link_through};
+ghost use Rattle.open_links.specs.OpenLinks.{Links, OpenLink, HaveHandles, IsFreeHandle};
+ghost use Rattle.open_links.specs.OpenLinks.{free_from, has_entered, link_after};
+ghost use Rattle.open_links.specs.OpenLinks.{link_after_in_event, link_at, new_link};
+ghost use Rattle.open_links.specs.OpenLinks.{with_change, with_link, without_link};
+ghost use Rattle.open_links.specs.OpenLinks.{without_links};
+ghost use Rattle.open_links.specs.Slots.{Exchange, IsOnTime, MayGoThrough, link_through};
+ghost use Rattle.open_links.specs.Turns.{ends_by, enters_in, link_entered, links_entered};
+ghost use Rattle.open_links.specs.Turns.{links_without, place_without, reason_at};
 
 /// The handle of a new link is free and the least free one. There is none exactly where each handle
 /// has a link.
@@ -36,14 +45,6 @@ pub fn a_change_leaves_other_links()
     ensures changed { (handle : ℕ) (change : OpenLink → OpenLink) (links : Links)
         → link_at handle (with_change handle change links)
         ≡ option_map change (link_at handle links) }
-    ensures given { (handle : ℕ) (start : Bool) (body : List ℕ) (links : Links)
-        → link_at handle (links_given handle start body links)
-        ≡ option_map (link_after (DataGiven start body)) (link_at handle links) }
-    ensures fixed { (handle : ℕ) (links : Links) → link_at handle (links_fixed handle links)
-        ≡ option_map (link_after PduFixed) (link_at handle links) }
-    ensures reported { (handle : ℕ) (links : Links)
-        → link_at handle (links_reported links)
-        ≡ option_map link_reported (link_at handle links) }
     ensures others_opening { (setup : Setup) (other : ℕ) (links : Links)
         → other ≢ setup.link.handle
         → link_at other (with_link setup links) ≡ link_at other links }
@@ -52,23 +53,65 @@ pub fn a_change_leaves_other_links()
     ensures others_changing { (handle other : ℕ) (change : OpenLink → OpenLink) (links : Links)
         → other ≢ handle
         → link_at other (with_change handle change links) ≡ link_at other links }
+{}
+
+/// A packet of the host, a PDU that is fixed, an event that is entered, and what the host asks for,
+/// answers and ends change the link under their handle and no other. Complete packets that are
+/// reported, and a map that the host gives, change each link by itself.
+#[tactic(auto, using(crate::proofs::Handles::changes))]
+pub fn what_is_done_under_a_handle_leaves_others()
+    ensures given { (handle : ℕ) (start : Bool) (body : List ℕ) (links : Links)
+        → link_at handle (links_given handle start body links)
+        ≡ option_map (link_after (DataGiven start body)) (link_at handle links) }
+    ensures fixed { (handle : ℕ) (links : Links) → link_at handle (links_fixed handle links)
+        ≡ option_map (link_after_in_event PduFixed) (link_at handle links) }
+    ensures entered { (slot handle : ℕ) (links : Links)
+        → link_at handle (links_entered slot handle links)
+        ≡ option_map (link_entered slot) (link_at handle links) }
+    ensures asked { (handle : ℕ) (ask : Ask) (links : Links)
+        → link_at handle (links_asked handle ask links)
+        ≡ option_map (link_after (ProcedureAsked ask)) (link_at handle links) }
+    ensures answered { (handle : ℕ) (answer : Result Ask ErrCode) (links : Links)
+        → link_at handle (links_answered handle answer links)
+        ≡ option_map (link_after (RequestAnswered answer)) (link_at handle links) }
+    ensures ended { (handle slot : ℕ) (reason : ErrCode) (links : Links)
+        → link_at handle (links_disconnected handle reason slot links)
+        ≡ option_map (link_after (Disconnected reason slot)) (link_at handle links) }
+    ensures reported { (handle : ℕ) (links : Links)
+        → link_at handle (links_reported links)
+        ≡ option_map link_reported (link_at handle links) }
+    ensures asked_map { (handle : ℕ) (map : ChannelMap) (links : Links)
+        → link_at handle (links_asked_map map links)
+        ≡ option_map (link_asked_map map) (link_at handle links) }
     ensures others_giving { (handle other : ℕ) (start : Bool) (body : List ℕ) (links : Links)
         → other ≢ handle
         → link_at other (links_given handle start body links) ≡ link_at other links }
     ensures others_fixing { (handle other : ℕ) (links : Links) → other ≢ handle
         → link_at other (links_fixed handle links) ≡ link_at other links }
+    ensures others_entering { (slot handle other : ℕ) (links : Links) → other ≢ handle
+        → link_at other (links_entered slot handle links) ≡ link_at other links }
+    ensures others_asking { (handle other : ℕ) (ask : Ask) (links : Links) → other ≢ handle
+        → link_at other (links_asked handle ask links) ≡ link_at other links }
+    ensures others_answering { (handle other : ℕ) (answer : Result Ask ErrCode) (links : Links)
+        → other ≢ handle
+        → link_at other (links_answered handle answer links) ≡ link_at other links }
+    ensures others_ending { (handle other slot : ℕ) (reason : ErrCode) (links : Links)
+        → other ≢ handle
+        → link_at other (links_disconnected handle reason slot links) ≡ link_at other links }
 {}
 
-/// The links that end at the start of a turn are given by ascending handle. Each link that is due is
-/// given with its reason and is no longer open, and each other one stays as it is.
+/// The links that end for a reason, at the start of a turn or at its end, are given by ascending
+/// handle. Each link that has a reason is given with it and is no longer open, and each other one
+/// stays as it is.
 #[tactic(auto, using(crate::proofs::Ends::ends))]
-pub fn links_end_where_due()
-    ensures ascend { (slot : ℕ) (links : Links) → HandlesAscend 0 (ends_from slot 0 links) }
-    ensures given { (slot handle : ℕ) (links : Links)
-        → IsAmong handle (reason_at slot (link_at handle links)) (ends_from slot 0 links) }
-    ensures staying { (slot handle : ℕ) (links : Links)
-        → link_at handle (links_staying slot links)
-        ≡ place_staying slot (link_at handle links) }
+pub fn links_end_where_they_have_a_reason()
+    ensures ascend { (reason : OpenLink → Option ℕ) (links : Links)
+        → HandlesAscend 0 (ends_by reason 0 links) }
+    ensures given { (reason : OpenLink → Option ℕ) (handle : ℕ) (links : Links)
+        → IsAmong handle (reason_at reason (link_at handle links)) (ends_by reason 0 links) }
+    ensures staying { (reason : OpenLink → Option ℕ) (handle : ℕ) (links : Links)
+        → link_at handle (links_without reason links)
+        ≡ place_without reason (link_at handle links) }
 {}
 
 /// No two links have one handle: each is under the handle of its setup, and every call keeps that.
@@ -85,10 +128,14 @@ pub fn each_link_has_its_own_handle()
     ensures changing { (handle : ℕ) (change : OpenLink → OpenLink) (links : Links)
         → ((link : OpenLink) → (change link).setup ≡ link.setup) → HaveHandles 0 links
         → HaveHandles 0 (with_change handle change links) }
-    ensures ending { (slot : ℕ) (links : Links) → HaveHandles 0 links
-        → HaveHandles 0 (links_staying slot links) }
-    ensures entering { (slot : ℕ) (links : Links) → HaveHandles 0 links
-        → HaveHandles 0 (links_entered slot links) }
+    ensures exchanging { (handle : ℕ) (step : Step) (links : Links) → HaveHandles 0 links
+        → HaveHandles 0 (with_change handle (link_after_in_event step) links) }
+    ensures entering { (slot handle : ℕ) (links : Links) → HaveHandles 0 links
+        → HaveHandles 0 (links_entered slot handle links) }
+    ensures ending { (reason : OpenLink → Option ℕ) (links : Links) → HaveHandles 0 links
+        → HaveHandles 0 (links_without reason links) }
+    ensures asking { (map : ChannelMap) (links : Links) → HaveHandles 0 links
+        → HaveHandles 0 (links_asked_map map links) }
     ensures reporting { (links : Links) → HaveHandles 0 links
         → HaveHandles 0 (links_reported links) }
 {}
@@ -103,10 +150,10 @@ pub fn each_call_keeps_the_places()
         → length (without_link handle links) ≡ length links }
     ensures changing { (handle : ℕ) (change : OpenLink → OpenLink) (links : Links)
         → length (with_change handle change links) ≡ length links }
-    ensures ending { (slot : ℕ) (links : Links)
-        → length (links_staying slot links) ≡ length links }
-    ensures entering { (slot : ℕ) (links : Links)
-        → length (links_entered slot links) ≡ length links }
+    ensures ending { (reason : OpenLink → Option ℕ) (links : Links)
+        → length (links_without reason links) ≡ length links }
+    ensures asking { (map : ChannelMap) (links : Links)
+        → length (links_asked_map map links) ≡ length links }
     ensures resetting { (links : Links) → length (without_links links) ≡ length links }
     ensures reporting { (links : Links) → length (links_reported links) ≡ length links }
 {}
@@ -118,16 +165,26 @@ pub fn buffers_are_those_of_open_links()
         → Knows held links received → taken_buffers held.bank ≡ buffers_taken links }
 {}
 
-/// A link enters each event in the slot of its anchor, whether it wants the radio or not. At the
-/// start of each slot it has entered exactly the events whose anchors are in earlier slots,
-/// whatever it sent and heard (Core 5.2, volume 6 part B, section 4.5.1).
-pub fn a_link_enters_each_event()
-    ensures at_its_anchor { (slot : ℕ) (link : OpenLink) → is_anchor slot link
-        ≡ (anchor_of link.setup (entries_in link.past) == slot) }
+/// A link that enters its event in each slot of its anchor misses none: at the start of each slot
+/// the next anchor of a link that goes on is in this slot or later, whatever it sent and received
+/// and whatever its host asked for (Core 5.2, volume 6 part B, section 4.5.1).
+///
+/// The CONNECT_IND of the link has fields in range, and so are the values that its host asks for
+/// and answers with. Octets reach it only in the two exchanges of its event.
+pub fn no_anchor_is_missed()
     ensures opened { (setup : Setup) → IsOnTime (setup.opened + 1) (new_link setup) }
     ensures slot_after_slot { (slot : ℕ) (slots : List (List Exchange)) (link : OpenLink)
-        → 1 ≤ link.setup.link.fields.interval → IsOnTime slot link
+        → IsInRange link.setup.link.fields → AreAsksInRange link.past
+        → MayGoThrough slot slots link → IsOnTime slot link
         → IsOnTime (slot + length slots) (link_through slot slots link) }
-{
-    link_model::events_follow_the_connect_ind();
-}
+{}
+
+/// A link that enters its event has entered an event, and whatever happens to it later leaves that
+/// so. From then on it sends and receives.
+#[tactic(auto, using(crate::proofs::OnTime::enters_an_event, crate::proofs::OnTime::stays_entered))]
+pub fn a_link_exchanges_from_its_first_event_on()
+    ensures enters { (slot : ℕ) (link : OpenLink) → enters_in slot link ≡ true
+        → has_entered (link_entered slot link) ≡ true }
+    ensures stays { (step : Step) (link : OpenLink) → has_entered link ≡ true
+        → has_entered (link_after step link) ≡ true }
+{}

@@ -1,40 +1,47 @@
 //! The open links of a controller.
 #![tactic(auto, unfolding(crate::specs::Knowing::Knows))]
 
-ghost use Rattle.std.specs.Prelude.{◌≡◌, ◌*◌, ◌+◌, ◌<◌, ◌≤◌, ◌==◌, ◌^◌, ◌++◌, length, replicate};
+ghost use Rattle.std.specs.Prelude.{◌≡◌, ◌+◌, ◌<◌, ◌≤◌, ◌^◌, ◌++◌, length, replicate};
 ghost use Rattle.std.specs.Prelude.{IfOk, IfSome, List, None, [], drop, nat_lt, slice_get, ℕ};
 ghost use Rattle.std.specs.Option.{option_map};
 ghost use Rattle.arrayvec.specs.ArrayVec.{array_vec_len};
 ghost use Rattle.acl_banks.specs.declared.pieces.Piece.{Piece};
 ghost use Rattle.adv_pdu.specs.Ranges.{IsInRange};
-ghost use Rattle.link_model.specs.End.{replies_of};
-ghost use Rattle.link_model.specs.Step.{PacketSent, PacketReceived};
+ghost use Rattle.open_links.specs.Ended.{received_ended, received_without};
+ghost use Rattle.link_model.specs.Facts.{params_of};
 ghost use Rattle.link_model.specs.Packets.{packet_sent, verdict_of};
-ghost use Rattle.link_model.specs.Times.{has_second_exchange};
-ghost use Rattle.open_links.specs.Data.{completed_from, kept_at, links_fixed, links_offered};
-ghost use Rattle.open_links.specs.Data.{links_reported, notes_at, offer_of, received_ended};
-ghost use Rattle.open_links.specs.Data.{received_past, received_without};
+ghost use Rattle.link_model.specs.Receiving.{HasPayloadLengths};
+ghost use Rattle.link_model.specs.Step.{PacketReceived, PacketSent};
+ghost use Rattle.link_model.specs.Times.{has_second_exchange, span_of};
+ghost use Rattle.open_links.specs.Data.{completed_from, kept_at, links_fixed};
+ghost use Rattle.open_links.specs.Data.{links_offered, links_reported, notes_at, offer_of};
+ghost use Rattle.open_links.specs.Data.{received_past};
+ghost use Rattle.open_links.specs.Hearing.{step_at};
 ghost use Rattle.open_links.specs.OpenLinks.{Links, facts_in, free_from, handles_from};
-ghost use Rattle.open_links.specs.OpenLinks.{has_link_between, link_after, link_at, link_served};
-ghost use Rattle.open_links.specs.OpenLinks.{with_change, with_link, without_link, without_links};
-ghost use Rattle.open_links.specs.Turns.{ends_from, links_entered, links_staying, notes_entering};
-ghost use Rattle.open_links.specs.Turns.{wants_from};
+ghost use Rattle.open_links.specs.OpenLinks.{has_entered, has_link_between, in_event};
+ghost use Rattle.open_links.specs.OpenLinks.{link_after_in_event, link_at, link_served};
+ghost use Rattle.open_links.specs.OpenLinks.{with_change, with_link, without_link};
+ghost use Rattle.open_links.specs.OpenLinks.{without_links};
+ghost use Rattle.open_links.specs.Turns.{due_in, ending_in, ends_by, entry_at};
+ghost use Rattle.open_links.specs.Turns.{links_entered, links_without, notes_entering};
+ghost use Rattle.open_links.specs.Turns.{want_entering};
 ghost use Rattle.open_links.specs.Knowing.{HeldLinks, Knows, KnowsPlace};
 ghost use Rattle.open_links.specs.Sound.{AreSound};
 
 use crate::ending::{
-    MOST_LINKS, drop_ended, drop_received, drop_received_if, drop_unsent, shut_due_from, shut_from,
+    drop_ended, drop_received, drop_received_if, drop_unsent, shut_due_from, shut_ended_from,
+    shut_from,
 };
 use crate::entering::enter_from;
-use crate::places::{OpenEnd, free_from, is_any_between};
+use crate::places::{OpenEnd, count, free_from, is_any_between};
 use crate::reporting::{completed_from, offer, report_all};
 use crate::using::{hear_from, link_from, put_from, ready_from, send_from, serve_from};
-use crate::{Completed, LinkEnded, Offer};
+use crate::{Completed, LinkEnded, MOST_LINKS, Offer};
 use acl_banks::{Piece, RxBank, TxBank};
 use arrayvec::ArrayVec;
 use ble_base::{AIR_PACKET_OCTETS, Address, Outbox, SlotNo, Verdict};
 use instants::Params;
-use link_end::{LinkSetup, LinkStep};
+use link_end::{Entry, LinkSetup, LinkStep};
 use slot_plan::Plan;
 use std::alloc::{AllocError, Global};
 use std::array;
@@ -43,21 +50,21 @@ use std::marker::Model;
 /// The open links of a controller that holds at most `L`, each under its handle, 0 to `L` - 1.
 ///
 /// Data goes through two banks that all links share. One has at most `T` packets of the host, each
-/// of up to 251 octets. They go out in pieces of up to 27 octets, and each takes its buffer until
-/// its last octet is acknowledged. The other has at most `R` received pieces, each of up to 251
-/// octets, that wait for the host.
+/// of up to 251 octets. They go out in pieces of up to the effective length, and each takes its
+/// buffer until its last octet is acknowledged. The other has at most `R` received pieces, each of
+/// up to 251 octets, that wait for the host.
 ///
 /// A slot is 1.25 ms. Octets on the air are in the order of the air, without preamble.
 #[derive(Drop)]
 pub struct OpenLinks<const L: usize, const T: usize, const R: usize> {
     /// What is under each handle, from 0 on.
-    places: [Option<OpenEnd>; L],
-    tx: TxBank<T>,
-    rx: RxBank<R>,
+    pub(crate) places: [Option<OpenEnd>; L],
+    pub(crate) tx: TxBank<T>,
+    pub(crate) rx: RxBank<R>,
     /// All octets were taken before this slot.
-    heard_to: u64,
+    pub(crate) heard_to: u64,
     /// How often octets were taken since complete packets were reported.
-    unreported: u16,
+    pub(crate) unreported: u16,
 }
 
 impl<const L: usize, const T: usize, const R: usize> Model for OpenLinks<L, T, R> {
@@ -117,6 +124,15 @@ impl<const L: usize, const T: usize, const R: usize> OpenLinks<L, T, R> {
         free_from(&self.places, 0)
     }
 
+    /// How many links may be open: their handles are below that.
+    pub fn places(&self) -> u16
+        ensures value { result ≡ L }
+        ensures known { (links : Links) (received : List (ℕ × Piece))
+            → Knows self.now links received → result ≡ length links }
+    {
+        count(&self.places)
+    }
+
     /// Opens a link under the handle of this setup, from a CONNECT_IND in this slot. An open link
     /// with the handle is shut first, and its data is dropped.
     pub fn open(&mut self, setup: LinkSetup, slot: SlotNo)
@@ -171,20 +187,41 @@ impl<const L: usize, const T: usize, const R: usize> OpenLinks<L, T, R> {
         handles
     }
 
-    /// Shuts the links that end by themselves at the start of a turn in this slot, because nothing
-    /// good was received in time. Their data is dropped in both directions. It gives each with its
-    /// reason, by ascending handle.
+    /// Shuts the links that end by themselves at the start of a turn in this slot: nothing good was
+    /// received in time, the peer has not answered a procedure in time, or a Disconnect of the host
+    /// was not acknowledged in time. Their data is dropped in both directions. It gives each with
+    /// its reason, by ascending handle.
     pub fn shut_due(&mut self, slot: SlotNo) -> ArrayVec<LinkEnded, MOST_LINKS>
         ensures knows { (links : Links) (received : List (ℕ × Piece))
-            → Knows self.old links received → Knows self.new (links_staying slot.0 links)
-            (received_ended (ends_from slot.0 0 links) received) }
+            → Knows self.old links received → Knows self.new (links_without (due_in slot.0) links)
+            (received_ended (ends_by (due_in slot.0) 0 links) received) }
         ensures ends { (links : Links) (received : List (ℕ × Piece))
-            → Knows self.old links received → result.items ≡ ends_from slot.0 0 links }
+            → Knows self.old links received → result.items ≡ ends_by (due_in slot.0) 0 links }
         ensures counts { (self.new.heard_to ≡ self.old.heard_to)
             × (self.new.unreported ≡ self.old.unreported) }
     {
         let mut ended = ArrayVec::new();
         shut_due_from(&mut self.places, 0, slot, &mut ended);
+        drop_ended(ended.as_slice(), &mut self.tx, &mut self.rx);
+        ended
+    }
+
+    /// Shuts the links that end at the end of a turn: LL_TERMINATE_IND of this end is acknowledged,
+    /// one of its procedures ended the link, or a packet was sent after LL_TERMINATE_IND of the
+    /// peer was taken (Core 5.2, volume 6 part B, section 5.1.6). Their data is dropped in both
+    /// directions. It gives each with its reason, by ascending handle.
+    pub fn shut_ended(&mut self) -> ArrayVec<LinkEnded, MOST_LINKS>
+        ensures knows { (links : Links) (received : List (ℕ × Piece))
+            → Knows self.old links received → Knows self.new (links_without ending_in links)
+            (received_ended (ends_by ending_in 0 links) received) }
+        ensures ends { (links : Links) (received : List (ℕ × Piece))
+            → Knows self.old links received → result.items ≡ ends_by ending_in 0 links }
+        ensures few { length result.items ≤ L }
+        ensures counts { (self.new.heard_to ≡ self.old.heard_to)
+            × (self.new.unreported ≡ self.old.unreported) }
+    {
+        let mut ended = ArrayVec::new();
+        shut_ended_from(&mut self.places, 0, &mut ended);
         drop_ended(ended.as_slice(), &mut self.tx, &mut self.rx);
         ended
     }
@@ -198,28 +235,38 @@ impl<const L: usize, const T: usize, const R: usize> OpenLinks<L, T, R> {
         is_any_between(&self.places, own, peer)
     }
 
-    /// The links that have an anchor in this slot enter the event, by ascending handle. Each event
-    /// is noted. A link that wants the radio for its event is added to the plan, with the slot in
-    /// which it had the radio last.
-    pub fn enter(&mut self, slot: SlotNo, plan: &mut Plan, out: &mut Outbox)
+    /// The link under a handle enters its event, if it is open, goes on and has its anchor in this
+    /// slot. The event is noted. A link that wants the radio for it is added to the plan, with the
+    /// slot in which it had the radio last. It gives what comes of the event, and None where it
+    /// enters none.
+    pub fn enter(
+        &mut self,
+        handle: u16,
+        slot: SlotNo,
+        plan: &mut Plan,
+        out: &mut Outbox,
+    ) -> Option<Entry>
         requires slot { slot.0 < 2 ^ 32 }
-        requires room { array_vec_len out.old + 5 * L ≤ 64 }
-        requires wants { length plan.old.wants + L ≤ 16 }
+        requires room { array_vec_len out.old ≤ 59 }
+        requires wants { length plan.old.wants < 16 }
         ensures knows { (links : Links) (received : List (ℕ × Piece))
-            → Knows self.old links received → Knows self.new (links_entered slot.0 links) received }
+            → Knows self.old links received
+            → Knows self.new (links_entered slot.0 handle links) received }
         ensures notes { (links : Links) (received : List (ℕ × Piece))
             → Knows self.old links received
-            → out.new.items ≡ out.old.items ++ notes_entering slot.0 links }
+            → out.new.items ≡ out.old.items ++ notes_entering slot.0 (link_at handle links) }
+        ensures entry { (links : Links) (received : List (ℕ × Piece))
+            → Knows self.old links received → result ≡ entry_at slot.0 (link_at handle links) }
         ensures wants { (links : Links) (received : List (ℕ × Piece))
-            → Knows self.old links received
-            → plan.new.wants ≡ plan.old.wants ++ wants_from slot.0 0 links }
+            → Knows self.old links received → plan.new.wants
+            ≡ plan.old.wants ++ want_entering slot.0 handle (link_at handle links) }
         ensures hold { plan.new.hold ≡ plan.old.hold }
-        ensures few { array_vec_len out.new ≤ array_vec_len out.old + 5 * L }
-        ensures few_wants { length plan.new.wants ≤ length plan.old.wants + L }
+        ensures few { array_vec_len out.new ≤ array_vec_len out.old + 5 }
+        ensures few_wants { length plan.new.wants ≤ length plan.old.wants + 1 }
         ensures counts { (self.new.heard_to ≡ self.old.heard_to)
             × (self.new.unreported ≡ self.old.unreported) }
     {
-        enter_from(&mut self.places, 0, slot, &self.tx, plan, out);
+        enter_from(&mut self.places, 0, handle, slot, &self.tx, plan, out)
     }
 
     /// Keeps that the link under a handle, if it is open, has the radio in this slot. Of two links
@@ -234,10 +281,10 @@ impl<const L: usize, const T: usize, const R: usize> OpenLinks<L, T, R> {
         serve_from(&mut self.places, 0, handle, slot);
     }
 
-    /// The link under a handle, if it is open, fixes the PDU that it sends after the last one is
-    /// acknowledged: the next piece of its data, of up to 27 octets, or an empty PDU where no data
-    /// waits. It is called before [`OpenLinks::to_send`], as a turn begins in which the link may
-    /// send.
+    /// The link under a handle, if it is open and entered an event, fixes the PDU that it sends
+    /// after the last one is acknowledged: a control PDU that may be sent, or else the next piece
+    /// of its data, of up to the effective length, or an empty PDU. It is called before
+    /// [`OpenLinks::to_send`], as a turn begins in which the link may send.
     pub fn ready(&mut self, handle: u16)
         ensures knows { (links : Links) (received : List (ℕ × Piece))
             → Knows self.old links received → Knows self.new (links_fixed handle links) received }
@@ -249,7 +296,8 @@ impl<const L: usize, const T: usize, const R: usize> OpenLinks<L, T, R> {
 
     /// The packet that the link under a handle sends in this slot, from its access address to its
     /// CRC. It carries the last PDU again until that is acknowledged, and then the one that was
-    /// fixed. A new PDU in it that is not empty is noted. None where the link is not open.
+    /// fixed. A new PDU in it that is not empty is noted. None where the link is not open or has
+    /// entered no event.
     pub fn to_send(
         &mut self,
         handle: u16,
@@ -260,14 +308,16 @@ impl<const L: usize, const T: usize, const R: usize> OpenLinks<L, T, R> {
         requires room { array_vec_len out.old ≤ 59 }
         ensures knows { (links : Links) (received : List (ℕ × Piece))
             → Knows self.old links received
-            → Knows self.new (with_change handle (link_after (PacketSent slot.0)) links) received }
+            → Knows self.new (with_change handle (link_after_in_event (PacketSent slot.0)) links)
+            received }
         ensures notes { (links : Links) (received : List (ℕ × Piece))
             → Knows self.old links received → out.new.items
-            ≡ out.old.items ++ notes_at (PacketSent slot.0) (link_at handle links) }
+            ≡ out.old.items ++ notes_at (PacketSent slot.0) (in_event (link_at handle links)) }
         ensures packet { (links : Links) (received : List (ℕ × Piece))
             → Knows self.old links received
             → option_map (λ packet. packet.items) result
-            ≡ option_map (λ link. packet_sent link.setup (facts_in link)) (link_at handle links) }
+            ≡ option_map (λ link. packet_sent link.setup (facts_in link))
+            (in_event (link_at handle links)) }
         ensures few { array_vec_len out.new ≤ array_vec_len out.old + 5 }
         ensures counts { (self.new.heard_to ≡ self.old.heard_to)
             × (self.new.unreported ≡ self.old.unreported) }
@@ -287,11 +337,12 @@ impl<const L: usize, const T: usize, const R: usize> OpenLinks<L, T, R> {
     }
 
     /// The link under a handle takes octets on its channel in this slot, from the access address
-    /// on, and says whether it answers them. None where it is not open.
+    /// on, and says what comes of them. None where it is not open or has entered no event.
     ///
     /// Only a good packet changes the link: it may acknowledge the last PDU, and may carry a new
     /// one. New data is kept for the host where there is room. Without room it is not accepted, so
-    /// that the peer sends it again. A new PDU that is not empty is noted as it is accepted.
+    /// that the peer sends it again. The procedures of the link take a new control PDU. A new PDU
+    /// that is not empty is noted as it is accepted, and so is a procedure that is done or refused.
     ///
     /// Octets are taken at most once in a slot, in ascending slots, and at most 65535 times before
     /// complete packets are reported again.
@@ -308,18 +359,18 @@ impl<const L: usize, const T: usize, const R: usize> OpenLinks<L, T, R> {
         requires room { array_vec_len out.old ≤ 59 }
         ensures knows { (links : Links) (received : List (ℕ × Piece))
             → Knows self.old links received → Knows self.new
-            (with_change handle (link_after
+            (with_change handle (link_after_in_event
             (PacketReceived slot.0 octets.now (nat_lt (length received) R))) links)
-            (received ++ kept_at octets.now (nat_lt (length received) R) (link_at handle links)) }
+            (received ++ kept_at slot.0 octets.now (nat_lt (length received) R)
+            (in_event (link_at handle links))) }
         ensures notes { (links : Links) (received : List (ℕ × Piece))
             → Knows self.old links received → out.new.items ≡ out.old.items
             ++ notes_at (PacketReceived slot.0 octets.now (nat_lt (length received) R))
-            (link_at handle links) }
-        ensures reply { (links : Links) (received : List (ℕ × Piece))
-            → Knows self.old links received
-            → option_map (λ step. step.reply) result
-            ≡ option_map (λ link. replies_of link.setup (facts_in link) octets.now)
-            (link_at handle links) }
+            (in_event (link_at handle links)) }
+        ensures step { (links : Links) (received : List (ℕ × Piece))
+            → Knows self.old links received → result
+            ≡ step_at slot.0 octets.now (nat_lt (length received) R) (link_at handle links) }
+        ensures payloads { IfSome result (λ step. HasPayloadLengths step.effect) }
         ensures few { array_vec_len out.new ≤ array_vec_len out.old + 5 }
         ensures counts { (self.new.heard_to ≡ slot.0 + 1)
             × (self.new.unreported ≡ self.old.unreported + 1) }
@@ -340,6 +391,26 @@ impl<const L: usize, const T: usize, const R: usize> OpenLinks<L, T, R> {
             (link_at handle links) }
     {
         Some(self.link(handle)?.end.channel())
+    }
+
+    /// Whether the link under a handle has entered an event: before its first one it neither sends
+    /// nor receives. None where the link is not open.
+    pub fn has_entered(&self, handle: u16) -> Option<bool>
+        ensures { (links : Links) (received : List (ℕ × Piece))
+            → Knows self.now links received
+            → result ≡ option_map has_entered (link_at handle links) }
+    {
+        Some(self.link(handle)?.end.has_entered())
+    }
+
+    /// The slots for which an event of the link under a handle holds the radio: 2 while no payload
+    /// is longer than 27 octets, else 4. None where the link is not open.
+    pub fn span(&self, handle: u16) -> Option<u8>
+        ensures { (links : Links) (received : List (ℕ × Piece))
+            → Knows self.now links received
+            → result ≡ option_map (λ link. span_of (facts_in link)) (link_at handle links) }
+    {
+        Some(self.link(handle)?.end.span())
     }
 
     /// Whether the event that the link under a handle entered last has a second exchange, in the
@@ -367,8 +438,7 @@ impl<const L: usize, const T: usize, const R: usize> OpenLinks<L, T, R> {
     pub fn params(&self, handle: u16) -> Option<Params>
         ensures { (links : Links) (received : List (ℕ × Piece))
             → Knows self.now links received
-            → result ≡ option_map (λ link. (facts_in link).parameters.params)
-            (link_at handle links) }
+            → result ≡ option_map (λ link. params_of (facts_in link)) (link_at handle links) }
     {
         Some(self.link(handle)?.end.params())
     }
@@ -412,6 +482,7 @@ impl<const L: usize, const T: usize, const R: usize> OpenLinks<L, T, R> {
             → Knows self.old links received → result.items ≡ completed_from 0 links }
         ensures knows { (links : Links) (received : List (ℕ × Piece))
             → Knows self.old links received → Knows self.new (links_reported links) received }
+        ensures few { length result.items ≤ L }
         ensures counts { (self.new.heard_to ≡ self.old.heard_to) × (self.new.unreported ≡ 0) }
     {
         let mut completed = ArrayVec::new();
@@ -422,7 +493,7 @@ impl<const L: usize, const T: usize, const R: usize> OpenLinks<L, T, R> {
     }
 
     /// The link under a handle.
-    fn link(&self, handle: u16) -> Option<&OpenEnd>
+    pub(crate) fn link(&self, handle: u16) -> Option<&OpenEnd>
         ensures { (links : Links) (received : List (ℕ × Piece))
             → Knows self.now links received
             → KnowsPlace (option_map (λ link. link.now) result) (link_at handle links) }

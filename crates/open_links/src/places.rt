@@ -11,7 +11,7 @@ use scan_init::is_same_address;
 use std::marker::Model;
 
 /// An open link: its end, and the slot in which it had the radio last.
-#[derive(Debug, Drop)]
+#[derive(Drop)]
 pub struct OpenEnd {
     pub(crate) end: LinkEnd,
     pub(crate) last_served: u64,
@@ -48,6 +48,16 @@ impl OpenEnd {
         let setup = self.end.setup();
         is_same_address(own, &setup.own) && is_same_address(peer, &setup.peer)
     }
+}
+
+/// How many places there are.
+#[tactic(auto, using(crate::proofs::Counts::count_known))]
+pub(crate) fn count(places: &[Option<OpenEnd>]) -> u16
+    requires { length places.now < 2 ^ 16 }
+    ensures value { result ≡ length places.now }
+    ensures known { (links : Links) → KnowsPlaces places.now links → result ≡ length links }
+{
+    places.len() as u16
 }
 
 /// The handle of the first place, from this handle on, with no link.

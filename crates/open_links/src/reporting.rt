@@ -1,15 +1,16 @@
 //! Complete packets that are reported, and packets of the host.
-ghost use Rattle.std.specs.Prelude.{◌≡◌, ◌<◌, ◌≤◌, ◌==◌, ◌+◌, ◌^◌, ◌++◌, Option, is_some, if◌then◌else◌};
-ghost use Rattle.std.specs.Prelude.{fold, map, length};
+ghost use Rattle.std.specs.Prelude.{◌≡◌, ◌<◌, ◌≤◌, ◌==◌, ◌+◌, ◌^◌, ◌++◌, Option, is_some};
+ghost use Rattle.std.specs.Prelude.{fold, if◌then◌else◌, map, length};
 ghost use Rattle.acl_banks.specs.Banks.{bank_after_credited, taken_buffers};
 ghost use Rattle.open_links.specs.declared.offers.Offer.TheVariants.{Kept};
-ghost use Rattle.open_links.specs.Data.{completed_by, completed_from, offer_by};
+ghost use Rattle.open_links.specs.Offered.{completed_by};
+ghost use Rattle.open_links.specs.Offered.{bank_offered};
+ghost use Rattle.open_links.specs.Data.{completed_from, offer_by};
 ghost use Rattle.open_links.specs.OpenLinks.{HaveHandles, Links, OpenLink};
-ghost use Rattle.open_links.specs.Knowing.{HoldsPlaces, KnowsPlaces, bank_offered};
+ghost use Rattle.open_links.specs.Knowing.{HoldsPlaces, KnowsPlaces};
 
-use crate::ending::MOST_LINKS;
 use crate::places::OpenEnd;
-use crate::{Completed, Offer};
+use crate::{Completed, MOST_LINKS, Offer};
 use acl_banks::{Overflow, TxBank};
 use arrayvec::ArrayVec;
 
@@ -22,9 +23,10 @@ pub(crate) fn completed_from<const T: usize>(
 )
     requires handle { handle + length places.now < 2 ^ 16 }
     requires room { length completed.old.items + length places.now ≤ 6 }
-    ensures { (links : Links) → KnowsPlaces places.now links → HaveHandles handle links
+    ensures items { (links : Links) → KnowsPlaces places.now links → HaveHandles handle links
         → HoldsPlaces tx.now links
         → completed.new.items ≡ completed.old.items ++ completed_from handle links }
+    ensures few { length completed.new.items ≤ length completed.old.items + length places.now }
 {
     let Some((first, rest)) = places.split_first() else {
         return;

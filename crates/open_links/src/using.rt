@@ -1,17 +1,20 @@
 //! What happens to the link under one handle.
-ghost use Rattle.std.specs.Prelude.{◌≡◌, ◌<◌, ◌≤◌, ◌+◌, ◌^◌, ◌++◌, Option, Some, length, nat_lt};
+ghost use Rattle.std.specs.Prelude.{◌≡◌, ◌<◌, ◌≤◌, ◌+◌, ◌^◌, ◌++◌, IfSome, Option, Some, length};
+ghost use Rattle.std.specs.Prelude.{nat_lt};
 ghost use Rattle.std.specs.Option.{option_map};
 ghost use Rattle.arrayvec.specs.ArrayVec.{array_vec_len};
-ghost use Rattle.link_model.specs.End.{replies_of};
 ghost use Rattle.link_model.specs.Packets.{packet_sent};
+ghost use Rattle.link_model.specs.Receiving.{HasPayloadLengths};
 ghost use Rattle.link_model.specs.Step.{PacketReceived, PacketSent, PduFixed};
 ghost use Rattle.open_links.specs.Data.{kept_at, notes_at};
-ghost use Rattle.open_links.specs.OpenLinks.{Links, OpenLink, facts_in, link_after, link_from};
-ghost use Rattle.open_links.specs.OpenLinks.{link_served, with_change_from};
+ghost use Rattle.open_links.specs.Hearing.{step_at};
+ghost use Rattle.open_links.specs.OpenLinks.{Links, OpenLink, facts_in, in_event};
+ghost use Rattle.open_links.specs.OpenLinks.{link_after_in_event, link_from, link_served};
+ghost use Rattle.open_links.specs.OpenLinks.{with_change_from};
 ghost use Rattle.link_end.specs.Tied.{IsTied};
-ghost use Rattle.open_links.specs.Knowing.{BankGoes, BankStep, CanHear, CanHearIn, HoldsPlace};
-ghost use Rattle.open_links.specs.Knowing.{IsTiedIn, KnowsLink, KnowsPlace, KnowsPlaces};
-ghost use Rattle.open_links.specs.Knowing.{held_from};
+ghost use Rattle.open_links.specs.Knowing.{BankGoes, BankStep, CanHear, CanHearIn};
+ghost use Rattle.open_links.specs.Knowing.{HoldsPlace, IsTiedIn, KnowsLink, KnowsPlace};
+ghost use Rattle.open_links.specs.Knowing.{KnowsPlaces, held_from};
 
 use crate::places::OpenEnd;
 use acl_banks::{RxBank, TxBank};
@@ -82,7 +85,7 @@ fn serve(place: &mut Option<OpenEnd>, slot: SlotNo)
     }
 }
 
-/// The link under a handle fixes the PDU that it sends next.
+/// The link under a handle fixes the PDU that it sends next, once it entered an event.
 pub(crate) fn ready_from<const T: usize>(
     places: &mut [Option<OpenEnd>],
     first: u16,
@@ -93,9 +96,9 @@ pub(crate) fn ready_from<const T: usize>(
     requires tied { IsTiedIn tx.now (held_from first handle places.old) }
     ensures knows { (links : Links) → KnowsPlaces places.old links
         → HoldsPlace tx.now (link_from first handle links) → KnowsPlaces places.new
-        (with_change_from first handle (option_map (link_after PduFixed)) links) }
+        (with_change_from first handle (option_map (link_after_in_event PduFixed)) links) }
     ensures bank { (links : Links) → KnowsPlaces places.old links
-        → BankGoes (link_after PduFixed) (link_from first handle links) tx.now tx.now }
+        → BankGoes (link_after_in_event PduFixed) (link_from first handle links) tx.now tx.now }
     ensures places { length places.new ≡ length places.old }
 {
     let Some((place, rest)) = places.split_first_mut() else {
@@ -111,16 +114,16 @@ pub(crate) fn ready_from<const T: usize>(
 fn ready<const T: usize>(place: &mut Option<OpenEnd>, tx: &TxBank<T>)
     requires { IsTiedIn tx.now place.old }
     ensures knows { (link : Option OpenLink) → KnowsPlace place.old link → HoldsPlace tx.now link
-        → KnowsPlace place.new (option_map (link_after PduFixed) link) }
+        → KnowsPlace place.new (option_map (link_after_in_event PduFixed) link) }
     ensures bank { (link : Option OpenLink) → KnowsPlace place.old link
-        → BankGoes (link_after PduFixed) link tx.now tx.now }
+        → BankGoes (link_after_in_event PduFixed) link tx.now tx.now }
 {
     if let Some(link) = place {
-        link.end.ready(tx);
+        link.ready(tx);
     }
 }
 
-/// The packet that the link under a handle sends in this slot.
+/// The packet that the link under a handle sends in this slot, once it entered an event.
 pub(crate) fn send_from<const T: usize>(
     places: &mut [Option<OpenEnd>],
     first: u16,
@@ -133,16 +136,19 @@ pub(crate) fn send_from<const T: usize>(
     requires tied { IsTiedIn tx.old (held_from first handle places.old) }
     requires slot { slot.0 < 2 ^ 32 }
     requires room { array_vec_len out.old ≤ 59 }
-    ensures knows { (links : Links) → KnowsPlaces places.old links → KnowsPlaces places.new
-        (with_change_from first handle (option_map (link_after (PacketSent slot.0))) links) }
+    ensures knows { (links : Links) → KnowsPlaces places.old links
+        → KnowsPlaces places.new (with_change_from first handle
+        (option_map (link_after_in_event (PacketSent slot.0))) links) }
     ensures bank { (links : Links) → KnowsPlaces places.old links
-        → BankGoes (link_after (PacketSent slot.0)) (link_from first handle links) tx.old tx.new }
+        → BankGoes (link_after_in_event (PacketSent slot.0))
+        (link_from first handle links) tx.old tx.new }
     ensures notes { (links : Links) → KnowsPlaces places.old links → out.new.items
-        ≡ out.old.items ++ notes_at (PacketSent slot.0) (link_from first handle links) }
+        ≡ out.old.items ++ notes_at (PacketSent slot.0)
+        (in_event (link_from first handle links)) }
     ensures packet { (links : Links) → KnowsPlaces places.old links
         → option_map (λ packet. packet.items) result
         ≡ option_map (λ link. packet_sent link.setup (facts_in link))
-        (link_from first handle links) }
+        (in_event (link_from first handle links)) }
     ensures few { array_vec_len out.new ≤ array_vec_len out.old + 5 }
     ensures places { length places.new ≡ length places.old }
 {
@@ -164,23 +170,23 @@ fn send<const T: usize>(
     requires slot { slot.0 < 2 ^ 32 }
     requires room { array_vec_len out.old ≤ 59 }
     ensures knows { (link : Option OpenLink) → KnowsPlace place.old link
-        → KnowsPlace place.new (option_map (link_after (PacketSent slot.0)) link) }
+        → KnowsPlace place.new (option_map (link_after_in_event (PacketSent slot.0)) link) }
     ensures bank { (link : Option OpenLink) → KnowsPlace place.old link
-        → BankGoes (link_after (PacketSent slot.0)) link tx.old tx.new }
+        → BankGoes (link_after_in_event (PacketSent slot.0)) link tx.old tx.new }
     ensures notes { (link : Option OpenLink) → KnowsPlace place.old link
-        → out.new.items ≡ out.old.items ++ notes_at (PacketSent slot.0) link }
+        → out.new.items ≡ out.old.items ++ notes_at (PacketSent slot.0) (in_event link) }
     ensures packet { (link : Option OpenLink) → KnowsPlace place.old link
         → option_map (λ packet. packet.items) result
-        ≡ option_map (λ link. packet_sent link.setup (facts_in link)) link }
+        ≡ option_map (λ link. packet_sent link.setup (facts_in link)) (in_event link) }
     ensures few { array_vec_len out.new ≤ array_vec_len out.old + 5 }
 {
     let Some(link) = place else {
         return None;
     };
-    Some(link.send(slot, tx, out))
+    link.send(slot, tx, out)
 }
 
-/// The link under a handle takes octets in this slot.
+/// The link under a handle takes octets in this slot, once it entered an event.
 pub(crate) fn hear_from<const T: usize, const R: usize>(
     places: &mut [Option<OpenEnd>],
     first: u16,
@@ -196,20 +202,20 @@ pub(crate) fn hear_from<const T: usize, const R: usize>(
     requires slot { slot.0 < 2 ^ 32 }
     requires room { array_vec_len out.old ≤ 59 }
     ensures knows { (links : Links) → KnowsPlaces places.old links
-        → KnowsPlaces places.new (with_change_from first handle (option_map (link_after
+        → KnowsPlaces places.new (with_change_from first handle (option_map (link_after_in_event
         (PacketReceived slot.0 octets.now (nat_lt (length rx.old) R)))) links) }
     ensures bank { (links : Links) → KnowsPlaces places.old links → BankGoes
-        (link_after (PacketReceived slot.0 octets.now (nat_lt (length rx.old) R)))
+        (link_after_in_event (PacketReceived slot.0 octets.now (nat_lt (length rx.old) R)))
         (link_from first handle links) tx.old tx.new }
     ensures kept { (links : Links) → KnowsPlaces places.old links → rx.new ≡ rx.old
-        ++ kept_at octets.now (nat_lt (length rx.old) R) (link_from first handle links) }
+        ++ kept_at slot.0 octets.now (nat_lt (length rx.old) R)
+        (in_event (link_from first handle links)) }
     ensures notes { (links : Links) → KnowsPlaces places.old links → out.new.items
         ≡ out.old.items ++ notes_at (PacketReceived slot.0 octets.now (nat_lt (length rx.old) R))
-        (link_from first handle links) }
-    ensures reply { (links : Links) → KnowsPlaces places.old links
-        → option_map (λ step. step.reply) result
-        ≡ option_map (λ link. replies_of link.setup (facts_in link) octets.now)
-        (link_from first handle links) }
+        (in_event (link_from first handle links)) }
+    ensures step { (links : Links) → KnowsPlaces places.old links → result
+        ≡ step_at slot.0 octets.now (nat_lt (length rx.old) R) (link_from first handle links) }
+    ensures payloads { IfSome result (λ step. HasPayloadLengths step.effect) }
     ensures few { array_vec_len out.new ≤ array_vec_len out.old + 5 }
     ensures places { length places.new ≡ length places.old }
 {
@@ -233,52 +239,69 @@ fn hear<const T: usize, const R: usize>(
     requires slot { slot.0 < 2 ^ 32 }
     requires room { array_vec_len out.old ≤ 59 }
     ensures knows { (link : Option OpenLink) → KnowsPlace place.old link
-        → KnowsPlace place.new (option_map (link_after
+        → KnowsPlace place.new (option_map (link_after_in_event
         (PacketReceived slot.0 octets.now (nat_lt (length rx.old) R))) link) }
     ensures bank { (link : Option OpenLink) → KnowsPlace place.old link → BankGoes
-        (link_after (PacketReceived slot.0 octets.now (nat_lt (length rx.old) R)))
+        (link_after_in_event (PacketReceived slot.0 octets.now (nat_lt (length rx.old) R)))
         link tx.old tx.new }
-    ensures kept { (link : Option OpenLink) → KnowsPlace place.old link
-        → rx.new ≡ rx.old ++ kept_at octets.now (nat_lt (length rx.old) R) link }
+    ensures kept { (link : Option OpenLink) → KnowsPlace place.old link → rx.new
+        ≡ rx.old ++ kept_at slot.0 octets.now (nat_lt (length rx.old) R) (in_event link) }
     ensures notes { (link : Option OpenLink) → KnowsPlace place.old link → out.new.items
-        ≡ out.old.items
-        ++ notes_at (PacketReceived slot.0 octets.now (nat_lt (length rx.old) R)) link }
-    ensures reply { (link : Option OpenLink) → KnowsPlace place.old link
-        → option_map (λ step. step.reply) result
-        ≡ option_map (λ link. replies_of link.setup (facts_in link) octets.now) link }
+        ≡ out.old.items ++ notes_at (PacketReceived slot.0 octets.now (nat_lt (length rx.old) R))
+        (in_event link) }
+    ensures step { (link : Option OpenLink) → KnowsPlace place.old link
+        → result ≡ step_at slot.0 octets.now (nat_lt (length rx.old) R) link }
+    ensures payloads { IfSome result (λ step. HasPayloadLengths step.effect) }
     ensures few { array_vec_len out.new ≤ array_vec_len out.old + 5 }
 {
     let Some(link) = place else {
         return None;
     };
-    Some(link.hear(octets, slot, tx, rx, out))
+    link.hear(octets, slot, tx, rx, out)
 }
 
 impl OpenEnd {
-    /// The packet that it sends in this slot.
+    /// It fixes the PDU that it sends next, once it entered an event.
+    fn ready<const T: usize>(&mut self, tx: &TxBank<T>)
+        requires { IsTied self.old.end tx.now }
+        ensures knows { (link : OpenLink) → KnowsLink self.old link → HoldsPlace tx.now (Some link)
+            → KnowsLink self.new (link_after_in_event PduFixed link) }
+        ensures bank { (link : OpenLink) → KnowsLink self.old link
+            → BankStep (link_after_in_event PduFixed) link tx.now tx.now }
+    {
+        if self.end.has_entered() {
+            self.end.ready(tx);
+        }
+    }
+
+    /// The packet that it sends in this slot, once it entered an event.
     fn send<const T: usize>(
         &mut self,
         slot: SlotNo,
         tx: &mut TxBank<T>,
         out: &mut Outbox,
-    ) -> ArrayVec<u8, AIR_PACKET_OCTETS>
+    ) -> Option<ArrayVec<u8, AIR_PACKET_OCTETS>>
         requires tied { IsTied self.old.end tx.old }
         requires slot { slot.0 < 2 ^ 32 }
         requires room { array_vec_len out.old ≤ 59 }
         ensures knows { (link : OpenLink) → KnowsLink self.old link
-            → KnowsLink self.new (link_after (PacketSent slot.0) link) }
+            → KnowsLink self.new (link_after_in_event (PacketSent slot.0) link) }
         ensures bank { (link : OpenLink) → KnowsLink self.old link
-            → BankStep (link_after (PacketSent slot.0)) link tx.old tx.new }
+            → BankStep (link_after_in_event (PacketSent slot.0)) link tx.old tx.new }
         ensures notes { (link : OpenLink) → KnowsLink self.old link → out.new.items
-            ≡ out.old.items ++ notes_at (PacketSent slot.0) (Some link) }
+            ≡ out.old.items ++ notes_at (PacketSent slot.0) (in_event (Some link)) }
         ensures packet { (link : OpenLink) → KnowsLink self.old link
-            → result.items ≡ packet_sent link.setup (facts_in link) }
+            → option_map (λ packet. packet.items) result
+            ≡ option_map (λ link. packet_sent link.setup (facts_in link)) (in_event (Some link)) }
         ensures few { array_vec_len out.new ≤ array_vec_len out.old + 5 }
     {
-        self.end.to_send(slot, tx, out)
+        if !self.end.has_entered() {
+            return None;
+        }
+        Some(self.end.to_send(slot, tx, out))
     }
 
-    /// It takes octets in this slot.
+    /// It takes octets in this slot, once it entered an event.
     fn hear<const T: usize, const R: usize>(
         &mut self,
         octets: &[u8],
@@ -286,24 +309,29 @@ impl OpenEnd {
         tx: &mut TxBank<T>,
         rx: &mut RxBank<R>,
         out: &mut Outbox,
-    ) -> LinkStep
+    ) -> Option<LinkStep>
         requires can { CanHear slot.0 tx.old self.old.end }
         requires slot { slot.0 < 2 ^ 32 }
         requires room { array_vec_len out.old ≤ 59 }
         ensures knows { (link : OpenLink) → KnowsLink self.old link → KnowsLink self.new
-            (link_after (PacketReceived slot.0 octets.now (nat_lt (length rx.old) R)) link) }
-        ensures bank { (link : OpenLink) → KnowsLink self.old link → BankStep
-            (link_after (PacketReceived slot.0 octets.now (nat_lt (length rx.old) R)))
-            link tx.old tx.new }
-        ensures kept { (link : OpenLink) → KnowsLink self.old link → rx.new
-            ≡ rx.old ++ kept_at octets.now (nat_lt (length rx.old) R) (Some link) }
+            (link_after_in_event (PacketReceived slot.0 octets.now (nat_lt (length rx.old) R))
+            link) }
+        ensures bank { (link : OpenLink) → KnowsLink self.old link → BankStep (link_after_in_event
+            (PacketReceived slot.0 octets.now (nat_lt (length rx.old) R))) link tx.old tx.new }
+        ensures kept { (link : OpenLink) → KnowsLink self.old link → rx.new ≡ rx.old
+            ++ kept_at slot.0 octets.now (nat_lt (length rx.old) R) (in_event (Some link)) }
         ensures notes { (link : OpenLink) → KnowsLink self.old link → out.new.items
             ≡ out.old.items
-            ++ notes_at (PacketReceived slot.0 octets.now (nat_lt (length rx.old) R)) (Some link) }
-        ensures reply { (link : OpenLink) → KnowsLink self.old link
-            → result.reply ≡ replies_of link.setup (facts_in link) octets.now }
+            ++ notes_at (PacketReceived slot.0 octets.now (nat_lt (length rx.old) R))
+            (in_event (Some link)) }
+        ensures step { (link : OpenLink) → KnowsLink self.old link
+            → result ≡ step_at slot.0 octets.now (nat_lt (length rx.old) R) (Some link) }
+        ensures payloads { IfSome result (λ step. HasPayloadLengths step.effect) }
         ensures few { array_vec_len out.new ≤ array_vec_len out.old + 5 }
     {
-        self.end.heard(octets, slot, tx, rx, out)
+        if !self.end.has_entered() {
+            return None;
+        }
+        Some(self.end.heard(octets, slot, tx, rx, out))
     }
 }

@@ -9,7 +9,7 @@ use Rattle.ble_base.specs.declared.procedure_kinds.Kind.TheVariants.{Features, V
 use Rattle.hci_evt.specs.declared.event.Event.{Event}
 use Rattle.instants.specs.declared.indications.Params.{Params}
 use Rattle.procedure_stages.specs.declared.steps.Effect.{Effect}
-use Rattle.controlled_link.specs.declared.state.PeerFacts.{PeerFacts}
+use Rattle.link_model.specs.declared.state.PeerFacts.{PeerFacts}
 use Rattle.procedure_events.specs.declared.calls.ReceptionEvents.{ReceptionEvents}
 use Rattle.procedure_events.specs.Events.{event_of_done, event_of_effect, event_of_refusal, features_event, update_event, version_event}
 

@@ -1,8 +1,7 @@
 -- The event that the host of an end gets for one thing that a control procedure of a link did there (Core 5.2, volume 4
 -- part E, section 7.7; what makes one where the standard leaves it open is our choice). No mask withholds any here.
-use Rattle.std.specs.Prelude.{ℕ, ◌≤◌, Option, Some, None, ⊤}
+use Rattle.std.specs.Prelude.{ℕ, Option, Some, None}
 use Rattle.ble_base.specs.ErrorCodes.{success}
-use Rattle.ble_base.specs.Limits.{payload_octets}
 use Rattle.ble_base.specs.declared.error_codes.ErrCode.{ErrCode}
 use Rattle.ble_base.specs.declared.procedure_kinds.Kind.{Kind}
 use Rattle.ble_base.specs.declared.procedure_kinds.Kind.TheVariants.{Encrypt, Features, Phy, Request, Version}
@@ -12,8 +11,8 @@ use Rattle.instants.specs.declared.indications.Params.{Params}
 use Rattle.procedure_stages.specs.declared.steps.Effect.{Effect}
 use Rattle.procedure_stages.specs.declared.steps.Effect.TheVariants.{AskHost, Lengths}
 use Rattle.procedure_values.specs.Drafts.{time_of}
-use Rattle.controlled_link.specs.declared.state.PeerFacts.{PeerFacts}
-use Rattle.controlled_link.specs.declared.state.PeerVersion.{PeerVersion}
+use Rattle.link_model.specs.declared.state.PeerFacts.{PeerFacts}
+use Rattle.link_model.specs.declared.state.PeerVersion.{PeerVersion}
 
 -- ---- parameters and lengths
 
@@ -71,8 +70,3 @@ abbrev pub event_of_effect : ℕ → Effect → Option Event
 event_of_effect handle (Lengths rx tx) = Some (length_event handle rx tx)
 event_of_effect handle (AskHost min max latency timeout) = Some (ParamRequest handle min max latency timeout)
 event_of_effect handle other = None
-
--- the lengths in an effect are at most that of a payload (volume 6 part B, section 4.5.10)
-abbrev pub HasPayloadLengths : Effect → Type 0
-HasPayloadLengths (Lengths rx tx) = (rx ≤ payload_octets) × (tx ≤ payload_octets)
-HasPayloadLengths other = ⊤

@@ -1,17 +1,17 @@
 //! The events for what the control procedures of a link did in one call.
 ghost use Rattle.std.specs.Prelude.{◌≡◌};
 ghost use Rattle.std.specs.Option.{option_to_list};
+ghost use Rattle.link_model.specs.Receiving.{HasPayloadLengths};
 ghost use Rattle.procedure_events.specs.Calls.{event_if_done, event_if_refused, events_in};
 ghost use Rattle.procedure_events.specs.Calls.{events_known, events_of_entry, events_of_reception};
-ghost use Rattle.procedure_events.specs.Events.{HasPayloadLengths};
 
 use crate::kinds::{
     event_of_done, event_of_effect, event_of_refusal, features_event, update_event, version_event,
 };
 use ble_base::{ErrCode, Kind};
-use controlled_link::PeerFacts;
 use hci_evt::Event;
 use instants::Params;
+use link_model::PeerFacts;
 use procedure_stages::Effect;
 
 /// The events for a packet that is received, in this order.

@@ -1,14 +1,15 @@
 //! The event for one thing that a control procedure of a link did.
 ghost use Rattle.std.specs.Prelude.{◌≡◌, ◌≤◌};
 ghost use Rattle.procedure_values.specs.Drafts.{time_of};
-ghost use Rattle.procedure_events.specs.Events.{HasPayloadLengths, event_of_done, event_of_effect};
+ghost use Rattle.link_model.specs.Receiving.{HasPayloadLengths};
+ghost use Rattle.procedure_events.specs.Events.{event_of_done, event_of_effect};
 ghost use Rattle.procedure_events.specs.Events.{event_of_refusal, features_event, length_event};
 ghost use Rattle.procedure_events.specs.Events.{phy_event, update_event, version_event};
 
 use ble_base::{ErrCode, Kind};
-use controlled_link::{PeerFacts, PeerVersion};
 use hci_evt::Event;
 use instants::Params;
+use link_model::{PeerFacts, PeerVersion};
 use procedure_stages::Effect;
 
 /// The one PHY of each link, LE 1M (section 7.7.65.12).

@@ -1,9 +1,9 @@
 -- Proof of `ends::LinkEnd::judge`.
 use Rattle.std.proofs.Common.{ap, ◌∙◌}
 use Rattle.air_frame.specs.Hearing.{heard_in}
-use Rattle.link_model.specs.Packets.{verdict_by}
+use Rattle.link_model.specs.Verdicts.{verdict_by}
 use Rattle.link_end.specs.Held.{Held}
-use Rattle.link_end.proofs.Keeping.{judged}
+use Rattle.link_end.proofs.Heard.{judged}
 use Rattle.link_end.proofs.ends.LinkEnd.judge.Goals as goal
 
 pub returns : goal.returns

@@ -1,35 +1,60 @@
 -- Proof of `ends::LinkEnd::new`.
-use Rattle.std.proofs.Common.{false, None, refl, ◌∙◌}
-use Rattle.instants.specs.Track.{first_facts as first_track}
+use Rattle.std.proofs.Common.{◌≡◌, ◌<◌, ◌^◌, IfSome, false, None, refl, arith, ◌∙◌, subst, sym, ap}
+use Rattle.control_model.specs.Control.{first_control}
+use Rattle.control_end.specs.Held.{held_of as control_held}
+use Rattle.link_model.specs.declared.events.ConnectionEvent.{ConnectionEvent}
+use Rattle.link_model.specs.Acknowledgement.{Pdu}
+use Rattle.link_model.specs.declared.state.Leaving.{Leaving}
 use Rattle.link_model.specs.End.{facts_of}
 use Rattle.link_end.specs.Knowing.{Knows}
+use Rattle.link_end.proofs.Sounds.{new_sound}
 use Rattle.link_end.proofs.Tying.{new_tied}
 use Rattle.link_end.proofs.ends.LinkEnd.new.Goals as goal
+
+pub invariant_of-result : goal.invariant_of-result
+invariant_of-result c =
+    let channel : c.no_event.result.channel ≡ 0 = ap (λ (e : ConnectionEvent). e.channel) c.no_event.ensures in
+    let number : c.no_event.result.number ≡ 0 = ap (λ (e : ConnectionEvent). e.number) c.no_event.ensures in
+    let last : c.empty.result.llid ≡ 1 = ap (λ (p : Pdu). p.llid) c.empty.ensures in
+    let fixed : c.empty-2.result.llid ≡ 1 = ap (λ (p : Pdu). p.llid) c.empty-2.ensures in (
+      c.requires.slot,
+      c.requires.crc_init,
+      c.requires.max_rx.1,
+      omega (arith, channel),
+      omega (arith, number),
+      c.selector.ensures,
+      tt,
+      omega (arith, last),
+      omega (arith, fixed),
+      omega arith,
+      omega arith,
+      subst (λ (l : Leaving). IfSome l.disconnected (λ since. since < 2 ^ 32)) (sym c.stays.ensures) tt,
+      new_sound c.args.setup.role c.args.setup.max_rx c.first_params.result c.first_anchor.result.0 c.args.setup.fields _
+          c.requires.max_rx.1 c.requires.fields c.first_params.ensures c.new.ensures,
+    )
 
 pub returns-clause-knows : goal.returns-clause-knows
 unfolding Knows facts_of
 returns-clause-knows c =
-    let parameters = c.new.ensures ∙ (λ i. first_track (c.first_params.ensures i) (c.first_anchor.ensures.value i)) in
+    let first = c.first_params.ensures in
+    let control =
+    c.new.ensures ∙ (λ i. control_held (first_control c.args.setup.role c.args.setup.max_rx (first i) (c.first_anchor.ensures.value i))) in
     λ i. record {
       setup = record { link = c.args.setup; opened = c.args.slot.0 };
-      parameters = parameters i;
-      event =
-          record {
-            number = c.default.ensures.0 i;
-            slot = c.default.ensures.1.0 i;
-            channel = c.default.ensures.1.1.0 i;
-            latency = c.default.ensures.1.1.1.0 i;
-            heard = c.default.ensures.1.1.1.1.0 i;
-            more = c.default.ensures.1.1.1.1.1 i;
-          };
+      control = control i;
+      peer = c.no_peer.ensures i;
+      event = c.no_event.ensures i;
+      lengths = c.no_lengths.ensures i;
       bits = c.new-2.ensures i;
       is_acked = false;
       last = c.empty.ensures i;
       fixed = c.empty-2.ensures i;
+      fixes_control = false;
       more = false;
       sent = 0;
       taken = 0;
       last_good = None;
+      leaving = c.stays.ensures i;
     }
 
 pub returns-clause-tied : goal.returns-clause-tied

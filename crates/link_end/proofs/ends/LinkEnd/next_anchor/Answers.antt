@@ -6,4 +6,5 @@ use Rattle.link_end.proofs.Keeping.{held_is}
 use Rattle.link_end.proofs.ends.LinkEnd.next_anchor.Goals as goal
 
 pub returns-clause-known : goal.returns-clause-known
-returns-clause-known c = λ setup past knows. c.next_anchor.ensures ∙ ap (λ (h : Held). next_anchor_of h.parameters) (c.self.view_is ∙ held_is setup c.args.self.now past knows)
+returns-clause-known c = λ setup past knows.
+    c.next_anchor.ensures ∙ ap (λ (h : Held). next_anchor_of h.control.track) (c.self.view_is ∙ held_is setup c.args.self.now past knows)

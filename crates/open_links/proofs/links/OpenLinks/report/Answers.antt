@@ -11,13 +11,13 @@ use Rattle.open_links.proofs.links.OpenLinks.report.Goals as goal
 pub returns-clause-completed : goal.returns-clause-completed
 returns-clause-completed g c = λ links received known.
     let held = subst (λ (h : HeldLinks). Knows h links received) (sym c.self.view_is) known in
-    c.completed_from.ensures links (knows_place _ links received held) (knows_handles _ links received held)
+    c.completed_from.ensures.items links (knows_place _ links received held) (knows_handles _ links received held)
     (holds_places _ links received held) ∙ ap (λ items. items ++ completed_from 0 links) c.new-completed.ensures
 
 pub returns-clause-knows : goal.returns-clause-knows
 returns-clause-knows g c = λ links received known.
     let held = subst (λ (h : HeldLinks). Knows h links received) (sym c.self.view_is) known in
-    let listed = c.as_slice.ensures.value ∙ c.completed_from.ensures links (knows_place _ links received held) (knows_handles _ links received held)
+    let listed = c.as_slice.ensures.value ∙ c.completed_from.ensures.items links (knows_place _ links received held) (knows_handles _ links received held)
     (holds_places _ links received held) ∙ ap (λ items. items ++ completed_from 0 links) c.new-completed.ensures in
     report_known _ _ links received received held refl
     (c.report_all.ensures ∙ ap (λ items. fold bank_after_credited c.self.inside.tx (map (λ (one : Completed). one.handle) items)) listed)
@@ -28,7 +28,7 @@ invariant_of-self g c = (
   c.self.invariant.0,
   sound_after _ _ links_reported c.self.invariant.1
       (λ links known.
-      let listed = c.as_slice.ensures.value ∙ c.completed_from.ensures links (knows_place _ links _ known) (knows_handles _ links _ known)
+      let listed = c.as_slice.ensures.value ∙ c.completed_from.ensures.items links (knows_place _ links _ known) (knows_handles _ links _ known)
       (holds_places _ links _ known) ∙ ap (λ items. items ++ completed_from 0 links) c.new-completed.ensures in
       report_known _ _ links _ _ known refl
       (c.report_all.ensures ∙ ap (λ items. fold bank_after_credited c.self.inside.tx (map (λ (one : Completed). one.handle) items)) listed) refl)

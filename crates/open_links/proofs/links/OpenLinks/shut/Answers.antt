@@ -1,7 +1,7 @@
 -- The answers of `OpenLinks::shut`.
 use Rattle.std.proofs.Common.{◌∙◌, None, ap, subst, sym, refl}
 use Rattle.open_links.specs.OpenLinks.{without_link}
-use Rattle.open_links.specs.Data.{received_without}
+use Rattle.open_links.specs.Ended.{received_without}
 use Rattle.open_links.specs.Knowing.{HeldLinks, Knows}
 use Rattle.open_links.proofs.Steps.{knows_pieces, knows_place, shut_known, sound_after}
 use Rattle.open_links.proofs.Within.{put_within}

@@ -2,10 +2,10 @@
 use Rattle.std.proofs.Common.{◌∙◌, ◌++◌, ap, fold, map, subst, sym, refl}
 use Rattle.acl_banks.specs.Banks.{bank_after_drop}
 use Rattle.open_links.specs.declared.ended.LinkEnded.{LinkEnded}
-use Rattle.open_links.specs.Data.{received_ended}
-use Rattle.open_links.specs.Turns.{ends_from, links_staying}
+use Rattle.open_links.specs.Ended.{received_ended}
+use Rattle.open_links.specs.Turns.{due_in, ends_by, links_without}
 use Rattle.open_links.specs.Knowing.{HeldLinks, Knows}
-use Rattle.open_links.proofs.Steps.{due_known, knows_pieces, knows_place, sound_after}
+use Rattle.open_links.proofs.Steps.{ended_known, knows_pieces, knows_place, sound_after}
 use Rattle.open_links.proofs.Within.{stay_within}
 use Rattle.open_links.proofs.links.OpenLinks.shut_due.Goals as goal
 
@@ -14,21 +14,21 @@ returns-clause-knows g c = λ links received known.
     let held = subst (λ (h : HeldLinks). Knows h links received) (sym c.self.view_is) known in
     let place = knows_place _ links received held in
     let ends = c.as_slice.ensures.value ∙ c.shut_due_from.ensures.ends links place
-    ∙ ap (λ items. items ++ ends_from c.args.slot.0 0 links) c.new-ended.ensures in
-    due_known c.args.slot.0 _ _ links received _ held (c.shut_due_from.ensures.knows links place)
+    ∙ ap (λ items. items ++ ends_by (due_in c.args.slot.0) 0 links) c.new-ended.ensures in
+    ended_known (due_in c.args.slot.0) _ _ links received _ held (c.shut_due_from.ensures.knows links place)
     (c.drop_ended.ensures.tx ∙ ap (λ ends. fold bank_after_drop c.self.inside.tx (map (λ (one : LinkEnded). one.handle) ends)) ends)
     (c.drop_ended.ensures.rx ∙ ap (λ ends. received_ended ends c.self.inside.rx) ends
-    ∙ ap (received_ended (ends_from c.args.slot.0 0 links)) (knows_pieces _ links received held))
+    ∙ ap (received_ended (ends_by (due_in c.args.slot.0) 0 links)) (knows_pieces _ links received held))
 
 pub invariant_of-self : goal.invariant_of-self
 invariant_of-self g c = (
   c.self.invariant.0,
-  sound_after _ _ (links_staying c.args.slot.0) c.self.invariant.1
+  sound_after _ _ (links_without (due_in c.args.slot.0)) c.self.invariant.1
       (λ links known.
       let place = knows_place _ links _ known in
       let ends = c.as_slice.ensures.value ∙ c.shut_due_from.ensures.ends links place
-      ∙ ap (λ items. items ++ ends_from c.args.slot.0 0 links) c.new-ended.ensures in
-      due_known c.args.slot.0 _ _ links _ _ known (c.shut_due_from.ensures.knows links place)
+      ∙ ap (λ items. items ++ ends_by (due_in c.args.slot.0) 0 links) c.new-ended.ensures in
+      ended_known (due_in c.args.slot.0) _ _ links _ _ known (c.shut_due_from.ensures.knows links place)
       (c.drop_ended.ensures.tx ∙ ap (λ ends. fold bank_after_drop c.self.inside.tx (map (λ (one : LinkEnded). one.handle) ends)) ends) refl)
-      (λ links inside. stay_within _ _ c.args.slot.0 links inside),
+      (λ links inside. stay_within (due_in c.args.slot.0) _ _ links inside),
 )

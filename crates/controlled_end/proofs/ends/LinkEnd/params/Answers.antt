@@ -1,9 +1,0 @@
--- Proof of `ends::LinkEnd::params`.
-use Rattle.std.proofs.Common.{ap, ◌∙◌}
-use Rattle.controlled_end.specs.Held.{Held}
-use Rattle.controlled_end.proofs.Keeping.{held_is}
-use Rattle.controlled_end.proofs.ends.LinkEnd.params.Goals as goal
-
-pub returns : goal.returns
-returns c = λ setup past knows.
-    c.params.ensures.params ∙ ap (λ (h : Held). h.control.track.params) (c.self.view_is ∙ held_is setup c.args.self.now past knows)

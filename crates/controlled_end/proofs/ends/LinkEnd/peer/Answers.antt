@@ -1,8 +1,0 @@
--- Proof of `ends::LinkEnd::peer`.
-use Rattle.std.proofs.Common.{ap, ◌∙◌}
-use Rattle.controlled_end.specs.Held.{Held}
-use Rattle.controlled_end.proofs.Keeping.{held_is}
-use Rattle.controlled_end.proofs.ends.LinkEnd.peer.Goals as goal
-
-pub returns : goal.returns
-returns c = λ setup past knows. ap (λ (h : Held). h.peer) (c.self.view_is ∙ held_is setup c.args.self.now past knows)

@@ -1,7 +1,0 @@
--- The measure of `ending::shut_ended_from`.
-use Rattle.std.proofs.Common.{length}
-use Rattle.controlled_links.proofs.ending.+shut_ended_from.Given as goal
-
--- the places that are left
-abbrev pub decreases-shut_ended_from : goal.decreases-shut_ended_from
-decreases-shut_ended_from l = length l.places.now

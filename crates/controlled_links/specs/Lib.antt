@@ -1,9 +1,0 @@
--- The definitions of this crate.
-pub mod OpenLinks
-pub mod Data
-pub mod Turns
-pub mod Hosts
-pub mod Hearing
-pub mod Knowing
-pub mod Sound
-pub mod Slots

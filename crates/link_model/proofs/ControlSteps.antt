@@ -1,0 +1,234 @@
+-- The control part of an end goes by its steps.
+use Rattle.std.proofs.Common.{◌≡◌, ℕ, ◌&&◌, not, Bool, true, false, List, [], ◌∷◌, ◌++◌, fold, Option, Some, None, Result, Ok, Err, refl, ap, sym, ◌∙◌, if◌then◌else◌}
+use Rattle.std.specs.Bool.{⊤}
+use Rattle.std.specs.List.{AllByRecursion}
+use Rattle.std.proofs.lemmas.List.{append-nil, append_assoc}
+use Rattle.ble_base.specs.declared.error_codes.ErrCode.{ErrCode}
+use Rattle.ble_base.specs.declared.roles.Role.{Role}
+use Rattle.data_pdu.specs.declared.ctrl.CtrlRead.{CtrlRead}
+use Rattle.data_pdu.specs.declared.header.DataHeader.{DataHeader}
+use Rattle.data_pdu.specs.Header.{header_in}
+use Rattle.procedure_values.specs.declared.asks.Ask.{Ask}
+use Rattle.procedure_stages.specs.Kinds.{role_of}
+use Rattle.control_model.specs.Control.{Control, Step as ControlStep, Answers, Asks, Disconnects, Enters, SeesAcknowledged, Sends, Takes, after, after_all, first_control}
+use Rattle.control_model.specs.Waits.{AreInRange, IsInRange}
+use Rattle.control_model.proofs.Moving.{role_after}
+use Rattle.link_model.specs.Setup.{Setup, first_anchor, first_params}
+use Rattle.link_model.specs.Acknowledgement.{Pdu}
+use Rattle.link_model.specs.Data.{is_control}
+use Rattle.link_model.specs.Verdicts.{pdu_of}
+use Rattle.link_model.specs.Facts.{Facts, first_facts}
+use Rattle.link_model.specs.Step.{Step, DataGiven, DataReported, Disconnected, EventEntered, PacketReceived, PacketSent, PduFixed, ProcedureAsked, RequestAnswered}
+use Rattle.link_model.specs.Controls.{goes_on, is_procedure_pdu, is_quiet_now, read_of}
+use Rattle.link_model.specs.Entering.{facts_entered_if}
+use Rattle.link_model.specs.Fixing.{fixed_anew}
+use Rattle.link_model.specs.Hosts.{asked_unless, is_to_come}
+use Rattle.link_model.specs.Packets.{good_pdu}
+use Rattle.link_model.specs.Sending.{control_gone_if, takes_leave}
+use Rattle.link_model.specs.Receiving.{accepted_if, accepts, acknowledged_if, acks_control, answers_with_control, control_acked_if, facts_before_taking, facts_hearing, facts_received, has_acknowledged, heard_in_slot, procedures_take_if}
+use Rattle.link_model.specs.End.{facts_after, facts_of}
+use Rattle.link_model.specs.ControlSteps.{AreAsksInRange, IsAskInRange, control_steps_from, control_steps_in, control_steps_of, is_owed, step_if, steps_hearing, steps_received}
+
+-- ---- one step of an end
+
+joined : (steps more : List ControlStep) (c : Control) → after_all (steps ++ more) c ≡ after_all more (after_all steps c)
+joined [] more c = refl
+joined (step ∷ steps) more c = joined steps more (after step c)
+
+asked : (comes : Bool) (ask : Ask) (facts : Facts)
+    → (asked_unless comes ask facts).control ≡ after_all (step_if (not comes) (Asks ask)) facts.control
+asked true ask facts = refl
+asked false ask facts = refl
+
+entered : (goes : Bool) (setup : Setup) (slot : ℕ) (facts : Facts)
+    → (facts_entered_if goes setup slot facts).control ≡ after_all (step_if goes (Enters slot (is_quiet_now facts))) facts.control
+entered true setup slot facts = refl
+entered false setup slot facts = refl
+
+gone : (goes : Bool) (slot : ℕ) (facts : Facts)
+    → (control_gone_if goes slot facts).control ≡ after_all (step_if goes (Sends slot (is_quiet_now facts))) facts.control
+gone true slot facts = refl
+gone false slot facts = refl
+
+acked : (is_acked : Bool) (c : Control) → control_acked_if is_acked c ≡ after_all (step_if is_acked SeesAcknowledged) c
+acked true c = refl
+acked false c = refl
+
+taken : (takes : Bool) (pdu : Pdu) (slot : ℕ) (facts : Facts)
+    → (procedures_take_if takes pdu slot facts).control ≡ after_all (step_if takes (Takes (read_of pdu) slot (is_quiet_now facts))) facts.control
+taken true pdu slot facts = refl
+taken false pdu slot facts = refl
+
+-- three lists of steps, one after the other
+three : (first second third : List ControlStep) (c x y z : Control) → x ≡ after_all first c → y ≡ after_all second x
+    → z ≡ after_all third y → z ≡ after_all (first ++ second ++ third) c
+three first second third c x y z x_is y_is z_is =
+    z_is ∙ ap (after_all third) (y_is ∙ ap (after_all second) x_is ∙ sym (joined first second c)) ∙ sym (joined (first ++ second) third c)
+
+heard : (role : Role) (slot : ℕ) (room : Bool) (header : DataHeader) (pdu : Pdu) (facts : Facts)
+    → (facts_hearing role slot room header pdu facts).control ≡ after_all (steps_hearing role slot room header pdu facts) facts.control
+heard role slot room header pdu facts =
+    let acks = has_acknowledged facts header in
+    let own = acknowledged_if acks (heard_in_slot slot header.md facts) in
+    let answers = answers_with_control role own in
+    let now = control_gone_if answers slot own in
+    let accepted = accepts room header pdu now in
+    let takes = accepted && is_procedure_pdu pdu in
+    three (step_if (acks_control acks facts) SeesAcknowledged) (step_if answers (Sends slot (is_quiet_now own)))
+    (step_if takes (Takes (read_of pdu) slot (is_quiet_now now))) facts.control own.control now.control
+    (facts_hearing role slot room header pdu facts).control
+    (acked (acks_control acks facts) facts.control) (gone answers slot own) (taken takes pdu slot (accepted_if accepted pdu now))
+
+received : (role : Role) (slot : ℕ) (room : Bool) (pdu : Option (List ℕ)) (facts : Facts)
+    → (facts_received role slot room pdu facts).control ≡ after_all (steps_received role slot room pdu facts) facts.control
+received role slot room None facts = refl
+received role slot room (Some octets) facts = heard role slot room (header_in octets) (pdu_of octets) facts
+
+fixed : (stays : Bool) (facts : Facts) → (if stays then facts else fixed_anew facts).control ≡ facts.control
+fixed true facts = refl
+fixed false facts = refl
+
+pub one_step : (setup : Setup) (facts : Facts) (step : Step)
+    → (facts_after setup facts step).control ≡ after_all (control_steps_in setup facts step) facts.control
+one_step setup facts (DataGiven start body) = refl
+one_step setup facts (ProcedureAsked ask) = asked (is_to_come ask facts) ask facts
+one_step setup facts (RequestAnswered answer) = refl
+one_step setup facts (Disconnected reason slot) = refl
+one_step setup facts (EventEntered slot) = entered (goes_on facts) setup slot facts
+one_step setup facts PduFixed = fixed (is_control facts.outgoing.fixed) facts
+one_step setup facts (PacketSent slot) = gone (takes_leave facts) slot facts
+one_step setup facts (PacketReceived slot octets room) = received setup.link.role slot room (good_pdu setup facts octets) facts
+one_step setup facts DataReported = refl
+
+-- ---- all steps
+
+steps_go : (setup : Setup) (facts : Facts) (steps : List Step)
+    → (fold (facts_after setup) facts steps).control ≡ after_all (control_steps_from setup facts steps) facts.control
+steps_go setup facts [] = refl
+steps_go setup facts (step ∷ steps) =
+    let next = facts_after setup facts step in
+    let later = control_steps_from setup next steps in
+    steps_go setup next steps ∙ ap (after_all later) (one_step setup facts step) ∙ sym (joined (control_steps_in setup facts step) later facts.control)
+
+pub past_goes : (setup : Setup) (past : List Step) → (facts_of setup past).control
+    ≡ after_all (control_steps_of setup past)
+    (first_control setup.link.role setup.link.max_rx (first_params setup.link.fields) (first_anchor setup))
+unfolding facts_of control_steps_of
+past_goes setup past = steps_go setup (first_facts setup) past
+
+steps-append : (setup : Setup) (facts : Facts) (steps more : List Step)
+    → control_steps_from setup facts (steps ++ more)
+    ≡ control_steps_from setup facts steps ++ control_steps_from setup (fold (facts_after setup) facts steps) more
+steps-append setup facts [] more = refl
+steps-append setup facts (step ∷ steps) more =
+    let next = facts_after setup facts step in
+    ap (λ (later : List ControlStep). control_steps_in setup facts step ++ later) (steps-append setup next steps more)
+    ∙ sym (append_assoc (control_steps_in setup facts step) (control_steps_from setup next steps) (control_steps_from setup (fold (facts_after setup) next steps) more))
+
+pub steps_grow : (setup : Setup) (past : List Step) (step : Step)
+    → control_steps_of setup (past ++ step ∷ []) ≡ control_steps_of setup past ++ control_steps_in setup (facts_of setup past) step
+unfolding facts_of control_steps_of
+steps_grow setup past step =
+    steps-append setup (first_facts setup) past (step ∷ [])
+    ∙ ap (λ (later : List ControlStep). control_steps_from setup (first_facts setup) past ++ later)
+    (append-nil (control_steps_in setup (fold (facts_after setup) (first_facts setup) past) step))
+
+pub keeps_role : (setup : Setup) (past : List Step) → role_of (facts_of setup past).control.table.progress ≡ setup.link.role
+keeps_role setup past =
+    ap (λ (c : Control). role_of c.table.progress) (past_goes setup past)
+    ∙ role_after setup.link.role setup.link.max_rx (first_params setup.link.fields) (first_anchor setup) (control_steps_of setup past)
+
+-- ---- a fact of each step of the control part, where another holds of each step of the end
+
+module _ (P : ControlStep → Type 0) where
+  both : (steps more : List ControlStep) → AllByRecursion P steps → AllByRecursion P more → AllByRecursion P (steps ++ more)
+  both [] more here later = later
+  both (step ∷ steps) more here later = (here.0, both steps more here.1 later)
+
+  perhaps : (is_taken : Bool) (step : ControlStep) → P step → AllByRecursion P (step_if is_taken step)
+  perhaps true step is = (is, tt)
+  perhaps false step is = tt
+
+pub record HoldsOf (Q : Step → Type 0) (P : ControlStep → Type 0) : Type 0 where
+  pub asks : (ask : Ask) → Q (ProcedureAsked ask) → P (Asks ask)
+  pub answers : (answer : Result Ask ErrCode) → Q (RequestAnswered answer) → P (Answers answer)
+  pub disconnects : (reason : ErrCode) → P (Disconnects reason)
+  pub enters : (slot : ℕ) (quiet : Bool) → P (Enters slot quiet)
+  pub sends : (slot : ℕ) (quiet : Bool) → P (Sends slot quiet)
+  pub sees : P SeesAcknowledged
+  pub takes : (read : CtrlRead) (slot : ℕ) (quiet : Bool) → P (Takes read slot quiet)
+
+module _ (Q : Step → Type 0) (P : ControlStep → Type 0) (holds : HoldsOf Q P) where
+  each_received : (role : Role) (slot : ℕ) (room : Bool) (pdu : Option (List ℕ)) (facts : Facts)
+      → AllByRecursion P (steps_received role slot room pdu facts)
+  each_received role slot room None facts = tt
+  each_received role slot room (Some octets) facts =
+      let header = header_in octets in
+      let pdu = pdu_of octets in
+      let own = acknowledged_if (has_acknowledged facts header) (heard_in_slot slot header.md facts) in
+      let now = facts_before_taking role slot header facts in
+      both P _ _ (both P _ _ (perhaps P (acks_control (has_acknowledged facts header) facts) SeesAcknowledged holds.sees)
+      (perhaps P (answers_with_control role own) (Sends slot (is_quiet_now own)) (holds.sends slot (is_quiet_now own))))
+      (perhaps P (accepts room header pdu now && is_procedure_pdu pdu) (Takes (read_of pdu) slot (is_quiet_now now)) (holds.takes (read_of pdu) slot (is_quiet_now now)))
+
+  each_in : (setup : Setup) (facts : Facts) (step : Step) → Q step → AllByRecursion P (control_steps_in setup facts step)
+  each_in setup facts (DataGiven start body) is = tt
+  each_in setup facts (ProcedureAsked ask) is = perhaps P (not (is_to_come ask facts)) (Asks ask) (holds.asks ask is)
+  each_in setup facts (RequestAnswered answer) is = (holds.answers answer is, tt)
+  each_in setup facts (Disconnected reason slot) is = (holds.disconnects reason, tt)
+  each_in setup facts (EventEntered slot) is =
+      perhaps P (goes_on facts) (Enters slot (is_quiet_now facts)) (holds.enters slot (is_quiet_now facts))
+  each_in setup facts PduFixed is = tt
+  each_in setup facts (PacketSent slot) is =
+      perhaps P (takes_leave facts) (Sends slot (is_quiet_now facts)) (holds.sends slot (is_quiet_now facts))
+  each_in setup facts (PacketReceived slot octets room) is = each_received setup.link.role slot room (good_pdu setup facts octets) facts
+  each_in setup facts DataReported is = tt
+
+  each_from : (setup : Setup) (facts : Facts) (steps : List Step) → AllByRecursion Q steps
+      → AllByRecursion P (control_steps_from setup facts steps)
+  each_from setup facts [] are = tt
+  each_from setup facts (step ∷ steps) are =
+      both P _ _ (each_in setup facts step are.0) (each_from setup (facts_after setup facts step) steps are.1)
+
+-- ---- the asks are in range where those of the host are
+
+range_of_ask : (answer : Result Ask ErrCode) → IsAskInRange (RequestAnswered answer) → IsInRange (Answers answer)
+range_of_ask (Ok ask) is = is
+range_of_ask (Err code) is = tt
+
+ranges : (steps : List ControlStep) → AllByRecursion IsInRange steps → AreInRange steps
+ranges [] are = tt
+ranges (step ∷ steps) are = (are.0, ranges steps are.1)
+
+pub past_in_range : (setup : Setup) (past : List Step) → AreAsksInRange past → AreInRange (control_steps_of setup past)
+unfolding control_steps_of
+past_in_range setup past are =
+    ranges (control_steps_from setup (first_facts setup) past)
+    (each_from IsAskInRange IsInRange (record {
+      asks = λ ask is. is;
+      answers = range_of_ask;
+      disconnects = λ reason. tt;
+      enters = λ slot quiet. tt;
+      sends = λ slot quiet. tt;
+      sees = tt;
+      takes = λ read slot quiet. tt;
+    }) setup (first_facts setup) past are)
+
+-- ---- no PDU of the encryption is queued
+
+any_step : (steps : List Step) → AllByRecursion (λ (step : Step). ⊤) steps
+any_step [] = tt
+any_step (step ∷ steps) = (tt, any_step steps)
+
+pub none_owed : (setup : Setup) (past : List Step) → AllByRecursion (λ step. is_owed step ≡ false) (control_steps_of setup past)
+unfolding control_steps_of
+none_owed setup past =
+    each_from (λ (step : Step). ⊤) (λ step. is_owed step ≡ false) (record {
+      asks = λ ask is. refl;
+      answers = λ answer is. refl;
+      disconnects = λ reason. refl;
+      enters = λ slot quiet. refl;
+      sends = λ slot quiet. refl;
+      sees = refl;
+      takes = λ read slot quiet. refl;
+    }) setup (first_facts setup) past (any_step past)

@@ -1,0 +1,105 @@
+-- An end that receives nothing ends no link.
+use Rattle.std.proofs.Common.{◌≡◌, ◌==◌, ◌&&◌, ℕ, Bool, true, false, Result, refl, ◌∙◌, if◌then◌else◌}
+use Rattle.ble_base.specs.declared.error_codes.ErrCode.{ErrCode}
+use Rattle.instants.specs.Track.{next_anchor_of}
+use Rattle.procedure_stages.specs.Closing.{is_open}
+use Rattle.procedure_stages.specs.InProgress.{is_host_asked}
+use Rattle.procedure_values.specs.declared.asks.Ask.{Ask}
+use Rattle.procedures.specs.Going.{host_answer_step, is_answer, terminate_step}
+use Rattle.control_model.specs.Control.{Answers, Asks, Control, Disconnects, Enters, after}
+use Rattle.control_model.proofs.Calls.{any_step}
+use Rattle.link_model.specs.Data.{is_control}
+use Rattle.link_model.specs.Setup.{Setup}
+use Rattle.link_model.specs.Controls.{goes_on, is_quiet_now}
+use Rattle.link_model.specs.End.{facts_after}
+use Rattle.link_model.specs.Entering.{facts_entered_if}
+use Rattle.link_model.specs.Facts.{Facts}
+use Rattle.link_model.specs.Fixing.{facts_fixed, fixed_anew}
+use Rattle.link_model.specs.Hosts.{asked_unless, is_to_come}
+use Rattle.link_model.specs.Sending.{control_gone_if, facts_sent, takes_leave}
+use Rattle.link_model.specs.Step.{Step, DataGiven, DataReported, Disconnected, EventEntered, PacketReceived, PacketSent, PduFixed, ProcedureAsked, RequestAnswered}
+use Rattle.link_pairs.specs.Hosts.{MayHost}
+use Rattle.link_pairs.specs.Sound.{EndsNothing}
+use Rattle.link_pairs.specs.Turns.{central_begun, entered_in, prepared, sent_if}
+use Rattle.link_pairs.proofs.ControlKept.{sent_ends, table_ends}
+
+-- ---- the control part
+
+asked_ends : (c : Control) (ask : Ask) → (after (Asks ask) c).ends ≡ c.ends
+asked_ends c ask = any_step (λ (d : Control). d.ends ≡ c.ends) (Asks ask) c refl refl
+
+entered_ends : (c : Control) (slot : ℕ) (quiet : Bool) → (after (Enters slot quiet) c).ends ≡ c.ends
+entered_ends c slot quiet = any_step (λ (d : Control). d.ends ≡ c.ends) (Enters slot quiet) c refl refl
+
+answered_ends : (c : Control) (answer : Result Ask ErrCode) → (after (Answers answer) c).ends ≡ c.ends
+answered_ends c answer =
+    any_step (λ (d : Control). d.ends ≡ c.ends) (Answers answer) c
+    (table_ends (is_host_asked c.table.progress && is_answer answer) (host_answer_step c.table answer) c) refl
+
+disconnected_ends : (c : Control) (reason : ErrCode) → (after (Disconnects reason) c).ends ≡ c.ends
+disconnected_ends c reason =
+    any_step (λ (d : Control). d.ends ≡ c.ends) (Disconnects reason) c (table_ends (is_open c.table.closing) (terminate_step c.table reason) c) refl
+
+-- ---- one step of an end
+
+same : (facts : Facts) → EndsNothing facts facts
+same facts = record { procedures = refl; peer = refl }
+
+then_nothing : (a b c : Facts) → EndsNothing a b → EndsNothing b c → EndsNothing a c
+then_nothing a b c one two = record { procedures = two.procedures ∙ one.procedures; peer = two.peer ∙ one.peer }
+
+asked : (to_come : Bool) (ask : Ask) (facts : Facts) → EndsNothing facts (asked_unless to_come ask facts)
+asked true ask facts = same facts
+asked false ask facts = record { procedures = asked_ends facts.control ask; peer = refl }
+
+entered : (lasts : Bool) (setup : Setup) (slot : ℕ) (facts : Facts) → EndsNothing facts (facts_entered_if lasts setup slot facts)
+entered true setup slot facts = record { procedures = entered_ends facts.control slot (is_quiet_now facts); peer = refl }
+entered false setup slot facts = same facts
+
+fixed : (gone : Bool) (facts : Facts) → EndsNothing facts (if gone then facts else fixed_anew facts)
+fixed true facts = same facts
+fixed false facts = record { procedures = refl; peer = refl }
+
+gone : (goes : Bool) (slot : ℕ) (facts : Facts) → EndsNothing facts (control_gone_if goes slot facts)
+gone true slot facts = record { procedures = sent_ends facts.control slot (is_quiet_now facts); peer = refl }
+gone false slot facts = same facts
+
+sent : (slot : ℕ) (facts : Facts) → EndsNothing facts (facts_sent slot facts)
+sent slot facts = let leaves = gone (takes_leave facts) slot facts in record { procedures = leaves.procedures; peer = leaves.peer }
+
+pub host_ends_nothing : (setup : Setup) (facts : Facts) (step : Step) → MayHost step facts → EndsNothing facts (facts_after setup facts step)
+host_ends_nothing setup facts (DataGiven start body) may = record { procedures = refl; peer = refl }
+host_ends_nothing setup facts (ProcedureAsked ask) may = asked (is_to_come ask facts) ask facts
+host_ends_nothing setup facts (RequestAnswered answer) may = record { procedures = answered_ends facts.control answer; peer = refl }
+host_ends_nothing setup facts (Disconnected reason slot) may = record { procedures = disconnected_ends facts.control reason; peer = refl }
+host_ends_nothing setup facts DataReported may = record { procedures = refl; peer = refl }
+host_ends_nothing setup facts (EventEntered slot) may = absurd may
+host_ends_nothing setup facts PduFixed may = absurd may
+host_ends_nothing setup facts (PacketSent slot) may = absurd may
+host_ends_nothing setup facts (PacketReceived slot octets room) may = absurd may
+
+-- ---- a turn begins
+
+entered_if : (enters : Bool) (setup : Setup) (slot : ℕ) (facts : Facts)
+    → EndsNothing facts (if enters then facts_after setup facts (EventEntered slot) else facts)
+entered_if true setup slot facts = entered (goes_on facts) setup slot facts
+entered_if false setup slot facts = same facts
+
+fixed_if : (fixes : Bool) (facts : Facts) → EndsNothing facts (if fixes then facts_fixed facts else facts)
+fixed_if true facts = fixed (is_control facts.outgoing.fixed) facts
+fixed_if false facts = same facts
+
+pub sent_ends_nothing : (sends : Bool) (setup : Setup) (slot : ℕ) (facts : Facts) → EndsNothing facts (sent_if sends setup slot facts)
+sent_ends_nothing true setup slot facts = sent slot facts
+sent_ends_nothing false setup slot facts = same facts
+
+module _ (setup : Setup) (slot : ℕ) (exchanges : Bool) (facts : Facts) where
+  pub prepared_ends_nothing : EndsNothing facts (prepared setup slot exchanges facts)
+  prepared_ends_nothing =
+      then_nothing facts (entered_in setup slot facts) (prepared setup slot exchanges facts)
+      (entered_if (next_anchor_of facts.control.track == slot) setup slot facts) (fixed_if exchanges (entered_in setup slot facts))
+
+  pub begun_ends_nothing : EndsNothing facts (central_begun setup slot exchanges facts)
+  begun_ends_nothing =
+      then_nothing facts (prepared setup slot exchanges facts) (central_begun setup slot exchanges facts) prepared_ends_nothing
+      (sent_ends_nothing exchanges setup slot (prepared setup slot exchanges facts))

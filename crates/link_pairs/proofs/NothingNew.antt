@@ -1,0 +1,221 @@
+-- The steps of an end in which it sends and hears nothing new leave two ends parting.
+use Rattle.std.proofs.Common.{◌≡◌, ◌≤◌, ◌<◌, ◌==◌, ℕ, Bool, true, false, length, Option, Some, is_some, refl, sym, ap, ◌∙◌, subst, if◌then◌else◌}
+use Rattle.instants.specs.Track.{next_anchor_of}
+use Rattle.procedure_values.specs.declared.asks.Ask.{Ask}
+use Rattle.procedure_stages.specs.Closing.{is_open}
+use Rattle.procedure_values.specs.Limits.{tx_of}
+use Rattle.control_model.specs.Control.{Answers, Asks, Control, Disconnects, after}
+use Rattle.link_model.specs.declared.state.KnownLengths.{KnownLengths}
+use Rattle.link_model.specs.Acknowledgement.{Acknowledgement, Pdu, is_acked}
+use Rattle.link_model.specs.Data.{Data, data_given, data_reported, is_control}
+use Rattle.link_model.specs.OneLink.{AreInAgreement}
+use Rattle.link_model.specs.Setup.{Setup}
+use Rattle.link_model.specs.Controls.{goes_on, is_terminate}
+use Rattle.link_model.specs.End.{facts_after}
+use Rattle.link_model.specs.Entering.{facts_entered_if}
+use Rattle.link_model.specs.Facts.{Facts}
+use Rattle.link_model.specs.Fixing.{data_cut, fixed_anew}
+use Rattle.link_model.specs.Hosts.{asked_unless, is_to_come}
+use Rattle.link_model.specs.Receiving.{lengths_seen}
+use Rattle.link_model.specs.Step.{Step, DataGiven, DataReported, Disconnected, EventEntered, PacketReceived, PacketSent, PduFixed, ProcedureAsked, RequestAnswered}
+use Rattle.link_pairs.specs.Hosts.{MayHost}
+use Rattle.link_pairs.specs.Parting.{ArePartingFrom, HasFittingPdu, HasSentTerminate, HasTakenTerminate}
+use Rattle.link_pairs.specs.Turns.{entered_in, prepared}
+use Rattle.link_pairs.specs.Ways.{IsUnseen}
+use Rattle.link_pairs.proofs.Fixing.{anew_piece, fixed_payload, piece_no_control}
+use Rattle.link_pairs.proofs.Hosting.{given_fixed, given_payload}
+use Rattle.link_pairs.proofs.LastControl.{no_control_left}
+use Rattle.link_pairs.proofs.TakingNothing.{TakesNothing, answers_nothing, asks_nothing, disconnects_nothing, enters_nothing, takes_none, takes_then}
+
+-- ---- an end that sends and hears nothing new
+
+pub record HasNothingNew (before now : Facts) : Type 0 where
+  pub control : TakesNothing before.control now.control
+  pub acknowledgement : now.acknowledgement ≡ before.acknowledgement
+  pub payload : now.outgoing.payload ≡ before.outgoing.payload
+  pub none_gone : is_control before.outgoing.fixed ≡ false → is_control now.outgoing.fixed ≡ false
+  pub by_peer : now.leaving.ended_by_peer ≡ before.leaving.ended_by_peer
+  pub stays : now.leaving.acknowledged ≡ before.leaving.acknowledged
+  pub answered : before.leaving.answered ≡ true → now.leaving.answered ≡ true
+
+pub nothing_then : (a b c : Facts) → HasNothingNew a b → HasNothingNew b c → HasNothingNew a c
+nothing_then a b c one two =
+    record {
+      control = takes_then a.control b.control c.control one.control two.control;
+      acknowledgement = two.acknowledgement ∙ one.acknowledgement;
+      payload = two.payload ∙ one.payload;
+      none_gone = λ none. two.none_gone (one.none_gone none);
+      by_peer = two.by_peer ∙ one.by_peer;
+      stays = two.stays ∙ one.stays;
+      answered = λ is. two.answered (one.answered is);
+    }
+
+module _ (before now : Facts) (nothing : HasNothingNew before now) where
+  last_same : now.acknowledgement.last ≡ before.acknowledgement.last
+  last_same = ap (λ (a : Acknowledgement). a.last) nothing.acknowledgement
+
+  fits_still : (other : Setup) → HasFittingPdu other before → HasFittingPdu other now
+  fits_still other fits =
+      record {
+        payload = nothing.payload ∙ fits.payload ∙ ap (λ (pdu : Pdu). pdu.body) (sym last_same);
+        two_bits = subst (λ (pdu : Pdu). pdu.llid < 4) (sym last_same) fits.two_bits;
+        short = subst (λ (pdu : Pdu). length pdu.body ≤ other.link.max_rx) (sym last_same) fits.short;
+      }
+
+  sent_still : (other : Setup) → HasSentTerminate other before → HasSentTerminate other now
+  sent_still other sent =
+      record {
+        goes_on = nothing.control.ends ∙ sent.goes_on;
+        took_none = nothing.by_peer ∙ sent.took_none;
+        stays = nothing.stays ∙ sent.stays;
+        terminates = ap is_terminate last_same ∙ sent.terminates;
+        sends_no_control = no_control_left before.control.table now.control.table nothing.control.table sent.sends_no_control;
+        fits = fits_still other sent.fits;
+      }
+
+  took_still : (other : Setup) → HasTakenTerminate other before → HasTakenTerminate other now
+  took_still other took =
+      record {
+        goes_on = nothing.control.ends ∙ took.goes_on;
+        took = ap is_some nothing.by_peer ∙ took.took;
+        stays = nothing.stays ∙ took.stays;
+        closing = ap is_open (nothing.control.table.closing took.closing) ∙ took.closing;
+        none_gone = nothing.none_gone took.none_gone;
+        peer_receives = subst (λ (n : ℕ). n ≤ other.link.max_rx) (sym nothing.control.table.peer_rx) took.peer_receives;
+        fits = fits_still other took.fits;
+      }
+
+-- ---- two ends that part
+
+module _ (taker sender : Setup) (t s : Facts) (parting : ArePartingFrom taker sender t s) where
+  pub taker_still : (now : Facts) → HasNothingNew t now → ArePartingFrom taker sender now s
+  taker_still now nothing =
+      let same = sym nothing.acknowledgement in
+      record {
+        took = took_still t now nothing sender parting.took;
+        sent = parting.sent;
+        agreement = subst (λ (a : Acknowledgement). AreInAgreement a s.acknowledgement) same parting.agreement;
+        unseen = subst (λ (a : Acknowledgement). IsUnseen s.acknowledgement a) same parting.unseen;
+        seen = subst (λ (a : Acknowledgement). a.acked ≡ length s.acknowledgement.accepted) same parting.seen;
+        answers =
+            λ is. let has = parting.answers is in
+            record { answered = nothing.answered has.answered; out = ap is_acked nothing.acknowledgement ∙ has.out };
+      }
+
+  pub sender_still : (now : Facts) → HasNothingNew s now → ArePartingFrom taker sender t now
+  sender_still now nothing =
+      let same = sym nothing.acknowledgement in
+      record {
+        took = parting.took;
+        sent = sent_still s now nothing taker parting.sent;
+        agreement = subst (λ (a : Acknowledgement). AreInAgreement t.acknowledgement a) same parting.agreement;
+        unseen = subst (λ (a : Acknowledgement). IsUnseen a t.acknowledgement) same parting.unseen;
+        seen = subst (λ (a : Acknowledgement). t.acknowledgement.acked ≡ length a.accepted) same parting.seen;
+        answers = parting.answers;
+      }
+
+-- ---- what a host does
+
+pub same_still : (facts : Facts) → HasNothingNew facts facts
+same_still facts =
+    record {
+      control = takes_none facts.control;
+      acknowledgement = refl;
+      payload = refl;
+      none_gone = λ none. none;
+      by_peer = refl;
+      stays = refl;
+      answered = λ is. is;
+    }
+
+-- only its control part is another one, and whether it disconnected
+control_still : (facts : Facts) (d : Control) (lengths : KnownLengths) (slot : Option ℕ) → TakesNothing facts.control d
+    → HasNothingNew facts (record facts { control = d; lengths = lengths; leaving = record facts.leaving { disconnected = slot } })
+control_still facts d lengths slot nothing =
+    record {
+      control = nothing;
+      acknowledgement = refl;
+      payload = refl;
+      none_gone = λ none. none;
+      by_peer = refl;
+      stays = refl;
+      answered = λ is. is;
+    }
+
+-- only its data is
+data_still : (facts : Facts) (o : Data) → o.fixed ≡ facts.outgoing.fixed → o.payload ≡ facts.outgoing.payload
+    → HasNothingNew facts (record facts { outgoing = o })
+data_still facts o fixed payload =
+    record {
+      control = takes_none facts.control;
+      acknowledgement = refl;
+      payload = payload;
+      none_gone = λ none. ap is_control fixed ∙ none;
+      by_peer = refl;
+      stays = refl;
+      answered = λ is. is;
+    }
+
+asked_still : (to_come : Bool) (ask : Ask) (facts : Facts) → HasNothingNew facts (asked_unless to_come ask facts)
+asked_still true ask facts = same_still facts
+asked_still false ask facts =
+    control_still facts (after (Asks ask) facts.control) (lengths_seen facts.control.table.lengths (after (Asks ask) facts.control).table.lengths facts.lengths)
+    facts.leaving.disconnected (asks_nothing ask facts.control)
+
+pub host_still : (setup : Setup) (facts : Facts) (step : Step) → MayHost step facts → HasNothingNew facts (facts_after setup facts step)
+host_still setup facts (DataGiven start body) m =
+    data_still facts (data_given setup.link.handle start body facts.outgoing) (given_fixed setup.link.handle start body facts.outgoing)
+    (given_payload setup.link.handle start body facts.outgoing)
+host_still setup facts (ProcedureAsked ask) m = asked_still (is_to_come ask facts) ask facts
+host_still setup facts (RequestAnswered answer) m =
+    control_still facts (after (Answers answer) facts.control) facts.lengths facts.leaving.disconnected (answers_nothing answer facts.control)
+host_still setup facts (Disconnected reason slot) m =
+    control_still facts (after (Disconnects reason) facts.control) facts.lengths (Some slot) (disconnects_nothing reason facts.control)
+host_still setup facts DataReported m = data_still facts (data_reported facts.outgoing) refl refl
+host_still setup facts (EventEntered slot) m = absurd m
+host_still setup facts PduFixed m = absurd m
+host_still setup facts (PacketSent slot) m = absurd m
+host_still setup facts (PacketReceived slot octets room) m = absurd m
+
+-- ---- a turn begins
+
+entered_still : (enters goes : Bool) (setup : Setup) (slot : ℕ) (facts : Facts)
+    → HasNothingNew facts (if enters then facts_entered_if goes setup slot facts else facts)
+entered_still true true setup slot facts =
+    record {
+      control = enters_nothing slot true facts.control;
+      acknowledgement = refl;
+      payload = refl;
+      none_gone = λ none. none;
+      by_peer = refl;
+      stays = refl;
+      answered = λ is. is;
+    }
+entered_still true false setup slot facts = same_still facts
+entered_still false goes setup slot facts = same_still facts
+
+pub anew_still : (facts : Facts) → HasNothingNew facts (fixed_anew facts)
+anew_still facts =
+    record {
+      control = takes_none facts.control;
+      acknowledgement = refl;
+      payload = fixed_payload _ _ _ (data_cut facts);
+      none_gone = λ none. piece_no_control (tx_of facts.control.table.lengths) (fixed_anew facts).outgoing.fixed (anew_piece facts);
+      by_peer = refl;
+      stays = refl;
+      answered = λ is. is;
+    }
+
+fixed_still : (fixes gone : Bool) (facts : Facts) → HasNothingNew facts (if fixes then (if gone then facts else fixed_anew facts) else facts)
+fixed_still true false facts = anew_still facts
+fixed_still true true facts = same_still facts
+fixed_still false gone facts = same_still facts
+
+pub entered_in_still : (setup : Setup) (slot : ℕ) (facts : Facts) → HasNothingNew facts (entered_in setup slot facts)
+entered_in_still setup slot facts = entered_still (next_anchor_of facts.control.track == slot) (goes_on facts) setup slot facts
+
+pub prepared_still : (setup : Setup) (slot : ℕ) (exchanges : Bool) (facts : Facts) → HasNothingNew facts (prepared setup slot exchanges facts)
+prepared_still setup slot exchanges facts =
+    let now = entered_in setup slot facts in
+    nothing_then facts now (prepared setup slot exchanges facts) (entered_in_still setup slot facts)
+    (fixed_still exchanges (is_control now.outgoing.fixed) now)

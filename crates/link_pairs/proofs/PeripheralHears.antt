@@ -1,0 +1,661 @@
+-- A peripheral that hears a packet of the central: the link goes on by that packet, in the joint run and by turns.
+use Rattle.std.proofs.Common.{◌≡◌, ℕ, ◌+◌, ◌<◌, ◌≤◌, ◌&&◌, ◌||◌, Bool, true, false, not, List, [], ◌++◌, length, Option, None, is_none, is_some, refl, ap, sym, subst, ◌∙◌, arith, if◌then◌else◌}
+use Rattle.std.proofs.lemmas.Bool.{and_parts}
+use Rattle.ble_base.specs.declared.roles.Role.{Role}
+use Rattle.ble_base.specs.declared.roles.Role.TheVariants.{Peripheral}
+use Rattle.data_pdu.specs.declared.ctrl.Ctrl.{Ctrl}
+use Rattle.data_pdu.specs.declared.header.DataHeader.{DataHeader}
+use Rattle.procedure_values.specs.Limits.{tx_of}
+use Rattle.procedure_stages.specs.Closing.{is_open}
+use Rattle.procedure_stages.specs.Kinds.{role_of}
+use Rattle.enc_phase.specs.Phases.{seals}
+use Rattle.enc_phase.specs.declared.facts.PhaseFacts.TheVariants.{Clear as clear_phase}
+use Rattle.two_tracks.specs.TwoEnds.{LastPdu, MayReach, TwoEnds}
+use Rattle.two_tracks.specs.TwoEnds as two_ends
+use Rattle.control_model.specs.Control.{Control}
+use Rattle.control_end.specs.Answers.{next_ctrl}
+use Rattle.control_end.specs.Held.{held_of}
+use Rattle.phased_control.specs.Phased.{Phased}
+use Rattle.unencrypted_ends.specs.Unencrypted.{plain_phased}
+use Rattle.joint_controls.specs.Joint.{Clear, Control as control_item, Data, Fixed, Item, Joint, JointStep, PeripheralAcked, PeripheralSends, PeripheralTakes, Way, after_all, is_free, is_running, is_taken, item_on_air, may, may_act, may_all, no_response, sent_up}
+use Rattle.joint_controls.specs.Joint.{after as joint_after}
+use Rattle.joint_controls.specs.Ends.{AreStepsInRange, outgoing_on}
+use Rattle.joint_controls.proofs.Running.{GoesOn, goes_on, none_of}
+use Rattle.joint_parameters.specs.Turns.{Alone, FixesNothing, Fixing, IsHeard, IsPaired, Link, LinkStep, MayLink, after_acknowledgement, fixing_steps, joint_steps, link_after, step_if, takes_item}
+use Rattle.joint_parameters.proofs.Hearing.{range_before}
+use Rattle.joint_parameters.proofs.Pairing.{may_now, running_from}
+use Rattle.joint_parameters.proofs.Runs.{after_joined}
+use Rattle.link_model.specs.Acknowledgement.{Acknowledgement, Pdu, is_acked, received_by, with_accepted, with_acked}
+use Rattle.link_model.specs.Data.{Data as DataFacts, is_control, is_data, is_empty}
+use Rattle.link_model.specs.OneLink.{AreInAgreement}
+use Rattle.link_model.specs.Setup.{Setup}
+use Rattle.link_model.specs.declared.state.Leaving.{Leaving}
+use Rattle.link_model.specs.declared.state.PeerFacts.{PeerFacts}
+use Rattle.link_model.specs.Controls.{is_terminate, next_control}
+use Rattle.link_model.specs.Facts.{Facts}
+use Rattle.link_model.specs.Packets.{good_pdu}
+use Rattle.link_model.specs.Receiving.{accepts, control_acked_if, facts_hearing, has_ended, replies_by, replies_of, taken_if}
+use Rattle.link_model.specs.Step.{PacketReceived, PacketSent}
+use Rattle.link_model.specs.Sending.{control_gone_if, fixed_sent, takes_leave}
+use Rattle.link_pairs.specs.Ends.{AreEnds, HasExchange, heard_turns, is_lasting, phased_of, turns_at}
+use Rattle.link_pairs.specs.Hearing.{IsPacketOf, received}
+use Rattle.link_pairs.specs.Hearing as hearing
+use Rattle.link_pairs.specs.Shown.{AreLinked, Shows, link_of}
+use Rattle.link_pairs.specs.Turns.{AreReady, HasFixed, HaveBegun, sent_if}
+use Rattle.link_pairs.specs.Ways.{IsItem, ShowsLast, ShowsWay}
+use Rattle.link_pairs.proofs.Answering.{HasLast, all_same, answers_plainly, fixed, gone, last_again, last_next, rests_with, seen, seen_fixed, taken, taken_acknowledgement, taken_good, taken_stays, took}
+use Rattle.link_pairs.proofs.ControlKept.{Keeps, acked_ends, acked_next, keeps_acked, keeps_none, keeps_sent, keeps_then, sent_ends}
+use Rattle.link_pairs.proofs.Counts.{HasBitsOf, Says, acknowledged_by, heard_agreed, is_fresh, says_right, sent_agreed, turned}
+use Rattle.link_pairs.proofs.FixingNext.{Empty, FixesNext, Holds, IsAnswer, control_bits, control_short, fixed_by, fixes_next, fixing_of, may_fix_after}
+use Rattle.link_pairs.proofs.HeardTurns.{HearsIn, hears_in, in_exchange, last_heard, last_hears}
+use Rattle.link_pairs.proofs.PeripheralSteps.{may_parts, seen_after, sends_after, with_end}
+use Rattle.link_pairs.proofs.LastPdus.{last_reached}
+use Rattle.link_pairs.proofs.Lasting.{lasts_before, lasts_before_if}
+use Rattle.link_pairs.proofs.Reaching.{IsReached, IsShown, comes, linked, paired, peripheral_transmits, reached_by, reached_next, shown}
+use Rattle.link_pairs.proofs.Reading.{AreHeard, IsRead, is_read}
+use Rattle.link_pairs.proofs.SeenAcknowledged.{cleared, clear_seen, control_seen, ends_nothing}
+use Rattle.link_pairs.proofs.TakingPdus.{HasTaken, TakesNext, takes_next}
+use Rattle.link_pairs.proofs.Ways.{Arrival, arrives, last_same, last_taken, sent_again, way_same, way_seen, way_sent, way_sent_empty}
+
+-- ---- what its steps keep of the control part
+
+keeps_seen : (acked : Bool) (c : Control) → Keeps c (control_acked_if acked c)
+keeps_seen true c = keeps_acked c
+keeps_seen false c = keeps_none c
+
+seen_ends : (acked : Bool) (c : Control) → (control_acked_if acked c).ends ≡ c.ends
+seen_ends true c = acked_ends c
+seen_ends false c = refl
+
+seen_next : (acked : Bool) (c : Control) → role_of c.table.progress ≡ Peripheral → next_ctrl true (held_of (control_acked_if acked c)) ≡ next_ctrl true (held_of c)
+seen_next true c role = acked_next c true role
+seen_next false c role = refl
+
+keeps_gone : (goes : Bool) (slot : ℕ) (facts : Facts) → Keeps facts.control (control_gone_if goes slot facts).control
+keeps_gone true slot facts = keeps_sent facts.control slot true
+keeps_gone false slot facts = keeps_none facts.control
+
+gone_ends : (goes : Bool) (slot : ℕ) (facts : Facts) → (control_gone_if goes slot facts).control.ends ≡ facts.control.ends
+gone_ends true slot facts = sent_ends facts.control slot true
+gone_ends false slot facts = refl
+
+room_for : (room has_data : Bool) → has_data ≡ false → (room || not has_data) ≡ true
+room_for room true is = absurd (cc)
+room_for true false is = refl
+room_for false false is = refl
+
+-- ---- the joint run as the peripheral takes a PDU, or does not
+
+-- some steps lead to it, which leave the central, its way and the event of the peripheral as they were; the control part of
+-- the peripheral is this one then
+pub record TakesAt (s : Joint) (takes : Bool) (slot : ℕ) (now : Control) : Type 0 where
+  pub steps : List JointStep
+  pub in_range : AreStepsInRange steps
+  pub state : Joint
+  pub leads : after_all steps s ≡ state
+  pub comes : may_all (step_if takes (PeripheralTakes slot no_response)) state ≡ true
+  pub to : (after_all (step_if takes (PeripheralTakes slot no_response)) state).peripheral.control ≡ now
+  pub central : state.central ≡ s.central
+  pub down : state.down ≡ s.down
+  pub entered : state.peripheral.control.track.entered ≡ s.peripheral.control.track.entered
+  pub lasts : state.peripheral.control.ends ≡ None
+
+-- ---- both ends before it
+
+module _ (central peripheral : Setup) (slot : ℕ) (l : Link) (c p : Facts) (header : DataHeader) where
+  -- a packet of the central, with this header, reaches the peripheral, which has fixed its next PDU
+  pub record Meets : Type 0 where
+    pub ends : AreEnds central peripheral
+    pub reached : IsReached central peripheral l
+    pub running : is_running l.joint ≡ true
+    pub shows : Shows central peripheral (slot + 1) false l c p
+    pub out_last : p.control.table.out ≡ outgoing_on l.joint.up
+    pub bits : HasBitsOf c.acknowledgement header
+    pub out : is_acked c.acknowledgement ≡ false
+    pub central_heard : heard_turns central c ≤ slot
+    pub peripheral_heard : heard_turns peripheral p ≤ slot
+    pub supervised : slot + 1 ≤ heard_turns peripheral p + 32768
+    pub transmits : HasExchange slot c
+    pub listens : HasExchange slot p
+    pub has_fixed : HasFixed p
+
+  module _ (m : Meets) (room : Bool) where
+    abbrev s : Shows central peripheral (slot + 1) false l c p
+    s = m.shows
+
+    abbrev acks : Bool
+    acks = acknowledged_by p.acknowledgement header
+
+    abbrev fresh : Bool
+    fresh = is_fresh p.acknowledgement header
+
+    abbrev pdu : Pdu
+    pdu = c.acknowledgement.last
+
+    -- room for all but data is there always
+    abbrev room_now : Bool
+    room_now = room || not (is_data pdu)
+
+    abbrev accepted : Bool
+    accepted = fresh && room_now
+
+    agreed : AreInAgreement p.acknowledgement c.acknowledgement
+    agreed = turned c.acknowledgement p.acknowledgement s.agreement
+
+    says : Says p.acknowledgement c.acknowledgement acks fresh
+    says = says_right p.acknowledgement c.acknowledgement agreed header m.bits m.out
+
+    p_paired : IsPaired l
+    p_paired = paired central peripheral m.ends l m.reached m.running
+
+    -- ---- the packet reaches it
+
+    pub reaches : MayReach l.turns
+    reaches =
+        record {
+          central_open = p_paired.central_open;
+          peripheral_open = p_paired.peripheral_open;
+          transmits =
+              in_exchange central slot c l.turns.turns l.turns.central_heard_at l.turns.central m.transmits s.central_rests m.central_heard
+              (ap (λ (x : Phased). x.control.track) (sym s.central_part) ∙ sym p_paired.central) s.central_heard s.begun;
+          listens =
+              in_exchange peripheral slot p l.turns.turns l.turns.peripheral_heard_at l.turns.peripheral m.listens s.peripheral_rests m.peripheral_heard
+              (ap (λ (x : Phased). x.control.track) (sym s.peripheral_part) ∙ sym p_paired.peripheral) s.peripheral_heard s.begun;
+          supervised = omega (arith, s.begun, s.peripheral_heard, m.supervised);
+        }
+
+    -- ---- it sees its last PDU acknowledged, or does not
+
+    abbrev before : Facts
+    before = seen slot header.md acks p
+
+    abbrev knows : Bool
+    knows = is_some p.peer.version
+
+    goes : GoesOn l.joint
+    goes = goes_on l.joint m.running
+
+    abbrev start : Joint
+    start = with_end (phased_of c) l.joint.down l.joint.up false p.control knows
+
+    started : l.joint ≡ start
+    started = λ i. record { central = s.central_part i; peripheral = s.peripheral_part i; down = l.joint.down; up = l.joint.up; stopped = goes.stopped i }
+
+    lasts : p.control.ends ≡ None
+    lasts = ap (λ (x : Phased). x.control.ends) (sym s.peripheral_part) ∙ goes.peripheral
+
+    abbrev acked_steps : List JointStep
+    acked_steps = step_if (is_taken l.joint.up) PeripheralAcked
+
+    abbrev takes : Bool
+    takes = takes_item room_now (item_on_air l.joint.down)
+
+    acked_may : may_all acked_steps l.joint ≡ true
+    acked_may =
+        let all = comes central peripheral m.ends (IsHeard room_now FixesNothing slot no_response) l m.reached m.running (reaches, tt) in
+        let first = may_parts (acked_steps ++ []) (step_if takes (PeripheralTakes slot no_response)) l.joint all in
+        (may_parts acked_steps [] l.joint first.0).0
+
+    seen_joint : after_acknowledgement l.joint ≡ with_end (phased_of c) l.joint.down (cleared l.joint.up) false before.control knows
+    seen_joint =
+        ap (after_all acked_steps) started
+        ∙ seen_after (phased_of c) l.joint.down l.joint.up p.control knows (subst (λ (j : Joint). may_all acked_steps j ≡ true) started acked_may)
+        ∙ ap (λ (q : Control). with_end (phased_of c) l.joint.down (cleared l.joint.up) false q knows)
+        (sym (control_seen p.acknowledgement c.acknowledgement acks fresh says l.joint.up p.control s.up m.out_last))
+
+    -- ---- it fixes its next one
+
+    seen_keeps : Keeps p.control before.control
+    seen_keeps = keeps_seen (acks && is_control p.acknowledgement.last) p.control
+
+    seen_lasts : before.control.ends ≡ None
+    seen_lasts = seen_ends (acks && is_control p.acknowledgement.last) p.control ∙ lasts
+
+    is_role : role_of p.control.table.progress ≡ Peripheral
+    is_role = s.peripheral_rests.role ∙ m.ends.is_peripheral
+
+    next_same : next_control before ≡ next_control p
+    next_same = seen_next (acks && is_control p.acknowledgement.last) p.control is_role
+
+    fixed_same : before.outgoing.fixed ≡ p.outgoing.fixed
+    fixed_same = seen_fixed slot header.md acks p
+
+    abbrev fixing : Fixing
+    fixing = fixing_of (is_acked before.acknowledgement) before.fixes_control (is_data before.outgoing.fixed)
+
+    pub fixes : FixesNext (phased_of c) l.joint.down (cleared l.joint.up) slot before knows (is_acked before.acknowledgement) before.fixes_control fixing
+    fixes =
+        fixes_next (phased_of c) l.joint.down (cleared l.joint.up) slot before knows seen_lasts (seen_keeps.fits s.peripheral_rests.fits)
+        (seen_keeps.plain s.peripheral_rests.plain)
+        (clear_seen p.acknowledgement c.acknowledgement acks fresh says agreed l.joint.up s.up)
+        (m.has_fixed.control ∙ ap (λ (next : Option Ctrl). is_some next) (sym next_same))
+        (λ is. let first = m.has_fixed.data_first (sym (ap is_data fixed_same) ∙ is) in (
+          next_same ∙ first.0,
+          ap is_open seen_keeps.kept.closing ∙ sym s.peripheral_rests.goes ∙ first.1,
+        ))
+        (ap is_control fixed_same ∙ s.peripheral_rests.none_gone) (subst (λ (x : Pdu). x.llid < 4) (sym fixed_same) m.has_fixed.two_bits)
+
+    abbrev heard : LinkStep
+    heard = IsHeard room_now fixing slot no_response
+
+    may_hear : MayLink heard l
+    may_hear = (reaches, may_fix_after fixing slot l.joint _ seen_joint fixes.may_fix)
+
+    all_may : may_all (joint_steps heard l) l.joint ≡ true
+    all_may = comes central peripheral m.ends heard l m.reached m.running may_hear
+
+    parts : (may_all (acked_steps ++ fixing_steps fixing slot) l.joint ≡ true)
+        × (may_all (step_if takes (PeripheralTakes slot no_response)) (after_all (acked_steps ++ fixing_steps fixing slot) l.joint) ≡ true)
+    parts = may_parts (acked_steps ++ fixing_steps fixing slot) (step_if takes (PeripheralTakes slot no_response)) l.joint all_may
+
+    abbrev after_fixing : Facts
+    after_fixing = fixed slot header.md acks p
+
+    fixed_joint : after_all (acked_steps ++ fixing_steps fixing slot) l.joint ≡ with_end (phased_of c) l.joint.down fixes.next_way false after_fixing.control knows
+    fixed_joint =
+        after_joined acked_steps (fixing_steps fixing slot) l.joint
+        ∙ ap (after_all (fixing_steps fixing slot)) seen_joint
+        ∙ fixes.leads
+        (subst (λ (j : Joint). may_all (fixing_steps fixing slot) j ≡ true) seen_joint
+        (may_parts acked_steps (fixing_steps fixing slot) l.joint parts.0).1)
+
+    -- ---- it takes the PDU, or does not
+
+    fixed_keeps : Keeps before.control after_fixing.control
+    fixed_keeps = keeps_gone (takes_leave before) slot before
+
+    fixed_lasts : after_fixing.control.ends ≡ None
+    fixed_lasts = gone_ends (takes_leave before) slot before ∙ seen_lasts
+
+    arrival : Arrival l.joint.down c.acknowledgement p.acknowledgement takes accepted
+    arrival =
+        arrives c.acknowledgement p.acknowledgement acks fresh says s.agreement m.out room_now (room_for room (is_data pdu)) l.joint.down s.down
+
+    pub takes_pdu : TakesNext (phased_of c) l.joint.down fixes.next_way slot c.acknowledgement p.acknowledgement after_fixing takes accepted
+    takes_pdu = takes_next (phased_of c) l.joint.down fixes.next_way slot c.acknowledgement p.acknowledgement after_fixing takes accepted fixed_lasts arrival
+
+    knows_same : with_end (phased_of c) l.joint.down fixes.next_way false after_fixing.control knows
+        ≡ with_end (phased_of c) l.joint.down fixes.next_way false after_fixing.control (is_some after_fixing.peer.version)
+    knows_same =
+        ap (λ (peer : PeerFacts). with_end (phased_of c) l.joint.down fixes.next_way false after_fixing.control (is_some peer.version))
+        (sym (gone slot header.md acks p).peer)
+
+    abbrev now : Facts
+    now = taken slot header.md acks p accepted pdu
+
+    takes_may : may_all (step_if takes (PeripheralTakes slot no_response))
+        (with_end (phased_of c) l.joint.down fixes.next_way false after_fixing.control (is_some after_fixing.peer.version)) ≡ true
+    takes_may = subst (λ (j : Joint). may_all (step_if takes (PeripheralTakes slot no_response)) j ≡ true) (fixed_joint ∙ knows_same) parts.1
+
+    pub heard_joint : (link_after heard l).joint ≡ with_end (phased_of c) takes_pdu.next_down fixes.next_way takes_pdu.stopped now.control takes_pdu.knows
+    heard_joint =
+        after_joined (acked_steps ++ fixing_steps fixing slot) (step_if takes (PeripheralTakes slot no_response)) l.joint
+        ∙ ap (after_all (step_if takes (PeripheralTakes slot no_response))) (fixed_joint ∙ knows_same)
+        ∙ takes_pdu.leads takes_may
+
+    pub takes_at : TakesAt l.joint takes slot now.control
+    takes_at =
+        record {
+          steps = acked_steps ++ fixing_steps fixing slot;
+          in_range = range_before l.joint fixing slot;
+          state = with_end (phased_of c) l.joint.down fixes.next_way false after_fixing.control (is_some after_fixing.peer.version);
+          leads = fixed_joint ∙ knows_same;
+          comes = takes_may;
+          to = ap (λ (j : Joint). j.peripheral.control) (takes_pdu.leads takes_may);
+          central = sym s.central_part;
+          down = refl;
+          entered =
+              fixed_keeps.kept.entered ∙ seen_keeps.kept.entered ∙ ap (λ (x : Phased). x.control.track.entered) (sym s.peripheral_part);
+          lasts = fixed_lasts;
+        }
+
+    -- ---- where the run goes on
+
+    abbrev next : Link
+    next = link_after heard l
+
+    next_reached : IsReached central peripheral next
+    next_reached = reached_next central peripheral heard l m.reached m.running may_hear tt
+
+    abbrev answered : Facts
+    answered = fixed_sent slot now
+
+    hears : HearsIn l.turns next.turns (last_heard (room_now || not (is_free l.joint.down)) l.turns.last)
+    hears = hears_in (room_now || not (is_free l.joint.down)) l.turns.last l.turns refl
+
+    now_acknowledgement : now.acknowledgement ≡ received_by acks accepted pdu p.acknowledgement
+    now_acknowledgement = taken_acknowledgement slot header.md acks p accepted pdu
+
+    now_agreed : AreInAgreement now.acknowledgement c.acknowledgement
+    now_agreed =
+        subst (λ (a : Acknowledgement). AreInAgreement a c.acknowledgement) (sym now_acknowledgement)
+        (heard_agreed p.acknowledgement c.acknowledgement agreed header m.bits room_now m.out)
+
+    accepted_same : length answered.acknowledgement.accepted ≡ length (with_accepted accepted pdu p.acknowledgement).accepted
+    accepted_same = ap (λ (a : Acknowledgement). length a.accepted) now_acknowledgement
+
+    ends_none : (acks && is_terminate p.acknowledgement.last) ≡ false
+    ends_none = ends_nothing p.acknowledgement c.acknowledgement acks fresh says l.joint.up s.up
+
+    stays_now : now.leaving.acknowledged ≡ false
+    stays_now = taken_stays slot header.md acks p accepted pdu ∙ λ i. s.peripheral_rests.stays i || ends_none i
+
+    module _ (still : is_running next.joint ≡ true) where
+      going : GoesOn (with_end (phased_of c) takes_pdu.next_down fixes.next_way takes_pdu.stopped now.control takes_pdu.knows)
+      going = goes_on _ (subst (λ (j : Joint). is_running j ≡ true) heard_joint still)
+
+      took_pdu : HasTaken (phased_of c) l.joint.down fixes.next_way slot c.acknowledgement p.acknowledgement after_fixing takes accepted takes_pdu.next_down takes_pdu.knows
+      took_pdu = takes_pdu.taken going.stopped going.peripheral
+
+      goes_joint : next.joint ≡ with_end (phased_of c) takes_pdu.next_down fixes.next_way false now.control takes_pdu.knows
+      goes_joint =
+          heard_joint
+          ∙ ap (λ (b : Bool). with_end (phased_of c) takes_pdu.next_down fixes.next_way b now.control takes_pdu.knows) going.stopped
+
+      now_keeps : Keeps p.control now.control
+      now_keeps =
+          keeps_then p.control before.control now.control seen_keeps
+          (keeps_then before.control after_fixing.control now.control fixed_keeps took_pdu.keeps)
+
+      opens : next.turns.peripheral_open ≡ true
+      opens = (paired central peripheral m.ends next next_reached still).peripheral_open
+
+      pub shows_next : (k : Link) (up : Way) → k.joint ≡ with_end (phased_of c) takes_pdu.next_down up false now.control takes_pdu.knows → k.turns ≡ next.turns
+          → HasLast slot header.md acks p accepted pdu (is_acked now.acknowledgement)
+          → ShowsWay up answered.acknowledgement c.acknowledgement → length answered.acknowledgement.last.body ≤ central.link.max_rx
+          → Shows central peripheral (slot + 1) true k c answered
+      shows_next k up joint_is turns_is last shown fits =
+          record {
+            central_part = ap (λ (j : Joint). j.central) joint_is;
+            peripheral_part = ap (λ (j : Joint). j.peripheral) joint_is ∙ ap (plain_phased now.control) took_pdu.knows_version;
+            down =
+                subst (λ (w : Way). ShowsWay w c.acknowledgement answered.acknowledgement) (sym (ap (λ (j : Joint). j.down) joint_is))
+                (way_same takes_pdu.next_down c.acknowledgement (with_accepted accepted pdu p.acknowledgement) c.acknowledgement answered.acknowledgement refl refl refl
+                accepted_same took_pdu.shown);
+            up = subst (λ (w : Way). ShowsWay w answered.acknowledgement c.acknowledgement) (sym (ap (λ (j : Joint). j.up) joint_is)) shown;
+            agreement =
+                turned answered.acknowledgement c.acknowledgement
+                (sent_agreed now.outgoing.fixed now.acknowledgement c.acknowledgement now_agreed);
+            begun = ap (λ (t : TwoEnds). t.turns) turns_is ∙ hears.begun ∙ s.begun;
+            replies = λ is. ap (λ (t : TwoEnds). t.replies) turns_is ∙ hears.replies opens;
+            last =
+                subst (λ (x : LastPdu). ShowsLast x c.acknowledgement answered.acknowledgement)
+                (sym (ap (λ (t : TwoEnds). t.last) turns_is ∙ hears.last opens
+                ∙ last_hears c.acknowledgement p.acknowledgement acks fresh room_now says s.agreement m.out (room_for room (is_data pdu)) l.joint.down s.down
+                l.joint.central.control.sent l.turns.last s.last p_paired.coming))
+                (last_same (if accepted then two_ends.Taken else l.turns.last) c.acknowledgement (with_accepted accepted pdu p.acknowledgement) c.acknowledgement
+                answered.acknowledgement refl refl accepted_same
+                (last_taken c.acknowledgement p.acknowledgement acks fresh says s.agreement m.out l.turns.last accepted (λ is. (and_parts fresh room_now is).0) s.last));
+            central_heard = ap (λ (t : TwoEnds). t.central_heard_at) turns_is ∙ hears.central_heard ∙ s.central_heard;
+            peripheral_heard =
+                ap (λ (t : TwoEnds). t.peripheral_heard_at) turns_is ∙ hears.peripheral_heard ∙ s.begun
+                ∙ ap (turns_at peripheral.opened) (sym (taken_good slot header.md acks p accepted pdu));
+            free = λ all. absurd (let no = sym m.out ∙ all in cc);
+            central_rests = s.central_rests;
+            peripheral_rests =
+                rests_with peripheral slot header.md acks p accepted pdu s.peripheral_rests now_keeps m.listens ends_none (is_acked now.acknowledgement) last;
+            central_fits = s.central_fits;
+            peripheral_fits = fits;
+          }
+
+      -- ---- it answers with its last PDU again
+
+      module _ (again : is_acked before.acknowledgement ≡ false) where
+        now_out : is_acked now.acknowledgement ≡ false
+        now_out = all_same slot header.md acks p accepted pdu ∙ again
+
+        same_ack : answered.acknowledgement ≡ now.acknowledgement
+        same_ack = sent_again now.outgoing.fixed now.acknowledgement now_out
+
+        same_last : answered.acknowledgement.last ≡ p.acknowledgement.last
+        same_last = ap (λ (a : Acknowledgement). a.last) (same_ack ∙ now_acknowledgement)
+
+        way_again : ShowsWay fixes.next_way answered.acknowledgement c.acknowledgement
+        way_again =
+            subst (λ (w : Way). ShowsWay w answered.acknowledgement c.acknowledgement) (sym (fixes.same again))
+            (way_same (cleared l.joint.up) (with_acked acks p.acknowledgement) c.acknowledgement answered.acknowledgement c.acknowledgement same_last
+            (ap (λ (a : Acknowledgement). a.acked) (same_ack ∙ now_acknowledgement))
+            (ap (λ (a : Acknowledgement). length a.sent) (same_ack ∙ now_acknowledgement)) refl
+            (way_seen p.acknowledgement c.acknowledgement acks fresh says l.joint.up s.up))
+
+        shows_again : Shows central peripheral (slot + 1) true next c answered
+        shows_again =
+            shows_next next fixes.next_way goes_joint refl
+            (subst (HasLast slot header.md acks p accepted pdu) (sym now_out) (last_again slot header.md acks p accepted pdu peripheral s.peripheral_rests again))
+            way_again (subst (λ (x : Pdu). length x.body ≤ central.link.max_rx) (sym same_last) s.peripheral_fits)
+
+      -- ---- it answers with the next one
+
+      module _ (all : is_acked before.acknowledgement ≡ true) where
+        now_all : is_acked now.acknowledgement ≡ true
+        now_all = all_same slot header.md acks p accepted pdu ∙ all
+
+        now_fixed : now.outgoing.fixed ≡ after_fixing.outgoing.fixed
+        now_fixed = ap (λ (o : DataFacts). o.fixed) (took slot header.md acks p accepted pdu).outgoing
+
+        next_last : answered.acknowledgement.last ≡ now.outgoing.fixed
+        next_last = ap (λ (b : Bool). if b then now.outgoing.fixed else now.acknowledgement.last) now_all
+
+        most_sent : tx_of p.control.table.lengths ≤ central.link.max_rx
+        most_sent =
+            subst (λ (x : Phased). tx_of x.control.table.lengths ≤ central.link.max_rx) s.peripheral_part
+            (peripheral_transmits central peripheral m.ends l m.reached m.running)
+
+        fits_next : length now.outgoing.fixed.body ≤ central.link.max_rx
+        fits_next =
+            subst (λ (x : Pdu). length x.body ≤ central.link.max_rx) (sym now_fixed)
+            (fixed_by (λ (x : Pdu). length x.body ≤ central.link.max_rx) (takes_leave before) slot before
+            (λ next. omega (arith, control_short next, m.ends.central_max.from))
+            (subst (λ (x : Pdu). length x.body ≤ central.link.max_rx) (sym fixed_same) (omega (arith, m.has_fixed.short, most_sent))))
+
+        bits_next : now.outgoing.fixed.llid < 4
+        bits_next =
+            subst (λ (x : Pdu). x.llid < 4) (sym now_fixed)
+            (fixed_by (λ (x : Pdu). x.llid < 4) (takes_leave before) slot before (λ next. control_bits next)
+            (subst (λ (x : Pdu). x.llid < 4) (sym fixed_same) m.has_fixed.two_bits))
+
+        has_last : HasLast slot header.md acks p accepted pdu (is_acked now.acknowledgement)
+        has_last =
+            subst (HasLast slot header.md acks p accepted pdu) (sym now_all)
+            (last_next slot header.md acks p accepted pdu (omega (arith, fits_next, m.ends.central_max.to)) bits_next)
+
+        shows_all : (k : Link) (up : Way) → k.joint ≡ with_end (phased_of c) takes_pdu.next_down up false now.control takes_pdu.knows → k.turns ≡ next.turns
+            → ShowsWay up answered.acknowledgement c.acknowledgement → Shows central peripheral (slot + 1) true k c answered
+        shows_all k up joint_is turns_is shown =
+            shows_next k up joint_is turns_is has_last shown (subst (λ (x : Pdu). length x.body ≤ central.link.max_rx) (sym next_last) fits_next)
+
+        -- an empty one
+        shows_empty : fixes.next_way ≡ Clear → is_empty after_fixing.outgoing.fixed ≡ true → Shows central peripheral (slot + 1) true next c answered
+        shows_empty way empty =
+            shows_all next fixes.next_way goes_joint refl
+            (subst (λ (w : Way). ShowsWay w answered.acknowledgement c.acknowledgement) (sym way)
+            (way_sent_empty now.outgoing.fixed now.acknowledgement c.acknowledgement now_agreed now_all (ap is_empty now_fixed ∙ empty)))
+
+        -- a control PDU, or data
+        module _ (item : Item) (sealed : Bool) (way : fixes.next_way ≡ Fixed item sealed) (is : IsItem item after_fixing.outgoing.fixed) where
+          fixed_goes : next.joint ≡ with_end (phased_of c) takes_pdu.next_down (Fixed item sealed) false now.control takes_pdu.knows
+          fixed_goes = goes_joint ∙ ap (λ (w : Way). with_end (phased_of c) takes_pdu.next_down w false now.control takes_pdu.knows) way
+
+          may_send : may PeripheralSends next.joint ≡ true
+          may_send =
+              may_now PeripheralSends next.joint still
+              (subst (λ (j : Joint). may_act PeripheralSends j ≡ true) (sym fixed_goes) took_pdu.free)
+
+          abbrev after_next : Link
+          after_next = link_after (Alone PeripheralSends) next
+
+          sends_joint : after_next.joint ≡ with_end (phased_of c) takes_pdu.next_down (sent_up (Fixed item sealed) (seals Peripheral clear_phase)) false now.control takes_pdu.knows
+          sends_joint =
+              ap (joint_after PeripheralSends) fixed_goes
+              ∙ sends_after (phased_of c) takes_pdu.next_down now.control takes_pdu.knows (Fixed item sealed)
+              (subst (λ (j : Joint). may PeripheralSends j ≡ true) fixed_goes may_send)
+
+          way_on : (x : Item) → IsItem x now.outgoing.fixed
+              → ShowsWay (sent_up (Fixed x sealed) (seals Peripheral clear_phase)) answered.acknowledgement c.acknowledgement
+          way_on Data is_item = way_sent now.outgoing.fixed now.acknowledgement c.acknowledgement now_agreed now_all Data sealed is_item
+          way_on (control_item outgoing ctrl) is_item =
+              way_sent now.outgoing.fixed now.acknowledgement c.acknowledgement now_agreed now_all (control_item outgoing ctrl) (seals Peripheral clear_phase) is_item
+
+          after_reached : IsReached central peripheral after_next
+          after_reached = reached_next central peripheral (Alone PeripheralSends) next next_reached still (refl, may_send) tt
+
+          shows_item : Shows central peripheral (slot + 1) true after_next c answered
+          shows_item =
+              shows_all after_next (sent_up (Fixed item sealed) (seals Peripheral clear_phase)) sends_joint refl
+              (way_on item (subst (IsItem item) (sym now_fixed) is))
+
+        answers_next : IsAnswer fixes.next_way after_fixing.outgoing.fixed → IsShown central peripheral (slot + 1) true c answered
+        answers_next (Empty way empty) =
+            shown central peripheral (slot + 1) true next c answered next_reached (shows_empty way empty) (ap (λ (j : Joint). j.stopped) goes_joint)
+        answers_next (Holds item sealed way is) =
+            shown central peripheral (slot + 1) true (link_after (Alone PeripheralSends) next) c answered (after_reached item sealed way is)
+            (shows_item item sealed way is) (ap (λ (j : Joint). j.stopped) (sends_joint item sealed way is))
+
+      answers_by : (all : Bool) → is_acked before.acknowledgement ≡ all → IsShown central peripheral (slot + 1) true c answered
+      answers_by true is = answers_next is (fixes.answer is)
+      answers_by false is =
+          shown central peripheral (slot + 1) true next c answered next_reached (shows_again is) (ap (λ (j : Joint). j.stopped) goes_joint)
+
+      answers_shown : IsShown central peripheral (slot + 1) true c answered
+      answers_shown = answers_by (is_acked before.acknowledgement) refl
+
+    -- ---- its packet is heard so
+
+    module _ (octets : List ℕ) (good : is_some (good_pdu peripheral p octets) ≡ true)
+        (heard_as : received peripheral slot octets room p ≡ facts_hearing peripheral.link.role slot room header pdu p) where
+      and_true : (a b : Bool) → (a && (b || true)) ≡ a
+      and_true true true = refl
+      and_true true false = refl
+      and_true false b = refl
+
+      open_then : after_fixing.leaving.acknowledged ≡ false
+      open_then =
+          ap (λ (x : Leaving). x.acknowledged) (gone slot header.md acks p).leaving ∙ λ i. s.peripheral_rests.stays i || ends_none i
+
+      accepts_same : accepts room header pdu after_fixing ≡ accepted
+      accepts_same =
+          (λ i. (is_fresh ((gone slot header.md acks p).acknowledgement i) header && room_now) && (is_empty pdu || not (open_then i)))
+          ∙ and_true accepted (is_empty pdu)
+
+      pub received_now : received peripheral slot octets room p ≡ now
+      received_now =
+          heard_as ∙ ap (λ (role : Role). facts_hearing role slot room header pdu p) m.ends.is_peripheral
+          ∙ ap (λ (takes : Bool). taken_if takes pdu slot after_fixing) accepts_same
+
+      abbrev replies : Bool
+      replies = replies_of peripheral p slot octets room
+
+      abbrev answer : Facts
+      answer = hearing.answered peripheral slot octets room p
+
+      replies_now : replies ≡ not (has_ended now)
+      unfolding replies_of
+      replies_now =
+          (λ i. replies_by (m.ends.is_peripheral i) (has_ended (received_now i)) (good_pdu peripheral p octets))
+          ∙ ap (λ (b : Bool). b && not (has_ended now)) good
+
+      -- where the run goes on the peripheral answers
+      answers_then : is_running next.joint ≡ true → IsShown central peripheral (slot + 1) replies c answer
+      answers_then still =
+          let ends = (going still).peripheral in
+          let replies_true : replies ≡ true =
+          replies_now ∙ λ i. not (not (is_none (ends i)) || stays_now i) in
+          let is : answer ≡ answered =
+          (λ i. sent_if (replies_true i) peripheral slot (received_now i)) ∙ answers_plainly slot header.md acks p accepted pdu in
+          subst (λ (b : Bool). IsShown central peripheral (slot + 1) b c answer) (sym replies_true)
+          (subst (IsShown central peripheral (slot + 1) true c) (sym is) (answers_shown still))
+
+      lasts_received : is_lasting answer ≡ true → is_lasting (received peripheral slot octets room p) ≡ true
+      lasts_received is = lasts_before_if replies peripheral (received peripheral slot octets room p) (PacketSent slot) is
+
+      -- where the link lasts at both ends the run goes on
+      goes_on_then : is_lasting answer ≡ true → is_running next.joint ≡ true
+      goes_on_then lasts_then =
+          let parts = and_parts (is_none now.control.ends) (is_none now.leaving.ended_by_peer)
+          (subst (λ (f : Facts). is_lasting f ≡ true) received_now (lasts_received lasts_then)) in
+          let ends = none_of now.control.ends parts.0 in
+          subst (λ (j : Joint). is_running j ≡ true) (sym heard_joint)
+          (running_from (with_end (phased_of c) takes_pdu.next_down fixes.next_way takes_pdu.stopped now.control takes_pdu.knows) (takes_pdu.lasts ends parts.1)
+          (ap (λ (x : Phased). x.control.ends) (sym s.central_part) ∙ goes.central) ends)
+
+      hears_by : (goes_on : Bool) → is_running next.joint ≡ goes_on → IsShown central peripheral (slot + 1) replies c answer
+      hears_by true still = answers_then still
+      hears_by false stopped =
+          record {
+            link = next;
+            reached = next_reached;
+            shows = λ running. absurd (let no = sym stopped ∙ running in cc);
+            lasts = λ central_lasts peripheral_lasts. goes_on_then peripheral_lasts;
+          }
+
+      pub hears_shown : IsShown central peripheral (slot + 1) replies c answer
+      hears_shown = hears_by (is_running next.joint) refl
+
+-- ---- both ends stay linked
+
+module _ (heard : AreHeard) (central peripheral : Setup) (slot : ℕ) (c p : Facts) (channel : ℕ) (octets : List ℕ) (room : Bool)
+    (ends : AreEnds central peripheral) (begun : HaveBegun central peripheral slot true true c p)
+    (packet : IsPacketOf central slot c channel octets) (same : channel ≡ p.event.channel) (supervised : slot + 1 ≤ heard_turns peripheral p + 32768) where
+  abbrev answer_now : Facts
+  answer_now = hearing.answered peripheral slot octets room p
+
+  module _ (ready : AreReady central peripheral slot true c p) (l : Link) (reached : IsReached central peripheral l) (running : is_running l.joint ≡ true)
+      (s : Shows central peripheral (slot + 1) false l c p) where
+    read : IsRead peripheral p slot octets c.acknowledgement
+    read = is_read heard central peripheral slot (slot + 1) c p channel octets ends.one_link.fields s.central_fits s.central_rests packet same
+
+    meets : Meets central peripheral slot l c p read.header
+    meets =
+        record {
+          ends = ends;
+          reached = reached;
+          running = running;
+          shows = s;
+          out_last =
+              ap (λ (x : Phased). x.control.table.out) (sym s.peripheral_part) ∙ (last_reached central peripheral ends l reached).peripheral;
+          bits = read.bits;
+          out = read.out;
+          central_heard = ready.central_heard;
+          peripheral_heard = ready.peripheral_heard;
+          supervised = supervised;
+          transmits = begun.transmits_in refl;
+          listens = begun.listens_in refl;
+          has_fixed = ready.fixed refl;
+        }
+
+    -- the packet reaches it by turns, and it takes the PDU or does not
+    pub reaches_now : MayReach l.turns
+    reaches_now = reaches central peripheral slot l c p read.header meets room
+
+    pub takes_now : TakesAt l.joint (takes_item (room || not (is_data c.acknowledgement.last)) (item_on_air l.joint.down)) slot
+        (received peripheral slot octets room p).control
+    takes_now =
+        subst (λ (f : Facts). TakesAt l.joint (takes_item (room || not (is_data c.acknowledgement.last)) (item_on_air l.joint.down)) slot f.control)
+        (sym (received_now central peripheral slot l c p read.header meets room octets read.good (read.facts room)))
+        (takes_at central peripheral slot l c p read.header meets room)
+
+    hears_on : IsShown central peripheral (slot + 1) (replies_of peripheral p slot octets room) c answer_now
+    hears_on = hears_shown central peripheral slot l c p read.header meets room octets read.good (read.facts room)
+
+  lasts_then : is_lasting answer_now ≡ true → is_lasting p ≡ true
+  lasts_then is =
+      lasts_before peripheral p (PacketReceived slot octets room)
+      (lasts_before_if (replies_of peripheral p slot octets room) peripheral (received peripheral slot octets room p) (PacketSent slot) is)
+
+  pub hears_linked : AreLinked central peripheral (slot + 1) (replies_of peripheral p slot octets room) c answer_now
+  hears_linked = by (is_running (link_of central peripheral begun.linked.steps).joint) refl
+    where
+      by : (b : Bool) → is_running (link_of central peripheral begun.linked.steps).joint ≡ b
+          → AreLinked central peripheral (slot + 1) (replies_of peripheral p slot octets room) c answer_now
+      by true running =
+          linked central peripheral (slot + 1) (replies_of peripheral p slot octets room) c answer_now
+          (hears_on (begun.ready running) (link_of central peripheral begun.linked.steps)
+          (reached_by central peripheral begun.linked.steps begun.linked.may begun.linked.in_range) running (begun.linked.shows running))
+      by false stopped =
+          record {
+            steps = begun.linked.steps;
+            may = begun.linked.may;
+            in_range = begun.linked.in_range;
+            shows = λ running. absurd (let no = sym stopped ∙ running in cc);
+            lasts = λ central_lasts peripheral_lasts. begun.linked.lasts central_lasts (lasts_then peripheral_lasts);
+          }

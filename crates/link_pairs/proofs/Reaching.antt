@@ -1,0 +1,163 @@
+-- Links by turns and packets that come from the beginning of a link: what holds of each, and one more step.
+use Rattle.std.proofs.Common.{◌≡◌, ◌+◌, ◌≤◌, Bool, true, false, List, [], ◌∷◌, ◌++◌, is_none, refl, sym, ap, subst, ◌∙◌, arith, ℕ}
+use Rattle.std.proofs.lemmas.Bool.{and_parts}
+use Rattle.ble_base.specs.declared.roles.Role.{Role}
+use Rattle.ble_base.specs.declared.roles.Role.TheVariants.{Central, Peripheral}
+use Rattle.exchange_pairs.specs.ExchangeRun.{other_role}
+use Rattle.procedure_values.specs.Limits.{tx_of}
+use Rattle.link_model.specs.Setup.{Setup, first_anchor, first_params}
+use Rattle.joint_controls.specs.Joint.{Joint, after_all, is_running, may_all}
+use Rattle.joint_exchanges.specs.Agreement.{end_at, first_rx_at}
+use Rattle.joint_exchanges.proofs.States.{length_transmits}
+use Rattle.joint_parameters.specs.Turns.{AreLinksInRange, IsLinkInRange, IsPaired, Link, LinkStep, MayLink, MayLinkAll, all_joint_steps, joint_steps, link_after, link_after_all}
+use Rattle.joint_parameters.proofs.Linking.{joint_comes, joint_run, stays_paired}
+use Rattle.joint_parameters.proofs.Pairing.{running_from}
+use Rattle.joint_controls.proofs.Running.{none_of}
+use Rattle.phased_control.specs.Phased.{Phased}
+use Rattle.link_model.specs.Controls.{goes_on}
+use Rattle.link_model.specs.Facts.{Facts}
+use Rattle.link_pairs.specs.Ends.{AreEnds, is_lasting}
+use Rattle.link_pairs.specs.Shown.{AreLinked, Shows, link_of, new_link}
+
+-- ---- one list of steps after another
+
+link_joined : (xs ys : List LinkStep) (l : Link) → link_after_all (xs ++ ys) l ≡ link_after_all ys (link_after_all xs l)
+link_joined [] ys l = refl
+link_joined (step ∷ xs) ys l = link_joined xs ys (link_after step l)
+
+may_joined : (xs ys : List LinkStep) (l : Link) → MayLinkAll xs l → MayLinkAll ys (link_after_all xs l) → MayLinkAll (xs ++ ys) l
+may_joined [] ys l first later = later
+may_joined (step ∷ xs) ys l first later = (first.0, first.1, may_joined xs ys (link_after step l) first.2 later)
+
+range_joined : (xs ys : List LinkStep) → AreLinksInRange xs → AreLinksInRange ys → AreLinksInRange (xs ++ ys)
+range_joined [] ys first later = later
+range_joined (step ∷ xs) ys first later = (first.0, range_joined xs ys first.1 later)
+
+-- ---- a link that is reached
+
+module _ (central peripheral : Setup) where
+  -- some steps lead to it, each of which may come
+  pub record IsReached (l : Link) : Type 0 where
+    pub steps : List LinkStep
+    pub may : MayLinkAll steps (new_link central peripheral)
+    pub in_range : AreLinksInRange steps
+    pub reaches : link_of central peripheral steps ≡ l
+
+  pub reached_first : IsReached (new_link central peripheral)
+  reached_first = record { steps = []; may = tt; in_range = tt; reaches = refl }
+
+  pub reached_by : (steps : List LinkStep) → MayLinkAll steps (new_link central peripheral) → AreLinksInRange steps
+      → IsReached (link_of central peripheral steps)
+  reached_by steps may in_range = record { steps = steps; may = may; in_range = in_range; reaches = refl }
+
+  reached_after : (steps : List LinkStep) (step : LinkStep) → MayLinkAll steps (new_link central peripheral) → AreLinksInRange steps
+      → is_running (link_of central peripheral steps).joint ≡ true → MayLink step (link_of central peripheral steps) → IsLinkInRange step
+      → IsReached (link_after step (link_of central peripheral steps))
+  reached_after steps step may in_range running comes range =
+      record {
+        steps = steps ++ step ∷ [];
+        may = may_joined steps (step ∷ []) (new_link central peripheral) may (running, comes, tt);
+        in_range = range_joined steps (step ∷ []) in_range (range, tt);
+        reaches = link_joined steps (step ∷ []) (new_link central peripheral);
+      }
+
+  -- a step that may come leads on
+  pub reached_next : (step : LinkStep) (l : Link) → IsReached l → is_running l.joint ≡ true → MayLink step l → IsLinkInRange step
+      → IsReached (link_after step l)
+  reached_next step l r =
+      subst (λ (k : Link). is_running k.joint ≡ true → MayLink step k → IsLinkInRange step → IsReached (link_after step k)) r.reaches
+      (reached_after r.steps step r.may r.in_range)
+
+  module _ (ends : AreEnds central peripheral) where
+    anchored : central.opened + 1 ≤ first_anchor central
+    anchored = omega arith
+
+    -- the steps of the joint run in a step that may come may come
+    pub comes : (step : LinkStep) (l : Link) → IsReached l → is_running l.joint ≡ true → MayLink step l → may_all (joint_steps step l) l.joint ≡ true
+    comes step l r =
+        subst (λ (k : Link). is_running k.joint ≡ true → MayLink step k → may_all (joint_steps step k) k.joint ≡ true) r.reaches
+        (joint_comes central.link.max_rx peripheral.link.max_rx (first_params central.link.fields) (first_anchor central)
+        ends.in_range.parameters.latency_to (central.opened + 1) anchored ends.in_range.parameters.interval_from r.steps r.in_range r.may step)
+
+    -- both runs have one state of the tracks
+    pub paired : (l : Link) → IsReached l → is_running l.joint ≡ true → IsPaired l
+    paired l r =
+        subst (λ (k : Link). is_running k.joint ≡ true → IsPaired k) r.reaches
+        (stays_paired central.link.max_rx peripheral.link.max_rx (first_params central.link.fields) (first_anchor central)
+        ends.in_range.parameters.latency_to (central.opened + 1) anchored ends.in_range.parameters.interval_from r.steps r.in_range r.may)
+
+    -- no end transmits more octets than the other receives
+    longest : (steps : List LinkStep) → MayLinkAll steps (new_link central peripheral) → AreLinksInRange steps
+        → is_running (link_of central peripheral steps).joint ≡ true → (role : Role)
+        → tx_of (end_at (other_role role) (link_of central peripheral steps).joint).control.table.lengths ≤ first_rx_at role central.link.max_rx peripheral.link.max_rx
+    longest steps may in_range running role =
+        subst (λ (j : Joint). tx_of (end_at (other_role role) j).control.table.lengths ≤ first_rx_at role central.link.max_rx peripheral.link.max_rx) is_joint
+        (length_transmits central.link.max_rx peripheral.link.max_rx (first_params central.link.fields) (first_anchor central)
+        (all_joint_steps steps (new_link central peripheral)) (subst (λ (j : Joint). is_running j ≡ true) (sym is_joint) running)
+        ends.central_max.from ends.peripheral_max.from role)
+      where
+        is_joint : after_all (all_joint_steps steps (new_link central peripheral)) (new_link central peripheral).joint ≡ (link_of central peripheral steps).joint
+        is_joint =
+            joint_run central.link.max_rx peripheral.link.max_rx (first_params central.link.fields) (first_anchor central)
+            ends.in_range.parameters.latency_to (central.opened + 1) anchored ends.in_range.parameters.interval_from steps in_range may
+
+    pub central_transmits : (l : Link) → IsReached l → is_running l.joint ≡ true → tx_of l.joint.central.control.table.lengths ≤ peripheral.link.max_rx
+    central_transmits l r =
+        subst (λ (k : Link). is_running k.joint ≡ true → tx_of k.joint.central.control.table.lengths ≤ peripheral.link.max_rx) r.reaches
+        (λ running. longest r.steps r.may r.in_range running Peripheral)
+
+    pub peripheral_transmits : (l : Link) → IsReached l → is_running l.joint ≡ true → tx_of l.joint.peripheral.control.table.lengths ≤ central.link.max_rx
+    peripheral_transmits l r =
+        subst (λ (k : Link). is_running k.joint ≡ true → tx_of k.joint.peripheral.control.table.lengths ≤ central.link.max_rx) r.reaches
+        (λ running. longest r.steps r.may r.in_range running Central)
+
+  -- ---- both ends, and a link that shows what they hold
+
+  pub record IsShown (turns : ℕ) (answers : Bool) (c p : Facts) : Type 0 where
+    pub link : Link
+    pub reached : IsReached link
+    pub shows : is_running link.joint ≡ true → Shows central peripheral turns answers link c p
+    pub lasts : is_lasting c ≡ true → is_lasting p ≡ true → is_running link.joint ≡ true
+
+  -- a run that was not stopped goes on where the link lasts at both ends
+  running_by : (turns : ℕ) (answers : Bool) (l : Link) (c p : Facts) → Shows central peripheral turns answers l c p → l.joint.stopped ≡ false
+      → is_lasting c ≡ true → is_lasting p ≡ true → is_running l.joint ≡ true
+  running_by turns answers l c p s stopped central_lasts peripheral_lasts =
+      let ends_of = λ (facts : Facts) (is : is_lasting facts ≡ true). none_of facts.control.ends (and_parts (goes_on facts) (is_none facts.leaving.ended_by_peer) is).0 in
+      running_from l.joint stopped (ap (λ (x : Phased). x.control.ends) s.central_part ∙ ends_of c central_lasts)
+      (ap (λ (x : Phased). x.control.ends) s.peripheral_part ∙ ends_of p peripheral_lasts)
+
+  pub shown : (turns : ℕ) (answers : Bool) (l : Link) (c p : Facts) → IsReached l → Shows central peripheral turns answers l c p → l.joint.stopped ≡ false
+      → IsShown turns answers c p
+  shown turns answers l c p reached s stopped =
+      record { link = l; reached = reached; shows = λ running. s; lasts = running_by turns answers l c p s stopped }
+
+  pub linked : (turns : ℕ) (answers : Bool) (c p : Facts) → IsShown turns answers c p → AreLinked central peripheral turns answers c p
+  linked turns answers c p s =
+      record {
+        steps = s.reached.steps;
+        may = s.reached.may;
+        in_range = s.reached.in_range;
+        shows = subst (λ (l : Link). is_running l.joint ≡ true → Shows central peripheral turns answers l c p) (sym s.reached.reaches) s.shows;
+        lasts = subst (λ (l : Link). is_lasting c ≡ true → is_lasting p ≡ true → is_running l.joint ≡ true) (sym s.reached.reaches) s.lasts;
+      }
+
+  -- where the run goes on the link goes on to what shows what they hold now; where the link lasts at an end, it lasted before
+  pub linked_on : (turns later : ℕ) (answers answered : Bool) (c p d q : Facts) → AreLinked central peripheral turns answers c p
+      → (is_lasting d ≡ true → is_lasting c ≡ true) → (is_lasting q ≡ true → is_lasting p ≡ true)
+      → ((l : Link) → IsReached l → is_running l.joint ≡ true → Shows central peripheral turns answers l c p → IsShown later answered d q)
+      → AreLinked central peripheral later answered d q
+  linked_on turns later answers answered c p d q a central_before peripheral_before next = by (is_running (link_of central peripheral a.steps).joint) refl
+    where
+      by : (b : Bool) → is_running (link_of central peripheral a.steps).joint ≡ b → AreLinked central peripheral later answered d q
+      by true running =
+          linked later answered d q
+          (next (link_of central peripheral a.steps) (reached_by a.steps a.may a.in_range) running (a.shows running))
+      by false stopped =
+          record {
+            steps = a.steps;
+            may = a.may;
+            in_range = a.in_range;
+            shows = λ running. absurd (cc);
+            lasts = λ central_lasts peripheral_lasts. a.lasts (central_before central_lasts) (peripheral_before peripheral_lasts);
+          }

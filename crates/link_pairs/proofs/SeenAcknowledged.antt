@@ -1,0 +1,77 @@
+-- A peripheral that hears a packet sees its last PDU acknowledged, or does not.
+use Rattle.std.proofs.Common.{◌≡◌, ◌&&◌, ◌||◌, Bool, true, false, refl, ap, sym, subst, ◌∙◌, if◌then◌else◌}
+use Rattle.procedure_values.specs.declared.drafts.Outgoing.TheVariants.{Nothing}
+use Rattle.control_model.specs.Control.{Control}
+use Rattle.joint_controls.specs.Joint.{Clear, Control as control_item, Data, Fixed, OnAir, Taken, Way, is_taken}
+use Rattle.joint_controls.specs.Ends.{outgoing_on}
+use Rattle.link_model.specs.Acknowledgement.{Acknowledgement, is_acked, with_acked}
+use Rattle.link_model.specs.Data.{is_control, is_empty}
+use Rattle.link_model.specs.OneLink.{AreInAgreement}
+use Rattle.link_model.specs.Controls.{is_terminate}
+use Rattle.link_model.specs.Receiving.{control_acked_if}
+use Rattle.link_pairs.specs.Ways.{IsUntaken, ShowsWay}
+use Rattle.link_pairs.proofs.Counts.{Says, unseen_is_out, unseen_is_taken, untaken_is_out}
+use Rattle.link_pairs.proofs.Items.{control_is_control, empty_terminates_nothing, item_terminates}
+use Rattle.link_pairs.proofs.ControlKept.{acked_none}
+
+-- ---- its last PDU is acknowledged, or is not
+
+abbrev pub cleared : Way → Way
+cleared way = if is_taken way then Clear else way
+
+none_acked : (acked : Bool) (c : Control) → c.table.out ≡ Nothing → control_acked_if acked c ≡ c
+none_acked true c is = acked_none c is
+none_acked false c is = refl
+
+module _ (from to : Acknowledgement) (acks fresh : Bool) (says : Says from to acks fresh) where
+  untaken_not_acked : IsUntaken from to → acks ≡ false
+  untaken_not_acked untaken = by acks refl
+    where
+      by : (b : Bool) → acks ≡ b → b ≡ false
+      by true is = absurd (unseen_is_taken from to (says.unseen is) untaken)
+      by false is = refl
+
+  acked_before : is_acked from ≡ true → acks ≡ false
+  acked_before all = by acks refl
+    where
+      by : (b : Bool) → acks ≡ b → b ≡ false
+      by true is = absurd (let out = unseen_is_out from to (says.unseen is) in cc)
+      by false is = refl
+
+  -- its control part sees exactly a PDU acknowledged that was taken
+  pub control_seen : (way : Way) (c : Control) → ShowsWay way from to → c.table.out ≡ outgoing_on way
+      → control_acked_if (acks && is_control from.last) c ≡ control_acked_if (is_taken way) c
+  control_seen Clear c shown out = none_acked (acks && is_control from.last) c out
+  control_seen (Fixed item sealed) c shown out = absurd shown
+  control_seen (OnAir item sealed) c shown out = ap (λ (b : Bool). control_acked_if (b && is_control from.last) c) (untaken_not_acked shown.1)
+  control_seen (Taken Data) c shown out = none_acked (acks && is_control from.last) c out ∙ sym (none_acked true c out)
+  control_seen (Taken (control_item outgoing ctrl)) c shown out =
+      (λ i. control_acked_if (says.acknowledged shown.1 i && is_control from.last) c)
+      ∙ ap (λ (b : Bool). control_acked_if b c) (control_is_control ctrl from.last shown.0)
+
+  -- it ends no link
+  pub ends_nothing : (way : Way) → ShowsWay way from to → (acks && is_terminate from.last) ≡ false
+  ends_nothing Clear shown = by (is_empty from.last) refl
+    where
+      never : (b : Bool) → (b && false) ≡ false
+      never true = refl
+      never false = refl
+
+      by : (b : Bool) → is_empty from.last ≡ b → (acks && is_terminate from.last) ≡ false
+      by true is = ap (λ (b : Bool). acks && b) (empty_terminates_nothing from.last is) ∙ never acks
+      by false is =
+          ap (λ (b : Bool). b && is_terminate from.last)
+          (acked_before (subst (λ (b : Bool). (b || is_acked from) ≡ true) is shown))
+  ends_nothing (Fixed item sealed) shown = absurd shown
+  ends_nothing (OnAir item sealed) shown = ap (λ (b : Bool). b && is_terminate from.last) (untaken_not_acked shown.1)
+  ends_nothing (Taken item) shown =
+      ap (λ (b : Bool). b && is_terminate from.last) (says.acknowledged shown.1) ∙ item_terminates from.last item shown.0 ∙ shown.2
+
+  -- its way is clear where its last PDU is acknowledged then
+  pub clear_seen : AreInAgreement from to → (way : Way) → ShowsWay way from to → is_acked (with_acked acks from) ≡ true → cleared way ≡ Clear
+  clear_seen agreed Clear shown all = refl
+  clear_seen agreed (Fixed item sealed) shown all = absurd shown
+  clear_seen agreed (OnAir item sealed) shown all =
+      absurd (let out = untaken_is_out from to agreed shown.1 in
+      let now : is_acked from ≡ true = subst (λ (b : Bool). is_acked (with_acked b from) ≡ true) (untaken_not_acked shown.1) all in cc)
+  clear_seen agreed (Taken item) shown all = refl

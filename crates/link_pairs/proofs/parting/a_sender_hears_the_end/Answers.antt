@@ -1,0 +1,29 @@
+-- The proof of the law `a_sender_hears_the_end`.
+use Rattle.std.proofs.Common.{subst, sym}
+use Rattle.link_model.specs.Facts.{Facts}
+use Rattle.link_pairs.specs.Parting.{HasSeenTerminate}
+use Rattle.link_pairs.proofs.SenderHears.{has_seen, hears_the_end}
+use Rattle.link_pairs.proofs.parting.a_sender_hears_the_end.Goals as goal
+
+pub returns-clause-peripheral_ends : goal.returns-clause-peripheral_ends
+returns-clause-peripheral_ends g =
+    λ central peripheral slot c p channel octets room ends parting packet same.
+    hears_the_end g.packet_tells_its_pdu.ensures.heard central peripheral ends.one_link.fields ends.peripheral_max.to c p parting slot channel octets packet same room
+
+pub returns-clause-peripheral : goal.returns-clause-peripheral
+returns-clause-peripheral g =
+    λ central peripheral slot c p channel octets room ends parting packet same.
+    subst (λ (f : Facts). HasSeenTerminate c.acknowledgement f)
+    (sym (returns-clause-peripheral_ends g central peripheral slot c p channel octets room ends parting packet same).answers_none)
+    (has_seen g.packet_tells_its_pdu.ensures.heard central peripheral ends.one_link.fields ends.peripheral_max.to c p parting slot channel octets packet same room)
+
+pub returns-clause-central : goal.returns-clause-central
+returns-clause-central g =
+    λ central peripheral slot c p channel octets room ends parting packet same.
+    has_seen g.packet_tells_its_pdu.ensures.heard peripheral central (sym ends.one_link.fields) ends.central_max.to p c parting slot channel octets packet same room
+
+pub returns-clause-central_ends : goal.returns-clause-central_ends
+returns-clause-central_ends g =
+    λ central peripheral slot c p channel octets room ends parting packet same.
+    hears_the_end g.packet_tells_its_pdu.ensures.heard peripheral central (sym ends.one_link.fields) ends.central_max.to p c parting slot channel octets packet same
+    room

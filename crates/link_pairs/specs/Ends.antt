@@ -1,0 +1,74 @@
+-- Two ends of one link, and what each of them alone has while the link goes on (Core 5.2, volume 6 part B, sections 4.5.1
+-- and 4.5.9).
+use Rattle.std.specs.Prelude.{◌≡◌, ◌⊎◌, ℕ, ◌+◌, ◌≤◌, ◌<◌, Bool, true, false, Option, Some, None, is_none, is_some, length, ◌&&◌}
+use Rattle.adv_pdu.specs.Ranges.{IsInRange}
+use Rattle.ble_base.specs.declared.roles.Role.TheVariants.{Central, Peripheral}
+use Rattle.instants.specs.Track.{event_of}
+use Rattle.control_octets.specs.Fitting.{FitsOctets}
+use Rattle.phased_control.specs.Phased.{Phased}
+use Rattle.procedure_stages.specs.Closing.{is_open}
+use Rattle.procedure_stages.specs.Kinds.{role_of}
+use Rattle.procedure_values.specs.Values.{IsPayloadMax}
+use Rattle.unencrypted_ends.specs.Unencrypted.{IsUnencrypted, plain_phased}
+use Rattle.link_model.specs.declared.events.Reception.{Reception}
+use Rattle.link_model.specs.Data.{is_control}
+use Rattle.link_model.specs.OneLink.{AreOneLink}
+use Rattle.link_model.specs.Setup.{Setup}
+use Rattle.link_model.specs.Controls.{goes_on}
+use Rattle.link_model.specs.Facts.{Facts}
+use Rattle.link_model.specs.Fixing.{data_goes}
+
+-- two ends that one CONNECT_IND opened (section 2.3.3.1)
+pub record AreEnds (central peripheral : Setup) : Type 0 where
+  pub one_link : AreOneLink central peripheral
+  pub is_central : central.link.role ≡ Central
+  pub is_peripheral : peripheral.link.role ≡ Peripheral
+  pub in_range : IsInRange central.link.fields
+  pub central_max : IsPayloadMax central.link.max_rx
+  pub peripheral_max : IsPayloadMax peripheral.link.max_rx
+
+-- the control part of an end as joint runs have it: it is in phase Clear, since no link is encrypted yet
+abbrev pub phased_of : Facts → Phased
+phased_of facts = plain_phased facts.control (is_some facts.peer.version)
+
+-- how many turns had begun when it last received a good packet, or when the link began; each turn is a slot
+abbrev pub turns_at : ℕ → Option Reception → ℕ
+turns_at opened None = opened + 1
+turns_at opened (Some good) = good.slot + 1
+
+abbrev pub heard_turns : Setup → Facts → ℕ
+heard_turns setup facts = turns_at setup.opened facts.last_good
+
+-- the link lasts at this end: none of its procedures ended it, and it took no LL_TERMINATE_IND (sections 5.1.6 and 5.5.1)
+abbrev pub is_lasting : Facts → Bool
+is_lasting facts = goes_on facts && is_none facts.leaving.ended_by_peer
+
+-- what one end has between two calls, after this number of turns began
+pub record IsAtRest (setup : Setup) (turns : ℕ) (facts : Facts) : Type 0 where
+  pub fits : FitsOctets facts.control
+  pub plain : IsUnencrypted facts.control
+  pub role : role_of facts.control.table.progress ≡ setup.link.role
+  -- no control PDU has left its queue that was not sent
+  pub none_gone : is_control facts.outgoing.fixed ≡ false
+  -- the last PDU, as it is on the air, fits any end of a link
+  pub payload : facts.outgoing.payload ≡ facts.acknowledgement.last.body
+  pub fits_any : length facts.acknowledgement.last.body ≤ 251
+  pub two_bits : facts.acknowledgement.last.llid < 4
+  -- the event that it entered last
+  pub slot : 1 ≤ facts.control.track.entered → facts.event.slot ≡ facts.control.track.anchor
+  pub number : facts.event.number ≡ event_of facts.control.track
+  -- a good packet in the first exchange of that
+  pub heard :
+      facts.event.heard ≡ true
+      → (1 ≤ facts.control.track.entered) × (facts.event.slot + 1 ≤ heard_turns setup facts)
+  pub past : heard_turns setup facts ≤ turns
+  -- it took no LL_TERMINATE_IND, and its own is not acknowledged
+  pub goes : data_goes facts ≡ is_open facts.control.table.closing
+  pub stays : facts.leaving.acknowledged ≡ false
+
+-- it has an exchange in this slot: the first of its event, at the anchor, or the second, in the slot after that, where it
+-- received a good packet in the first (section 4.5.6; when there is a second one is our choice)
+abbrev pub HasExchange : ℕ → Facts → Type 0
+HasExchange slot facts =
+    (1 ≤ facts.control.track.entered)
+    × ((slot ≡ facts.event.slot) ⊎ ((slot ≡ facts.event.slot + 1) × (facts.event.heard ≡ true)))
