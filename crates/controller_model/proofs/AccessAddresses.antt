@@ -29,13 +29,13 @@ use Rattle.controller_model.specs.Facts.{Setup, Facts, first_facts}
 use Rattle.controller_model.specs.Commands.{facts_accepted, facts_commanded, facts_known, initiator_after}
 use Rattle.open_links.specs.declared.offers.Offer.{Offer}
 use Rattle.open_links.specs.declared.offers.Offer.TheVariants.{NoLink, Empty, Overflow, Kept}
-use Rattle.controller_model.specs.Data.{facts_offered, facts_ended_turn, offer_of}
+use Rattle.controller_model.specs.Data.{facts_ended_turn, facts_handed, facts_offered, offer_of}
 use Rattle.controller_model.specs.Connecting.{SendsEach, SendsEachFrom, cuts_off}
 use Rattle.controller_model.specs.Heard.{asks_if, has_room, heard, link_received, link_taken, opens, replies_in, reply_if, scanner_after, unheard, with_scanner}
 use Rattle.controller_model.specs.Outcome.{Outcome, facts_passed, goes_on}
 use Rattle.controller_model.specs.Side.{facts_after, facts_fed, facts_of, result_of, with_octet}
 use Rattle.controller_model.proofs.Accepted.{same_after_counts}
-use Rattle.controller_model.proofs.Always.{IsKept, IsKeptAtStarts, always, initiator_stopped, opening_passes, start_keeps}
+use Rattle.controller_model.proofs.Always.{IsKept, IsKeptAtStarts, always, initiator_stopped, leaving_is, opening_passes, start_keeps}
 use Rattle.controller_model.proofs.FreeHandles.{IsOfCentral}
 use Rattle.controller_model.proofs.ViewRoom.{Makes, asks_makes, begin_makes, reply_makes}
 use Rattle.controller_model.proofs.NoLinks.{MakesNone}
@@ -60,7 +60,7 @@ address_kept setup = record {
   turns = record {
     starts = record {
       weakens = λ facts knows. knows;
-      ends = λ slot facts knows. knows;
+      ends = λ reason facts knows. knows;
       begins = λ slot facts knows. knows;
       enters = λ slot facts knows. knows;
       wins = λ slot activity facts knows. knows;
@@ -172,13 +172,17 @@ fed_makes setup facts More may = may
 next_starts : IsKeptAtStarts HasNext HasNext
 next_starts = record {
   weakens = λ facts next. next;
-  ends = λ slot facts next. next;
+  ends = λ reason facts next. next;
   begins = λ slot facts next. next;
   enters = λ slot facts next. next;
   wins = λ slot activity facts next. next;
   fixes = λ doing facts next. next;
   does = λ doing facts may next. next;
 }
+
+-- the end of a turn
+next_leaves : (facts : Facts) → HasNext facts → HasNext (facts_ended_turn facts)
+next_leaves facts next = subst HasNext (sym (leaving_is (facts_handed facts))) next
 
 abbrev Anything : Facts → Type 0
 Anything facts = ⊤
@@ -189,7 +193,7 @@ IsCentral facts = Makes IsOfCentral facts.turn.doing
 central_starts : IsKeptAtStarts Anything IsCentral
 central_starts = record {
   weakens = λ facts central. tt;
-  ends = λ slot facts any. tt;
+  ends = λ reason facts any. tt;
   begins = λ slot facts any. tt;
   enters = λ slot facts any. tt;
   wins = λ slot activity facts any. tt;
@@ -221,7 +225,7 @@ phase_makes setup facts makes next = record {
   connects = λ channel octets pdu on access handle doing is_on hears answers free_access free in_range.
       record { central = refl; has_next = λ makes. absurd makes };
   received = λ handle octets.
-      let replies = replies_in (link_at handle facts.links) octets in
+      let replies = replies_in facts.turn.slot (has_room setup facts) (link_at handle facts.links) octets in
       may_make (goes_on (link_received handle (has_room setup facts) octets facts) (reply_if replies handle)) (reply_makes IsOfCentral replies handle) next;
 }
 
@@ -284,7 +288,8 @@ step_makes setup facts (TurnBegins slot on) uncut may =
 step_makes setup facts (PacketHeard octets) uncut may = heard_makes setup octets facts facts.turn.doing refl may
 step_makes setup facts NothingHeard uncut may = unheard_makes setup facts facts.turn.doing refl may
 step_makes setup facts TurnEnds uncut may =
-    may_make (goes_on (facts_ended_turn facts) Rests) tt (may.has_next (ends_uncut facts.turn.doing uncut))
+    let next = next_leaves facts (may.has_next (ends_uncut facts.turn.doing uncut)) in
+    may_make (goes_on (facts_ended_turn facts) Rests) tt next
 
 makes_from : (setup : Setup) (facts : Facts) (past : List Step) → SendsEachFrom setup facts past → MayMake facts
     → MayMake (fold (facts_after setup) facts past)

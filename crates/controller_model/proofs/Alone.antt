@@ -23,8 +23,8 @@ use Rattle.host_view.specs.Unbuilt.{status_of}
 use Rattle.adv_pdu.specs.declared.pdu.AdvPdu.{AdvPdu}
 use Rattle.scan_init.specs.declared.reports.ReportKind.{ReportKind}
 use Rattle.scan_init.specs.Reports.{ScannerFacts, does_ask, kind_of, scan_answer}
-use Rattle.link_model.specs.Step.{PacketReceived}
-use Rattle.open_links.specs.OpenLinks.{OpenLink, link_after, link_at}
+use Rattle.open_links.specs.OpenLinks.{OpenLink, link_at}
+use Rattle.open_links.specs.Turns.{due_in}
 use Rattle.controller_model.specs.declared.doing.Doing.{Doing}
 use Rattle.controller_model.specs.declared.doing.Doing.TheVariants.{Advertises, AwaitsRequest, Responds, Requests, AwaitsResponse, Connects, CentralSends, CentralListens, Rests}
 use Rattle.controller_model.specs.Step.{Step, HostOctet, TurnBegins, PacketHeard, NothingHeard, TurnEnds}
@@ -33,7 +33,7 @@ use Rattle.controller_model.specs.Commands.{facts_commanded, facts_known, receiv
 use Rattle.open_links.specs.Data.{offer_by}
 use Rattle.controller_model.specs.Data.{facts_ended_turn, facts_offered, is_full}
 use Rattle.controller_model.specs.Events.{notes_of_events, passes}
-use Rattle.controller_model.specs.Heard.{asks_if, does_report, has_room, link_received, link_taken, notes_taken, piece_taken, replies_in, reply_if, report_event, report_events, scanner_after, unheard, with_scanner}
+use Rattle.controller_model.specs.Heard.{asks_if, does_report, events_received, has_room, link_received, link_taken, notes_taken, piece_taken, replies_in, reply_if, report_event, report_events, scanner_after, unheard, with_scanner}
 use Rattle.controller_model.specs.Links.{facts_ending, notes_ended}
 use Rattle.controller_model.specs.Outcome.{Outcome, facts_passed, notes_passed}
 use Rattle.controller_model.specs.Packets.{notes_doing}
@@ -45,6 +45,7 @@ use Rattle.controller_model.proofs.Always.{IsKept, begun_doing, ending_is, holds
 use Rattle.controller_model.proofs.Feds.{more_octets}
 use Rattle.controller_model.proofs.NoLinks.{AreNone, HasNone, IsLike, MakesNone, command_none, doing_like, ended_like, first_none, none_at, none_changed, none_end, none_enter, none_kept, none_noted, none_stay, nothing_reported, start_like}
 use Rattle.controller_model.proofs.Phases.{EachOutcome, heard_is, unheard_is}
+use Rattle.controller_model.proofs.Places.{link_receiving, receiving_is}
 
 abbrev host_alone : List Step → List Step
 host_alone past = map HostOctet (host_octets past)
@@ -116,11 +117,11 @@ octet_notes setup other one octet like =
 
 begin_notes : (setup : Setup) (slot : ℕ) (on : Bool) (facts : Facts) → AreNone facts.links → notes_after setup facts (TurnBegins slot on) ≡ []
 begin_notes setup slot on facts none =
-    let stay = ap (λ (next : Facts). next.links) (ending_is slot facts) ∙ none_stay slot facts.links none in
-    let entering = none_enter slot (facts_ending slot facts).links (subst AreNone (sym stay) none) in
+    let stay = ap (λ (next : Facts). next.links) (ending_is slot facts) ∙ none_stay (due_in slot) facts.links none in
+    let entering = none_enter (facts_ending slot facts).view slot 0 (facts_ending slot facts).links (subst AreNone (sym stay) none) in
     let sending = begun_doing HasNone HasNone none_kept (λ doing facts. notes_doing doing facts ≡ [])
     (λ doing facts may none. none_noted doing facts none) slot on facts none in
-    λ i. (flat_map (notes_ended facts.view) (none_end slot 0 facts.links none i) ++ entering i) ++ sending i
+    λ i. (flat_map (notes_ended facts.view) (none_end (due_in slot) 0 facts.links none i) ++ entering i) ++ sending i
 
 unheard_like : (other : Facts) (doing : Doing) (facts : Facts) → MakesNone doing → IsLike other facts
     → IsLike other (facts_passed (unheard doing facts))
@@ -203,12 +204,12 @@ scanned_like other facts on like =
 received_like : (other : Facts) (handle : ℕ) (room : Bool) (octets : List ℕ) (facts : Facts) → IsLike other facts
     → IsLike other (link_received handle room octets facts)
 received_like other handle room octets facts like =
-    let same = none_changed handle (link_after (PacketReceived facts.turn.slot octets room)) facts.links like.none in
+    let same = receiving_is handle room octets facts ∙ none_changed handle (link_receiving handle room octets facts) facts.links like.none in
     record {
       octets_are = like.octets_are;
       alike = record { view_is = like.alike.view_is; drawn_is = like.alike.drawn_is; links_are = same ∙ like.alike.links_are };
       none = subst AreNone (sym same) like.none;
-      nothing = λ i. like.nothing i ++ piece_taken room (none_at handle facts.links like.none i) octets;
+      nothing = λ i. like.nothing i ++ piece_taken facts.turn.slot room (none_at handle facts.links like.none i) octets;
       makes_none = like.makes_none;
     }
 
@@ -247,11 +248,12 @@ phase_beside setup other facts like = record {
       );
   connects = λ channel octets pdu on access handle doing is_on hears answers next free in_range opened made. absurd (omega (arith, made));
   received = λ handle octets opened made.
-      let replies = replies_in (link_at handle facts.links) octets in
       let room = has_room setup facts in
+      let replies = replies_in facts.turn.slot room (link_at handle facts.links) octets in
       let after = received_like other handle room octets facts like in (
         doing_like other (reply_if replies handle) (link_received handle room octets facts) (reply_makes replies handle) after,
-        λ i. without_le_events (notes_taken facts.turn.slot room (none_at handle facts.links like.none i) octets
+        λ i. without_le_events ((notes_taken facts.turn.slot room (none_at handle facts.links like.none i) octets
+            ++ notes_of_events facts.view (events_received handle facts.turn.slot room (none_at handle facts.links like.none i) octets))
             ++ none_noted (reply_if replies handle) (link_received handle room octets facts) after.none i),
       );
 }
@@ -268,7 +270,7 @@ grows setup least = record {
   turns = record {
     starts = record {
       weakens = λ facts more. more;
-      ends = λ slot facts more. more;
+      ends = λ reason facts more. more;
       begins = λ slot facts more. more;
       enters = λ slot facts more. more;
       wins = λ slot activity facts more. more;

@@ -26,11 +26,10 @@ use Rattle.slot_plan.specs.declared.Activity.{Activity}
 use Rattle.slot_plan.specs.declared.Activity.TheVariants.{Link, Advertise, Scan, Initiate}
 use Rattle.slot_plan.specs.Holding.{is_held_in, winner_of}
 use Rattle.link_model.specs.declared.setup.LinkSetup.{LinkSetup}
-use Rattle.link_model.specs.Times.{has_second_exchange, span_of}
+use Rattle.link_model.specs.Times.{has_second_exchange}
 use Rattle.open_links.specs.declared.ended.LinkEnded.{LinkEnded}
 use Rattle.open_links.specs.Data.{links_given, received_past}
-use Rattle.open_links.specs.OpenLinks.{Links, OpenLink, facts_in, link_at, link_served, with_change, with_link}
-use Rattle.open_links.specs.Turns.{links_staying}
+use Rattle.open_links.specs.OpenLinks.{Links, OpenLink, facts_in, in_event, link_at, link_served, with_change, with_link}
 use Rattle.controller_model.specs.declared.doing.Doing.{Doing}
 use Rattle.controller_model.specs.declared.doing.Doing.TheVariants.{Advertises, Scans, Initiates, CentralSends, PeripheralListens, Rests}
 use Rattle.controller_model.specs.Step.{Step, HostOctet, TurnBegins, PacketHeard, NothingHeard, TurnEnds}
@@ -38,15 +37,16 @@ use Rattle.controller_model.specs.Facts.{Setup, Facts, Radio, first_facts, free_
 use Rattle.controller_model.specs.Commands.{facts_accepted, facts_commanded, facts_known}
 use Rattle.open_links.specs.declared.offers.Offer.{Offer}
 use Rattle.open_links.specs.declared.offers.Offer.TheVariants.{NoLink, Empty, Overflow, Kept}
-use Rattle.open_links.specs.Data.{received_without}
-use Rattle.controller_model.specs.Data.{facts_ended_turn, facts_offered, offer_of}
+use Rattle.open_links.specs.Ended.{received_without}
+use Rattle.controller_model.specs.Data.{facts_ended_turn, facts_handed, facts_offered, offer_of}
 use Rattle.controller_model.specs.Heard.{opens}
-use Rattle.controller_model.specs.Links.{ends_in, facts_ending, facts_opened, facts_shut, note_opened, radio_without, stopped}
+use Rattle.controller_model.specs.Links.{ends_for, facts_ending, facts_leaving, facts_opened, facts_shut, facts_without, note_opened, radio_without, stopped}
 use Rattle.controller_model.specs.Outcome.{Outcome, facts_passed, goes_on}
 use Rattle.controller_model.specs.Packets.{facts_doing}
-use Rattle.controller_model.specs.Radio.{advertises_at, advertises_on, doing_held, doing_won, exchange_begins, exchange_if, facts_entering, facts_won, first_exchange, fixing, initiates_on, initiator_channel, links_fixing, outcome_begun, plan_in, radio_held, radio_served, scanner_channel, scans_on, second_exchange, served, served_if_on, slots_since, turn_begins, winner_served}
+use Rattle.controller_model.specs.Radio.{advertises_at, advertises_on, doing_held, doing_won, exchange_begins, exchange_if, facts_entering, facts_won, first_exchange, fixing, initiates_on, initiator_channel, links_fixing, outcome_begun, plan_in, radio_held, radio_served, scanner_channel, scans_on, second_exchange, served, served_if_on, slots_since, span_at, turn_begins, winner_served}
 use Rattle.controller_model.specs.Side.{facts_after, facts_fed, facts_of, result_of, with_octet}
 use Rattle.controller_model.proofs.Phases.{EachOutcome, heard_is, unheard_is}
+use Rattle.open_links.specs.Turns.{due_in, ending_in, links_without}
 
 -- ---- links that end
 
@@ -66,12 +66,12 @@ abbrev pub received_shut : List (ℕ × Piece) → List LinkEnded → List (ℕ 
 received_shut received [] = received
 received_shut received (one ∷ ended) = received_shut (received_without one.handle received) ended
 
-abbrev pub facts_ended : ℕ → Facts → Facts
-facts_ended slot facts = record facts {
-  view = view_shut facts.view (ends_in slot facts);
-  radio = radio_shut facts.radio (ends_in slot facts);
-  links = links_staying slot facts.links;
-  received = received_shut facts.received (ends_in slot facts);
+abbrev pub facts_ended : (OpenLink → Option ℕ) → Facts → Facts
+facts_ended reason facts = record facts {
+  view = view_shut facts.view (ends_for reason facts);
+  radio = radio_shut facts.radio (ends_for reason facts);
+  links = links_without reason facts.links;
+  received = received_shut facts.received (ends_for reason facts);
 }
 
 shut_is : (facts : Facts) (ended : List LinkEnded) → fold facts_shut facts ended ≡ record facts {
@@ -83,8 +83,15 @@ unfolding view_noted
 shut_is facts [] = refl
 shut_is facts (one ∷ ended) = shut_is (facts_shut facts one) ended
 
-pub ending_is : (slot : ℕ) (facts : Facts) → facts_ending slot facts ≡ facts_ended slot facts
-ending_is slot facts = shut_is (record facts { links = links_staying slot facts.links }) (ends_in slot facts)
+pub without_is : (reason : OpenLink → Option ℕ) (facts : Facts) → facts_without reason facts ≡ facts_ended reason facts
+without_is reason facts = shut_is (record facts { links = links_without reason facts.links }) (ends_for reason facts)
+
+-- as a turn begins, and as it ends
+pub ending_is : (slot : ℕ) (facts : Facts) → facts_ending slot facts ≡ facts_ended (due_in slot) facts
+ending_is slot facts = without_is (due_in slot) facts
+
+pub leaving_is : (facts : Facts) → facts_leaving facts ≡ facts_ended ending_in facts
+leaving_is facts = without_is ending_in facts
 
 -- ---- what wins a slot
 
@@ -94,11 +101,11 @@ links_won slot Advertise links = links
 links_won slot Scan links = links
 links_won slot Initiate links = links
 
-abbrev pub radio_won : ℕ → Activity → Radio → Radio
-radio_won slot (Link handle) radio = radio_held (Link handle) slot span_of
-radio_won slot Advertise radio = radio_held Advertise slot 3
-radio_won slot Scan radio = radio
-radio_won slot Initiate radio = radio
+abbrev pub radio_won : ℕ → Activity → Links → Radio → Radio
+radio_won slot (Link handle) links radio = radio_held (Link handle) slot (span_at (link_at handle links))
+radio_won slot Advertise links radio = radio_held Advertise slot 3
+radio_won slot Scan links radio = radio
+radio_won slot Initiate links radio = radio
 
 abbrev pub advertiser_won : ℕ → Activity → Option AdvertiserFacts → Option AdvertiserFacts
 advertiser_won slot (Link handle) advertiser = advertiser
@@ -109,7 +116,7 @@ advertiser_won slot Initiate advertiser = advertiser
 abbrev pub facts_winning : ℕ → Activity → Facts → Facts
 facts_winning slot activity facts = record facts {
   links = links_won slot activity facts.links;
-  radio = radio_won slot activity facts.radio;
+  radio = radio_won slot activity facts.links facts.radio;
   advertising = record facts.advertising { on = advertiser_won slot activity facts.advertising.on };
 }
 
@@ -256,13 +263,13 @@ second_may handle None = tt
 second_may handle (Some link) = exchange_if_may (has_second_exchange (facts_in link)) link.setup.link.role handle
 
 won_may : (slot : ℕ) (activity : Activity) (facts : Facts) → MayBegin (doing_won slot activity facts)
-won_may slot (Link handle) facts = first_may handle (link_at handle facts.links)
+won_may slot (Link handle) facts = first_may handle (in_event (link_at handle facts.links))
 won_may slot Advertise facts = advertises_may 0 facts.advertising.on
 won_may slot Scan facts = scans_may slot facts.scanning.on
 won_may slot Initiate facts = initiates_may slot facts.initiator
 
 held_may : (slot : ℕ) (activity : Activity) (facts : Facts) → MayBegin (doing_held slot activity facts)
-held_may slot (Link handle) facts = second_may handle (link_at handle facts.links)
+held_may slot (Link handle) facts = second_may handle (in_event (link_at handle facts.links))
 held_may slot Advertise facts = advertises_may (slots_since slot facts.radio.hold) facts.advertising.on
 held_may slot Scan facts = tt
 held_may slot Initiate facts = tt
@@ -284,7 +291,8 @@ facts_fixing doing facts = record facts { links = links_fixing doing facts.links
 -- each part of the beginning of a turn keeps what is left of it there, and what is done next makes it whole again
 pub record IsKeptAtStarts (weak fact : Facts → Type 0) : Type 0 where
   pub weakens : (facts : Facts) → fact facts → weak facts
-  pub ends : (slot : ℕ) (facts : Facts) → weak facts → weak (facts_ended slot facts)
+  -- for any reason, at the start of a turn or at its end
+  pub ends : (reason : OpenLink → Option ℕ) (facts : Facts) → weak facts → weak (facts_ended reason facts)
   pub begins : (slot : ℕ) (facts : Facts) → weak facts → weak (turn_begins slot facts)
   pub enters : (slot : ℕ) (facts : Facts) → weak facts → weak (facts_entering slot facts)
   pub wins : (slot : ℕ) (activity : Activity) (facts : Facts) → weak facts → weak (facts_winning slot activity facts)
@@ -294,7 +302,7 @@ pub record IsKeptAtStarts (weak fact : Facts → Type 0) : Type 0 where
 -- and so does what comes of a phase, and what the host receives as the turn ends
 pub record IsKeptInTurns (setup : Setup) (weak fact : Facts → Type 0) : Type 0 where
   pub starts : IsKeptAtStarts weak fact
-  pub reports : (facts : Facts) → weak facts → weak (facts_ended_turn facts)
+  pub reports : (facts : Facts) → weak facts → weak (facts_handed facts)
   pub passes : (facts : Facts) → fact facts → EachOutcome setup facts (λ outcome. fact (facts_passed outcome))
 
 -- a packet of the host is kept
@@ -355,14 +363,14 @@ abbrev pub winner_before_doing : ℕ → Facts → Option Activity
 winner_before_doing slot facts = winner_of (plan_in slot (turn_begins slot (facts_ending slot facts))) slot
 
 -- the same of what is left of a fact, without what is done next
-module _ (weak : Facts → Type 0) (ends : (slot : ℕ) (facts : Facts) → weak facts → weak (facts_ended slot facts))
+module _ (weak : Facts → Type 0) (ends : (reason : OpenLink → Option ℕ) (facts : Facts) → weak facts → weak (facts_ended reason facts))
     (begins : (slot : ℕ) (facts : Facts) → weak facts → weak (turn_begins slot facts))
     (enters : (slot : ℕ) (facts : Facts) → weak facts → weak (facts_entering slot facts))
     (wins : (slot : ℕ) (activity : Activity) (facts : Facts) → weak facts → weak (facts_winning slot activity facts))
     (fixes : (doing : Doing) (facts : Facts) → weak facts → weak (facts_fixing doing facts)) where
   pub left_entering : (slot : ℕ) (facts : Facts) → weak facts → weak (facts_before_doing slot facts)
   left_entering slot facts holds =
-      let ended = subst weak (sym (ending_is slot facts)) (ends slot facts holds) in
+      let ended = subst weak (sym (ending_is slot facts)) (ends (due_in slot) facts holds) in
       let begun = turn_begins slot (facts_ending slot facts) in
       enters slot begun (begins slot (facts_ending slot facts) ended)
 
@@ -387,6 +395,12 @@ module _ (weak fact : Facts → Type 0) (kept : IsKeptAtStarts weak fact) where
   start_keeps slot on facts holds = begun_doing (λ doing facts. fact (facts_doing doing facts)) kept.does slot on facts holds
 
 module _ (setup : Setup) (weak fact : Facts → Type 0) (kept : IsKeptInTurns setup weak fact) where
+  -- what is left of it as the turn ends
+  pub left_leaving : (facts : Facts) → weak facts → weak (facts_ended_turn facts)
+  left_leaving facts holds =
+      subst weak (sym (leaving_is (facts_handed facts)))
+      (kept.starts.ends ending_in (facts_handed facts) (kept.reports facts holds))
+
   pub turn_keeps : (facts : Facts) (step : Step) → IsInTurn step → fact facts → fact (facts_after setup facts step)
   turn_keeps facts (HostOctet octet) turn holds = absurd turn
   turn_keeps facts (TurnBegins slot on) turn holds = start_keeps weak fact kept.starts slot on facts holds
@@ -395,7 +409,7 @@ module _ (setup : Setup) (weak fact : Facts → Type 0) (kept : IsKeptInTurns se
   turn_keeps facts NothingHeard turn holds =
       unheard_is setup facts (λ outcome. fact (facts_passed outcome)) (kept.passes facts holds) facts.turn.doing refl
   turn_keeps facts TurnEnds turn holds =
-      kept.starts.does Rests (facts_ended_turn facts) tt (kept.reports facts (kept.starts.weakens facts holds))
+      kept.starts.does Rests (facts_ended_turn facts) tt (left_leaving facts (kept.starts.weakens facts holds))
 
 -- ---- an octet of the host
 

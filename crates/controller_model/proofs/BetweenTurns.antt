@@ -1,9 +1,10 @@
 -- Between turns no piece of data waits for the host, and each complete packet is reported.
-use Rattle.std.proofs.Common.{◌≡◌, ℕ, zero, suc, ◌+◌, ◌==◌, Bool, true, false, Option, Some, None, List, [], ◌∷◌, replicate, cond, refl, ap, subst, ◌∙◌, arith}
+use Rattle.std.proofs.Common.{◌≡◌, ℕ, zero, suc, ◌+◌, ◌==◌, Bool, true, false, Option, Some, None, List, [], ◌∷◌, replicate, cond, refl, ap, sym, subst, ◌∙◌, arith}
 use Rattle.std.specs.Prelude.{fold, nat_lt, ⊤}
 use Rattle.std.specs.List.{AllByRecursion}
 use Rattle.std.specs.Option.{option_map}
 use Rattle.std.proofs.lemmas.Bool.Decides.{nat_tests}
+use Rattle.acl_banks.specs.declared.pieces.Piece.{Piece}
 use Rattle.h4_frames.specs.declared.packet.HostPacket.TheVariants.{Command as HostCommand, Acl}
 use Rattle.h4_frames.specs.declared.packet.Fed.{Fed}
 use Rattle.h4_frames.specs.declared.packet.Fed.TheVariants.{More, Packet, LostSync}
@@ -19,14 +20,18 @@ use Rattle.link_model.specs.Step.{DataGiven, DataReported}
 use Rattle.link_model.proofs.Pasts.{grows}
 use Rattle.open_links.specs.Data.{complete_in, links_reported}
 use Rattle.open_links.specs.OpenLinks.{Links, OpenLink, facts_in, link_after, link_at, link_from, with_change_from, without_links}
+use Rattle.open_links.specs.Turns.{ending_in, links_without, staying_by}
 use Rattle.controller_model.specs.Step.{Step, HostOctet, TurnBegins, PacketHeard, NothingHeard, TurnEnds}
 use Rattle.controller_model.specs.Facts.{Setup, Facts, first_facts}
 use Rattle.controller_model.specs.Commands.{facts_commanded, facts_known, links_after, received_after}
+use Rattle.open_links.specs.declared.ended.LinkEnded.{LinkEnded}
 use Rattle.open_links.specs.declared.offers.Offer.{Offer}
 use Rattle.open_links.specs.declared.offers.Offer.TheVariants.{NoLink, Empty, Overflow, Kept}
-use Rattle.controller_model.specs.Data.{facts_offered, offer_of}
+use Rattle.controller_model.specs.Data.{facts_handed, facts_offered, offer_of}
+use Rattle.controller_model.specs.Links.{ends_for, facts_leaving}
 use Rattle.controller_model.specs.Side.{facts_after, facts_fed, facts_of, result_of}
 use Rattle.controller_model.specs.Between.{between_after, is_between_turns}
+use Rattle.controller_model.proofs.Always.{leaving_is, received_shut}
 
 -- no complete packet of the link in a place waits to be reported
 abbrev IsReported : Option OpenLink → Type 0
@@ -51,6 +56,29 @@ all_reported : (links : Links) → AllByRecursion IsReported (links_reported lin
 all_reported [] = tt
 all_reported (None ∷ links) = (tt, all_reported links)
 all_reported (Some link ∷ links) = (reported_by (nat_lt 0 (complete_in link)) link refl, all_reported links)
+
+-- then links may end
+staying_reported : (reason : OpenLink → Option ℕ) (links : Links) → AllByRecursion IsReported links
+    → AllByRecursion IsReported (links_without reason links)
+staying_reported reason [] are = tt
+staying_reported reason (None ∷ links) are = (tt, staying_reported reason links are.1)
+staying_reported reason (Some link ∷ links) are = (at (reason link), staying_reported reason links are.1)
+  where
+    at : (code : Option ℕ) → IsReported (staying_by code link)
+    at None = are.0
+    at (Some code) = tt
+
+shut_none : (ended : List LinkEnded) → received_shut [] ended ≡ []
+shut_none [] = refl
+shut_none (one ∷ ended) = shut_none ended
+
+leaving_settled : (facts : Facts) → IsSettled facts → IsSettled (facts_leaving facts)
+leaving_settled facts settled =
+    let ended = ends_for ending_in facts in
+    subst IsSettled (sym (leaving_is facts)) (record {
+      received = ap (λ (received : List (ℕ × Piece)). received_shut received ended) settled.received ∙ shut_none ended;
+      reported = staying_reported ending_in facts.links settled.reported;
+    })
 
 -- ---- an octet of the host
 
@@ -123,7 +151,9 @@ step_settled : (setup : Setup) (facts : Facts) (between : Bool) (step : Step) �
 step_settled setup facts between (HostOctet octet) settled is =
     let after = fed_settled setup facts (result_of facts.octets octet) (settled is) in
     record { received = after.received; reported = after.reported }
-step_settled setup facts between TurnEnds settled is = record { received = refl; reported = all_reported facts.links }
+step_settled setup facts between TurnEnds settled is =
+    let after = leaving_settled (facts_handed facts) (record { received = refl; reported = all_reported facts.links }) in
+    record { received = after.received; reported = after.reported }
 step_settled setup facts between (TurnBegins slot on) settled is = absurd (let h : false ≡ true = is in absurd cc)
 step_settled setup facts between (PacketHeard octets) settled is = absurd (let h : false ≡ true = is in absurd cc)
 step_settled setup facts between NothingHeard settled is = absurd (let h : false ≡ true = is in absurd cc)

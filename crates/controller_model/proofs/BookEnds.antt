@@ -9,9 +9,12 @@ use Rattle.host_view.specs.View.{View}
 use Rattle.link_model.specs.Setup.{Setup as EndSetup}
 use Rattle.link_model.specs.Step.{DataReported}
 use Rattle.open_links.specs.declared.ended.LinkEnded.{LinkEnded}
-use Rattle.open_links.specs.Data.{complete_in, completed_from, completed_by, link_reported, links_reported, received_past, received_without}
+use Rattle.open_links.specs.Data.{complete_in, completed_from, link_reported, links_reported, received_past}
+use Rattle.open_links.specs.Offered.{completed_by}
+use Rattle.open_links.specs.Ended.{received_without}
 use Rattle.open_links.specs.OpenLinks.{Links, OpenLink, link_after, link_at, link_from, new_link, with_link}
-use Rattle.open_links.specs.Turns.{HandlesAscend, end_by, ends_from, links_staying, place_staying, reason_at, reason_in, staying_by}
+use Rattle.open_links.specs.Ended.{HandlesAscend, end_by}
+use Rattle.open_links.specs.Turns.{ends_by, links_without, place_without, reason_at, staying_by}
 use Rattle.open_links.proofs.Ends.{ends_ascend, stays_where_not_due}
 use Rattle.open_links.proofs.Handles.{opened_at, other_stays}
 use Rattle.controller_model.specs.Data.{event_completed, note_received}
@@ -88,66 +91,66 @@ module _ (handle : ℕ) where
       ap (λ (here : Bool). here || list_any ends_here ended) apart
       ∙ none_past (one.handle + 1) ended (omega (arith, below, ascend.0)) ascend.1
 
-  ends_are : (slot first : ℕ) (links : Links)
-      → list_any ends_here (ends_from slot first links) ≡ is_some (reason_at slot (link_from first handle links))
-  ends_are slot first [] = refl
-  ends_are slot first (None ∷ links) = at (first == handle) refl (ends_are slot (first + 1) links)
+  ends_are : (reason : OpenLink → Option ℕ) (first : ℕ) (links : Links)
+      → list_any ends_here (ends_by reason first links) ≡ is_some (reason_at reason (link_from first handle links))
+  ends_are reason first [] = refl
+  ends_are reason first (None ∷ links) = at (first == handle) refl (ends_are reason (first + 1) links)
     where
       at : (test : Bool) → (first == handle) ≡ test
-          → list_any ends_here (ends_from slot (first + 1) links) ≡ is_some (reason_at slot (link_from (first + 1) handle links))
-          → list_any ends_here (ends_from slot (first + 1) links)
-          ≡ is_some (reason_at slot (cond test None (link_from (first + 1) handle links)))
+          → list_any ends_here (ends_by reason (first + 1) links) ≡ is_some (reason_at reason (link_from (first + 1) handle links))
+          → list_any ends_here (ends_by reason (first + 1) links)
+          ≡ is_some (reason_at reason (cond test None (link_from (first + 1) handle links)))
       at true e rest =
-          none_past (first + 1) (ends_from slot (first + 1) links) (let same = eqb-true first handle e in omega (arith, same))
-          (ends_ascend slot (first + 1) links)
+          none_past (first + 1) (ends_by reason (first + 1) links) (let same = eqb-true first handle e in omega (arith, same))
+          (ends_ascend reason (first + 1) links)
       at false e rest = rest
-  ends_are slot first (Some link ∷ links) = at (reason_in slot link) (first == handle) refl refl (ends_are slot (first + 1) links)
+  ends_are reason first (Some link ∷ links) = at (reason link) (first == handle) refl refl (ends_are reason (first + 1) links)
     where
-      at : (reason : Option ℕ) (test : Bool) → reason_in slot link ≡ reason → (first == handle) ≡ test
-          → list_any ends_here (ends_from slot (first + 1) links) ≡ is_some (reason_at slot (link_from (first + 1) handle links))
-          → list_any ends_here (end_by first reason ++ ends_from slot (first + 1) links)
-          ≡ is_some (reason_at slot (cond test (Some link) (link_from (first + 1) handle links)))
+      at : (code : Option ℕ) (test : Bool) → reason link ≡ code → (first == handle) ≡ test
+          → list_any ends_here (ends_by reason (first + 1) links) ≡ is_some (reason_at reason (link_from (first + 1) handle links))
+          → list_any ends_here (end_by first code ++ ends_by reason (first + 1) links)
+          ≡ is_some (reason_at reason (cond test (Some link) (link_from (first + 1) handle links)))
       at None true is e rest =
-          none_past (first + 1) (ends_from slot (first + 1) links) (let same = eqb-true first handle e in omega (arith, same))
-          (ends_ascend slot (first + 1) links)
+          none_past (first + 1) (ends_by reason (first + 1) links) (let same = eqb-true first handle e in omega (arith, same))
+          (ends_ascend reason (first + 1) links)
           ∙ ap is_some (sym is)
       at None false is e rest = rest
-      at (Some reason) true is e rest = ap (λ (here : Bool). here || list_any ends_here (ends_from slot (first + 1) links)) e ∙ ap is_some (sym is)
-      at (Some reason) false is e rest =
-          ap (λ (here : Bool). here || list_any ends_here (ends_from slot (first + 1) links)) e ∙ rest
+      at (Some code) true is e rest = ap (λ (here : Bool). here || list_any ends_here (ends_by reason (first + 1) links)) e ∙ ap is_some (sym is)
+      at (Some code) false is e rest =
+          ap (λ (here : Bool). here || list_any ends_here (ends_by reason (first + 1) links)) e ∙ rest
 
 module _ (most handle : ℕ) (fact : Fact) (kept : IsKeptInBook most handle fact) where
-  ends_by : (reason : Option ℕ) (link : OpenLink) (any : Bool) (waiting : List (ℕ × Piece)) (since : List Note) (count : ℕ)
-      → any ≡ is_some reason → IsBook most handle fact (Some link) waiting since count
-      → IsBook most handle fact (staying_by reason link) (cond any [] waiting) since count
-  ends_by None link any waiting since count is book =
+  ended_by : (code : Option ℕ) (link : OpenLink) (any : Bool) (waiting : List (ℕ × Piece)) (since : List Note) (count : ℕ)
+      → any ≡ is_some code → IsBook most handle fact (Some link) waiting since count
+      → IsBook most handle fact (staying_by code link) (cond any [] waiting) since count
+  ended_by None link any waiting since count is book =
       subst (λ (test : Bool). IsBook most handle fact (Some link) (cond test [] waiting) since count) (sym is) book
-  ends_by (Some reason) link any waiting since count is book =
+  ended_by (Some code) link any waiting since count is book =
       subst (λ (test : Bool). IsBook most handle fact None (cond test [] waiting) since count) (sym is) refl
 
   nothing_left : (any : Bool) (waiting : List (ℕ × Piece)) → waiting ≡ [] → cond any [] waiting ≡ []
   nothing_left true waiting none = refl
   nothing_left false waiting none = none
 
-  ends_at : (slot : ℕ) (place : Option OpenLink) (any : Bool) (waiting : List (ℕ × Piece)) (since : List Note) (count : ℕ)
-      → any ≡ is_some (reason_at slot place) → IsBook most handle fact place waiting since count
-      → IsBook most handle fact (place_staying slot place) (cond any [] waiting) since count
-  ends_at slot None any waiting since count is book = nothing_left any waiting book
-  ends_at slot (Some link) any waiting since count is book = ends_by (reason_in slot link) link any waiting since count is book
+  ends_at : (reason : OpenLink → Option ℕ) (place : Option OpenLink) (any : Bool) (waiting : List (ℕ × Piece)) (since : List Note) (count : ℕ)
+      → any ≡ is_some (reason_at reason place) → IsBook most handle fact place waiting since count
+      → IsBook most handle fact (place_without reason place) (cond any [] waiting) since count
+  ends_at reason None any waiting since count is book = nothing_left any waiting book
+  ends_at reason (Some link) any waiting since count is book = ended_by (reason link) link any waiting since count is book
 
-  pub ending_book : (slot : ℕ) (links : Links) (received : List (ℕ × Piece)) (since : List Note) (count : ℕ)
+  pub ending_book : (reason : OpenLink → Option ℕ) (links : Links) (received : List (ℕ × Piece)) (since : List Note) (count : ℕ)
       → IsBook most handle fact (link_at handle links) (filter (is_piece_on handle) received) since count
-      → IsBook most handle fact (link_at handle (links_staying slot links))
-      (filter (is_piece_on handle) (received_shut received (ends_from slot 0 links))) since count
-  ending_book slot links received since count book =
-      let ended = ends_from slot 0 links in
-      subst (λ (waiting : List (ℕ × Piece)). IsBook most handle fact (link_at handle (links_staying slot links)) waiting since count)
+      → IsBook most handle fact (link_at handle (links_without reason links))
+      (filter (is_piece_on handle) (received_shut received (ends_by reason 0 links))) since count
+  ending_book reason links received since count book =
+      let ended = ends_by reason 0 links in
+      subst (λ (waiting : List (ℕ × Piece)). IsBook most handle fact (link_at handle (links_without reason links)) waiting since count)
       (sym (shut_pieces handle ended received))
       (subst (λ (place : Option OpenLink). IsBook most handle fact place
       (cond (list_any (ends_here handle) ended) [] (filter (is_piece_on handle) received)) since count)
-      (sym (stays_where_not_due slot 0 handle links))
-      (ends_at slot (link_at handle links) (list_any (ends_here handle) ended) (filter (is_piece_on handle) received) since count
-      (ends_are handle slot 0 links) book))
+      (sym (stays_where_not_due reason 0 handle links))
+      (ends_at reason (link_at handle links) (list_any (ends_here handle) ended) (filter (is_piece_on handle) received) since count
+      (ends_are handle reason 0 links) book))
 
   -- ---- a link is opened
 

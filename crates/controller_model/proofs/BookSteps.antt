@@ -4,20 +4,21 @@ use Rattle.std.specs.Prelude.{filter}
 use Rattle.std.specs.Option.{option_map}
 use Rattle.acl_banks.specs.declared.pieces.Piece.{Piece}
 use Rattle.ble_base.specs.declared.notes.Note.{Note}
-use Rattle.link_model.specs.Step.{Step as EndStep, EventEntered, PduFixed, PacketSent, PacketReceived}
+use Rattle.link_model.specs.Step.{Step as EndStep, EventEntered, PduFixed, PacketSent, PacketReceived, RequestAnswered}
 use Rattle.open_links.specs.OpenLinks.{Links, OpenLink, HaveHandles, link_after, link_at, link_served, with_change}
-use Rattle.open_links.specs.Turns.{entered_if, is_anchor, link_entered, links_entered}
+use Rattle.open_links.specs.Turns.{entered_if, enters_in, link_entered}
 use Rattle.open_links.proofs.Handles.{changed_is, has_its_handle, other_stays}
 use Rattle.open_links.proofs.UnderHandles.{map_at}
 use Rattle.controller_model.specs.declared.doing.Doing.{Doing}
 use Rattle.controller_model.specs.declared.doing.Doing.TheVariants.{Advertises, CentralSends, PeripheralListens, PeripheralSends}
 use Rattle.controller_model.specs.Facts.{Facts}
-use Rattle.controller_model.specs.Heard.{notes_taken, piece_taken}
+use Rattle.controller_model.specs.Heard.{links_refusing, notes_taken, piece_taken}
 use Rattle.controller_model.specs.Packets.{links_sending, notes_doing, notes_sent}
 use Rattle.controller_model.specs.Radio.{links_fixing}
 use Rattle.controller_model.specs.Since.{is_piece_on}
 use Rattle.controller_model.proofs.Books.{Fact, IsBook, IsBookAfter, IsKeptInBook, IsSilent, by_handle, elsewhere_kept, elsewhere_sent, elsewhere_took, others_noted, received_book, sent_book, served_book, silent_book}
-use Rattle.controller_model.proofs.Places.{at_changed}
+use Rattle.controller_model.proofs.Places.{at_changed, refusal}
+use Rattle.controller_model.specs.Entering.{all_entered}
 
 module _ (most handle : ℕ) (fact : Fact) (kept : IsKeptInBook most handle fact) where
   -- ---- a change of one link
@@ -57,28 +58,34 @@ module _ (most handle : ℕ) (fact : Fact) (kept : IsKeptInBook most handle fact
   pub received_at : (slot : ℕ) (room : Bool) (octets : List ℕ) (other : ℕ) (links : Links) (received : List (ℕ × Piece)) (since : List Note) (count : ℕ)
       → HaveHandles 0 links → IsBook most handle fact (link_at handle links) (filter (is_piece_on handle) received) since count
       → IsBookAfter most handle fact (link_at handle (with_change other (link_after (PacketReceived slot octets room)) links))
-      (filter (is_piece_on handle) (received ++ piece_taken room (link_at other links) octets)) since count (notes_taken slot room (link_at other links) octets)
+      (filter (is_piece_on handle) (received ++ piece_taken slot room (link_at other links) octets)) since count (notes_taken slot room (link_at other links) octets)
   received_at slot room octets other links received since count have book =
       let change = link_after (PacketReceived slot octets room) in
       by_handle other handle
       (λ same.
       subst (λ (n : ℕ). IsBookAfter most handle fact (link_at handle (with_change n change links))
-      (filter (is_piece_on handle) (received ++ piece_taken room (link_at n links) octets)) since count (notes_taken slot room (link_at n links) octets))
+      (filter (is_piece_on handle) (received ++ piece_taken slot room (link_at n links) octets)) since count (notes_taken slot room (link_at n links) octets))
       (sym same)
       (subst (λ (place : Option OpenLink). IsBookAfter most handle fact place
-      (filter (is_piece_on handle) (received ++ piece_taken room (link_at handle links) octets)) since count (notes_taken slot room (link_at handle links) octets))
+      (filter (is_piece_on handle) (received ++ piece_taken slot room (link_at handle links) octets)) since count (notes_taken slot room (link_at handle links) octets))
       (sym (changed_is (option_map change) 0 handle links refl))
       (received_book most handle fact kept slot room octets (link_at handle links) received since count book)))
       (λ differs.
       let has = has_its_handle 0 other links have in
       let notes = notes_taken slot room (link_at other links) octets in
       subst (λ (place : Option OpenLink). IsBookAfter most handle fact place
-      (filter (is_piece_on handle) (received ++ piece_taken room (link_at other links) octets)) since count notes)
+      (filter (is_piece_on handle) (received ++ piece_taken slot room (link_at other links) octets)) since count notes)
       (sym (other_stays (option_map change) 0 other handle links (λ is. differs (sym is))))
       (subst (λ (waiting : List (ℕ × Piece)). IsBookAfter most handle fact (link_at handle links) waiting since count notes)
-      (sym (elsewhere_kept most handle fact kept room octets received (link_at other links) other has differs))
+      (sym (elsewhere_kept most handle fact kept slot room octets received (link_at other links) other has differs))
       (others_noted most handle fact kept (link_at handle links) (filter (is_piece_on handle) received) since count notes
       (elsewhere_took most handle fact kept slot room octets (link_at other links) other has differs) book)))
+
+  pub refusing_at : (refuses : Bool) (other : ℕ) (links : Links) (waiting : List (ℕ × Piece)) (since : List Note) (count : ℕ)
+      → IsBook most handle fact (link_at handle links) waiting since count
+      → IsBook most handle fact (link_at handle (links_refusing refuses other links)) waiting since count
+  refusing_at true other links waiting since count book = silent_at (RequestAnswered refusal) other links waiting since count tt book
+  refusing_at false other links waiting since count book = book
 
   -- ---- what is done next
 
@@ -100,9 +107,9 @@ module _ (most handle : ℕ) (fact : Fact) (kept : IsKeptInBook most handle fact
 
   -- ---- the links enter their events
 
-  entered_by : (anchor : Bool) (slot : ℕ) (link : OpenLink) (waiting : List (ℕ × Piece)) (since : List Note) (count : ℕ)
+  entered_by : (enters : Bool) (slot : ℕ) (link : OpenLink) (waiting : List (ℕ × Piece)) (since : List Note) (count : ℕ)
       → IsBook most handle fact (Some link) waiting since count
-      → IsBook most handle fact (Some (entered_if anchor slot link)) waiting since count
+      → IsBook most handle fact (Some (entered_if enters slot link)) waiting since count
   entered_by true slot link waiting since count book = silent_book most handle fact kept (EventEntered slot) (Some link) waiting since count tt book
   entered_by false slot link waiting since count book = book
 
@@ -110,11 +117,11 @@ module _ (most handle : ℕ) (fact : Fact) (kept : IsKeptInBook most handle fact
       → IsBook most handle fact place waiting since count
       → IsBook most handle fact (option_map (link_entered slot) place) waiting since count
   entered_book slot None waiting since count book = book
-  entered_book slot (Some link) waiting since count book = entered_by (is_anchor slot link) slot link waiting since count book
+  entered_book slot (Some link) waiting since count book = entered_by (enters_in slot link) slot link waiting since count book
 
   pub entering_at : (slot : ℕ) (links : Links) (waiting : List (ℕ × Piece)) (since : List Note) (count : ℕ)
       → IsBook most handle fact (link_at handle links) waiting since count
-      → IsBook most handle fact (link_at handle (links_entered slot links)) waiting since count
+      → IsBook most handle fact (link_at handle (all_entered slot links)) waiting since count
   entering_at slot links waiting since count book =
       subst (λ (place : Option OpenLink). IsBook most handle fact place waiting since count)
       (sym (map_at (option_map (link_entered slot)) 0 handle links refl)) (entered_book slot (link_at handle links) waiting since count book)

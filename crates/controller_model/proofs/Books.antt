@@ -13,23 +13,31 @@ use Rattle.data_pdu.specs.Header.{header_in}
 use Rattle.link_model.specs.Acknowledgement.{Pdu}
 use Rattle.link_model.specs.Data.{is_data}
 use Rattle.link_model.specs.Facts.{Facts as EndFacts}
-use Rattle.link_model.specs.Packets.{good_pdu, pdu_of}
+use Rattle.link_model.specs.Packets.{good_pdu}
+use Rattle.link_model.specs.Verdicts.{pdu_of}
 use Rattle.link_model.specs.Setup.{Setup as EndSetup}
-use Rattle.link_model.specs.Step.{Step as EndStep, DataGiven, EventEntered, PduFixed, PacketSent, PacketReceived, DataReported}
-use Rattle.link_model.specs.End.{facts_of as end_facts, has_new_pdu, is_accepted, notes_after as end_notes, sent_notes_if, took_notes, took_notes_if}
-use Rattle.link_model.specs.Kept.{kept_from, kept_of, kept_if}
+use Rattle.link_model.specs.Step.{Step as EndStep, DataGiven, ProcedureAsked, RequestAnswered, Disconnected, EventEntered, PduFixed, PacketSent, PacketReceived, DataReported}
+use Rattle.link_model.specs.End.{facts_of as end_facts, notes_after as end_notes}
+use Rattle.link_model.specs.Receiving.{accepts, facts_before_taking}
+use Rattle.link_model.specs.Kept.{kept_from, kept_of}
+use Rattle.link_model.specs.Pieces.{kept_if}
 use Rattle.open_links.specs.OpenLinks.{OpenLink, HasHandle, facts_in, link_after, link_served}
 use Rattle.controller_model.specs.Data.{note_received}
 use Rattle.controller_model.specs.Heard.{notes_taken, piece_taken}
 use Rattle.controller_model.specs.Packets.{notes_sent}
 use Rattle.controller_model.specs.Since.{count_since, is_piece_on, note_completed, note_since, opens_under}
-use Rattle.controller_model.proofs.OtherNotes.{AreOther, IsOther, sent_other, took_other}
+use Rattle.controller_model.proofs.EndNotes.{received_each, sent_each}
+use Rattle.controller_model.proofs.OtherNotes.{AreOther, IsOther, done_other, refused_other, sent_other, took_other}
 
 -- ---- a fact of a link
 
--- its host gives it data, it enters an event, or it fixes its PDU
+-- its host gives it data, asks for a procedure, answers a request or ends the link, it enters an event, or it fixes its
+-- PDU
 abbrev pub IsSilent : EndStep → Type 0
 IsSilent (DataGiven start body) = ⊤
+IsSilent (ProcedureAsked ask) = ⊤
+IsSilent (RequestAnswered answer) = ⊤
+IsSilent (Disconnected reason slot) = ⊤
 IsSilent (EventEntered slot) = ⊤
 IsSilent PduFixed = ⊤
 IsSilent step = ⊥
@@ -50,7 +58,7 @@ pub record IsKeptInBook (most handle : ℕ) (fact : Fact) : Type 0 where
       → fact setup (past ++ PacketSent slot ∷ []) waiting (since ++ end_notes setup (end_facts setup past) (PacketSent slot)) count
   pub received : (setup : EndSetup) (past : List EndStep) (waiting : List (ℕ × Piece)) (since : List Note) (count slot : ℕ) (octets : List ℕ)
       (room : Bool) → setup.link.handle ≡ handle → fact setup past waiting since count
-      → fact setup (past ++ PacketReceived slot octets room ∷ []) (waiting ++ kept_of setup (end_facts setup past) octets room)
+      → fact setup (past ++ PacketReceived slot octets room ∷ []) (waiting ++ kept_of setup (end_facts setup past) slot octets room)
       (since ++ end_notes setup (end_facts setup past) (PacketReceived slot octets room)) count
   pub handed : (setup : EndSetup) (past : List EndStep) (piece : ℕ × Piece) (waiting : List (ℕ × Piece)) (since : List Note) (count : ℕ)
       → handle < most → piece.0 ≡ handle → fact setup past (piece ∷ waiting) since count
@@ -84,15 +92,16 @@ piece_has : (P : ℕ → Type 0) (test : Bool) (handle : ℕ) (pdu : Pdu) → P 
 piece_has P true handle pdu holds = (holds, tt)
 piece_has P false handle pdu holds = tt
 
-found_has : (P : ℕ → Type 0) (handle : ℕ) (room : Bool) (found : Option (List ℕ)) (facts : EndFacts) → P handle
-    → AllByRecursion (λ piece. P piece.0) (kept_from handle room found facts)
-found_has P handle room None facts holds = tt
-found_has P handle room (Some pdu) facts holds =
-    piece_has P (is_accepted room (has_new_pdu facts (header_in pdu)) (pdu_of pdu) && is_data (pdu_of pdu)) handle (pdu_of pdu) holds
+found_has : (P : ℕ → Type 0) (setup : EndSetup) (slot : ℕ) (room : Bool) (found : Option (List ℕ)) (facts : EndFacts) → P setup.link.handle
+    → AllByRecursion (λ piece. P piece.0) (kept_from setup slot room found facts)
+found_has P setup slot room None facts holds = tt
+found_has P setup slot room (Some pdu) facts holds =
+    piece_has P (accepts room (header_in pdu) (pdu_of pdu) (facts_before_taking setup.link.role slot (header_in pdu) facts) && is_data (pdu_of pdu))
+    setup.link.handle (pdu_of pdu) holds
 
-pub kept_has : (P : ℕ → Type 0) (setup : EndSetup) (facts : EndFacts) (octets : List ℕ) (room : Bool) → P setup.link.handle
-    → AllByRecursion (λ piece. P piece.0) (kept_of setup facts octets room)
-kept_has P setup facts octets room holds = found_has P setup.link.handle room (good_pdu setup facts octets) facts holds
+pub kept_has : (P : ℕ → Type 0) (setup : EndSetup) (facts : EndFacts) (slot : ℕ) (octets : List ℕ) (room : Bool) → P setup.link.handle
+    → AllByRecursion (λ piece. P piece.0) (kept_of setup facts slot octets room)
+kept_has P setup facts slot octets room holds = found_has P setup slot room (good_pdu setup facts octets) facts holds
 
 -- ---- the book of a handle
 
@@ -176,9 +185,8 @@ module _ (most handle : ℕ) (fact : Fact) (kept : IsKeptInBook most handle fact
   served_book slot None waiting since count book = book
   served_book slot (Some link) waiting since count book = book
 
-  plain_sent : (noted : Bool) (other : ℕ) (facts : EndFacts) → AllByRecursion (λ note. opens_under handle note ≡ false) (sent_notes_if noted other facts)
-  plain_sent true other facts = (refl, tt)
-  plain_sent false other facts = tt
+  abbrev OpensNone : Note → Type 0
+  OpensNone note = opens_under handle note ≡ false
 
   pub sent_book : (slot : ℕ) (place : Option OpenLink) (waiting : List (ℕ × Piece)) (since : List Note) (count : ℕ)
       → IsBook most handle fact place waiting since count
@@ -186,68 +194,54 @@ module _ (most handle : ℕ) (fact : Fact) (kept : IsKeptInBook most handle fact
   sent_book slot None waiting since count book = book
   sent_book slot (Some link) waiting since count book =
       plainly (Some (link_after (PacketSent slot) link)) waiting since count (notes_sent slot (Some link))
-      (plain_sent _ link.setup.link.handle (facts_in link))
+      (sent_each OpensNone link.setup (facts_in link) (λ number llid octets. refl))
       (book.0, kept.sent link.setup link.past waiting since count slot book.0 book.1)
-
-  plain_took : (noted : Bool) (other : ℕ) (pdu : Pdu) (facts : EndFacts)
-      → AllByRecursion (λ note. opens_under handle note ≡ false) (took_notes_if noted other pdu facts)
-  plain_took true other pdu facts = (refl, tt)
-  plain_took false other pdu facts = tt
-
-  plain_found : (other : ℕ) (room : Bool) (found : Option (List ℕ)) (facts : EndFacts)
-      → AllByRecursion (λ note. opens_under handle note ≡ false) (took_notes other room found facts)
-  plain_found other room None facts = tt
-  plain_found other room (Some pdu) facts = plain_took _ other (pdu_of pdu) facts
 
   pub received_book : (slot : ℕ) (room : Bool) (octets : List ℕ) (place : Option OpenLink) (received : List (ℕ × Piece)) (since : List Note) (count : ℕ)
       → IsBook most handle fact place (filter (is_piece_on handle) received) since count
       → IsBookAfter most handle fact (option_map (link_after (PacketReceived slot octets room)) place)
-      (filter (is_piece_on handle) (received ++ piece_taken room place octets)) since count (notes_taken slot room place octets)
+      (filter (is_piece_on handle) (received ++ piece_taken slot room place octets)) since count (notes_taken slot room place octets)
   received_book slot room octets None received since count book = ap (filter (is_piece_on handle)) (append-nil received) ∙ book
   received_book slot room octets (Some link) received since count book =
-      let pieces = kept_of link.setup (facts_in link) octets room in
-      let mine = of_this handle pieces (kept_has (λ n. n ≡ handle) link.setup (facts_in link) octets room book.0) in
+      let pieces = kept_of link.setup (facts_in link) slot octets room in
+      let mine = of_this handle pieces (kept_has (λ n. n ≡ handle) link.setup (facts_in link) slot octets room book.0) in
       let after = Some (link_after (PacketReceived slot octets room) link) in
       let notes = notes_taken slot room (Some link) octets in
       plainly after (filter (is_piece_on handle) (received ++ pieces)) since count notes
-      (plain_found link.setup.link.handle room (good_pdu link.setup (facts_in link) octets) (facts_in link))
+      (received_each OpensNone link.setup slot room (good_pdu link.setup (facts_in link) octets) (facts_in link)
+      (record { took = λ number llid body. refl; refused = λ kind code. refl; done = λ kind. refl }))
       (subst (λ (waiting : List (ℕ × Piece)). IsBook most handle fact after waiting (since ++ notes) count)
       (sym (filter-append (is_piece_on handle) received pieces ∙ ap (λ rest. filter (is_piece_on handle) received ++ rest) mine))
       (book.0, kept.received link.setup link.past (filter (is_piece_on handle) received) since count slot octets room book.0 book.1))
 
   -- ---- a change of another link
 
-  others_sent : (noted : Bool) (other : ℕ) (facts : EndFacts) → other ≢ handle → AreOther most handle (sent_notes_if noted other facts)
-  others_sent true other facts differs = (sent_other most handle other _ _ _ differs, tt)
-  others_sent false other facts differs = tt
-
   pub elsewhere_sent : (slot : ℕ) (place : Option OpenLink) (other : ℕ) → HasHandle other place → other ≢ handle
       → AreOther most handle (notes_sent slot place)
   elsewhere_sent slot None other has differs = tt
   elsewhere_sent slot (Some link) other has differs =
-      others_sent _ link.setup.link.handle (facts_in link) (λ same. differs (sym has ∙ same))
-
-  others_took : (noted : Bool) (other : ℕ) (pdu : Pdu) (facts : EndFacts) → other ≢ handle → AreOther most handle (took_notes_if noted other pdu facts)
-  others_took true other pdu facts differs = (took_other most handle other _ _ _ differs, tt)
-  others_took false other pdu facts differs = tt
-
-  others_found : (other : ℕ) (room : Bool) (found : Option (List ℕ)) (facts : EndFacts) → other ≢ handle
-      → AreOther most handle (took_notes other room found facts)
-  others_found other room None facts differs = tt
-  others_found other room (Some pdu) facts differs = others_took _ other (pdu_of pdu) facts differs
+      let own = link.setup.link.handle in
+      sent_each (IsOther most handle) link.setup (facts_in link)
+      (λ number llid octets. sent_other most handle own number llid octets (λ same. differs (sym has ∙ same)))
 
   pub elsewhere_took : (slot : ℕ) (room : Bool) (octets : List ℕ) (place : Option OpenLink) (other : ℕ) → HasHandle other place → other ≢ handle
       → AreOther most handle (notes_taken slot room place octets)
   elsewhere_took slot room octets None other has differs = tt
   elsewhere_took slot room octets (Some link) other has differs =
-      others_found link.setup.link.handle room (good_pdu link.setup (facts_in link) octets) (facts_in link) (λ same. differs (sym has ∙ same))
+      let own = link.setup.link.handle in
+      received_each (IsOther most handle) link.setup slot room (good_pdu link.setup (facts_in link) octets) (facts_in link) (record {
+        took = λ number llid octets. took_other most handle own number llid octets (λ same. differs (sym has ∙ same));
+        refused = refused_other most handle own;
+        done = done_other most handle own;
+      })
 
-  pub elsewhere_kept : (room : Bool) (octets : List ℕ) (received : List (ℕ × Piece)) (place : Option OpenLink) (other : ℕ) → HasHandle other place
-      → other ≢ handle → filter (is_piece_on handle) (received ++ piece_taken room place octets) ≡ filter (is_piece_on handle) received
-  elsewhere_kept room octets received None other has differs = ap (filter (is_piece_on handle)) (append-nil received)
-  elsewhere_kept room octets received (Some link) other has differs =
-      let pieces = kept_of link.setup (facts_in link) octets room in
+  pub elsewhere_kept : (slot : ℕ) (room : Bool) (octets : List ℕ) (received : List (ℕ × Piece)) (place : Option OpenLink) (other : ℕ)
+      → HasHandle other place → other ≢ handle
+      → filter (is_piece_on handle) (received ++ piece_taken slot room place octets) ≡ filter (is_piece_on handle) received
+  elsewhere_kept slot room octets received None other has differs = ap (filter (is_piece_on handle)) (append-nil received)
+  elsewhere_kept slot room octets received (Some link) other has differs =
+      let pieces = kept_of link.setup (facts_in link) slot octets room in
       let none = of_others handle pieces
-      (kept_has (λ n. n ≢ handle) link.setup (facts_in link) octets room (λ same. differs (sym has ∙ same))) in
+      (kept_has (λ n. n ≢ handle) link.setup (facts_in link) slot octets room (λ same. differs (sym has ∙ same))) in
       filter-append (is_piece_on handle) received pieces ∙ ap (λ rest. filter (is_piece_on handle) received ++ rest) none
       ∙ append-nil (filter (is_piece_on handle) received)

@@ -23,29 +23,33 @@ use Rattle.link_model.specs.declared.setup.LinkSetup.{LinkSetup}
 use Rattle.link_model.specs.Step.{DataGiven, PacketReceived}
 use Rattle.open_links.specs.declared.offers.Offer.{Offer}
 use Rattle.open_links.specs.declared.offers.Offer.TheVariants.{Empty, Overflow, Kept}
-use Rattle.open_links.specs.Data.{buffer_octets, completed_from, links_reported, offer_by}
-use Rattle.open_links.specs.OpenLinks.{Links, OpenLink, HaveHandles, link_after, link_at, link_from, without_links}
-use Rattle.open_links.specs.Turns.{notes_entering}
+use Rattle.open_links.specs.Offered.{buffer_octets}
+use Rattle.open_links.specs.Data.{completed_from, links_reported, offer_by}
+use Rattle.open_links.specs.OpenLinks.{Links, OpenLink, HaveHandles, link_after, link_at, link_from, with_change, without_links}
+use Rattle.open_links.specs.Turns.{due_in, ending_in}
 use Rattle.controller_model.specs.declared.doing.Doing.{Doing}
 use Rattle.controller_model.specs.Step.{Step, HostOctet, TurnBegins, PacketHeard, NothingHeard, TurnEnds}
 use Rattle.controller_model.specs.Facts.{Setup, Facts, first_facts}
 use Rattle.controller_model.specs.Commands.{facts_commanded, facts_known, links_after, notes_commanded, received_after}
-use Rattle.controller_model.specs.Data.{event_completed, facts_offered, note_received, notes_ended_turn, notes_offered, is_full}
+use Rattle.controller_model.specs.Data.{event_completed, facts_ended_turn, facts_handed, facts_offered, note_received, notes_ended_turn, notes_handed, notes_offered, is_full}
+use Rattle.controller_model.specs.Entering.{notes_all_entering}
 use Rattle.controller_model.specs.Events.{notes_of_events}
-use Rattle.controller_model.specs.Heard.{asks_if, events_reported, has_room, link_heard, link_received, link_taken, notes_taken, opens, replies_in, reply_if, scanner_after, with_scanner}
-use Rattle.controller_model.specs.Links.{ends_in, facts_ending, notes_ending, notes_opened}
+use Rattle.controller_model.specs.Heard.{asks_if, events_received, events_reported, has_room, link_heard, link_received, link_taken, notes_taken, opens, replies_in, reply_if, scanner_after, with_scanner}
+use Rattle.controller_model.specs.Links.{ends_for, facts_ending, notes_ending, notes_leaving, notes_opened}
 use Rattle.controller_model.specs.Outcome.{facts_passed, notes_passed}
 use Rattle.controller_model.specs.Packets.{facts_doing, notes_doing}
 use Rattle.controller_model.specs.Radio.{outcome_begun}
 use Rattle.controller_model.specs.Side.{facts_after, facts_fed, facts_of, notes_after, notes_fed, notes_from, notes_of, result_of}
 use Rattle.controller_model.specs.Since.{count_fed, count_given, count_since, empties_from, empties_of, is_piece_on, note_completed, note_since, since_opened}
-use Rattle.controller_model.proofs.Always.{holds_step, left_doing, links_won, opening_passes}
+use Rattle.controller_model.proofs.Always.{facts_ended, holds_step, leaving_is, left_doing, links_won, opening_passes}
 use Rattle.controller_model.proofs.BookEnds.{ending_book, handing_book, opening_book, reporting_book}
 use Rattle.controller_model.proofs.Books.{Fact, IsBook, IsBookAfter, IsKeptInBook, and_then, by_handle, is_not, one_more, others_noted}
-use Rattle.controller_model.proofs.BookSteps.{doing_at, entering_at, fixing_at, received_at, served_at, silent_at}
-use Rattle.controller_model.proofs.Handles.{HaveOwnHandles, IsNew, change_opens, free_is_new, handles_kept}
-use Rattle.controller_model.proofs.OtherNotes.{both_other, command_other, completed_other, ends_other, entering_other, events_other, reporting_other}
+use Rattle.controller_model.proofs.BookSteps.{doing_at, entering_at, fixing_at, received_at, refusing_at, served_at, silent_at}
+use Rattle.controller_model.proofs.Handles.{HaveOwnHandles, IsNew, free_is_new, handles_kept, receiving_opens}
+use Rattle.controller_model.proofs.OtherNotes.{both_other, command_other, completed_other, ends_other, entering_other, events_other, procedures_other, reporting_other}
 use Rattle.controller_model.proofs.Phases.{EachOutcome, heard_is, unheard_is}
+use Rattle.controller_model.proofs.Places.{refuses_at}
+use Rattle.controller_model.proofs.ProcedureEvents.{reception_events}
 use Rattle.controller_model.proofs.PiecesBelow.{AreBelow, ArePieces, first_pieces, pieces_kept}
 
 -- a link that is open is in one of the places
@@ -95,9 +99,9 @@ module _ (handle : ℕ) (fact : Fact) (setup : Setup) (kept : IsKeptInBook setup
       let starts = (handles_kept setup).turns.starts in
       let waiting : Facts → List (ℕ × Piece) = λ facts. filter (is_piece_on handle) facts.received in
       left_doing (IsLeft since count)
-      (λ slot facts left. record {
-        own = starts.ends slot facts left.own;
-        book = ending_book most handle fact kept slot facts.links facts.received since count left.book;
+      (λ reason facts left. record {
+        own = starts.ends reason facts left.own;
+        book = ending_book most handle fact kept reason facts.links facts.received since count left.book;
       })
       (λ slot facts left. record { own = starts.begins slot facts left.own; book = left.book })
       (λ slot facts left. record {
@@ -122,15 +126,16 @@ module _ (handle : ℕ) (fact : Fact) (setup : Setup) (kept : IsKeptInBook setup
       let outcome = outcome_begun slot on facts in
       let after = facts_passed outcome in
       let ending = notes_ending slot facts in
-      let entering = notes_entering slot (facts_ending slot facts).links in
+      let ended = facts_ending slot facts in
+      let entering = notes_all_entering ended.view slot 0 ended.links in
       let noted = ending ++ entering in
       and_then most handle fact kept (link_at handle after.links) (filter (is_piece_on handle) after.received) since count noted (notes_doing outcome.next outcome.facts)
       (begun_book slot on facts (fold (note_since handle) since noted) (fold (count_since handle) count noted)
       (record {
         own = own;
         book = others_noted most handle fact kept (link_at handle facts.links) (filter (is_piece_on handle) facts.received) since count noted
-            (both_other most handle ending entering (ends_other most handle facts.view (ends_in slot facts))
-            (entering_other most handle slot (facts_ending slot facts).links))
+            (both_other most handle ending entering (ends_other most handle facts.view (ends_for (due_in slot) facts))
+            (entering_other most handle ended.view slot 0 ended.links))
             book;
       }))
 
@@ -180,11 +185,23 @@ module _ (handle : ℕ) (fact : Fact) (setup : Setup) (kept : IsKeptInBook setup
       → IsBookOf most handle fact facts since count
       → IsBookOfAfter most handle fact (facts_passed (link_heard setup other octets facts)) since count (notes_passed (link_heard setup other octets facts))
   heard_book other octets facts since count own book =
+      let slot = facts.turn.slot in
       let room = has_room setup facts in
-      let opens = change_opens other (link_after (PacketReceived facts.turn.slot octets room)) facts.links (λ link. refl) in
-      reply_book (replies_in (link_at other facts.links) octets) other (link_received other room octets facts) since count
-      (notes_taken facts.turn.slot room (link_at other facts.links) octets) (opens.handles own.handles)
-      (received_at most handle fact kept facts.turn.slot room octets other facts.links facts.received since count own.handles book)
+      let place = link_at other facts.links in
+      let taken = notes_taken slot room place octets in
+      let events = events_received other slot room place octets in
+      let after = link_received other room octets facts in
+      let waiting = filter (is_piece_on handle) after.received in
+      let heard = refusing_at most handle fact kept (refuses_at other room octets facts) other
+      (with_change other (link_after (PacketReceived slot octets room)) facts.links) waiting (fold (note_since handle) since taken)
+      (fold (count_since handle) count taken)
+      (received_at most handle fact kept slot room octets other facts.links facts.received since count own.handles book) in
+      reply_book (replies_in slot room place octets) other after since count (taken ++ notes_of_events facts.view events)
+      ((receiving_opens other room octets facts).handles own.handles)
+      (and_then most handle fact kept (link_at handle after.links) waiting since count taken (notes_of_events facts.view events)
+      (others_noted most handle fact kept (link_at handle after.links) waiting (fold (note_since handle) since taken)
+      (fold (count_since handle) count taken) (notes_of_events facts.view events)
+      (procedures_other most handle facts.view events (reception_events other slot room place octets)) heard))
 
   phase_book : (facts : Facts) (since : List Note) (count : ℕ) → HaveOwnHandles setup facts → IsBookOf most handle fact facts since count
       → EachOutcome setup facts (λ outcome. IsBookOfAfter most handle fact (facts_passed outcome) since count (notes_passed outcome))
@@ -208,16 +225,33 @@ module _ (handle : ℕ) (fact : Fact) (setup : Setup) (kept : IsKeptInBook setup
 
   -- ---- a turn ends
 
-  ended_book : (facts : Facts) (since : List Note) (count : ℕ) → HaveOwnHandles setup facts → AreBelow most facts.received
-      → IsBookOf most handle fact facts since count
-      → IsBookAfter most handle fact (link_at handle (links_reported facts.links)) [] since count (notes_ended_turn facts)
-  ended_book facts since count own below book =
-      let handed = map note_received facts.received in
+  handed_book : (facts : Facts) (since : List Note) (count : ℕ) → HaveOwnHandles setup facts → AreBelow most facts.received
+      → IsBookOf most handle fact facts since count → IsBookOfAfter most handle fact (facts_handed facts) since count (notes_handed facts)
+  handed_book facts since count own below book =
+      let pieces = map note_received facts.received in
       let reports = notes_of_events facts.view (map event_completed (completed_from 0 facts.links)) in
-      and_then most handle fact kept (link_at handle (links_reported facts.links)) [] since count handed reports
-      (reporting_book most handle fact kept facts.view 0 facts.links (fold (note_since handle) since handed) (fold (count_since handle) count handed)
+      and_then most handle fact kept (link_at handle (links_reported facts.links)) [] since count pieces reports
+      (reporting_book most handle fact kept facts.view 0 facts.links (fold (note_since handle) since pieces) (fold (count_since handle) count pieces)
       (omega (arith, own.many))
       (handing_book most handle fact kept (link_at handle facts.links) facts.received since count below book))
+
+  -- then links end
+  ended_book : (facts : Facts) (since : List Note) (count : ℕ) → HaveOwnHandles setup facts → AreBelow most facts.received
+      → IsBookOf most handle fact facts since count
+      → IsBookOfAfter most handle fact (facts_ended_turn facts) since count (notes_ended_turn facts)
+  ended_book facts since count own below book =
+      let handed = facts_handed facts in
+      let notes = notes_handed facts in
+      let ending = notes_leaving handed in
+      let ended = others_noted most handle fact kept (link_at handle handed.links) (filter (is_piece_on handle) handed.received)
+      (fold (note_since handle) since notes) (fold (count_since handle) count notes) ending
+      (ends_other most handle handed.view (ends_for ending_in handed)) (handed_book facts since count own below book) in
+      subst (λ (next : Facts). IsBookOfAfter most handle fact next since count (notes ++ ending)) (sym (leaving_is handed))
+      (and_then most handle fact kept (link_at handle (facts_ended ending_in handed).links)
+      (filter (is_piece_on handle) (facts_ended ending_in handed).received) since count notes ending
+      (ending_book most handle fact kept ending_in handed.links handed.received
+      (fold (note_since handle) (fold (note_since handle) since notes) ending)
+      (fold (count_since handle) (fold (count_since handle) count notes) ending) ended))
 
   -- ---- an octet of the host
 

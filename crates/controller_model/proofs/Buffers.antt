@@ -1,6 +1,6 @@
 -- A controller holds no more packets of its host, and no more pieces for it, than it has buffers.
 use Rattle.std.proofs.Common.{◌≡◌, ℕ, zero, suc, ◌+◌, ◌≤◌, ◌==◌, Bool, true, false, Option, Some, None, List, [], ◌∷◌, length, map, replicate, cond, refl, ap, sym, subst, length-append, arith}
-use Rattle.std.specs.Prelude.{◌||◌, ◌&&◌, filter, nat_lt, not}
+use Rattle.std.specs.Prelude.{◌||◌, ◌&&◌, filter, is_some, nat_lt, not}
 use Rattle.std.specs.List.{find}
 use Rattle.std.specs.Option.{option_map}
 use Rattle.std.proofs.lemmas.Bool.{ltb-true}
@@ -8,17 +8,26 @@ use Rattle.std.proofs.lemmas.List.Sums.{sum_by-cons}
 use Rattle.acl_banks.specs.declared.pieces.Piece.{Piece}
 use Rattle.acl_banks.specs.Packets.{new_packet, packet_after_acked, packet_after_went, with_first, without_first}
 use Rattle.data_pdu.specs.Header.{header_in}
+use Rattle.ble_base.specs.declared.roles.Role.{Role}
+use Rattle.procedure_stages.specs.Queue.{waiting_in}
+use Rattle.open_links.proofs.Unmoved.{LeavesData, asked_leaves, entered_leaves}
 use Rattle.hci_cmd.specs.declared.command.Command.{Command}
 use Rattle.hci_cmd.specs.declared.command.Command.TheVariants.{Reset}
 use Rattle.link_model.specs.Acknowledgement.{Pdu, is_acked}
-use Rattle.link_model.specs.Data.{Data, data_acked_if, data_completed, data_given, data_sent_if, is_completed, is_data, is_out, is_unsent}
+use Rattle.link_model.specs.Data.{Data, data_acked_if, data_completed, data_given, data_sent_if, is_completed, is_control, is_data, is_empty, is_out, is_unsent}
 use Rattle.link_model.specs.Facts.{Facts as EndFacts}
-use Rattle.link_model.specs.Packets.{good_pdu, pdu_of}
+use Rattle.link_model.specs.Packets.{good_pdu}
+use Rattle.link_model.specs.Verdicts.{pdu_of}
 use Rattle.link_model.specs.Setup.{Setup as EndSetup}
 use Rattle.link_model.specs.declared.setup.LinkSetup.{LinkSetup}
-use Rattle.link_model.specs.Step.{Step as EndStep, DataGiven, EventEntered, PduFixed, PacketSent, PacketReceived, DataReported}
-use Rattle.link_model.specs.End.{facts_after as end_after, facts_of as end_facts, facts_received, has_acknowledged, has_new_pdu}
-use Rattle.link_model.specs.Kept.{kept_from, kept_if as piece_if, kept_of}
+use Rattle.link_model.specs.Step.{Step as EndStep, DataGiven, ProcedureAsked, RequestAnswered, Disconnected, EventEntered, PduFixed, PacketSent, PacketReceived, DataReported}
+use Rattle.link_model.specs.End.{facts_after as end_after, facts_of as end_facts}
+use Rattle.link_model.specs.Controls.{is_procedure_pdu, next_control}
+use Rattle.link_model.specs.Fixing.{data_cut, data_fixed_by, data_goes, fixed_anew}
+use Rattle.link_model.specs.Receiving.{accepted_if, accepts, acknowledged_if, answers_with_control, facts_before_taking, facts_received, has_acknowledged, has_new_pdu, heard_in_slot, procedures_take_if}
+use Rattle.link_model.specs.Sending.{control_gone_if, facts_sent, takes_leave}
+use Rattle.link_model.specs.Kept.{kept_from}
+use Rattle.link_model.specs.Pieces.{kept_if as piece_if}
 use Rattle.link_model.proofs.Pasts.{grows}
 use Rattle.scan_init.specs.Reports.{does_ask, scan_answer}
 use Rattle.slot_plan.specs.declared.Activity.{Activity}
@@ -26,21 +35,24 @@ use Rattle.slot_plan.specs.declared.Activity.TheVariants.{Link, Advertise, Scan,
 use Rattle.open_links.specs.declared.ended.LinkEnded.{LinkEnded}
 use Rattle.open_links.specs.Data.{buffers_in, buffers_taken, complete_in, link_reported, links_given, links_reported}
 use Rattle.open_links.specs.OpenLinks.{Links, OpenLink, facts_in, link_after, link_at, link_served, new_link, with_change, with_change_from, with_link, without_links}
-use Rattle.open_links.specs.Turns.{entered_if, is_anchor, link_entered, links_entered, links_staying, place_staying, reason_in, staying_by}
+use Rattle.open_links.specs.Turns.{entered_if, enters_in, link_entered, links_without, place_without, staying_by}
 use Rattle.controller_model.specs.declared.doing.Doing.{Doing}
 use Rattle.controller_model.specs.declared.doing.Doing.TheVariants.{Advertises, CentralSends, PeripheralListens, PeripheralSends, Rests}
 use Rattle.controller_model.specs.Step.{Step}
 use Rattle.controller_model.specs.Facts.{Setup, Facts}
 use Rattle.controller_model.specs.Commands.{links_after, received_after}
 use Rattle.open_links.specs.declared.offers.Offer.TheVariants.{Kept, Empty, Overflow}
-use Rattle.open_links.specs.Data.{offer_by, received_past, received_without}
+use Rattle.open_links.specs.Data.{offer_by, received_past}
+use Rattle.open_links.specs.Ended.{received_without}
 use Rattle.controller_model.specs.Data.{is_full, offer_of}
-use Rattle.controller_model.specs.Heard.{asks_if, has_room, link_taken, piece_taken, replies_in, reply_if}
-use Rattle.controller_model.specs.Links.{ends_in}
+use Rattle.controller_model.specs.Heard.{asks_if, has_room, link_received, link_taken, links_refusing, piece_taken, replies_in, reply_if}
 use Rattle.controller_model.specs.Packets.{facts_doing, links_sending}
 use Rattle.controller_model.specs.Radio.{links_fixing}
 use Rattle.controller_model.specs.Side.{facts_of}
 use Rattle.controller_model.proofs.Always.{IsKept, always, facts_opening, links_won, opening_passes, received_shut}
+use Rattle.controller_model.proofs.Places.{refusal, refuses_at}
+use Rattle.controller_model.specs.Entering.{all_entered}
+use Rattle.controller_model.specs.Links.{ends_for}
 
 -- ---- the packets that wait on a link
 
@@ -86,11 +98,50 @@ acked_less : (acked : Bool) (outgoing : Data) → length (data_acked_if acked ou
 acked_less true outgoing = completed_less (is_completed (find is_out outgoing.packets)) outgoing
 acked_less false outgoing = omega arith
 
-received_less : (slot : ℕ) (room : Bool) (found : Option (List ℕ)) (facts : EndFacts)
-    → waiting (facts_received slot room found facts) ≤ waiting facts
-received_less slot room None facts = omega arith
-received_less slot room (Some pdu) facts =
-    acked_less (has_acknowledged facts (header_in pdu) && is_data facts.acknowledgement.last) facts.outgoing
+gone_same : (goes : Bool) (slot : ℕ) (facts : EndFacts) → waiting (control_gone_if goes slot facts) ≡ waiting facts
+gone_same true slot facts = refl
+gone_same false slot facts = refl
+
+took_same : (takes : Bool) (pdu : Pdu) (slot : ℕ) (facts : EndFacts) → waiting (procedures_take_if takes pdu slot facts) ≡ waiting facts
+took_same true pdu slot facts = refl
+took_same false pdu slot facts = refl
+
+received_less : (role : Role) (slot : ℕ) (room : Bool) (found : Option (List ℕ)) (facts : EndFacts)
+    → waiting (facts_received role slot room found facts) ≤ waiting facts
+received_less role slot room None facts = omega arith
+received_less role slot room (Some octets) facts =
+    let header = header_in octets in
+    let pdu = pdu_of octets in
+    let acked = has_acknowledged facts header in
+    let seen = acknowledged_if acked (heard_in_slot slot header.md facts) in
+    let now = facts_before_taking role slot header facts in
+    let accepted = accepts room header pdu now in
+    let took = took_same (accepted && is_procedure_pdu pdu) pdu slot (accepted_if accepted pdu now) in
+    let gone = gone_same (answers_with_control role seen) slot seen in
+    let less = acked_less (acked && is_data facts.acknowledgement.last) facts.outgoing in
+    omega (arith, took, gone, less)
+
+-- an end that fixes its PDU, and one that sends it
+anew_same : (stays : Bool) (facts : EndFacts) → waiting (cond stays facts (fixed_anew facts)) ≡ waiting facts
+anew_same true facts = refl
+anew_same false facts = by_control (is_some (next_control facts)) (data_goes facts)
+  where
+    by_control : (control goes : Bool) → length (data_fixed_by control (waiting_in facts.control.table.queue) goes (data_cut facts)).packets ≡ waiting facts
+    by_control true goes = refl
+    by_control false true = refl
+    by_control false false = refl
+
+gone_less : (slot : ℕ) (facts : EndFacts) → waiting (facts_sent slot facts) ≤ waiting facts
+gone_less slot facts =
+    let gone = control_gone_if (takes_leave facts) slot facts in
+    let same = gone_same (takes_leave facts) slot facts in
+    let less = sent_less (is_acked gone.acknowledgement) gone.outgoing in
+    omega (arith, same, less)
+
+-- a step that leaves its data
+left_same : (setup : EndSetup) (facts : EndFacts) (step : EndStep) → LeavesData step → waiting (end_after setup facts step) ≤ waiting facts + 0
+left_same setup facts step leaves =
+    let same = ap (λ (outgoing : Data). length outgoing.packets) (leaves.outgoing setup facts) in omega (arith, same)
 
 -- a packet that its host gives is one more at most, and any other step leaves no more
 abbrev more_in : EndStep → ℕ
@@ -99,11 +150,14 @@ more_in step = 0
 
 step_waiting : (setup : EndSetup) (facts : EndFacts) (step : EndStep) → waiting (end_after setup facts step) ≤ waiting facts + more_in step
 step_waiting setup facts (DataGiven start body) = given_more setup.link.handle start body facts.outgoing
-step_waiting setup facts (EventEntered slot) = omega arith
-step_waiting setup facts PduFixed = omega arith
-step_waiting setup facts (PacketSent slot) = let less = sent_less (is_acked facts.acknowledgement) facts.outgoing in omega (arith, less)
+step_waiting setup facts (ProcedureAsked ask) = left_same setup facts (ProcedureAsked ask) (asked_leaves ask)
+step_waiting setup facts (RequestAnswered answer) = omega arith
+step_waiting setup facts (Disconnected reason slot) = omega arith
+step_waiting setup facts (EventEntered slot) = left_same setup facts (EventEntered slot) (entered_leaves slot)
+step_waiting setup facts PduFixed = let same = anew_same (is_control facts.outgoing.fixed) facts in omega (arith, same)
+step_waiting setup facts (PacketSent slot) = let less = gone_less slot facts in omega (arith, less)
 step_waiting setup facts (PacketReceived slot octets room) =
-    let less = received_less slot room (good_pdu setup facts octets) facts in omega (arith, less)
+    let less = received_less setup.link.role slot room (good_pdu setup facts octets) facts in omega (arith, less)
 step_waiting setup facts DataReported = omega arith
 
 after_waiting : (step : EndStep) (link : OpenLink) → waiting (facts_in (link_after step link)) ≤ waiting (facts_in link) + more_in step
@@ -161,9 +215,9 @@ staying_less : (reason : Option ℕ) (link : OpenLink) → buffers_in (staying_b
 staying_less None link = omega arith
 staying_less (Some reason) link = omega arith
 
-staying_takes : (slot : ℕ) → TakesAtMost 0 (place_staying slot)
-staying_takes slot None = omega arith
-staying_takes slot (Some link) = staying_less (reason_in slot link) link
+staying_takes : (reason : OpenLink → Option ℕ) → TakesAtMost 0 (place_without reason)
+staying_takes reason None = omega arith
+staying_takes reason (Some link) = staying_less (reason link) link
 
 entered_less : (anchor : Bool) (slot : ℕ) (link : OpenLink) → waiting (facts_in (entered_if anchor slot link)) ≤ waiting (facts_in link) + 0
 entered_less true slot link = after_waiting (EventEntered slot) link
@@ -171,7 +225,7 @@ entered_less false slot link = omega arith
 
 entering_takes : (slot : ℕ) → TakesAtMost 0 (option_map (link_entered slot))
 entering_takes slot None = omega arith
-entering_takes slot (Some link) = entered_less (is_anchor slot link) slot link
+entering_takes slot (Some link) = entered_less (enters_in slot link) slot link
 
 reported_less : (reports : Bool) (link : OpenLink)
     → waiting (facts_in (cond reports (link_after DataReported link) link)) ≤ waiting (facts_in link) + 0
@@ -203,6 +257,18 @@ changed_fits : (setup : Setup) (step : EndStep) (handle : ℕ) (links : Links) �
 changed_fits setup step handle links none fits =
     let less = changed_takes (more_in step) (option_map (link_after step)) (step_takes step) 0 handle links in
     omega (arith, less, none, fits)
+
+refused_fits : (setup : Setup) (refuses : Bool) (handle : ℕ) (links : Links) → buffers_taken links ≤ setup.host_buffers
+    → buffers_taken (links_refusing refuses handle links) ≤ setup.host_buffers
+refused_fits setup true handle links fits = changed_fits setup (RequestAnswered refusal) handle links refl fits
+refused_fits setup false handle links fits = fits
+
+received_fits : (setup : Setup) (handle : ℕ) (room : Bool) (octets : List ℕ) (facts : Facts) → FitsBuffers setup facts
+    → FitsBuffers setup (link_received handle room octets facts)
+received_fits setup handle room octets facts fits =
+    let step = PacketReceived facts.turn.slot octets room in
+    refused_fits setup (refuses_at handle room octets facts) handle (with_change handle (link_after step) facts.links)
+    (changed_fits setup step handle facts.links refl fits)
 
 commanded_fits : (setup : Setup) (command : Command) (links : Links) → buffers_taken links ≤ setup.host_buffers
     → buffers_taken (links_after command links) ≤ setup.host_buffers
@@ -265,9 +331,9 @@ buffers_kept setup = record {
   turns = record {
     starts = record {
       weakens = λ facts fits. fits;
-      ends = λ slot facts fits. fewer setup facts.links (links_staying slot facts.links) (mapped_takes (place_staying slot) (staying_takes slot) facts.links) fits;
+      ends = λ reason facts fits. fewer setup facts.links (links_without reason facts.links) (mapped_takes (place_without reason) (staying_takes reason) facts.links) fits;
       begins = λ slot facts fits. fits;
-      enters = λ slot facts fits. fewer setup facts.links (links_entered slot facts.links) (mapped_takes (option_map (link_entered slot)) (entering_takes slot) facts.links) fits;
+      enters = λ slot facts fits. fewer setup facts.links (all_entered slot facts.links) (mapped_takes (option_map (link_entered slot)) (entering_takes slot) facts.links) fits;
       wins = λ slot activity facts fits. won_fits setup slot activity facts.links fits;
       fixes = λ doing facts fits. fixed_fits setup doing facts.links fits;
       does = λ doing facts may fits. sent_fits setup facts.turn.slot doing facts.links fits;
@@ -290,9 +356,9 @@ buffers_kept setup = record {
           sent_fits setup facts.turn.slot (asks_if (false && does_ask (scan_answer on.params facts.view.accepted on.recent pdu)) channel pdu) facts.links fits;
       connects = λ channel octets pdu on access handle doing is_on hears answers next free in_range. fits;
       received = λ handle octets.
-          sent_fits setup facts.turn.slot (reply_if (replies_in (link_at handle facts.links) octets) handle)
-          (with_change handle (link_after (PacketReceived facts.turn.slot octets (has_room setup facts))) facts.links)
-          (changed_fits setup (PacketReceived facts.turn.slot octets (has_room setup facts)) handle facts.links refl fits);
+          let room = has_room setup facts in
+          sent_fits setup facts.turn.slot (reply_if (replies_in facts.turn.slot room (link_at handle facts.links) octets) handle)
+          (link_received handle room octets facts).links (received_fits setup handle room octets facts fits);
     };
   };
 }
@@ -312,23 +378,26 @@ few_by : (test : Bool) (handle : ℕ) (pdu : Pdu) → length (piece_if test hand
 few_by true handle pdu = omega arith
 few_by false handle pdu = omega arith
 
-few_if : (room fresh is_piece : Bool) (handle : ℕ) (pdu : Pdu)
-    → length (piece_if ((fresh && (room || not is_piece)) && is_piece) handle pdu) ≤ cond room 1 0
-few_if true fresh is_piece handle pdu = few_by ((fresh && (true || not is_piece)) && is_piece) handle pdu
-few_if false true true handle pdu = omega arith
-few_if false true false handle pdu = omega arith
-few_if false false is_piece handle pdu = omega arith
+few_if : (room fresh may is_piece : Bool) (handle : ℕ) (pdu : Pdu)
+    → length (piece_if ((fresh && (room || not is_piece) && may) && is_piece) handle pdu) ≤ cond room 1 0
+few_if true fresh may is_piece handle pdu = few_by ((fresh && (true || not is_piece) && may) && is_piece) handle pdu
+few_if false true true true handle pdu = omega arith
+few_if false true false true handle pdu = omega arith
+few_if false true true false handle pdu = omega arith
+few_if false true false false handle pdu = omega arith
+few_if false false may is_piece handle pdu = omega arith
 
-few_found : (room : Bool) (handle : ℕ) (found : Option (List ℕ)) (facts : EndFacts) → length (kept_from handle room found facts) ≤ cond room 1 0
-few_found room handle None facts = omega arith
-few_found room handle (Some pdu) facts = few_if room (has_new_pdu facts (header_in pdu)) (is_data (pdu_of pdu)) handle (pdu_of pdu)
+few_found : (room : Bool) (setup : EndSetup) (slot : ℕ) (found : Option (List ℕ)) (facts : EndFacts)
+    → length (kept_from setup slot room found facts) ≤ cond room 1 0
+few_found room setup slot None facts = omega arith
+few_found room setup slot (Some octets) facts =
+    let pdu = pdu_of octets in
+    let now = facts_before_taking setup.link.role slot (header_in octets) facts in
+    few_if room (has_new_pdu now (header_in octets)) (is_empty pdu || not now.leaving.acknowledged) (is_data pdu) setup.link.handle pdu
 
-few_kept : (room : Bool) (setup : EndSetup) (facts : EndFacts) (octets : List ℕ) → length (kept_of setup facts octets room) ≤ cond room 1 0
-few_kept room setup facts octets = few_found room setup.link.handle (good_pdu setup facts octets) facts
-
-few_taken : (room : Bool) (place : Option OpenLink) (octets : List ℕ) → length (piece_taken room place octets) ≤ cond room 1 0
-few_taken room None octets = omega arith
-few_taken room (Some link) octets = few_kept room link.setup (facts_in link) octets
+few_taken : (slot : ℕ) (room : Bool) (place : Option OpenLink) (octets : List ℕ) → length (piece_taken slot room place octets) ≤ cond room 1 0
+few_taken slot room None octets = omega arith
+few_taken slot room (Some link) octets = few_found room link.setup slot (good_pdu link.setup (facts_in link) octets) (facts_in link)
 
 room_left : (room : Bool) (held more most : ℕ) → nat_lt held most ≡ room → more ≤ cond room 1 0 → held ≤ most → held + more ≤ most
 room_left true held more most is few fits = let less = ltb-true held most is in omega (arith, less, few)
@@ -372,7 +441,7 @@ pieces_kept setup = record {
   turns = record {
     starts = record {
       weakens = λ facts fits. fits;
-      ends = λ slot facts fits. let less = shut_less facts.received (ends_in slot facts) in omega (arith, less, fits);
+      ends = λ reason facts fits. let less = shut_less facts.received (ends_for reason facts) in omega (arith, less, fits);
       begins = λ slot facts fits. fits;
       enters = λ slot facts fits. fits;
       wins = λ slot activity facts fits. fits;
@@ -395,9 +464,9 @@ pieces_kept setup = record {
       connects = λ channel octets pdu on access handle doing is_on hears answers next free in_range. fits;
       received = λ handle octets.
           let room = has_room setup facts in
-          let pieces = piece_taken room (link_at handle facts.links) octets in
+          let pieces = piece_taken facts.turn.slot room (link_at handle facts.links) octets in
           let left = room_left room (length facts.received) (length pieces) setup.air_buffers refl
-          (few_taken room (link_at handle facts.links) octets) fits in
+          (few_taken facts.turn.slot room (link_at handle facts.links) octets) fits in
           let more = length-append facts.received pieces in
           omega (arith, left, more);
     };

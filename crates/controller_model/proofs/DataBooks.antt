@@ -1,6 +1,7 @@
 -- The data that the host received since a link was opened.
 use Rattle.std.proofs.Common.{◌≡◌, ℕ, suc, ◌+◌, ◌/◌, ◌%◌, ◌<◌, ◌≤◌, ◌==◌, Bool, true, false, Option, Some, None, List, [], ◌∷◌, ◌++◌, cond, refl, ap, sym, ◌∙◌, append-nil, append_assoc, arith}
 use Rattle.std.specs.Prelude.{◌&&◌, drop, flat_map}
+use Rattle.std.specs.List.{AllByRecursion}
 use Rattle.std.proofs.lemmas.Bool.{eq-eqb}
 use Rattle.std.proofs.lemmas.Grind.{flat_map-append}
 use Rattle.acl_banks.specs.declared.pieces.Piece.{Piece}
@@ -10,14 +11,21 @@ use Rattle.ble_base.specs.declared.notes.Note.TheVariants.{Up}
 use Rattle.data_pdu.specs.Header.{header_in}
 use Rattle.host_view.specs.Noted.{acl_handle}
 use Rattle.wire_fields.specs.Field.{little_endian}
-use Rattle.link_model.specs.Acknowledgement.{Pdu}
-use Rattle.link_model.specs.Data.{data_in, data_of, is_data}
-use Rattle.link_model.specs.End.{facts_after as end_after, facts_of as end_facts, facts_received, has_new_pdu, is_accepted, notes_after as end_notes, sent_notes_if, took_notes, took_notes_if}
+use Rattle.link_model.specs.Acknowledgement.{Acknowledgement, Pdu}
+use Rattle.link_model.specs.Data.{data_in, data_of, is_control, is_data}
+use Rattle.link_model.specs.Controls.{goes_on}
+use Rattle.link_model.specs.Hosts.{is_to_come}
+use Rattle.link_model.proofs.Acknowledging.{ack_heard, ack_sent, asked_leaves, entered_leaves, fixed_leaves}
+use Rattle.link_model.specs.End.{facts_after as end_after, facts_of as end_facts, notes_after as end_notes}
+use Rattle.link_model.specs.Receiving.{accepts, facts_before_taking, facts_received, received_notes}
+use Rattle.link_model.specs.Sending.{sent_notes}
 use Rattle.link_model.specs.Facts.{Facts as EndFacts}
-use Rattle.link_model.specs.Kept.{kept_from, kept_if, kept_of}
-use Rattle.link_model.specs.Packets.{good_pdu, pdu_of}
+use Rattle.link_model.specs.Kept.{kept_from, kept_of}
+use Rattle.link_model.specs.Pieces.{kept_if}
+use Rattle.link_model.specs.Packets.{good_pdu}
+use Rattle.link_model.specs.Verdicts.{pdu_of}
 use Rattle.link_model.specs.Setup.{Setup as EndSetup}
-use Rattle.link_model.specs.Step.{Step as EndStep, DataGiven, EventEntered, PduFixed, PacketSent, PacketReceived, DataReported}
+use Rattle.link_model.specs.Step.{Step as EndStep, DataGiven, ProcedureAsked, RequestAnswered, Disconnected, EventEntered, PduFixed, PacketSent, PacketReceived, DataReported}
 use Rattle.link_model.proofs.Pasts.{grows}
 use Rattle.open_links.specs.OpenLinks.{OpenLink, facts_in, link_at}
 use Rattle.controller_model.specs.Between.{is_between_turns}
@@ -29,6 +37,7 @@ use Rattle.controller_model.specs.Step.{Step}
 use Rattle.controller_model.proofs.BetweenTurns.{nothing_waits}
 use Rattle.controller_model.proofs.Books.{Fact, IsKeptInBook, IsSilent}
 use Rattle.controller_model.proofs.BooksAlways.{book_of}
+use Rattle.controller_model.proofs.EndNotes.{received_each, sent_each}
 use Rattle.controller_model.proofs.OtherNotes.{acl_handle_is, past_bits, two_octets_hold}
 
 -- ---- a piece as an ACL packet
@@ -66,19 +75,20 @@ not_handed handle (Up packet) none =
     ap (λ (here : Bool). cond here (marked_octets (starts_message packet.items) (drop 5 packet.items)) []) none
 not_handed handle note none = refl
 
-no_data_sent : (handle : ℕ) (noted : Bool) (other : ℕ) (facts : EndFacts) → flat_map (data_up handle) (sent_notes_if noted other facts) ≡ []
-no_data_sent handle true other facts = refl
-no_data_sent handle false other facts = refl
+none_up : (handle : ℕ) (notes : List Note) → AllByRecursion (λ note. data_up handle note ≡ []) notes → flat_map (data_up handle) notes ≡ []
+none_up handle [] are = refl
+none_up handle (note ∷ notes) are = (λ i. are.0 i ++ none_up handle notes are.1 i)
 
-no_data_took_if : (handle : ℕ) (noted : Bool) (other : ℕ) (pdu : Pdu) (facts : EndFacts)
-    → flat_map (data_up handle) (took_notes_if noted other pdu facts) ≡ []
-no_data_took_if handle true other pdu facts = refl
-no_data_took_if handle false other pdu facts = refl
+no_data_sent : (handle : ℕ) (setup : EndSetup) (facts : EndFacts) → flat_map (data_up handle) (sent_notes setup facts) ≡ []
+no_data_sent handle setup facts =
+    none_up handle (sent_notes setup facts) (sent_each (λ note. data_up handle note ≡ []) setup facts (λ number llid octets. refl))
 
-no_data_took : (handle other : ℕ) (room : Bool) (found : Option (List ℕ)) (facts : EndFacts)
-    → flat_map (data_up handle) (took_notes other room found facts) ≡ []
-no_data_took handle other room None facts = refl
-no_data_took handle other room (Some pdu) facts = no_data_took_if handle _ other (pdu_of pdu) facts
+no_data_took : (handle : ℕ) (setup : EndSetup) (slot : ℕ) (room : Bool) (found : Option (List ℕ)) (facts : EndFacts)
+    → flat_map (data_up handle) (received_notes setup slot room found facts) ≡ []
+no_data_took handle setup slot room found facts =
+    none_up handle (received_notes setup slot room found facts)
+    (received_each (λ note. data_up handle note ≡ []) setup slot room found facts
+    (record { took = λ number llid octets. refl; refused = λ kind code. refl; done = λ kind. refl }))
 
 no_data_completed : (handle other count : ℕ) → data_up handle (note_completed other count) ≡ []
 unfolding little_endian
@@ -92,8 +102,14 @@ accepted_in facts = facts.acknowledgement.accepted
 silent_same : (setup : EndSetup) (facts : EndFacts) (step : EndStep) → IsSilent step
     → (end_after setup facts step).acknowledgement.accepted ≡ facts.acknowledgement.accepted
 silent_same setup facts (DataGiven start body) is = refl
-silent_same setup facts (EventEntered slot) is = refl
-silent_same setup facts PduFixed is = refl
+silent_same setup facts (ProcedureAsked ask) is =
+    ap (λ (a : Acknowledgement). a.accepted) (asked_leaves (is_to_come ask facts) ask facts)
+silent_same setup facts (RequestAnswered answer) is = refl
+silent_same setup facts (Disconnected reason slot) is = refl
+silent_same setup facts (EventEntered slot) is =
+    ap (λ (a : Acknowledgement). a.accepted) (entered_leaves (goes_on facts) setup slot facts)
+silent_same setup facts PduFixed is =
+    ap (λ (a : Acknowledgement). a.accepted) (fixed_leaves (is_control facts.outgoing.fixed) facts)
 silent_same setup facts step is = absurd is
 
 one_more : (accepts carries : Bool) (handle : ℕ) (pdu : Pdu) (accepted : List Pdu) → is_data pdu ≡ carries
@@ -106,12 +122,15 @@ one_more true false handle pdu accepted is =
     ∙ ap (λ (some : Bool). data_of accepted ++ (cond some (marked_octets (pdu.llid == 2) pdu.body) [] ++ [])) is
 one_more false carries handle pdu accepted is = sym (append-nil (data_of accepted))
 
-received_more : (slot handle : ℕ) (room : Bool) (found : Option (List ℕ)) (facts : EndFacts)
-    → data_of (facts_received slot room found facts).acknowledgement.accepted
-    ≡ data_of facts.acknowledgement.accepted ++ flat_map data_of_piece (kept_from handle room found facts)
-received_more slot handle room None facts = sym (append-nil (data_of facts.acknowledgement.accepted))
-received_more slot handle room (Some pdu) facts =
-    one_more (is_accepted room (has_new_pdu facts (header_in pdu)) (pdu_of pdu)) (is_data (pdu_of pdu)) handle (pdu_of pdu)
+received_more : (setup : EndSetup) (slot : ℕ) (room : Bool) (found : Option (List ℕ)) (facts : EndFacts)
+    → data_of (facts_received setup.link.role slot room found facts).acknowledgement.accepted
+    ≡ data_of facts.acknowledgement.accepted ++ flat_map data_of_piece (kept_from setup slot room found facts)
+received_more setup slot room None facts = sym (append-nil (data_of facts.acknowledgement.accepted))
+received_more setup slot room (Some octets) facts =
+    let header = header_in octets in
+    let pdu = pdu_of octets in
+    ap (λ (a : Acknowledgement). data_of a.accepted) (ack_heard setup.link.role slot room header pdu facts)
+    ∙ one_more (accepts room header pdu (facts_before_taking setup.link.role slot header facts)) (is_data pdu) setup.link.handle pdu
     facts.acknowledgement.accepted refl
 
 -- ---- the book
@@ -157,16 +176,16 @@ module _ (most handle : ℕ) (few : most ≤ 4096) where
 
   all_received : (setup : EndSetup) (past : List EndStep) (waiting : List (ℕ × Piece)) (since : List Note) (slot : ℕ) (octets : List ℕ) (room : Bool)
       → flat_map (data_up handle) since ++ flat_map data_of_piece waiting ≡ data_of (end_facts setup past).acknowledgement.accepted
-      → flat_map (data_up handle) since ++ flat_map data_of_piece (waiting ++ kept_of setup (end_facts setup past) octets room)
+      → flat_map (data_up handle) since ++ flat_map data_of_piece (waiting ++ kept_of setup (end_facts setup past) slot octets room)
       ≡ data_of (end_facts setup (past ++ PacketReceived slot octets room ∷ [])).acknowledgement.accepted
   all_received setup past waiting since slot octets room handed =
       let facts = end_facts setup past in
-      let pieces = kept_of setup facts octets room in
+      let pieces = kept_of setup facts slot octets room in
       let before = flat_map (data_up handle) since in
       ap (λ rest. before ++ rest) (flat_map-append data_of_piece waiting pieces)
       ∙ sym (append_assoc before (flat_map data_of_piece waiting) (flat_map data_of_piece pieces))
       ∙ ap (λ first. first ++ flat_map data_of_piece pieces) handed
-      ∙ sym (received_more slot setup.link.handle room (good_pdu setup facts octets) facts)
+      ∙ sym (received_more setup slot room (good_pdu setup facts octets) facts)
       ∙ ap (λ (facts : EndFacts). data_of facts.acknowledgement.accepted) (sym (grows setup past (PacketReceived slot octets room)))
 
   first_handed : (setup : EndSetup) → [] ≡ data_of (end_facts setup []).acknowledgement.accepted
@@ -181,12 +200,12 @@ module _ (most handle : ℕ) (few : most ≤ 4096) where
         handed ∙ none_accepted setup past step (silent_same setup (end_facts setup past) step is);
     sent = λ setup past waiting since count slot same handed.
         plain since (end_notes setup (end_facts setup past) (PacketSent slot)) waiting _
-        (no_data_sent handle _ setup.link.handle (end_facts setup past)) handed
-        ∙ none_accepted setup past (PacketSent slot) refl;
+        (no_data_sent handle setup (end_facts setup past)) handed
+        ∙ none_accepted setup past (PacketSent slot) (ap (λ (a : Acknowledgement). a.accepted) (ack_sent slot (end_facts setup past)));
     received = λ setup past waiting since count slot octets room same handed.
         plain since (end_notes setup (end_facts setup past) (PacketReceived slot octets room))
-        (waiting ++ kept_of setup (end_facts setup past) octets room) _
-        (no_data_took handle setup.link.handle room (good_pdu setup (end_facts setup past) octets) (end_facts setup past))
+        (waiting ++ kept_of setup (end_facts setup past) slot octets room) _
+        (no_data_took handle setup slot room (good_pdu setup (end_facts setup past) octets) (end_facts setup past))
         (all_received setup past waiting since slot octets room handed);
     handed = λ setup past piece waiting since count below same handed.
         one_handed since piece waiting _ (handed_data handle piece (omega (arith, below, same, few)) same) handed;

@@ -1,5 +1,6 @@
 -- The channel of an event is a data channel.
-use Rattle.std.proofs.Common.{ℕ, zero, suc, ◌%◌, ◌^◌, ◌<◌, Bool, true, false, length, get_or, cond, inl, inr, sym, subst, arith}
+use Rattle.std.proofs.Common.{ℕ, ◌%◌, ◌^◌, ◌<◌, Bool, true, false, Option, Some, None, List, [], ◌∷◌, length, get_or, cond, inl, inr, sym, subst, arith}
+use Rattle.std.specs.Prelude.{◌&&◌, fold}
 use Rattle.std.proofs.Math.Nat.{mod-lt}
 use Rattle.std.proofs.lemmas.Bool.{cases_lt}
 use Rattle.std.proofs.lemmas.List.{get_or_past}
@@ -11,9 +12,24 @@ use Rattle.chan_select.specs.declared.selection.Algorithm.TheVariants.{One, Two}
 use Rattle.chan_select.specs.Channel.{channel_of}
 use Rattle.chan_select.specs.Hopping.{unmapped_channel}
 use Rattle.chan_select.specs.PseudoRandom.{channel_identifier, prn}
+use Rattle.ble_base.specs.declared.roles.Role.{Role}
+use Rattle.data_pdu.specs.Header.{header_in}
+use Rattle.instants.specs.Track.{event_of}
+use Rattle.procedure_values.specs.declared.asks.Ask.{Ask}
 use Rattle.link_model.specs.Setup.{Setup, algorithm_of}
-use Rattle.link_model.specs.Events.{channel_after, entries_in}
-use Rattle.link_model.proofs.InEvents.{past_in}
+use Rattle.link_model.specs.Acknowledgement.{Pdu}
+use Rattle.link_model.specs.Data.{is_control}
+use Rattle.link_model.specs.Verdicts.{pdu_of}
+use Rattle.link_model.specs.Facts.{Facts as EndFacts, first_facts}
+use Rattle.link_model.specs.Step.{Step, DataGiven, DataReported, Disconnected, EventEntered, PacketReceived, PacketSent, PduFixed, ProcedureAsked, RequestAnswered}
+use Rattle.link_model.specs.Controls.{goes_on, is_procedure_pdu}
+use Rattle.link_model.specs.Entering.{control_entered, facts_entered_if}
+use Rattle.link_model.specs.Fixing.{fixed_anew}
+use Rattle.link_model.specs.Hosts.{asked_unless, is_to_come}
+use Rattle.link_model.specs.Packets.{good_pdu}
+use Rattle.link_model.specs.Receiving.{accepted_if, accepts, acknowledged_if, answers_with_control, facts_before_taking, facts_received, has_acknowledged, heard_in_slot, procedures_take_if}
+use Rattle.link_model.specs.Sending.{control_gone_if, takes_leave}
+use Rattle.link_model.specs.End.{facts_after, facts_of}
 use Rattle.open_links.specs.OpenLinks.{OpenLink, facts_in}
 
 used_below : (bits i : ℕ) → get_or (used_channels bits) i 0 < 37
@@ -36,10 +52,60 @@ channel_below (One hop) event bits =
 channel_below (Two access) event bits =
     mapped_below (is_used bits (prn (channel_identifier access) (event % 2 ^ 16) % 37)) _ bits _ (below_37 _)
 
-after_below : (setup : Setup) (entered : ℕ) → channel_after setup entered < 37
-after_below setup zero = omega arith
-after_below setup (suc event) = channel_below (algorithm_of setup.link) event setup.link.fields.map
+-- ---- each step of an end keeps that
 
+abbrev IsBelow : EndFacts → Type 0
+IsBelow facts = facts.event.channel < 37
+
+asked_below : (comes : Bool) (ask : Ask) (facts : EndFacts) → IsBelow facts → IsBelow (asked_unless comes ask facts)
+asked_below true ask facts below = below
+asked_below false ask facts below = below
+
+entered_below : (goes : Bool) (setup : Setup) (slot : ℕ) (facts : EndFacts) → IsBelow facts → IsBelow (facts_entered_if goes setup slot facts)
+entered_below true setup slot facts below =
+    channel_below (algorithm_of setup.link) (event_of (control_entered slot facts).track) (control_entered slot facts).track.params.map
+entered_below false setup slot facts below = below
+
+fixed_below : (stays : Bool) (facts : EndFacts) → IsBelow facts → IsBelow (cond stays facts (fixed_anew facts))
+fixed_below true facts below = below
+fixed_below false facts below = below
+
+gone_below : (goes : Bool) (slot : ℕ) (facts : EndFacts) → IsBelow facts → IsBelow (control_gone_if goes slot facts)
+gone_below true slot facts below = below
+gone_below false slot facts below = below
+
+taken_below : (takes : Bool) (pdu : Pdu) (slot : ℕ) (facts : EndFacts) → IsBelow facts → IsBelow (procedures_take_if takes pdu slot facts)
+taken_below true pdu slot facts below = below
+taken_below false pdu slot facts below = below
+
+received_below : (role : Role) (slot : ℕ) (room : Bool) (found : Option (List ℕ)) (facts : EndFacts) → IsBelow facts
+    → IsBelow (facts_received role slot room found facts)
+received_below role slot room None facts below = below
+received_below role slot room (Some octets) facts below =
+    let header = header_in octets in
+    let pdu = pdu_of octets in
+    let own = acknowledged_if (has_acknowledged facts header) (heard_in_slot slot header.md facts) in
+    let now = facts_before_taking role slot header facts in
+    taken_below (accepts room header pdu now && is_procedure_pdu pdu) pdu slot (accepted_if (accepts room header pdu now) pdu now)
+    (gone_below (answers_with_control role own) slot own below)
+
+step_below : (setup : Setup) (facts : EndFacts) (step : Step) → IsBelow facts → IsBelow (facts_after setup facts step)
+step_below setup facts (DataGiven start body) below = below
+step_below setup facts (ProcedureAsked ask) below = asked_below (is_to_come ask facts) ask facts below
+step_below setup facts (RequestAnswered answer) below = below
+step_below setup facts (Disconnected reason slot) below = below
+step_below setup facts (EventEntered slot) below = entered_below (goes_on facts) setup slot facts below
+step_below setup facts PduFixed below = fixed_below (is_control facts.outgoing.fixed) facts below
+step_below setup facts (PacketSent slot) below = gone_below (takes_leave facts) slot facts below
+step_below setup facts (PacketReceived slot octets room) below =
+    received_below setup.link.role slot room (good_pdu setup facts octets) facts below
+step_below setup facts DataReported below = below
+
+from_below : (setup : Setup) (facts : EndFacts) (past : List Step) → IsBelow facts → IsBelow (fold (facts_after setup) facts past)
+from_below setup facts [] below = below
+from_below setup facts (step ∷ past) below = from_below setup (facts_after setup facts step) past (step_below setup facts step below)
+
+-- before the first event the channel is 0
 pub link_channel : (link : OpenLink) → (facts_in link).event.channel < 37
-link_channel link =
-    subst (λ (n : ℕ). n < 37) (sym (past_in link.setup link.past).channel) (after_below link.setup (entries_in link.past))
+unfolding facts_of
+link_channel link = from_below link.setup (first_facts link.setup) link.past (omega arith)

@@ -107,7 +107,7 @@ octets_kept : (setup : Setup) (octets : List ℕ) → IsKeptInTurns setup (Has o
 octets_kept setup octets = record {
   starts = record {
     weakens = λ facts is. is;
-    ends = λ slot facts is. is;
+    ends = λ reason facts is. is;
     begins = λ slot facts is. is;
     enters = λ slot facts is. is;
     wins = λ slot activity facts is. is;
@@ -152,7 +152,9 @@ framed_from setup facts (PacketHeard octets ∷ past) =
 framed_from setup facts (NothingHeard ∷ past) =
     framed_turn setup facts (facts_after setup facts NothingHeard) past (turn_octets setup facts NothingHeard tt)
     (framed_from setup (facts_after setup facts NothingHeard) past)
-framed_from setup facts (TurnEnds ∷ past) = framed_from setup (facts_after setup facts TurnEnds) past
+framed_from setup facts (TurnEnds ∷ past) =
+    framed_turn setup facts (facts_after setup facts TurnEnds) past (turn_octets setup facts TurnEnds tt)
+    (framed_from setup (facts_after setup facts TurnEnds) past)
 framed_from setup facts (HostOctet octet ∷ past) =
     let next = facts_after setup facts (HostOctet octet) in
     let more = more_octets setup facts octet in

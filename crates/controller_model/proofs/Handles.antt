@@ -16,9 +16,11 @@ use Rattle.slot_plan.specs.declared.Activity.{Activity}
 use Rattle.slot_plan.specs.declared.Activity.TheVariants.{Link, Advertise, Scan, Initiate}
 use Rattle.open_links.specs.Data.{complete_in, link_reported}
 use Rattle.open_links.specs.OpenLinks.{Links, OpenLink, HasHandle, HaveHandles, IsFreeHandle, free_from, link_after, link_at, link_from, link_served, with_change, with_change_from, without_links}
-use Rattle.open_links.specs.Turns.{is_anchor, link_entered, links_staying, place_staying}
+use Rattle.open_links.specs.Turns.{ending_in, link_entered, links_without, place_without}
 use Rattle.open_links.proofs.Counts.{count_at_first, count_changing, count_ending, count_opening, count_resetting}
-use Rattle.open_links.proofs.Ends.{entered_setup, stay_with_handles, stays_where_not_due}
+use Rattle.open_links.proofs.Unmoved.{entered_setup}
+use Rattle.open_links.proofs.Ends.{stay_with_handles, stays_where_not_due}
+use Rattle.open_links.proofs.UnderHandles.{map_at}
 use Rattle.open_links.proofs.Handles.{changed_have, free_is, none_have, opened_has, place_keeps}
 use Rattle.controller_model.specs.declared.doing.Doing.{Doing}
 use Rattle.controller_model.specs.declared.doing.Doing.TheVariants.{Advertises, AwaitsRequest, Responds, Requests, AwaitsResponse, Connects, CentralSends, CentralListens, PeripheralListens, PeripheralSends, Rests}
@@ -26,12 +28,15 @@ use Rattle.controller_model.specs.Step.{Step}
 use Rattle.controller_model.specs.Facts.{Setup, Facts}
 use Rattle.controller_model.specs.Commands.{links_after}
 use Rattle.controller_model.specs.Heard.{asks_if, facts_connecting, fields_sent, has_room, link_made, link_received, link_taken, opens, replies_in, reply_if, scanner_after, with_scanner}
+use Rattle.controller_model.specs.Data.{facts_ended_turn, facts_handed}
+use Rattle.controller_model.specs.Links.{facts_without}
 use Rattle.controller_model.specs.Packets.{facts_doing, links_sending}
 use Rattle.controller_model.specs.Outcome.{facts_passed}
 use Rattle.controller_model.specs.Radio.{links_fixing}
 use Rattle.controller_model.specs.Side.{facts_of}
-use Rattle.controller_model.proofs.Always.{IsKept, MayBegin, always, links_won, opening_passes}
+use Rattle.controller_model.proofs.Always.{IsKept, MayBegin, always, links_won, opening_passes, without_is}
 use Rattle.controller_model.proofs.Phases.{EachOutcome}
+use Rattle.controller_model.proofs.Places.{link_receiving, receiving_is, refused_if, refuses_at}
 
 -- ---- changes of links that open none
 
@@ -68,12 +73,25 @@ reset_opens links = record {
   free = λ handle none. map_keeps (λ place. None) refl 0 handle links none;
 }
 
-pub staying_opens : (slot : ℕ) (links : Links) → OpensNone links (links_staying slot links)
-staying_opens slot links = record {
-  many = count_ending slot links;
-  handles = λ have. stay_with_handles slot 0 links have;
-  free = λ handle none. stays_where_not_due slot 0 handle links ∙ ap (place_staying slot) none;
+pub staying_opens : (reason : OpenLink → Option ℕ) (links : Links) → OpensNone links (links_without reason links)
+staying_opens reason links = record {
+  many = count_ending reason links;
+  handles = λ have. stay_with_handles reason 0 links have;
+  free = λ handle none. stays_where_not_due reason 0 handle links ∙ ap (place_without reason) none;
 }
+
+-- a link that ends, for a reason that some links have, leaves its place empty, and no other
+pub without_at : (reason : OpenLink → Option ℕ) (handle : ℕ) (facts : Facts)
+    → link_at handle (facts_without reason facts).links ≡ place_without reason (link_at handle facts.links)
+without_at reason handle facts =
+    ap (λ (ended : Facts). link_at handle ended.links) (without_is reason facts) ∙ stays_where_not_due reason 0 handle facts.links
+
+-- as a turn ends, each link is reported, and then may end
+pub ended_turn_at : (handle : ℕ) (facts : Facts)
+    → link_at handle (facts_ended_turn facts).links ≡ place_without ending_in (option_map link_reported (link_at handle facts.links))
+ended_turn_at handle facts =
+    without_at ending_in handle (facts_handed facts)
+    ∙ ap (place_without ending_in) (map_at (option_map link_reported) 0 handle facts.links refl)
 
 mapped_have : (change : OpenLink → OpenLink) → ((link : OpenLink) → (change link).setup ≡ link.setup) → (first : ℕ) (links : Links)
     → HaveHandles first links → HaveHandles first (map (option_map change) links)
@@ -90,7 +108,7 @@ mapped_opens change links same = record {
 }
 
 pub entered_same : (slot : ℕ) (link : OpenLink) → (link_entered slot link).setup ≡ link.setup
-entered_same slot link = entered_setup (is_anchor slot link) slot link
+entered_same slot link = entered_setup slot link
 
 reported_if : (reports : Bool) (link : OpenLink) → (if reports then link_after DataReported link else link).setup ≡ link.setup
 reported_if true link = refl
@@ -122,6 +140,21 @@ change_opens handle change links same = record {
   handles = λ have. changed_have handle change links same have;
   free = λ other none. change_free (option_map change) refl 0 handle other links none;
 }
+
+-- a link that receives a packet
+receiving_same : (handle : ℕ) (room : Bool) (octets : List ℕ) (facts : Facts) (link : OpenLink)
+    → (link_receiving handle room octets facts link).setup ≡ link.setup
+receiving_same handle room octets facts link = refused_setup (refuses_at handle room octets facts)
+  where
+    refused_setup : (refuses : Bool) → (refused_if refuses (link_after (PacketReceived facts.turn.slot octets room) link)).setup ≡ link.setup
+    refused_setup true = refl
+    refused_setup false = refl
+
+pub receiving_opens : (handle : ℕ) (room : Bool) (octets : List ℕ) (facts : Facts)
+    → OpensNone facts.links (link_received handle room octets facts).links
+receiving_opens handle room octets facts =
+    subst (OpensNone facts.links) (sym (receiving_is handle room octets facts))
+    (change_opens handle (link_receiving handle room octets facts) facts.links (receiving_same handle room octets facts))
 
 -- a link that fixes its PDU
 pub fixing_opens : (doing : Doing) (links : Links) → OpensNone links (links_fixing doing links)
@@ -217,7 +250,7 @@ reply_if_fits setup false handle facts many handles = fits_doing setup Rests fac
 reply_fits : (setup : Setup) (replies room : Bool) (handle : ℕ) (octets : List ℕ) (facts : Facts) → HaveOwnHandles setup facts
     → HaveOwnHandles setup (facts_doing (reply_if replies handle) (link_received handle room octets facts))
 reply_fits setup replies room handle octets facts fits =
-    let opens = change_opens handle (link_after (PacketReceived facts.turn.slot octets room)) facts.links (λ link. refl) in
+    let opens = receiving_opens handle room octets facts in
     reply_if_fits setup replies handle (link_received handle room octets facts) (opens.many ∙ fits.many) (opens.handles fits.handles)
 
 passes_fits : (setup : Setup) (facts : Facts) → HaveOwnHandles setup facts
@@ -236,7 +269,8 @@ passes_fits setup facts fits = record {
       fits_doing setup (Connects channel (link_made on.params.own pdu (fields_sent setup on access facts) handle)) (facts_connecting setup facts)
       fits.many fits.handles (free_is_new facts.links handle free);
   received = λ handle octets.
-      reply_fits setup (replies_in (link_at handle facts.links) octets) (has_room setup facts) handle octets facts fits;
+      reply_fits setup (replies_in facts.turn.slot (has_room setup facts) (link_at handle facts.links) octets) (has_room setup facts)
+      handle octets facts fits;
 }
 
 pub handles_kept : (setup : Setup) → IsKept setup (HaveOwnHandles setup) (HaveOwnHandles setup)
@@ -249,7 +283,7 @@ handles_kept setup = record {
   turns = record {
     starts = record {
       weakens = λ facts fits. fits;
-      ends = λ slot facts fits. fits_still setup facts _ (staying_opens slot facts.links) refl fits;
+      ends = λ reason facts fits. fits_still setup facts _ (staying_opens reason facts.links) refl fits;
       begins = λ slot facts fits. record { many = fits.many; handles = fits.handles; new = fits.new };
       enters = λ slot facts fits. fits_still setup facts _ (mapped_opens (link_entered slot) facts.links (entered_same slot)) refl fits;
       wins = λ slot activity facts fits. fits_still setup facts _ (won_opens slot activity facts.links) refl fits;

@@ -13,7 +13,7 @@ use Rattle.slot_plan.specs.declared.Activity.TheVariants.{Advertise, Scan, Initi
 use Rattle.slot_plan.specs.Holding.{is_held_in, winner_of}
 use Rattle.slot_plan.specs.Winner.{first_activity}
 use Rattle.open_links.specs.OpenLinks.{Links}
-use Rattle.open_links.specs.Turns.{link_entered, wants_from}
+use Rattle.open_links.specs.Turns.{due_in, link_entered}
 use Rattle.controller_model.specs.declared.doing.Doing.{Doing}
 use Rattle.controller_model.specs.Facts.{Facts, Radio}
 use Rattle.controller_model.specs.Links.{facts_ending}
@@ -22,6 +22,7 @@ use Rattle.controller_model.specs.Radio.{advertiser_served, advertiser_wants, ad
 use Rattle.controller_model.specs.Intervals.{IsLeftOn, doing_at, doing_between, facts_in_turn, place_within, scans_or, turns_from}
 use Rattle.controller_model.proofs.Always.{ending_is, radio_shut, received_shut, start_keeps, view_shut}
 use Rattle.controller_model.proofs.NoLinks.{AreNone, HasNone, none_end, none_kept, none_map, none_stay}
+use Rattle.controller_model.specs.Entering.{wants_from}
 
 -- ---- places in an interval
 
@@ -58,10 +59,10 @@ nothing_ends : (slot : ℕ) (facts : Facts) → AreNone facts.links → facts_en
 nothing_ends slot facts none =
     ending_is slot facts
     ∙ (λ i. record facts {
-      view = view_shut facts.view (none_end slot 0 facts.links none i);
-      radio = radio_shut facts.radio (none_end slot 0 facts.links none i);
-      links = none_stay slot facts.links none i;
-      received = received_shut facts.received (none_end slot 0 facts.links none i);
+      view = view_shut facts.view (none_end (due_in slot) 0 facts.links none i);
+      radio = radio_shut facts.radio (none_end (due_in slot) 0 facts.links none i);
+      links = none_stay (due_in slot) facts.links none i;
+      received = received_shut facts.received (none_end (due_in slot) 0 facts.links none i);
     })
 
 nothing_enters : (slot : ℕ) (facts : Facts) → AreNone facts.links → facts_entering slot facts ≡ facts

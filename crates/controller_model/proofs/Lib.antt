@@ -4,8 +4,11 @@ pub mod Phases
 pub mod Always
 pub mod Handles
 pub mod Places
+pub mod Exchanges
 pub mod Buffers
 pub mod BetweenTurns
+pub mod ProcedureEvents
+pub mod EndNotes
 pub mod TurnNotes
 pub mod StepNotes
 pub mod NotedLinks
@@ -49,5 +52,10 @@ pub mod DataBooks
 pub mod ReportBooks
 pub mod OpenNotes
 pub mod Entries
+pub mod PlainEntries
 pub mod Shuts
 pub mod Resets
+-- what the crates above use of those below
+pub use Rattle.control_model.proofs as control_model
+pub use Rattle.link_model.proofs as link_model
+pub use Rattle.open_links.proofs as open_links

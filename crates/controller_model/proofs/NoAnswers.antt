@@ -67,6 +67,10 @@ module _ (A : Type 0) (noted : Note → List A) (reads : ReadsAnswers A noted) w
     opened = λ link below. reads.other _ tt;
     shut = λ handle reason below. reads.other _ tt;
     entered = λ handle event channel below. reads.other _ tt;
+    applied = λ handle number event below. reads.other _ tt;
+    began = λ handle kind below. reads.other _ tt;
+    refused = λ handle kind code below. reads.other _ tt;
+    done = λ handle kind below. reads.other _ tt;
     sent = λ handle number llid octets below. reads.other _ tt;
     took = λ handle number llid octets below. reads.other _ tt;
   }

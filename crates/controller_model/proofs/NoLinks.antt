@@ -1,25 +1,28 @@
 -- A controller that has no link and is about to make none, as its turns go on.
 use Rattle.std.proofs.Common.{◌≡◌, ℕ, zero, suc, ◌+◌, ◌==◌, Bool, true, false, Option, Some, None, [], ◌∷◌, ◌++◌, replicate, map, refl, ap, sym, ◌∙◌, subst}
-use Rattle.std.specs.Prelude.{⊤, if◌then◌else◌}
+use Rattle.std.specs.Prelude.{⊤, flat_map, if◌then◌else◌}
 use Rattle.std.specs.Option.{option_map}
+use Rattle.host_view.specs.View.{View}
 use Rattle.hci_cmd.specs.declared.command.Command.{Command}
 use Rattle.hci_cmd.specs.declared.command.Command.TheVariants.{Reset}
 use Rattle.link_model.specs.Step.{PacketSent, PduFixed}
 use Rattle.slot_plan.specs.declared.Activity.{Activity}
 use Rattle.slot_plan.specs.declared.Activity.TheVariants.{Link, Advertise, Scan, Initiate}
-use Rattle.open_links.specs.Data.{completed_from, link_reported}
+use Rattle.open_links.specs.Data.{completed_from, link_reported, links_reported}
 use Rattle.open_links.specs.OpenLinks.{Links, OpenLink, link_after, link_at, link_from, link_served, with_change, with_change_from, without_links}
-use Rattle.open_links.specs.Turns.{ends_from, link_entered, links_staying, notes_entering, place_staying}
+use Rattle.open_links.specs.Turns.{ending_in, ends_by, link_entered, links_without, place_without}
 use Rattle.controller_model.specs.declared.doing.Doing.{Doing}
 use Rattle.controller_model.specs.declared.doing.Doing.TheVariants.{Advertises, Connects, CentralSends, PeripheralListens, PeripheralSends}
 use Rattle.controller_model.specs.Facts.{Facts}
 use Rattle.controller_model.specs.Commands.{links_after}
-use Rattle.controller_model.specs.Data.{event_completed, facts_ended_turn, note_received, notes_ended_turn}
+use Rattle.controller_model.specs.Data.{event_completed, facts_ended_turn, facts_handed, note_received, notes_ended_turn}
+use Rattle.controller_model.specs.Entering.{notes_all_entering}
 use Rattle.controller_model.specs.Events.{notes_of_events}
+use Rattle.controller_model.specs.Links.{notes_ended}
 use Rattle.controller_model.specs.Packets.{facts_doing, links_sending, notes_doing, notes_sent}
 use Rattle.controller_model.specs.Radio.{links_fixing}
 use Rattle.controller_model.proofs.Alike.{Alike}
-use Rattle.controller_model.proofs.Always.{IsKeptAtStarts, MayBegin, links_won, received_shut, view_shut}
+use Rattle.controller_model.proofs.Always.{IsKeptAtStarts, MayBegin, leaving_is, links_won, received_shut, view_shut}
 
 -- ---- no link
 
@@ -56,18 +59,18 @@ none_change change is first handle (None ∷ links) none = at (first == handle) 
     at false rest = λ i. None ∷ rest i
 none_change change is first handle (Some link ∷ links) none = absurd none
 
-pub none_end : (slot first : ℕ) (links : Links) → AreNone links → ends_from slot first links ≡ []
-none_end slot first [] none = refl
-none_end slot first (None ∷ links) none = none_end slot (first + 1) links none
-none_end slot first (Some link ∷ links) none = absurd none
+pub none_end : (reason : OpenLink → Option ℕ) (first : ℕ) (links : Links) → AreNone links → ends_by reason first links ≡ []
+none_end reason first [] none = refl
+none_end reason first (None ∷ links) none = none_end reason (first + 1) links none
+none_end reason first (Some link ∷ links) none = absurd none
 
-pub none_enter : (slot : ℕ) (links : Links) → AreNone links → notes_entering slot links ≡ []
-none_enter slot [] none = refl
-none_enter slot (None ∷ links) none = none_enter slot links none
-none_enter slot (Some link ∷ links) none = absurd none
+pub none_enter : (view : View) (slot first : ℕ) (links : Links) → AreNone links → notes_all_entering view slot first links ≡ []
+none_enter view slot first [] none = refl
+none_enter view slot first (None ∷ links) none = none_enter view slot (first + 1) links none
+none_enter view slot first (Some link ∷ links) none = absurd none
 
-pub none_stay : (slot : ℕ) (links : Links) → AreNone links → links_staying slot links ≡ links
-none_stay slot links none = none_map (place_staying slot) refl links none
+pub none_stay : (reason : OpenLink → Option ℕ) (links : Links) → AreNone links → links_without reason links ≡ links
+none_stay reason links none = none_map (place_without reason) refl links none
 
 pub none_won : (slot : ℕ) (activity : Activity) (links : Links) → AreNone links → links_won slot activity links ≡ links
 none_won slot (Link handle) links none = none_change (option_map (link_served slot)) refl 0 handle links none
@@ -104,6 +107,9 @@ completed_none first [] none = refl
 completed_none first (None ∷ links) none = completed_none (first + 1) links none
 completed_none first (Some link ∷ links) none = absurd none
 
+none_reported : (links : Links) → AreNone links → links_reported links ≡ links
+none_reported links none = none_map (option_map link_reported) refl links none
+
 -- nothing is noted of data
 pub none_noted : (doing : Doing) (facts : Facts) → AreNone facts.links → notes_doing doing facts ≡ []
 none_noted (CentralSends handle) facts none = ap (notes_sent facts.turn.slot) (none_at handle facts.links none)
@@ -113,7 +119,9 @@ none_noted other facts none = refl
 
 pub nothing_reported : (facts : Facts) → AreNone facts.links → facts.received ≡ [] → notes_ended_turn facts ≡ []
 nothing_reported facts none nothing =
-    λ i. map note_received (nothing i) ++ notes_of_events facts.view (map event_completed (completed_none 0 facts.links none i))
+    let still = subst AreNone (sym (none_reported facts.links none)) none in
+    λ i. (map note_received (nothing i) ++ notes_of_events facts.view (map event_completed (completed_none 0 facts.links none i)))
+    ++ flat_map (notes_ended facts.view) (none_end ending_in 0 (links_reported facts.links) still i)
 
 pub none_changed : (handle : ℕ) (change : OpenLink → OpenLink) (links : Links) → AreNone links → with_change handle change links ≡ links
 none_changed handle change links none = none_change (option_map change) refl 0 handle links none
@@ -124,7 +132,7 @@ HasNone facts = AreNone facts.links
 pub none_kept : IsKeptAtStarts HasNone HasNone
 none_kept = record {
   weakens = λ facts none. none;
-  ends = λ slot facts none. subst AreNone (sym (none_stay slot facts.links none)) none;
+  ends = λ reason facts none. subst AreNone (sym (none_stay reason facts.links none)) none;
   begins = λ slot facts none. none;
   enters = λ slot facts none. subst AreNone (sym (none_map (option_map (link_entered slot)) refl facts.links none)) none;
   wins = λ slot activity facts none. subst AreNone (sym (none_won slot activity facts.links none)) none;
@@ -182,9 +190,9 @@ links_like other facts after octets view drawn links received doing like = recor
 pub start_like : (other : Facts) → IsKeptAtStarts (IsLike other) (IsLike other)
 start_like other = record {
   weakens = λ facts like. like;
-  ends = λ slot facts like.
-      links_like other facts _ refl (ap (view_shut facts.view) (none_end slot 0 facts.links like.none)) refl
-      (none_stay slot facts.links like.none) (ap (received_shut facts.received) (none_end slot 0 facts.links like.none)) refl like;
+  ends = λ reason facts like.
+      links_like other facts _ refl (ap (view_shut facts.view) (none_end reason 0 facts.links like.none)) refl
+      (none_stay reason facts.links like.none) (ap (received_shut facts.received) (none_end reason 0 facts.links like.none)) refl like;
   begins = λ slot facts like. links_like other facts _ refl refl refl refl refl refl like;
   enters = λ slot facts like.
       links_like other facts _ refl refl refl (none_map (option_map (link_entered slot)) refl facts.links like.none) refl refl like;
@@ -195,4 +203,6 @@ start_like other = record {
 
 pub ended_like : (other facts : Facts) → IsLike other facts → IsLike other (facts_ended_turn facts)
 ended_like other facts like =
-    links_like other facts _ refl refl refl (none_map (option_map link_reported) refl facts.links like.none) (sym like.nothing) refl like
+    subst (IsLike other) (sym (leaving_is (facts_handed facts)))
+    ((start_like other).ends ending_in (facts_handed facts)
+    (links_like other facts _ refl refl refl (none_reported facts.links like.none) (sym like.nothing) refl like))

@@ -7,7 +7,8 @@ use Rattle.ack_bit.specs.Nonempty.{nonempty}
 use Rattle.ble_base.specs.declared.notes.Note.{Note}
 use Rattle.ble_base.specs.declared.notes.Note.TheVariants.{Opened, Sent, Took, Up}
 use Rattle.link_model.specs.Data.{is_empty}
-use Rattle.link_model.specs.Delivery.{is_sent_note, is_took_note, notes_of as end_notes_of, numbered_notes, sent_note, took_note}
+use Rattle.link_model.specs.Numbers.{is_sent_note, is_took_note, numbered_notes, sent_note, took_note}
+use Rattle.link_model.specs.End.{notes_of as end_notes_of}
 use Rattle.link_model.proofs.Numbering.{are_numbered}
 use Rattle.open_links.specs.OpenLinks.{OpenLink, facts_in, link_at}
 use Rattle.open_links.proofs.Handles.{handle_is}

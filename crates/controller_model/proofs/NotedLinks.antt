@@ -18,6 +18,10 @@ each_named most = record {
   opened = λ link below. below;
   shut = λ handle reason below. below;
   entered = λ handle event channel below. below;
+  applied = λ handle number event below. below;
+  began = λ handle kind below. below;
+  refused = λ handle kind code below. below;
+  done = λ handle kind below. below;
   sent = λ handle number llid octets below. below;
   took = λ handle number llid octets below. below;
 }

@@ -1,10 +1,10 @@
 -- What is noted of the data of a link is noted while the link is open.
 use Rattle.std.proofs.Common.{◌≡◌, ℕ, zero, suc, ◌+◌, ◌<◌, ◌≤◌, ◌==◌, Bool, true, false, Option, Some, None, IsSome, List, [], ◌∷◌, ◌++◌, length, map, cond, refl, ap, sym, subst, ◌∙◌, arith}
-use Rattle.std.specs.Prelude.{◌&&◌, ◌||◌, All, filter, nat_lt, ⊤}
+use Rattle.std.specs.Prelude.{◌&&◌, ◌||◌, filter, nat_lt, ⊤}
 use Rattle.std.specs.List.{AllByRecursion, Contains}
 use Rattle.std.specs.Option.{option_map}
 use Rattle.std.proofs.lemmas.Bool.{eq-eqb, eqb-true}
-use Rattle.std.proofs.lemmas.List.Elements.{All-cons, All-contains, All-nil}
+use Rattle.std.proofs.lemmas.List.Elements.{All-contains, All-from_recursion}
 use Rattle.acl_banks.specs.declared.pieces.Piece.{Piece}
 use Rattle.ble_base.specs.declared.notes.Note.{Note}
 use Rattle.h4_frames.specs.declared.packet.HostPacket.TheVariants.{Command as HostCommand, Acl}
@@ -16,35 +16,45 @@ use Rattle.host_view.specs.View.{View}
 use Rattle.adv_pdu.specs.declared.pdu.AdvPdu.{AdvPdu}
 use Rattle.scan_init.specs.Reports.{ScannerFacts, does_ask, scan_answer}
 use Rattle.link_model.specs.declared.setup.LinkSetup.{LinkSetup}
-use Rattle.link_model.specs.Step.{PacketReceived, PacketSent}
+use Rattle.ble_base.specs.declared.error_codes.ErrCode.{ErrCode}
+use Rattle.link_model.specs.Facts.{Facts as EndFacts}
+use Rattle.link_model.specs.Step.{DataReported, PacketSent}
+use Rattle.link_model.specs.Times.{ending_of}
+use Rattle.link_model.proofs.Pasts.{grows}
 use Rattle.open_links.specs.declared.offers.Offer.TheVariants.{Empty, Overflow, Kept}
-use Rattle.open_links.specs.Data.{buffer_octets, complete_in, completed_by, completed_from, link_reported, links_reported, offer_by}
+use Rattle.open_links.specs.Offered.{buffer_octets, completed_by}
+use Rattle.open_links.specs.Data.{complete_in, completed_from, link_reported, links_reported, offer_by}
 use Rattle.open_links.specs.OpenLinks.{Links, OpenLink, HasHandle, HaveHandles, link_after, link_at, link_from, with_change}
-use Rattle.open_links.specs.Turns.{link_entered, notes_entering}
+use Rattle.open_links.specs.Turns.{due_in, ending_in, link_entered, place_without, reason_at, staying_by}
+use Rattle.open_links.proofs.Ends.{stays_where_not_due}
 use Rattle.open_links.proofs.Handles.{has_its_handle}
+use Rattle.open_links.proofs.UnderHandles.{map_at}
 use Rattle.controller_model.specs.declared.doing.Doing.{Doing}
 use Rattle.controller_model.specs.declared.doing.Doing.TheVariants.{Advertises, CentralSends, PeripheralSends}
 use Rattle.controller_model.specs.Step.{Step, HostOctet, TurnBegins, PacketHeard, NothingHeard, TurnEnds}
 use Rattle.controller_model.specs.Facts.{Setup, Facts}
 use Rattle.controller_model.specs.Commands.{facts_commanded, notes_commanded}
-use Rattle.controller_model.specs.Data.{event_completed, facts_offered, is_full, note_received, notes_offered, notes_ended_turn}
+use Rattle.controller_model.specs.Data.{event_completed, facts_handed, facts_offered, is_full, note_received, notes_handed, notes_offered}
+use Rattle.controller_model.specs.Entering.{notes_all_entering}
 use Rattle.controller_model.specs.Events.{notes_of_events}
-use Rattle.controller_model.specs.Heard.{asks_if, events_reported, has_room, link_heard, link_received, link_taken, notes_taken, opens, replies_in, reply_if, scanner_after, with_scanner}
-use Rattle.controller_model.specs.Links.{ends_in, events_opened, facts_ending, notes_ending, notes_opened}
+use Rattle.controller_model.specs.Heard.{asks_if, events_received, events_reported, has_room, link_heard, link_received, link_taken, notes_taken, opens, replies_in, reply_if, scanner_after, with_scanner}
+use Rattle.controller_model.specs.Links.{ends_for, events_opened, facts_ending, notes_ending, notes_leaving, notes_opened}
+use Rattle.controller_model.specs.Shutting.{StaysIn}
 use Rattle.controller_model.specs.Outcome.{facts_passed, notes_passed}
 use Rattle.controller_model.specs.Packets.{facts_doing, links_sending, notes_doing, notes_sent}
 use Rattle.controller_model.specs.Radio.{outcome_begun}
 use Rattle.controller_model.specs.Side.{facts_after, facts_fed, facts_of, notes_after, notes_fed, result_of}
 use Rattle.controller_model.specs.Since.{is_data_note, is_piece_on, note_completed}
-use Rattle.controller_model.proofs.Always.{left_doing}
+use Rattle.controller_model.proofs.Always.{leaving_is, left_doing}
 use Rattle.controller_model.proofs.Books.{Fact, IsKeptInBook, by_handle, elsewhere_sent, elsewhere_took}
 use Rattle.controller_model.proofs.BookEnds.{reports_apart}
 use Rattle.controller_model.proofs.BooksAlways.{none_waits, within}
-use Rattle.controller_model.proofs.Handles.{HaveOwnHandles, change_opens, fixing_opens, handles_kept, mapped_opens, entered_same, staying_opens, won_opens}
-use Rattle.controller_model.proofs.OtherNotes.{AreOther, IsOther, both_other, command_other, completed_other, data_other, ends_other, entering_other, events_other, opening_other, reporting_other}
+use Rattle.controller_model.proofs.Handles.{HaveOwnHandles, fixing_opens, handles_kept, mapped_opens, entered_same, receiving_opens, staying_opens, won_opens}
+use Rattle.controller_model.proofs.OtherNotes.{AreOther, IsOther, both_other, command_other, completed_other, data_other, ends_other, entering_other, events_other, opening_other, procedures_other, reporting_other}
 use Rattle.controller_model.proofs.Phases.{EachOutcome, heard_is, unheard_is}
 use Rattle.controller_model.proofs.PiecesBelow.{AreBelow, all_pieces}
-use Rattle.controller_model.proofs.Places.{at_changed}
+use Rattle.controller_model.proofs.Places.{at_changed, at_received, link_receiving}
+use Rattle.controller_model.proofs.ProcedureEvents.{reception_events}
 
 -- a fact that says nothing
 abbrev AnyFact : Fact
@@ -111,6 +121,12 @@ module _ (handle : ℕ) (setup : Setup) (few : setup.links ≤ 4096) where
   some_changed other change links some =
       at_changed (λ (place : Option OpenLink). IsSome place) other handle change links some (λ same. some_kept change (link_at handle links) some)
 
+  some_received : (other : ℕ) (room : Bool) (octets : List ℕ) (facts : Facts) → IsSome (link_at handle facts.links)
+      → IsSome (link_at handle (link_received other room octets facts).links)
+  some_received other room octets facts some =
+      at_received (λ (place : Option OpenLink). IsSome place) other handle room octets facts some
+      (λ same. some_kept (link_receiving other room octets facts) (link_at handle facts.links) some)
+
   -- ---- what is sent and what is taken
 
   sent_in : (slot other : ℕ) (links : Links) (place : Option OpenLink) → HaveHandles 0 links → link_at other links ≡ place
@@ -172,9 +188,9 @@ module _ (handle : ℕ) (setup : Setup) (few : setup.links ≤ 4096) where
       let starts = (handles_kept setup).turns.starts in
       let before = facts.links in
       left_doing (IsLeft before)
-      (λ slot facts left. record {
-        own = starts.ends slot facts left.own;
-        none = λ is. (staying_opens slot facts.links).free handle (left.none is);
+      (λ reason facts left. record {
+        own = starts.ends reason facts left.own;
+        none = λ is. (staying_opens reason facts.links).free handle (left.none is);
       })
       (λ slot facts left. record { own = starts.begins slot facts left.own; none = left.none })
       (λ slot facts left. record {
@@ -198,11 +214,12 @@ module _ (handle : ℕ) (setup : Setup) (few : setup.links ≤ 4096) where
   turn_in slot on facts own =
       let after = (facts_passed (outcome_begun slot on facts)).links in
       let ending = notes_ending slot facts in
-      let entering = notes_entering slot (facts_ending slot facts).links in
+      let ended = facts_ending slot facts in
+      let entering = notes_all_entering ended.view slot 0 ended.links in
       both facts.links after (ending ++ entering) (notes_doing (outcome_begun slot on facts).next (outcome_begun slot on facts).facts)
       (others facts.links after (ending ++ entering)
-      (both_other most handle ending entering (ends_other most handle facts.view (ends_in slot facts))
-      (entering_other most handle slot (facts_ending slot facts).links)))
+      (both_other most handle ending entering (ends_other most handle facts.view (ends_for (due_in slot) facts))
+      (entering_other most handle ended.view slot 0 ended.links)))
       (begun_in slot on facts own)
 
   -- ---- a phase
@@ -233,15 +250,20 @@ module _ (handle : ℕ) (setup : Setup) (few : setup.links ≤ 4096) where
   heard_in other octets facts own =
       let slot = facts.turn.slot in
       let room = has_room setup facts in
-      let change = link_after (PacketReceived slot octets room) in
-      let next = reply_if (replies_in (link_at other facts.links) octets) other in
+      let place = link_at other facts.links in
+      let next = reply_if (replies_in slot room place octets) other in
       let mid = link_received other room octets facts in
-      let opens = change_opens other change facts.links (λ link. refl) in
-      let taken = notes_taken slot room (link_at other facts.links) octets in
-      both facts.links (facts_doing next mid).links taken (notes_doing next mid)
+      let opens = receiving_opens other room octets facts in
+      let taken = notes_taken slot room place octets in
+      let events = events_received other slot room place octets in
+      let told = notes_of_events facts.view events in
+      both facts.links (facts_doing next mid).links (taken ++ told) (notes_doing next mid)
+      (both facts.links (facts_doing next mid).links taken told
       (lifted facts.links facts.links (facts_doing next mid).links taken (λ some. some)
-      (λ some. some_sending slot next mid.links (some_changed other change facts.links some))
-      (taken_in slot room octets other facts.links (link_at other facts.links) own.handles refl))
+      (λ some. some_sending slot next mid.links (some_received other room octets facts some))
+      (taken_in slot room octets other facts.links place own.handles refl))
+      (others facts.links (facts_doing next mid).links told
+      (procedures_other most handle facts.view events (reception_events other slot room place octets))))
       (passing_in facts.links next mid (λ is. opens.free handle is) (opens.handles own.handles))
 
   phase_in : (facts : Facts) → HaveOwnHandles setup facts
@@ -310,18 +332,18 @@ module _ (handle : ℕ) (setup : Setup) (few : setup.links ≤ 4096) where
         later none,
       )
 
-  ended_by : (place : Option OpenLink) (facts : Facts) (after : Links) → HaveOwnHandles setup facts → AreBelow most facts.received
+  handed_by : (place : Option OpenLink) (facts : Facts) (after : Links) → HaveOwnHandles setup facts → AreBelow most facts.received
       → (link_at handle facts.links ≡ None → filter (is_piece_on handle) facts.received ≡ []) → link_at handle facts.links ≡ place
-      → (IsSome (link_at handle facts.links) → IsSome (link_at handle after)) → AreOpenIn facts.links after (notes_ended_turn facts)
-  ended_by None facts after own below waits is stays =
-      let handed = map note_received facts.received in
+      → (IsSome (link_at handle facts.links) → IsSome (link_at handle after)) → AreOpenIn facts.links after (notes_handed facts)
+  handed_by None facts after own below waits is stays =
+      let pieces = map note_received facts.received in
       let reports = notes_of_events facts.view (map event_completed (completed_from 0 facts.links)) in
-      others facts.links after (handed ++ reports)
-      (both_other most handle handed reports (pieces_other facts.received below (waits is))
+      others facts.links after (pieces ++ reports)
+      (both_other most handle pieces reports (pieces_other facts.received below (waits is))
       (reports_other facts.view 0 facts.links (omega (arith, own.many)) is))
-  ended_by (Some link) facts after own below waits is stays =
+  handed_by (Some link) facts after own below waits is stays =
       let some = subst (λ (found : Option OpenLink). IsSome found) (sym is) refl in
-      any facts.links after (notes_ended_turn facts) some (stays some)
+      any facts.links after (notes_handed facts) some (stays some)
 
   some_reported : (first : ℕ) (links : Links) → IsSome (link_from first handle links) → IsSome (link_from first handle (links_reported links))
   some_reported first [] some = some
@@ -378,9 +400,14 @@ module _ (handle : ℕ) (setup : Setup) (few : setup.links ≤ 4096) where
 
   -- ---- each step
 
+  -- the links after a step; as a turn ends, those before some of them end
+  abbrev links_kept : Facts → Step → Links
+  links_kept facts TurnEnds = (facts_handed facts).links
+  links_kept facts step = (facts_after setup facts step).links
+
   step_in : (facts : Facts) (step : Step) → HaveOwnHandles setup facts → AreBelow most facts.received
       → (link_at handle facts.links ≡ None → filter (is_piece_on handle) facts.received ≡ [])
-      → AreOpenIn facts.links (facts_after setup facts step).links (notes_after setup facts step)
+      → AreOpenIn facts.links (links_kept facts step) (notes_after setup facts step)
   step_in facts (HostOctet octet) own below waits = fed_in facts (result_of facts.octets octet) own
   step_in facts (TurnBegins slot on) own below waits = turn_in slot on facts own
   step_in facts (PacketHeard octets) own below waits =
@@ -390,21 +417,48 @@ module _ (handle : ℕ) (setup : Setup) (few : setup.links ≤ 4096) where
       unheard_is setup facts (λ outcome. AreOpenIn facts.links (facts_passed outcome).links (notes_passed outcome)) (phase_in facts own)
       facts.turn.doing refl
   step_in facts TurnEnds own below waits =
-      ended_by (link_at handle facts.links) facts (links_reported facts.links) own below waits refl (some_reported 0 facts.links)
+      let handed = facts_handed facts in
+      both facts.links handed.links (notes_handed facts) (notes_leaving handed)
+      (handed_by (link_at handle facts.links) facts handed.links own below waits refl (some_reported 0 facts.links))
+      (others facts.links handed.links (notes_leaving handed) (ends_other most handle handed.view (ends_for ending_in handed)))
 
-all_of : {A : Type 0} (P : A → Type 0) (xs : List A) → AllByRecursion P xs → All P xs
-all_of P [] are = All-nil P
-all_of P (x ∷ xs) are = All-cons P x xs are.0 (all_of P xs are.1)
+  -- a link that is not to end as the turn ends stays open
+  reported_stays : (reports : Bool) (link : OpenLink)
+      → ending_in (cond reports (link_after DataReported link) link) ≡ ending_in link
+  reported_stays true link =
+      ap (λ (facts : EndFacts). option_map (λ (code : ErrCode). code.0) (ending_of facts)) (grows link.setup link.past DataReported)
+  reported_stays false link = refl
+
+  stays_by : (place : Option OpenLink) → reason_at ending_in place ≡ None → IsSome place
+      → IsSome (place_without ending_in (option_map link_reported place))
+  stays_by None none some = some
+  stays_by (Some link) none some =
+      subst (λ (reason : Option ℕ). IsSome (staying_by reason (link_reported link)))
+      (sym (reported_stays (nat_lt 0 (complete_in link)) link ∙ none)) refl
+
+  stays_in : (facts : Facts) → reason_at ending_in (link_at handle facts.links) ≡ None → IsSome (link_at handle facts.links)
+      → IsSome (link_at handle (facts_after setup facts TurnEnds).links)
+  stays_in facts none some =
+      let links = links_reported facts.links in
+      subst (λ (next : Facts). IsSome (link_at handle next.links)) (sym (leaving_is (facts_handed facts)))
+      (subst (λ (place : Option OpenLink). IsSome place) (sym (stays_where_not_due ending_in 0 handle links))
+      (subst (λ (place : Option OpenLink). IsSome (place_without ending_in place)) (sym (map_at (option_map link_reported) 0 handle facts.links refl))
+      (stays_by (link_at handle facts.links) none some)))
+
+  stays_open : (facts : Facts) (step : Step) → StaysIn facts step handle → IsSome (link_at handle facts.links)
+      → IsSome (link_at handle (links_kept facts step)) → IsSome (link_at handle (facts_after setup facts step).links)
+  stays_open facts TurnEnds stays some also = stays_in facts (stays refl) some
+  stays_open facts step stays some also = also
 
 open_in : (setup : Setup) (past : List Step) (step : Step) (note : Note) (handle : ℕ) (few : setup.links ≤ 4096)
     → Contains (notes_after setup (facts_of setup past) step) note
-    → IsOpenIn handle setup few (facts_of setup past).links (facts_after setup (facts_of setup past) step).links note
+    → IsOpenIn handle setup few (facts_of setup past).links (links_kept handle setup few (facts_of setup past) step) note
 open_in setup past step note handle few noted =
     let facts = facts_of setup past in
-    let P = IsOpenIn handle setup few facts.links (facts_after setup facts step).links in
+    let P = IsOpenIn handle setup few facts.links (links_kept handle setup few facts step) in
     let pieces = all_pieces setup past in
     All-contains P (notes_after setup facts step) note
-    (all_of P (notes_after setup facts step)
+    (All-from_recursion P (notes_after setup facts step)
     (step_in handle setup few facts step pieces.own pieces.below
     (none_waits handle AnyFact setup (any_kept setup.links handle) past)))
     noted
@@ -416,5 +470,8 @@ open_before setup past step note handle few noted is = (open_in setup past step 
 
 pub open_after : (setup : Setup) (past : List Step) (step : Step) (note : Note) (handle : ℕ) → setup.links ≤ 4096
     → Contains (notes_after setup (facts_of setup past) step) note → is_data_note handle note ≡ true
+    → StaysIn (facts_of setup past) step handle
     → IsSome (link_at handle (facts_after setup (facts_of setup past) step).links)
-open_after setup past step note handle few noted is = (open_in setup past step note handle few noted is).1
+open_after setup past step note handle few noted is stays =
+    let both = open_in setup past step note handle few noted is in
+    stays_open handle setup few (facts_of setup past) step stays both.0 both.1

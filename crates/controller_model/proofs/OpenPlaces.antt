@@ -18,12 +18,16 @@ use Rattle.link_model.specs.Step.{PacketSent, PduFixed}
 use Rattle.slot_plan.specs.declared.Activity.{Activity}
 use Rattle.slot_plan.specs.declared.Activity.TheVariants.{Link, Advertise, Scan, Initiate}
 use Rattle.open_links.specs.OpenLinks.{Links, OpenLink, free_from, link_after, link_served, with_change, with_change_from, without_links}
-use Rattle.open_links.specs.Turns.{end_by, ends_from, links_staying, reason_in, staying_by}
+use Rattle.open_links.specs.Ended.{end_by}
+use Rattle.open_links.specs.Turns.{ends_by, links_without, staying_by}
 use Rattle.controller_model.specs.declared.doing.Doing.{Doing}
 use Rattle.controller_model.specs.declared.doing.Doing.TheVariants.{Advertises, CentralSends, PeripheralListens, PeripheralSends}
+use Rattle.controller_model.specs.Facts.{Facts}
+use Rattle.controller_model.specs.Heard.{link_received}
 use Rattle.controller_model.specs.Packets.{links_sending}
 use Rattle.controller_model.specs.Radio.{links_fixing}
 use Rattle.controller_model.proofs.Always.{links_shut, links_won}
+use Rattle.controller_model.proofs.Places.{link_receiving, receiving_is}
 
 -- by handle, whether a link is open
 abbrev pub opens : {A : Type 0} → List (Option A) → List Bool
@@ -124,6 +128,11 @@ sent_opens slot (PeripheralSends handle) links = changed_opens (link_after (Pack
 sent_opens slot (Advertises channel) links = refl
 sent_opens slot other links = refl
 
+pub received_opens : (handle : ℕ) (room : Bool) (octets : List ℕ) (facts : Facts)
+    → opens (link_received handle room octets facts).links ≡ opens facts.links
+received_opens handle room octets facts =
+    ap opens (receiving_is handle room octets facts) ∙ changed_opens (link_receiving handle room octets facts) handle facts.links
+
 -- a place this much later than the first one is another
 later_than : (first place : ℕ) → (first == first + suc place) ≡ false
 later_than first place = grind arith
@@ -210,26 +219,26 @@ longer before place first long = length-append before (place ∷ []) ∙ omega (
 abbrev Agree : (before spare : List Bool) → List (Option ViewLink) → Links → Type 0
 Agree before spare views links = opens views ≡ before ++ (opens links ++ spare)
 
-ended_with : (slot : ℕ) (reason : Option ℕ) (before spare : List Bool) (views : List (Option ViewLink)) (first : ℕ) (link : OpenLink)
+ended_with : (reason : OpenLink → Option ℕ) (code : Option ℕ) (before spare : List Bool) (views : List (Option ViewLink)) (first : ℕ) (link : OpenLink)
     (links : Links) → length before ≡ first → Agree before spare views (Some link ∷ links)
     → ((before : List Bool) (views : List (Option ViewLink)) → length before ≡ first + 1 → Agree before spare views links
-    → Agree before spare (links_shut views (ends_from slot (first + 1) links)) (links_staying slot links))
-    → Agree before spare (links_shut views (end_by first reason ++ ends_from slot (first + 1) links)) (staying_by reason link ∷ links_staying slot links)
-ended_with slot None before spare views first link links long agree rest =
+    → Agree before spare (links_shut views (ends_by reason (first + 1) links)) (links_without reason links))
+    → Agree before spare (links_shut views (end_by first code ++ ends_by reason (first + 1) links)) (staying_by code link ∷ links_without reason links)
+ended_with reason None before spare views first link links long agree rest =
     rest (before ++ true ∷ []) views (longer before true first long) (agree ∙ moved before true (opens links ++ spare))
-    ∙ sym (moved before true (opens (links_staying slot links) ++ spare))
-ended_with slot (Some reason) before spare views first link links long agree rest =
+    ∙ sym (moved before true (opens (links_without reason links) ++ spare))
+ended_with reason (Some code) before spare views first link links long agree rest =
     rest (before ++ false ∷ []) (slice_set views first None) (longer before false first long)
     (one_shut before spare (opens links) views first long agree ∙ moved before false (opens links ++ spare))
-    ∙ sym (moved before false (opens (links_staying slot links) ++ spare))
+    ∙ sym (moved before false (opens (links_without reason links) ++ spare))
 
-pub ended_agree : (slot : ℕ) (before spare : List Bool) (views : List (Option ViewLink)) (first : ℕ) (links : Links) → length before ≡ first
-    → Agree before spare views links → Agree before spare (links_shut views (ends_from slot first links)) (links_staying slot links)
-ended_agree slot before spare views first [] long agree = agree
-ended_agree slot before spare views first (None ∷ links) long agree =
-    ended_agree slot (before ++ false ∷ []) spare views (first + 1) links (longer before false first long)
+pub ended_agree : (reason : OpenLink → Option ℕ) (before spare : List Bool) (views : List (Option ViewLink)) (first : ℕ) (links : Links) → length before ≡ first
+    → Agree before spare views links → Agree before spare (links_shut views (ends_by reason first links)) (links_without reason links)
+ended_agree reason before spare views first [] long agree = agree
+ended_agree reason before spare views first (None ∷ links) long agree =
+    ended_agree reason (before ++ false ∷ []) spare views (first + 1) links (longer before false first long)
     (agree ∙ moved before false (opens links ++ spare))
-    ∙ sym (moved before false (opens (links_staying slot links) ++ spare))
-ended_agree slot before spare views first (Some link ∷ links) long agree =
-    ended_with slot (reason_in slot link) before spare views first link links long agree
-    (λ before views long agree. ended_agree slot before spare views (first + 1) links long agree)
+    ∙ sym (moved before false (opens (links_without reason links) ++ spare))
+ended_agree reason before spare views first (Some link ∷ links) long agree =
+    ended_with reason (reason link) before spare views first link links long agree
+    (λ before views long agree. ended_agree reason before spare views (first + 1) links long agree)

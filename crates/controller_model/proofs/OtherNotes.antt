@@ -6,7 +6,9 @@ use Rattle.std.proofs.Math.Nat.{add-mul-mod_self_right, mod-eq_of_lt}
 use Rattle.wire_fields.specs.Field.{little_endian}
 use Rattle.acl_banks.specs.declared.pieces.Piece.{Piece}
 use Rattle.ble_base.specs.declared.notes.Note.{Note}
-use Rattle.ble_base.specs.declared.notes.Note.TheVariants.{Up, Sent, Took, Enter, Applied}
+use Rattle.ble_base.specs.declared.error_codes.ErrCode.{ErrCode}
+use Rattle.ble_base.specs.declared.notes.Note.TheVariants.{Up, Sent, Took, Enter, Applied, Began, Refused, Done}
+use Rattle.ble_base.specs.declared.procedure_kinds.Kind.{Kind}
 use Rattle.hci_cmd.specs.declared.command.Command.{Command}
 use Rattle.hci_cmd.specs.declared.command.Command.TheVariants.{LeCreateCancel, Reset}
 use Rattle.hci_cmd.specs.declared.command.CmdRead.{CmdRead}
@@ -17,25 +19,26 @@ use Rattle.hci_evt.specs.declared.event.Event.TheVariants.{CommandComplete, Comm
 use Rattle.host_view.specs.Noted.{acl_handle, two_octets}
 use Rattle.host_view.specs.View.{View}
 use Rattle.host_view.specs.Unbuilt.{status_of}
-use Rattle.instants.specs.Track.{next_number}
 use Rattle.adv_pdu.specs.declared.pdu.AdvPdu.{AdvPdu}
 use Rattle.scan_init.specs.declared.reports.ReportKind.{ReportKind}
 use Rattle.scan_init.specs.declared.scanner.ScanAnswer.{ScanAnswer}
 use Rattle.scan_init.specs.Reports.{kind_of}
 use Rattle.link_model.specs.declared.setup.LinkSetup.{LinkSetup}
-use Rattle.link_model.specs.End.{applied_notes}
 use Rattle.open_links.specs.declared.ended.LinkEnded.{LinkEnded}
 use Rattle.open_links.specs.OpenLinks.{Links, OpenLink, facts_in, handles_from}
-use Rattle.open_links.specs.Turns.{is_anchor, notes_entering, notes_if}
+use Rattle.open_links.specs.Turns.{enters_in, notes_entering, notes_if}
 use Rattle.controller_model.specs.Answers.{AreOneAnswer, HasNoAnswer, IsAnswerTo, answer_to}
 use Rattle.controller_model.specs.Commands.{events_caused, notes_before, notes_commanded, notes_known}
 use Rattle.controller_model.specs.Data.{acl_packet, boundary_of, note_received}
+use Rattle.controller_model.specs.Entering.{events_entering, notes_all_entering}
 use Rattle.controller_model.specs.Events.{notes_of_events, passes}
 use Rattle.controller_model.specs.Facts.{Setup, Facts}
 use Rattle.controller_model.specs.Heard.{does_report, events_reported, report_event, report_events}
 use Rattle.controller_model.specs.Links.{connection_complete, connection_failed, events_opened, note_opened, note_shut, notes_ended, wants_enhanced}
 use Rattle.controller_model.specs.Since.{is_completed_on, is_handed_up_on, is_sent_on, is_took_on, note_completed, opens_under}
 use Rattle.controller_model.proofs.AnsweredOnce.{answered_once}
+use Rattle.controller_model.proofs.EndNotes.{entered_each}
+use Rattle.controller_model.proofs.ProcedureEvents.{AreOfProcedures, IsOfProcedure, entering_events}
 
 pub record IsOther (most handle : ℕ) (note : Note) : Type 0 where
   pub opens_none : opens_under handle note ≡ false
@@ -116,6 +119,18 @@ module _ (most handle : ℕ) where
   events_other view (event ∷ events) are =
       events_if (passes view (mask_bit_of event)) event (filter (λ event. passes view (mask_bit_of event)) events) are.0 (events_other view events are.1)
 
+  -- events of procedures are none of those
+  one_of_procedures : (event : Event) → IsOfProcedure event → IsOtherEvent event
+  one_of_procedures (CompletedPackets other count) is = absurd is
+  one_of_procedures event is = tt
+
+  pub procedures_other : (view : View) (events : List Event) → AreOfProcedures events → AreOther most handle (notes_of_events view events)
+  procedures_other view events are = events_other view events (all events are)
+    where
+      all : (events : List Event) → AreOfProcedures events → AllByRecursion IsOtherEvent events
+      all [] are = tt
+      all (event ∷ events) are = (one_of_procedures event are.0, all events are.1)
+
   -- ---- notes of links
 
   pub shut_other : (other reason : ℕ) → IsOther most handle (note_shut other reason)
@@ -151,6 +166,15 @@ module _ (most handle : ℕ) where
   applied_other : (other number event : ℕ) → IsOther most handle (Applied other number (record { 0 = event }))
   applied_other other number event = record { opens_none = refl; sent_none = refl; took_none = refl; handed_none = λ few. refl; completed_none = λ few. refl }
 
+  pub began_other : (other : ℕ) (kind : Kind) → IsOther most handle (Began other kind)
+  began_other other kind = record { opens_none = refl; sent_none = refl; took_none = refl; handed_none = λ few. refl; completed_none = λ few. refl }
+
+  pub refused_other : (other : ℕ) (kind : Kind) (code : ErrCode) → IsOther most handle (Refused other kind code)
+  refused_other other kind code = record { opens_none = refl; sent_none = refl; took_none = refl; handed_none = λ few. refl; completed_none = λ few. refl }
+
+  pub done_other : (other : ℕ) (kind : Kind) → IsOther most handle (Done other kind)
+  done_other other kind = record { opens_none = refl; sent_none = refl; took_none = refl; handed_none = λ few. refl; completed_none = λ few. refl }
+
   enter_other : (other event channel : ℕ) → IsOther most handle (Enter other (record { 0 = event }) channel)
   enter_other other event channel = record { opens_none = refl; sent_none = refl; took_none = refl; handed_none = λ few. refl; completed_none = λ few. refl }
 
@@ -166,22 +190,29 @@ module _ (most handle : ℕ) where
       both_other (notes_ended view one) (flat_map (notes_ended view) ended)
       (shut_other one.handle one.reason.0, events_other view (DisconnectionComplete 0 one.handle one.reason.0 ∷ []) (tt, tt)) (ends_other view ended)
 
-  applied_too : (other event : ℕ) (number : Option ℕ) → AreOther most handle (applied_notes other event number)
-  applied_too other event None = tt
-  applied_too other event (Some number) = (applied_other other number event, tt)
-
-  entry_other : (anchor : Bool) (slot : ℕ) (link : OpenLink) → AreOther most handle (notes_if anchor slot link)
+  entry_other : (enters : Bool) (slot : ℕ) (link : OpenLink) → AreOther most handle (notes_if enters slot link)
   entry_other false slot link = tt
   entry_other true slot link =
-      both_other (applied_notes link.setup.link.handle _ (next_number (facts_in link).parameters)) _
-      (applied_too link.setup.link.handle _ (next_number (facts_in link).parameters)) (enter_other link.setup.link.handle _ _, tt)
+      let other = link.setup.link.handle in
+      entered_each (IsOther most handle) link.setup slot (facts_in link) (record {
+        applied = λ number. applied_other other number _;
+        enter = enter_other other _ _;
+        done = done_other other;
+        began = began_other other;
+      })
 
-  pub entering_other : (slot : ℕ) (links : Links) → AreOther most handle (notes_entering slot links)
-  entering_other slot [] = tt
-  entering_other slot (None ∷ links) = entering_other slot links
-  entering_other slot (Some link ∷ links) =
-      both_other (notes_if (is_anchor slot link) slot link) (notes_entering slot links) (entry_other (is_anchor slot link) slot link)
-      (entering_other slot links)
+  one_entering : (slot : ℕ) (place : Option OpenLink) → AreOther most handle (notes_entering slot place)
+  one_entering slot None = tt
+  one_entering slot (Some link) = entry_other (enters_in slot link) slot link
+
+  pub entering_other : (view : View) (slot first : ℕ) (links : Links) → AreOther most handle (notes_all_entering view slot first links)
+  entering_other view slot first [] = tt
+  entering_other view slot first (place ∷ links) =
+      let events = events_entering slot first place in
+      both_other (notes_entering slot place ++ notes_of_events view events) (notes_all_entering view slot (first + 1) links)
+      (both_other (notes_entering slot place) (notes_of_events view events) (one_entering slot place)
+      (procedures_other view events (entering_events slot first place)))
+      (entering_other view slot (first + 1) links)
 
   -- ---- a link that is opened
 

@@ -6,17 +6,18 @@ use Rattle.acl_banks.specs.declared.pieces.Piece.{Piece}
 use Rattle.hci_cmd.specs.declared.command.Command.{Command}
 use Rattle.hci_cmd.specs.declared.command.Command.TheVariants.{Reset}
 use Rattle.open_links.specs.declared.ended.LinkEnded.{LinkEnded}
-use Rattle.open_links.specs.Data.{received_past, received_without}
+use Rattle.open_links.specs.Data.{received_past}
+use Rattle.open_links.specs.Ended.{received_without}
 use Rattle.open_links.specs.OpenLinks.{OpenLink, facts_in, link_at}
 use Rattle.controller_model.specs.Commands.{received_after}
 use Rattle.controller_model.specs.Facts.{Setup, Facts, first_facts}
 use Rattle.controller_model.specs.Heard.{has_room, link_taken, piece_taken}
-use Rattle.controller_model.specs.Links.{ends_in}
 use Rattle.controller_model.specs.Side.{facts_of}
 use Rattle.controller_model.specs.Step.{Step}
 use Rattle.controller_model.proofs.Always.{IsKept, always, opening_passes, received_shut}
 use Rattle.controller_model.proofs.Books.{kept_has}
 use Rattle.controller_model.proofs.Handles.{HaveOwnHandles, below_at, handles_kept, own_handles}
+use Rattle.controller_model.specs.Links.{ends_for}
 
 abbrev pub AreBelow : ℕ → List (ℕ × Piece) → Type 0
 AreBelow most received = AllByRecursion (λ piece. piece.0 < most) received
@@ -48,10 +49,10 @@ module _ (most : ℕ) where
   commanded_below Reset received are = tt
   commanded_below other received are = are
 
-  taken_below : (room : Bool) (octets : List ℕ) (place : Option OpenLink) → IfSome place (λ link. link.setup.link.handle < most)
-      → AreBelow most (piece_taken room place octets)
-  taken_below room octets None below = tt
-  taken_below room octets (Some link) below = kept_has (λ n. n < most) link.setup (facts_in link) octets room below
+  taken_below : (slot : ℕ) (room : Bool) (octets : List ℕ) (place : Option OpenLink) → IfSome place (λ link. link.setup.link.handle < most)
+      → AreBelow most (piece_taken slot room place octets)
+  taken_below slot room octets None below = tt
+  taken_below slot room octets (Some link) below = kept_has (λ n. n < most) link.setup (facts_in link) slot octets room below
 
 pub record ArePieces (setup : Setup) (facts : Facts) : Type 0 where
   pub own : HaveOwnHandles setup facts
@@ -72,9 +73,9 @@ pieces_kept setup =
       turns = record {
         starts = record {
           weakens = λ facts are. are;
-          ends = λ slot facts are. record {
-            own = starts.ends slot facts are.own;
-            below = shut_below most facts.received (ends_in slot facts) are.below;
+          ends = λ reason facts are. record {
+            own = starts.ends reason facts are.own;
+            below = shut_below most facts.received (ends_for reason facts) are.below;
           };
           begins = λ slot facts are. record { own = starts.begins slot facts are.own; below = are.below };
           enters = λ slot facts are. record { own = starts.enters slot facts are.own; below = are.below };
@@ -115,8 +116,8 @@ pieces_kept setup =
               };
               received = λ handle octets. record {
                 own = passes.received handle octets;
-                below = both_below most facts.received (piece_taken (has_room setup facts) (link_at handle facts.links) octets) are.below
-                    (taken_below most (has_room setup facts) octets (link_at handle facts.links)
+                below = both_below most facts.received (piece_taken facts.turn.slot (has_room setup facts) (link_at handle facts.links) octets) are.below
+                    (taken_below most facts.turn.slot (has_room setup facts) octets (link_at handle facts.links)
                     (subst (λ n. IfSome (link_at handle facts.links) (λ link. link.setup.link.handle < n))
                     (let same : 0 + length facts.links ≡ setup.links = omega (arith, are.own.many) in same)
                     (below_at handle facts.links are.own.handles)));

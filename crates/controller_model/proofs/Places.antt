@@ -1,9 +1,16 @@
 -- The links of a controller place by place, as the one under a handle changes.
-use Rattle.std.proofs.Common.{◌≡◌, ℕ, ◌==◌, Bool, true, false, Option, sym, subst, refl, ◌∙◌}
+use Rattle.std.proofs.Common.{◌≡◌, ℕ, ◌+◌, ◌==◌, Bool, true, false, Option, Some, None, Result, List, [], ◌∷◌, sym, subst, ap, refl, ◌∙◌, if◌then◌else◌}
 use Rattle.std.specs.Option.{option_map}
+use Rattle.std.specs.Prelude.{Err}
 use Rattle.std.proofs.lemmas.Bool.{eq-eqb, eqb-true}
-use Rattle.open_links.specs.OpenLinks.{Links, OpenLink, link_at, with_change}
+use Rattle.ble_base.specs.declared.error_codes.ErrCode.{ErrCode}
+use Rattle.ble_base.specs.ErrorCodes.{unsupported_remote_feature}
+use Rattle.procedure_values.specs.declared.asks.Ask.{Ask}
+use Rattle.link_model.specs.Step.{PacketReceived, RequestAnswered}
+use Rattle.open_links.specs.OpenLinks.{Links, OpenLink, link_after, link_at, with_change, with_change_from}
 use Rattle.open_links.proofs.Handles.{changed_is, other_stays}
+use Rattle.controller_model.specs.Facts.{Facts}
+use Rattle.controller_model.specs.Heard.{effect_in, is_refused, link_received, links_refusing}
 
 -- a fact of what is under a handle, as what is under another one changes, or what is under that one
 pub at_changed : (P : Option OpenLink → Type 0) (handle other : ℕ) (change : OpenLink → OpenLink) (links : Links)
@@ -20,3 +27,61 @@ at_changed P handle other change links holds changed = at (handle == other) refl
         subst P
         (sym (other_stays (option_map change) 0 handle other links (λ is. absurd (let h : true ≡ false = sym (eq-eqb handle other (sym is)) ∙ same in absurd cc))))
         holds
+
+-- ---- a link that receives a packet, and may refuse a request of its peer at once
+
+abbrev pub refusal : Result Ask ErrCode
+refusal = Err (record { 0 = unsupported_remote_feature })
+
+abbrev pub refused_if : Bool → OpenLink → OpenLink
+refused_if refuses link = if refuses then link_after (RequestAnswered refusal) link else link
+
+-- the packet has a request that is refused
+abbrev pub refuses_at : ℕ → Bool → List ℕ → Facts → Bool
+refuses_at handle room octets facts =
+    is_refused facts.view handle (effect_in facts.turn.slot room (link_at handle facts.links) octets)
+
+abbrev pub link_receiving : ℕ → Bool → List ℕ → Facts → OpenLink → OpenLink
+link_receiving handle room octets facts link =
+    refused_if (refuses_at handle room octets facts) (link_after (PacketReceived facts.turn.slot octets room) link)
+
+-- two changes of one link are one
+changed_twice : (first handle : ℕ) (change next : OpenLink → OpenLink) (links : Links)
+    → with_change_from first handle (option_map next) (with_change_from first handle (option_map change) links)
+    ≡ with_change_from first handle (option_map (λ link. next (change link))) links
+changed_twice first handle change next [] = refl
+changed_twice first handle change next (place ∷ links) = at (first == handle) refl (changed_twice (first + 1) handle change next links)
+  where
+    here : (place : Option OpenLink) → option_map next (option_map change place) ≡ option_map (λ link. next (change link)) place
+    here None = refl
+    here (Some link) = refl
+
+    at : (test : Bool) → (first == handle) ≡ test
+        → with_change_from (first + 1) handle (option_map next) (with_change_from (first + 1) handle (option_map change) links)
+        ≡ with_change_from (first + 1) handle (option_map (λ link. next (change link))) links
+        → with_change_from first handle (option_map next)
+        (if test then option_map change place ∷ links else place ∷ with_change_from (first + 1) handle (option_map change) links)
+        ≡ (if test then option_map (λ link. next (change link)) place ∷ links
+        else place ∷ with_change_from (first + 1) handle (option_map (λ link. next (change link))) links)
+    at true is rest = rw is (ap (λ (now : Option OpenLink). now ∷ links) (here place))
+    at false is rest = rw is (ap (λ (later : Links). place ∷ later) rest)
+
+refusing_after : (refuses : Bool) (handle : ℕ) (change : OpenLink → OpenLink) (links : Links)
+    → links_refusing refuses handle (with_change handle change links) ≡ with_change handle (λ link. refused_if refuses (change link)) links
+refusing_after true handle change links = changed_twice 0 handle change (link_after (RequestAnswered refusal)) links
+refusing_after false handle change links = refl
+
+-- all that a reception changes is the link under its handle
+pub receiving_is : (handle : ℕ) (room : Bool) (octets : List ℕ) (facts : Facts)
+    → (link_received handle room octets facts).links ≡ with_change handle (link_receiving handle room octets facts) facts.links
+receiving_is handle room octets facts =
+    refusing_after (refuses_at handle room octets facts) handle (link_after (PacketReceived facts.turn.slot octets room)) facts.links
+
+-- a fact of what is under a handle, as the link under one receives
+pub at_received : (P : Option OpenLink → Type 0) (handle other : ℕ) (room : Bool) (octets : List ℕ) (facts : Facts)
+    → P (link_at other facts.links)
+    → (handle ≡ other → P (option_map (link_receiving handle room octets facts) (link_at other facts.links)))
+    → P (link_at other (link_received handle room octets facts).links)
+at_received P handle other room octets facts holds changed =
+    subst (λ (links : Links). P (link_at other links)) (sym (receiving_is handle room octets facts))
+    (at_changed P handle other (link_receiving handle room octets facts) facts.links holds changed)

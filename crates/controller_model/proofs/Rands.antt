@@ -78,7 +78,7 @@ drawn_kept : (setup : Setup) (facts : Facts) → IsKeptInTurns setup (GrowBy fac
 drawn_kept setup facts = record {
   starts = record {
     weakens = λ next grow. grow;
-    ends = λ slot next grow. grow;
+    ends = λ reason next grow. grow;
     begins = λ slot next grow. grow;
     enters = λ slot next grow. grow;
     wins = λ slot activity next grow. grow;

@@ -1,6 +1,7 @@
 -- The complete packets that were reported since a link was opened.
 use Rattle.std.proofs.Common.{◌≡◌, ℕ, suc, ◌+◌, ◌<◌, ◌≤◌, Bool, true, false, Option, Some, None, List, [], ◌∷◌, ◌++◌, cond, refl, ap, sym, subst, ◌∙◌, append-nil, arith}
-use Rattle.std.specs.Prelude.{◌&&◌, filter}
+use Rattle.std.specs.Prelude.{◌&&◌, filter, is_some}
+use Rattle.std.specs.List.{AllByRecursion}
 use Rattle.std.proofs.lemmas.Bool.{eq-eqb}
 use Rattle.std.proofs.lemmas.List.{map-append}
 use Rattle.std.proofs.lemmas.List.Elements.{filter-append}
@@ -10,12 +11,22 @@ use Rattle.data_pdu.specs.Header.{header_in}
 use Rattle.wire_fields.specs.Field.{little_endian}
 use Rattle.acl_banks.specs.declared.pieces.Piece.{Piece}
 use Rattle.link_model.specs.Acknowledgement.{Pdu, is_acked}
-use Rattle.link_model.specs.Data.{Data, data_acked_if, data_given, data_sent_if, is_data}
-use Rattle.link_model.specs.End.{facts_after as end_after, facts_of as end_facts, facts_received, has_acknowledged, notes_after as end_notes, sent_notes_if, took_notes, took_notes_if}
+use Rattle.ble_base.specs.declared.roles.Role.{Role}
+use Rattle.procedure_stages.specs.Queue.{waiting_in}
+use Rattle.procedure_values.specs.declared.asks.Ask.{Ask}
+use Rattle.link_model.specs.Data.{Data, data_acked_if, data_given, data_sent_if, is_control, is_data}
+use Rattle.link_model.specs.Controls.{goes_on, is_procedure_pdu, next_control}
+use Rattle.link_model.specs.Entering.{facts_entered_if}
+use Rattle.link_model.specs.Fixing.{data_cut, data_fixed_by, data_goes, fixed_anew}
+use Rattle.link_model.specs.Hosts.{asked_unless, is_to_come}
+use Rattle.link_model.specs.End.{facts_after as end_after, facts_of as end_facts, notes_after as end_notes}
+use Rattle.link_model.specs.Receiving.{accepted_if, accepts, acknowledged_if, answers_with_control, facts_before_taking, facts_received, has_acknowledged, heard_in_slot, procedures_take_if, received_notes}
+use Rattle.link_model.specs.Sending.{control_gone_if, facts_sent, sent_notes, takes_leave}
 use Rattle.link_model.specs.Facts.{Facts as EndFacts}
-use Rattle.link_model.specs.Packets.{good_pdu, pdu_of}
+use Rattle.link_model.specs.Packets.{good_pdu}
+use Rattle.link_model.specs.Verdicts.{pdu_of}
 use Rattle.link_model.specs.Setup.{Setup as EndSetup}
-use Rattle.link_model.specs.Step.{Step as EndStep, DataGiven, EventEntered, PduFixed, PacketSent, PacketReceived, DataReported}
+use Rattle.link_model.specs.Step.{Step as EndStep, DataGiven, ProcedureAsked, RequestAnswered, Disconnected, EventEntered, PduFixed, PacketSent, PacketReceived, DataReported}
 use Rattle.link_model.proofs.Pasts.{grows}
 use Rattle.open_links.specs.OpenLinks.{OpenLink, facts_in, link_at}
 use Rattle.controller_model.specs.Data.{note_received}
@@ -25,23 +36,27 @@ use Rattle.controller_model.specs.Since.{ReportsInAll, empties_of, is_completed_
 use Rattle.controller_model.specs.Step.{Step}
 use Rattle.controller_model.proofs.Books.{Fact, IsKeptInBook, IsSilent}
 use Rattle.controller_model.proofs.BooksAlways.{book_of}
+use Rattle.controller_model.proofs.EndNotes.{received_each, sent_each}
 use Rattle.controller_model.proofs.OtherNotes.{event_handle_is}
 
 -- ---- notes that report nothing
 
-none_sent : (handle : ℕ) (noted : Bool) (other : ℕ) (facts : EndFacts) → filter (is_completed_on handle) (sent_notes_if noted other facts) ≡ []
-none_sent handle true other facts = refl
-none_sent handle false other facts = refl
+none_among : (handle : ℕ) (notes : List Note) → AllByRecursion (λ note. is_completed_on handle note ≡ false) notes
+    → filter (is_completed_on handle) notes ≡ []
+none_among handle [] are = refl
+none_among handle (note ∷ notes) are = (λ i. cond (are.0 i) (note ∷ filter (is_completed_on handle) notes) (filter (is_completed_on handle) notes)) ∙ none_among handle notes are.1
 
-none_took_if : (handle : ℕ) (noted : Bool) (other : ℕ) (pdu : Pdu) (facts : EndFacts)
-    → filter (is_completed_on handle) (took_notes_if noted other pdu facts) ≡ []
-none_took_if handle true other pdu facts = refl
-none_took_if handle false other pdu facts = refl
+none_sent : (handle : ℕ) (setup : EndSetup) (facts : EndFacts) → filter (is_completed_on handle) (sent_notes setup facts) ≡ []
+none_sent handle setup facts =
+    none_among handle (sent_notes setup facts)
+    (sent_each (λ note. is_completed_on handle note ≡ false) setup facts (λ number llid octets. refl))
 
-none_took : (handle other : ℕ) (room : Bool) (found : Option (List ℕ)) (facts : EndFacts)
-    → filter (is_completed_on handle) (took_notes other room found facts) ≡ []
-none_took handle other room None facts = refl
-none_took handle other room (Some pdu) facts = none_took_if handle _ other (pdu_of pdu) facts
+none_took : (handle : ℕ) (setup : EndSetup) (slot : ℕ) (room : Bool) (found : Option (List ℕ)) (facts : EndFacts)
+    → filter (is_completed_on handle) (received_notes setup slot room found facts) ≡ []
+none_took handle setup slot room found facts =
+    none_among handle (received_notes setup slot room found facts)
+    (received_each (λ note. is_completed_on handle note ≡ false) setup slot room found facts
+    (record { took = λ number llid octets. refl; refused = λ kind code. refl; done = λ kind. refl }))
 
 none_received : (handle : ℕ) (piece : ℕ × Piece) → is_completed_on handle (note_received piece) ≡ false
 none_received handle piece = refl
@@ -56,26 +71,68 @@ given_same : (handle : ℕ) (start : Bool) (octets : List ℕ) (outgoing : Data)
 given_same handle start [] outgoing = refl
 given_same handle start (octet ∷ octets) outgoing = refl
 
+asked_same : (comes : Bool) (ask : Ask) (facts : EndFacts) → (asked_unless comes ask facts).outgoing.reported ≡ facts.outgoing.reported
+asked_same true ask facts = refl
+asked_same false ask facts = refl
+
+entered_same : (goes : Bool) (setup : EndSetup) (slot : ℕ) (facts : EndFacts)
+    → (facts_entered_if goes setup slot facts).outgoing.reported ≡ facts.outgoing.reported
+entered_same true setup slot facts = refl
+entered_same false setup slot facts = refl
+
+fixed_by_same : (control : Bool) (waiting : ℕ) (goes : Bool) (outgoing : Data) → (data_fixed_by control waiting goes outgoing).reported ≡ outgoing.reported
+fixed_by_same true waiting goes outgoing = refl
+fixed_by_same false waiting true outgoing = refl
+fixed_by_same false waiting false outgoing = refl
+
+fixed_same : (stays : Bool) (facts : EndFacts) → (cond stays facts (fixed_anew facts)).outgoing.reported ≡ facts.outgoing.reported
+fixed_same true facts = refl
+fixed_same false facts = fixed_by_same (is_some (next_control facts)) (waiting_in facts.control.table.queue) (data_goes facts) (data_cut facts)
+
 silent_same : (setup : EndSetup) (facts : EndFacts) (step : EndStep) → IsSilent step
     → (end_after setup facts step).outgoing.reported ≡ facts.outgoing.reported
 silent_same setup facts (DataGiven start body) is = given_same setup.link.handle start body facts.outgoing
-silent_same setup facts (EventEntered slot) is = refl
-silent_same setup facts PduFixed is = refl
+silent_same setup facts (ProcedureAsked ask) is = asked_same (is_to_come ask facts) ask facts
+silent_same setup facts (RequestAnswered answer) is = refl
+silent_same setup facts (Disconnected reason slot) is = refl
+silent_same setup facts (EventEntered slot) is = entered_same (goes_on facts) setup slot facts
+silent_same setup facts PduFixed is = fixed_same (is_control facts.outgoing.fixed) facts
 silent_same setup facts step is = absurd is
 
-sent_same : (is_new : Bool) (outgoing : Data) → (data_sent_if is_new outgoing).reported ≡ outgoing.reported
-sent_same true outgoing = refl
-sent_same false outgoing = refl
+gone_same : (goes : Bool) (slot : ℕ) (facts : EndFacts) → (control_gone_if goes slot facts).outgoing.reported ≡ facts.outgoing.reported
+gone_same true slot facts = refl
+gone_same false slot facts = refl
+
+sent_if_same : (is_new : Bool) (outgoing : Data) → (data_sent_if is_new outgoing).reported ≡ outgoing.reported
+sent_if_same true outgoing = refl
+sent_if_same false outgoing = refl
+
+sent_same : (slot : ℕ) (facts : EndFacts) → (facts_sent slot facts).outgoing.reported ≡ facts.outgoing.reported
+sent_same slot facts =
+    let gone = control_gone_if (takes_leave facts) slot facts in
+    sent_if_same (is_acked gone.acknowledgement) gone.outgoing ∙ gone_same (takes_leave facts) slot facts
 
 acked_same : (acked : Bool) (outgoing : Data) → (data_acked_if acked outgoing).reported ≡ outgoing.reported
 acked_same true outgoing = refl
 acked_same false outgoing = refl
 
-received_same : (slot : ℕ) (room : Bool) (found : Option (List ℕ)) (facts : EndFacts)
-    → (facts_received slot room found facts).outgoing.reported ≡ facts.outgoing.reported
-received_same slot room None facts = refl
-received_same slot room (Some pdu) facts =
-    acked_same (has_acknowledged facts (header_in pdu) && is_data facts.acknowledgement.last) facts.outgoing
+taken_same : (takes : Bool) (pdu : Pdu) (slot : ℕ) (facts : EndFacts)
+    → (procedures_take_if takes pdu slot facts).outgoing.reported ≡ facts.outgoing.reported
+taken_same true pdu slot facts = refl
+taken_same false pdu slot facts = refl
+
+received_same : (role : Role) (slot : ℕ) (room : Bool) (found : Option (List ℕ)) (facts : EndFacts)
+    → (facts_received role slot room found facts).outgoing.reported ≡ facts.outgoing.reported
+received_same role slot room None facts = refl
+received_same role slot room (Some octets) facts =
+    let header = header_in octets in
+    let pdu = pdu_of octets in
+    let own = acknowledged_if (has_acknowledged facts header) (heard_in_slot slot header.md facts) in
+    let now = facts_before_taking role slot header facts in
+    let accepted = accepts room header pdu now in
+    taken_same (accepted && is_procedure_pdu pdu) pdu slot (accepted_if accepted pdu now)
+    ∙ gone_same (answers_with_control role own) slot own
+    ∙ acked_same (has_acknowledged facts header && is_data facts.acknowledgement.last) facts.outgoing
 
 -- ---- the book
 
@@ -128,14 +185,14 @@ module _ (most handle : ℕ) (few : most ≤ 4096) where
     sent = λ setup past waiting since count slot same reports.
         let facts = end_facts setup past in
         let more = end_notes setup facts (PacketSent slot) in
-        as_before setup past (PacketSent slot) (since ++ more) count (sent_same (is_acked facts.acknowledgement) facts.outgoing)
-        (plain since more _ (none_sent handle _ setup.link.handle facts) reports);
+        as_before setup past (PacketSent slot) (since ++ more) count (sent_same slot facts)
+        (plain since more _ (none_sent handle setup facts) reports);
     received = λ setup past waiting since count slot octets room same reports.
         let facts = end_facts setup past in
         let more = end_notes setup facts (PacketReceived slot octets room) in
         as_before setup past (PacketReceived slot octets room) (since ++ more) count
-        (received_same slot room (good_pdu setup facts octets) facts)
-        (plain since more _ (none_took handle setup.link.handle room (good_pdu setup facts octets) facts) reports);
+        (received_same setup.link.role slot room (good_pdu setup facts octets) facts)
+        (plain since more _ (none_took handle setup slot room (good_pdu setup facts octets) facts) reports);
     handed = λ setup past piece waiting since count below same reports.
         one_plain since (note_received piece) _ (none_received handle piece) reports;
     reported = λ setup past waiting since count complete below is reports.

@@ -85,7 +85,7 @@ asks_kept setup = record {
   turns = record {
     starts = record {
       weakens = λ facts may. may;
-      ends = λ slot facts may.
+      ends = λ reason facts may.
           record { map_is = may.map_is; request = may.request };
       begins = λ slot facts may. record { map_is = may.map_is; request = may.request };
       enters = λ slot facts may. record { map_is = may.map_is; request = may.request };

@@ -20,7 +20,7 @@ use Rattle.scan_init.specs.declared.scanner.ScanParams.{ScanParams}
 use Rattle.scan_init.specs.Initiating.{InitiatorFacts}
 use Rattle.scan_init.specs.Reports.{ScannerFacts, does_ask, scan_answer}
 use Rattle.link_model.specs.declared.setup.LinkSetup.{LinkSetup}
-use Rattle.link_model.specs.Step.{Step as EndStep, DataGiven, EventEntered, PduFixed, PacketSent, PacketReceived, DataReported}
+use Rattle.link_model.specs.Step.{Step as EndStep, DataGiven, PduFixed, PacketSent}
 use Rattle.slot_plan.specs.declared.Activity.{Activity}
 use Rattle.slot_plan.specs.declared.Activity.TheVariants.{Link, Advertise, Scan, Initiate}
 use Rattle.open_links.specs.Data.{links_given}
@@ -32,7 +32,7 @@ use Rattle.controller_model.specs.declared.doing.Doing.TheVariants.{Advertises, 
 use Rattle.controller_model.specs.Step.{Step}
 use Rattle.controller_model.specs.Facts.{Setup, Facts, Advertising, Scanning, Use, Sends, Listens, Idle}
 use Rattle.controller_model.specs.Commands.{advertiser_enabled, advertiser_turned_on, advertising_after, facts_accepted, initiator_after, links_after, own_address, random_or_public, scanner_enabled, scanner_turned_on, scanning_after}
-use Rattle.controller_model.specs.Data.{facts_ended_turn}
+use Rattle.controller_model.specs.Data.{facts_handed}
 use Rattle.controller_model.specs.Heard.{asks_if, facts_connecting, fields_sent, has_room, link_made, link_received, link_taken, opens, replies_in, reply_if, scanner_after, with_scanner}
 use Rattle.controller_model.specs.Outcome.{facts_passed}
 use Rattle.controller_model.specs.Packets.{advertisement_sent, connect_sent, facts_doing, listens_on, request_sent, response_sent, sends_on, sends_pdu, use_for}
@@ -367,11 +367,8 @@ wanted_still before after Idle turn still is = tt
 given_more : (given : List EndStep) (start : Bool) (octets : List ℕ) → AreGiven given → AreGiven (given ++ DataGiven start octets ∷ [])
 given_more [] start octets are = tt
 given_more (DataGiven first body ∷ given) start octets are = given_more given start octets are
-given_more (EventEntered slot ∷ given) start octets are = absurd are
 given_more (PduFixed ∷ given) start octets are = absurd are
-given_more (PacketSent slot ∷ given) start octets are = absurd are
-given_more (PacketReceived slot heard room ∷ given) start octets are = absurd are
-given_more (DataReported ∷ given) start octets are = absurd are
+given_more (other ∷ given) start octets are = absurd are
 
 given_place : (link : OpenLink) (start : Bool) (octets : List ℕ) (found : Option OpenLink) → IfSome found (HasOnlyBeenGiven link)
     → IfSome (option_map (link_after (DataGiven start octets)) found) (HasOnlyBeenGiven link)
@@ -471,10 +468,10 @@ passes_well setup facts well = record {
         connection_fits setup on access facts on.params.own (sender_of pdu) initiator.0 (six_heard channel octets pdu hears) initiator.1 next in_range,
       );
   received = λ handle octets.
-      sends_doing (reply_if (replies_in (link_at handle facts.links) octets) handle)
-      (link_received handle (has_room setup facts) octets facts)
-      (can_still facts (link_received handle (has_room setup facts) octets facts) refl refl refl refl well.can)
-      (reply_fits (replies_in (link_at handle facts.links) octets) handle);
+      let room = has_room setup facts in
+      let replies = replies_in facts.turn.slot room (link_at handle facts.links) octets in
+      sends_doing (reply_if replies handle) (link_received handle room octets facts)
+      (can_still facts (link_received handle room octets facts) refl refl refl refl well.can) (reply_fits replies handle);
 }
 
 pub well_kept : (setup : Setup) → length setup.public ≡ 6 → IsKept setup CanSend SendsWell
@@ -509,7 +506,7 @@ well_kept setup six = record {
   turns = record {
     starts = record {
       weakens = λ facts well. well.can;
-      ends = λ slot facts can. can_still facts (facts_ended slot facts) refl refl refl refl can;
+      ends = λ reason facts can. can_still facts (facts_ended reason facts) refl refl refl refl can;
       begins = λ slot facts can. can_still facts (turn_begins slot facts) refl refl refl refl can;
       enters = λ slot facts can. can_still facts (facts_entering slot facts) refl refl refl refl can;
       wins = λ slot activity facts can. record {
@@ -526,7 +523,7 @@ well_kept setup six = record {
       fixes = λ doing facts can. can_still facts (facts_fixing doing facts) refl refl refl refl can;
       does = λ doing facts may can. sends_doing doing facts can (begin_fits doing may);
     };
-    reports = λ facts can. can_still facts (facts_ended_turn facts) refl refl refl refl can;
+    reports = λ facts can. can_still facts (facts_handed facts) refl refl refl refl can;
     passes = λ facts well. passes_well setup facts well;
   };
 }

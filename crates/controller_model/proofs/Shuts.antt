@@ -1,10 +1,12 @@
 -- The links that are shut are noted where they are overdue, and at a Reset.
-use Rattle.std.proofs.Common.{◌≡◌, ℕ, zero, suc, ◌+◌, ◌*◌, ◌≤◌, ◌==◌, Bool, true, false, Option, Some, None, List, [], ◌∷◌, ◌++◌, cond, map, refl, sym, ap, ◌∙◌, subst, arith}
+use Rattle.std.proofs.Common.{◌≡◌, ℕ, zero, suc, ◌+◌, ◌==◌, Bool, true, false, Option, Some, None, List, [], ◌∷◌, ◌++◌, cond, map, refl, sym, ap, ◌∙◌, subst, arith}
 use Rattle.std.specs.Prelude.{◌↔◌, All, ⊤, flat_map, if◌then◌else◌}
 use Rattle.std.specs.List.{AllByRecursion, Contains}
 use Rattle.std.proofs.lemmas.Bool.{eqb-true, leb-true, le-leb}
 use Rattle.std.proofs.lemmas.List.Elements.{All-append, All-cons, All-contains, All-nil, Contains-append_left, Contains-append_right}
-use Rattle.ble_base.specs.ErrorCodes.{connection_timeout, connection_not_established}
+use Rattle.std.specs.Option.{option_map}
+use Rattle.ble_base.specs.ErrorCodes.{connection_timeout, connection_not_established, terminated_by_local_host}
+use Rattle.ble_base.specs.declared.error_codes.ErrCode.{ErrCode}
 use Rattle.ble_base.specs.declared.notes.Note.{Note}
 use Rattle.ble_base.specs.declared.notes.Note.TheVariants.{Shut}
 use Rattle.h4_frames.specs.declared.packet.HostPacket.TheVariants.{Command as HostCommand, Acl}
@@ -17,143 +19,235 @@ use Rattle.hci_cmd.specs.declared.command.CmdRead.TheVariants.{Known, UnknownOpc
 use Rattle.hci_cmd.specs.Command.{command_of}
 use Rattle.hci_evt.specs.declared.event.Event.TheVariants.{HardwareError}
 use Rattle.host_view.specs.Unbuilt.{status_of}
-use Rattle.instants.specs.Track.{next_number}
-use Rattle.instants.specs.declared.indications.Params.{Params}
+use Rattle.host_view.specs.View.{View}
+use Rattle.control_end.specs.Answers.{timeout_of}
+use Rattle.control_end.specs.Held.{held_of}
 use Rattle.link_model.specs.declared.events.Reception.{Reception}
-use Rattle.link_model.specs.End.{applied_notes}
-use Rattle.link_model.specs.Times.{has_failed, has_timed_out, reason_due}
-use Rattle.link_model.proofs.InEvents.{past_in}
+use Rattle.link_model.specs.Lost.{has_failed, has_timed_out, reason_due}
+use Rattle.link_model.specs.declared.state.Leaving.{Leaving}
+use Rattle.link_model.specs.Facts.{Facts as EndFacts, params_of}
+use Rattle.link_model.specs.Times.{ended_by_procedures, first_of, termination_due}
 use Rattle.open_links.specs.declared.ended.LinkEnded.{LinkEnded}
-use Rattle.open_links.specs.OpenLinks.{Links, OpenLink, facts_in, handles_from, link_at, link_from}
-use Rattle.open_links.specs.Turns.{IsAmong, end_by, ends_from, is_anchor, notes_entering, notes_if, reason_at, reason_in}
+use Rattle.open_links.specs.OpenLinks.{Links, OpenLink, HaveHandles, facts_in, handles_from, link_at, link_from}
+use Rattle.open_links.specs.Ended.{IsAmong, end_by}
+use Rattle.open_links.specs.Turns.{due_in, ending_in, ends_by, reason_at}
 use Rattle.open_links.proofs.Ends.{due_is_among}
 use Rattle.controller_model.specs.Step.{Step, HostOctet, TurnBegins, PacketHeard, NothingHeard, TurnEnds}
 use Rattle.controller_model.specs.Facts.{Setup, Facts}
 use Rattle.controller_model.specs.Answers.{answer_to}
 use Rattle.controller_model.specs.Commands.{events_caused, notes_before, notes_commanded, notes_known}
-use Rattle.controller_model.specs.Data.{offer_of}
+use Rattle.controller_model.specs.Data.{facts_handed, notes_handed, offer_of}
+use Rattle.controller_model.specs.Entering.{notes_all_entering}
 use Rattle.controller_model.specs.Events.{notes_of_events}
 use Rattle.controller_model.specs.Host.{commands_accepted_after, commands_accepted_by, commands_accepted_in}
-use Rattle.controller_model.specs.Links.{ends_in, facts_ending, note_shut, notes_ended, notes_ending, notes_reset}
-use Rattle.controller_model.specs.Shutting.{IsOverdue, not_established, timed_out, IsShut, overdue, reset}
+use Rattle.controller_model.specs.Links.{ends_for, facts_ending, note_shut, notes_ended, notes_ending, notes_leaving, notes_reset}
+use Rattle.controller_model.specs.Shutting.{IsHeardInTime, IsOverdue, not_established, timed_out, unanswered, not_acknowledged, IsLeaving, acknowledged, failed, ended_by_peer, IsShut, overdue, leaving, reset}
 use Rattle.controller_model.specs.Outcome.{notes_passed}
 use Rattle.controller_model.specs.Radio.{outcome_begun}
 use Rattle.controller_model.specs.Side.{facts_of, notes_after, notes_fed, result_of}
-use Rattle.controller_model.proofs.LinkNotes.{AreIn, IsOfOthers, all_in, doing_too, ended_turn_too, ends_too, events_too, first_in, offered_too, phase_too, rest_in}
+use Rattle.controller_model.proofs.Always.{ending_is, facts_ended}
+use Rattle.controller_model.proofs.EndNotes.{entered_each}
+use Rattle.controller_model.proofs.Handles.{own_handles}
+use Rattle.controller_model.proofs.LinkNotes.{AreIn, IsOfOthers, all_in, doing_too, ended_turn_too, ends_too, entering_too, events_too, first_in, offered_too, phase_too, rest_in}
 use Rattle.controller_model.proofs.Phases.{heard_is, unheard_is}
 
--- ---- the reason for which a link ends
-
-params_of : (link : OpenLink) → ((facts_in link).parameters.params.interval ≡ link.setup.link.fields.interval)
-    × ((facts_in link).parameters.params.timeout ≡ link.setup.link.fields.timeout)
-params_of link =
-    let params = (past_in link.setup link.past).params in
-    (ap (λ (p : Params). p.interval) params, ap (λ (p : Params). p.timeout) params)
+-- ---- the reason for which a link ends as a turn begins
 
 module _ (slot : ℕ) (link : OpenLink) (reason : ℕ) where
-  failed_by : (failed : Bool) → (facts_in link).last_good ≡ None
-      → has_failed link.setup.opened (facts_in link).parameters.params.interval slot ≡ failed
-      → (if failed then Some connection_not_established else None) ≡ Some reason → IsOverdue slot link reason
-  failed_by true nothing failed is =
-      let passed : link.setup.opened + 6 * (facts_in link).parameters.params.interval ≤ slot = leb-true _ _ failed in
-      let code : connection_not_established ≡ reason = cc in
-      not_established nothing (subst (λ (n : ℕ). link.setup.opened + 6 * n ≤ slot) (params_of link).0 passed) (sym code)
-  failed_by false nothing failed is = absurd cc
+  abbrev held : EndFacts
+  held = facts_in link
 
-  timed_by : (timed : Bool) (good : Reception) → (facts_in link).last_good ≡ Some good
-      → has_timed_out good.slot (facts_in link).parameters.params.timeout slot ≡ timed
+  abbrev timeout : Option ErrCode
+  timeout = timeout_of slot (held_of held.control)
+
+  failed_by : (has : Bool) → held.last_good ≡ None
+      → has_failed link.setup.opened (params_of held).interval slot ≡ has
+      → (if has then Some connection_not_established else None) ≡ Some reason → IsOverdue slot link reason
+  failed_by true nothing has is =
+      let code : connection_not_established ≡ reason = cc in
+      not_established nothing (leb-true _ _ has) (sym code)
+  failed_by false nothing has is = absurd cc
+
+  timed_by : (timed : Bool) (good : Reception) → held.last_good ≡ Some good
+      → has_timed_out good.slot (params_of held).timeout slot ≡ timed
       → (if timed then Some connection_timeout else None) ≡ Some reason → IsOverdue slot link reason
   timed_by true good last timed is =
-      let passed : good.slot + 8 * (facts_in link).parameters.params.timeout ≤ slot = leb-true _ _ timed in
       let code : connection_timeout ≡ reason = cc in
-      timed_out good last (subst (λ (n : ℕ). good.slot + 8 * n ≤ slot) (params_of link).1 passed) (sym code)
+      timed_out good last (leb-true _ _ timed) (sym code)
   timed_by false good last timed is = absurd cc
 
-  overdue_by : (good : Option Reception) → (facts_in link).last_good ≡ good
-      → reason_due link.setup.opened (facts_in link).parameters.params good slot ≡ Some reason → IsOverdue slot link reason
-  overdue_by None nothing is =
-      failed_by (has_failed link.setup.opened (facts_in link).parameters.params.interval slot) nothing refl is
-  overdue_by (Some good) last is = timed_by (has_timed_out good.slot (facts_in link).parameters.params.timeout slot) good last refl is
+  unheard_by : (good : Option Reception) → held.last_good ≡ good
+      → reason_due link.setup.opened (params_of held) good slot ≡ Some reason → IsOverdue slot link reason
+  unheard_by None nothing is = failed_by (has_failed link.setup.opened (params_of held).interval slot) nothing refl is
+  unheard_by (Some good) last is = timed_by (has_timed_out good.slot (params_of held).timeout slot) good last refl is
 
-  overdue_is : reason_in slot link ≡ Some reason → IsOverdue slot link reason
-  overdue_is is = overdue_by (facts_in link).last_good refl is
+  ended_by_host : (timed : Bool) (since : ℕ) → IsHeardInTime slot link → timeout ≡ None → held.leaving.disconnected ≡ Some since
+      → has_timed_out since (params_of held).timeout slot ≡ timed
+      → (if timed then Some terminated_by_local_host else None) ≡ Some reason → IsOverdue slot link reason
+  ended_by_host true since heard answered ended timed is =
+      let code : terminated_by_local_host ≡ reason = cc in
+      not_acknowledged since heard answered ended (leb-true _ _ timed) (sym code)
+  ended_by_host false since heard answered ended timed is = absurd cc
 
-  reason_is : IsOverdue slot link reason → reason_in slot link ≡ Some reason
+  left_by : (since : Option ℕ) → IsHeardInTime slot link → timeout ≡ None → held.leaving.disconnected ≡ since
+      → termination_due since (params_of held) slot ≡ Some reason → IsOverdue slot link reason
+  left_by None heard answered ended is = absurd cc
+  left_by (Some since) heard answered ended is =
+      ended_by_host (has_timed_out since (params_of held).timeout slot) since heard answered ended refl is
+
+  answered_by : (code : Option ErrCode) → IsHeardInTime slot link → timeout ≡ code
+      → first_of (option_map (λ (code : ErrCode). code.0) code) (termination_due held.leaving.disconnected (params_of held) slot) ≡ Some reason
+      → IsOverdue slot link reason
+  answered_by None heard answered is = left_by held.leaving.disconnected heard answered refl is
+  answered_by (Some code) heard answered is =
+      let same : code.0 ≡ reason = cc in
+      unanswered code heard answered (sym same)
+
+  heard_by : (first : Option ℕ) → reason_due link.setup.opened (params_of held) held.last_good slot ≡ first
+      → first_of first (first_of (option_map (λ (code : ErrCode). code.0) timeout) (termination_due held.leaving.disconnected (params_of held) slot)) ≡ Some reason
+      → IsOverdue slot link reason
+  heard_by None heard is = answered_by timeout heard refl is
+  heard_by (Some code) heard is = unheard_by held.last_good refl (heard ∙ is)
+
+  overdue_is : due_in slot link ≡ Some reason → IsOverdue slot link reason
+  overdue_is is = heard_by (reason_due link.setup.opened (params_of held) held.last_good slot) refl is
+
+  -- of three reasons the first counts
+  abbrev due_by : Option ℕ → Option ErrCode → Option ℕ → Option ℕ
+  due_by first answered since =
+      first_of first (first_of (option_map (λ (code : ErrCode). code.0) answered) (termination_due since (params_of held) slot))
+
+  first_is : reason_due link.setup.opened (params_of held) held.last_good slot ≡ Some reason → due_in slot link ≡ Some reason
+  first_is is = ap (λ (first : Option ℕ). due_by first timeout held.leaving.disconnected) is
+
+  reason_is : IsOverdue slot link reason → due_in slot link ≡ Some reason
   reason_is (not_established nothing passed code) =
-      let params = (facts_in link).parameters.params in
-      let failed = le-leb _ _ (subst (λ (n : ℕ). link.setup.opened + 6 * n ≤ slot) (sym (params_of link).0) passed) in
-      ap (λ (good : Option Reception). reason_due link.setup.opened params good slot) nothing
-      ∙ ap (λ (test : Bool). if test then Some connection_not_established else None) failed ∙ ap Some (sym code)
+      first_is
+      (ap (λ (good : Option Reception). reason_due link.setup.opened (params_of held) good slot) nothing
+      ∙ ap (λ (test : Bool). if test then Some connection_not_established else None) (le-leb _ _ passed) ∙ ap Some (sym code))
   reason_is (timed_out good last passed code) =
-      let params = (facts_in link).parameters.params in
-      let timed = le-leb _ _ (subst (λ (n : ℕ). good.slot + 8 * n ≤ slot) (sym (params_of link).1) passed) in
-      ap (λ (good : Option Reception). reason_due link.setup.opened params good slot) last
-      ∙ ap (λ (test : Bool). if test then Some connection_timeout else None) timed ∙ ap Some (sym code)
+      first_is
+      (ap (λ (good : Option Reception). reason_due link.setup.opened (params_of held) good slot) last
+      ∙ ap (λ (test : Bool). if test then Some connection_timeout else None) (le-leb _ _ passed) ∙ ap Some (sym code))
+  reason_is (unanswered one heard answered code) =
+      (λ i. due_by (heard i) (answered i) held.leaving.disconnected) ∙ ap Some (sym code)
+  reason_is (not_acknowledged since heard answered ended passed code) =
+      (λ i. due_by (heard i) (answered i) (ended i))
+      ∙ ap (λ (test : Bool). if test then Some terminated_by_local_host else None) (le-leb _ _ passed) ∙ ap Some (sym code)
 
--- ---- as a turn begins: each note of a link that is shut is of one that is overdue
+-- ---- the reason for which a link ends as a turn ends
 
--- the link under this handle is overdue
-record HasOverdue (slot : ℕ) (links : Links) (handle reason : ℕ) : Type 0 where
-  pub link : OpenLink
-  pub is_open : link_at handle links ≡ Some link
-  pub is_overdue : IsOverdue slot link reason
+abbrev number_of : Option ErrCode → Option ℕ
+number_of code = option_map (λ (code : ErrCode). code.0) code
 
+module _ (link : OpenLink) (reason : ℕ) where
+  abbrev left : Leaving
+  left = (facts_in link).leaving
+
+  peer_by : (answered : Bool) (code : Option ErrCode) → left.acknowledged ≡ false → (facts_in link).control.ends ≡ None
+      → left.answered ≡ answered → left.ended_by_peer ≡ code
+      → number_of (if answered then code else None) ≡ Some reason → IsLeaving link reason
+  peer_by true None unacknowledged goes answered ended is = absurd cc
+  peer_by true (Some code) unacknowledged goes answered ended is =
+      let same : code.0 ≡ reason = cc in
+      ended_by_peer code unacknowledged goes answered ended (sym same)
+  peer_by false code unacknowledged goes answered ended is = absurd cc
+
+  procedures_by : (ends : Option ErrCode) → left.acknowledged ≡ false → (facts_in link).control.ends ≡ ends
+      → number_of (ended_by_procedures ends left) ≡ Some reason → IsLeaving link reason
+  procedures_by None unacknowledged goes is = peer_by left.answered left.ended_by_peer unacknowledged goes refl refl is
+  procedures_by (Some code) unacknowledged ends is =
+      let same : code.0 ≡ reason = cc in
+      failed code unacknowledged ends (sym same)
+
+  leaving_by : (is_acked : Bool) → left.acknowledged ≡ is_acked
+      → number_of (if is_acked then Some (record { 0 = terminated_by_local_host }) else ended_by_procedures (facts_in link).control.ends left) ≡ Some reason
+      → IsLeaving link reason
+  leaving_by true is_acked is =
+      let same : terminated_by_local_host ≡ reason = cc in
+      acknowledged is_acked (sym same)
+  leaving_by false unacknowledged is = procedures_by (facts_in link).control.ends unacknowledged refl is
+
+  leaves_is : ending_in link ≡ Some reason → IsLeaving link reason
+  leaves_is is = leaving_by left.acknowledged refl is
+
+  -- by what is acknowledged, what the procedures did, whether a packet was sent since, and what the peer did
+  abbrev end_by_parts : Bool → Option ErrCode → Bool → Option ErrCode → Option ℕ
+  end_by_parts is_acked ends answered code =
+      number_of (if is_acked then Some (record { 0 = terminated_by_local_host })
+      else ended_by_procedures ends (record left { answered = answered; ended_by_peer = code }))
+
+  left_is : IsLeaving link reason → ending_in link ≡ Some reason
+  left_is (acknowledged is_acked code) =
+      ap (λ (test : Bool). end_by_parts test (facts_in link).control.ends left.answered left.ended_by_peer) is_acked ∙ ap Some (sym code)
+  left_is (failed one unacknowledged ends code) =
+      (λ i. end_by_parts (unacknowledged i) (ends i) left.answered left.ended_by_peer) ∙ ap Some (sym code)
+  left_is (ended_by_peer one unacknowledged goes answered ended code) =
+      (λ i. end_by_parts (unacknowledged i) (goes i) (answered i) (ended i)) ∙ ap Some (sym code)
+
+-- ---- each note of a link that is shut then is of one that has a reason
+
+module _ (reason : OpenLink → Option ℕ) (R : OpenLink → ℕ → Type 0) (is_one : (link : OpenLink) (code : ℕ) → reason link ≡ Some code → R link code) where
+  -- the link under this handle has it
+  record HasOne (links : Links) (handle code : ℕ) : Type 0 where
+    pub link : OpenLink
+    pub is_open : link_at handle links ≡ Some link
+    pub has_reason : R link code
+
+  abbrev IsOfOne : Links → Note → Type 0
+  IsOfOne links (Shut handle code) = HasOne links handle code.0
+  IsOfOne links other = ⊤
+
+  abbrev EachOne : Links → List LinkEnded → Type 0
+  EachOne links ended = AllByRecursion (λ one. HasOne links one.handle one.reason.0) ended
+
+  end_one : (code : Option ℕ) (whole : Links) (first : ℕ) (link : OpenLink) (ended : List LinkEnded)
+      → reason link ≡ code → link_at first whole ≡ Some link → EachOne whole ended → EachOne whole (end_by first code ++ ended)
+  end_one None whole first link ended is is_open rest = rest
+  end_one (Some code) whole first link ended is is_open rest =
+      (record { link = link; is_open = is_open; has_reason = is_one link code is }, rest)
+
+  each_one : (whole : Links) (first : ℕ) (links : Links) → AreIn whole first links → EachOne whole (ends_by reason first links)
+  each_one whole first [] are = tt
+  each_one whole first (None ∷ links) are = each_one whole (first + 1) links (rest_in whole first None links are)
+  each_one whole first (Some link ∷ links) are =
+      end_one (reason link) whole first link (ends_by reason (first + 1) links) refl (first_in whole first link links are)
+      (each_one whole (first + 1) links (rest_in whole first (Some link) links are))
+
+  others_one : (links : Links) → IsOfOthers (IsOfOne links)
+  others_one links = record { up = λ octets. tt; opened = λ link. tt; sent = λ handle number llid octets. tt; took = λ handle number llid octets. tt }
+
+-- as a turn begins
 abbrev IsOfOverdue : ℕ → Links → Note → Type 0
-IsOfOverdue slot links (Shut handle reason) = HasOverdue slot links handle reason.0
-IsOfOverdue slot links other = ⊤
+IsOfOverdue slot = IsOfOne (due_in slot) (IsOverdue slot) (overdue_is slot)
 
-abbrev EachOverdue : ℕ → Links → List LinkEnded → Type 0
-EachOverdue slot links ended = AllByRecursion (λ one. HasOverdue slot links one.handle one.reason.0) ended
-
-end_overdue : (reason : Option ℕ) (slot : ℕ) (whole : Links) (first : ℕ) (link : OpenLink) (ended : List LinkEnded)
-    → reason_in slot link ≡ reason → link_at first whole ≡ Some link → EachOverdue slot whole ended
-    → EachOverdue slot whole (end_by first reason ++ ended)
-end_overdue None slot whole first link ended is is_open rest = rest
-end_overdue (Some reason) slot whole first link ended is is_open rest =
-    (record { link = link; is_open = is_open; is_overdue = overdue_is slot link reason is }, rest)
-
-each_overdue : (slot : ℕ) (whole : Links) (first : ℕ) (links : Links) → AreIn whole first links
-    → EachOverdue slot whole (ends_from slot first links)
-each_overdue slot whole first [] are = tt
-each_overdue slot whole first (None ∷ links) are = each_overdue slot whole (first + 1) links (rest_in whole first None links are)
-each_overdue slot whole first (Some link ∷ links) are =
-    end_overdue (reason_in slot link) slot whole first link (ends_from slot (first + 1) links) refl (first_in whole first link links are)
-    (each_overdue slot whole (first + 1) links (rest_in whole first (Some link) links are))
-
-applied_too : (slot : ℕ) (whole : Links) (handle event : ℕ) (number : Option ℕ) → All (IsOfOverdue slot whole) (applied_notes handle event number)
-applied_too slot whole handle event None = All-nil (IsOfOverdue slot whole)
-applied_too slot whole handle event (Some number) = All-cons (IsOfOverdue slot whole) _ [] tt (All-nil (IsOfOverdue slot whole))
-
-entry_too : (anchor : Bool) (slot : ℕ) (whole : Links) (link : OpenLink) → All (IsOfOverdue slot whole) (notes_if anchor slot link)
-entry_too false slot whole link = All-nil (IsOfOverdue slot whole)
-entry_too true slot whole link =
-    All-append (IsOfOverdue slot whole) (applied_notes link.setup.link.handle _ (next_number (facts_in link).parameters)) _
-    (applied_too slot whole link.setup.link.handle _ (next_number (facts_in link).parameters))
-    (All-cons (IsOfOverdue slot whole) _ [] tt (All-nil (IsOfOverdue slot whole)))
-
-entering_too : (slot : ℕ) (whole links : Links) → All (IsOfOverdue slot whole) (notes_entering slot links)
-entering_too slot whole [] = All-nil (IsOfOverdue slot whole)
-entering_too slot whole (None ∷ links) = entering_too slot whole links
-entering_too slot whole (Some link ∷ links) =
-    All-append (IsOfOverdue slot whole) (notes_if (is_anchor slot link) slot link) (notes_entering slot links)
-    (entry_too (is_anchor slot link) slot whole link) (entering_too slot whole links)
-
-others_overdue : (slot : ℕ) (links : Links) → IsOfOthers (IsOfOverdue slot links)
-others_overdue slot links = record { up = λ octets. tt; opened = λ link. tt; sent = λ handle number llid octets. tt; took = λ handle number llid octets. tt }
-
-overdue_noted : (slot : ℕ) (on : Bool) (setup : Setup) (facts : Facts)
+overdue_noted : (slot : ℕ) (on : Bool) (setup : Setup) (facts : Facts) → HaveHandles 0 facts.links
     → All (IsOfOverdue slot facts.links) (notes_after setup facts (TurnBegins slot on))
-overdue_noted slot on setup facts =
+overdue_noted slot on setup facts have =
     let P = IsOfOverdue slot facts.links in
-    let of = others_overdue slot facts.links in
+    let of = others_one (due_in slot) (IsOverdue slot) (overdue_is slot) facts.links in
     let ends = notes_ending slot facts in
-    let enters = notes_entering slot (facts_ending slot facts).links in
+    let enters = notes_all_entering (facts_ending slot facts).view slot 0 (facts_ending slot facts).links in
     All-append P (ends ++ enters) _
     (All-append P ends enters
-    (ends_too P of facts.view (ends_in slot facts)
-    (each_overdue slot facts.links 0 facts.links (all_in facts.links)))
-    (entering_too slot facts.links (facts_ending slot facts).links))
+    (ends_too P of facts.view (ends_for (due_in slot) facts)
+    (each_one (due_in slot) (IsOverdue slot) (overdue_is slot) facts.links 0 facts.links (all_in facts.links)))
+    (subst (λ (next : Facts). All P (notes_all_entering next.view slot 0 next.links)) (sym (ending_is slot facts))
+    (entering_too P (λ event is. tt) slot facts.links
+    (λ handle link has is_open stays enters.
+    entered_each P link.setup slot (facts_in link) (record { applied = λ number. tt; enter = tt; done = λ kind. tt; began = λ kind. tt }))
+    (facts_ended (due_in slot) facts).view 0 facts.links have (all_in facts.links))))
     (doing_too P of (outcome_begun slot on facts).next (outcome_begun slot on facts).facts)
+
+-- as a turn ends
+abbrev IsOfLeaving : Links → Note → Type 0
+IsOfLeaving = IsOfOne ending_in IsLeaving leaves_is
+
+leaving_noted : (setup : Setup) (facts : Facts) → All (IsOfLeaving (facts_handed facts).links) (notes_after setup facts TurnEnds)
+leaving_noted setup facts =
+    let links = (facts_handed facts).links in
+    ended_turn_too (IsOfLeaving links) (others_one ending_in IsLeaving leaves_is links) facts
+    (each_one ending_in IsLeaving leaves_is links 0 links (all_in links))
 
 -- ---- in any other step: each such note is of a link that is open as a Reset is completed
 
@@ -219,25 +313,28 @@ reset_shuts facts step handle reason notes are noted =
     let is = All-contains (IsOfReset (commands_accepted_after facts step) facts.links) notes _ are noted in
     reset is.link is.completed is.is_open is.code
 
-step_shuts : (setup : Setup) (facts : Facts) (step : Step) (handle reason : ℕ)
+step_shuts : (setup : Setup) (facts : Facts) (step : Step) (handle reason : ℕ) → HaveHandles 0 facts.links
     → Contains (notes_after setup facts step) (Shut handle (record { 0 = reason })) → IsShut facts step handle reason
-step_shuts setup facts (HostOctet octet) handle reason noted =
+step_shuts setup facts (HostOctet octet) handle reason have noted =
     reset_shuts facts (HostOctet octet) handle reason _ (fed_too setup facts (result_of facts.octets octet)) noted
-step_shuts setup facts (TurnBegins slot on) handle reason noted =
-    let is = All-contains (IsOfOverdue slot facts.links) (notes_after setup facts (TurnBegins slot on)) _ (overdue_noted slot on setup facts) noted in
-    overdue slot on is.link refl is.is_open is.is_overdue
-step_shuts setup facts (PacketHeard octets) handle reason noted =
+step_shuts setup facts (TurnBegins slot on) handle reason have noted =
+    let is = All-contains (IsOfOverdue slot facts.links) (notes_after setup facts (TurnBegins slot on)) _ (overdue_noted slot on setup facts have) noted in
+    overdue slot on is.link refl is.is_open is.has_reason
+step_shuts setup facts (PacketHeard octets) handle reason have noted =
     let P = IsOfReset [] facts.links in
     reset_shuts facts (PacketHeard octets) handle reason _
-    (heard_is setup facts (λ outcome. All P (notes_passed outcome)) (phase_too P (others_too [] facts.links) setup facts) facts.turn.doing octets refl)
+    (heard_is setup facts (λ outcome. ⊤ → All P (notes_passed outcome))
+    (phase_too P (others_too [] facts.links) (λ handle kind code. tt) (λ handle kind. tt) setup facts) facts.turn.doing octets refl tt)
     noted
-step_shuts setup facts NothingHeard handle reason noted =
+step_shuts setup facts NothingHeard handle reason have noted =
     let P = IsOfReset [] facts.links in
     reset_shuts facts NothingHeard handle reason _
-    (unheard_is setup facts (λ outcome. All P (notes_passed outcome)) (phase_too P (others_too [] facts.links) setup facts) facts.turn.doing refl)
+    (unheard_is setup facts (λ outcome. ⊤ → All P (notes_passed outcome))
+    (phase_too P (others_too [] facts.links) (λ handle kind code. tt) (λ handle kind. tt) setup facts) facts.turn.doing refl tt)
     noted
-step_shuts setup facts TurnEnds handle reason noted =
-    reset_shuts facts TurnEnds handle reason _ (ended_turn_too (IsOfReset [] facts.links) (others_too [] facts.links) facts) noted
+step_shuts setup facts TurnEnds handle reason have noted =
+    let is = All-contains (IsOfLeaving (facts_handed facts).links) (notes_after setup facts TurnEnds) _ (leaving_noted setup facts) noted in
+    leaving is.link refl is.is_open is.has_reason
 
 -- ---- each such link is noted
 
@@ -249,17 +346,31 @@ in_flat_map f (first ∷ xs) x y (zero, inside, same) there =
 in_flat_map f (first ∷ xs) x y (suc n, inside, same) there =
     Contains-append_right (f first) (flat_map f xs) y (in_flat_map f xs x y (n, omega (arith, inside), same) there)
 
+ended_noted : (reason : OpenLink → Option ℕ) (view : View) (links : Links) (handle code : ℕ) (link : OpenLink)
+    → link_at handle links ≡ Some link → reason link ≡ Some code
+    → Contains (flat_map (notes_ended view) (ends_by reason 0 links)) (Shut handle (record { 0 = code }))
+ended_noted reason view links handle code link is_open has =
+    let one : LinkEnded = record { handle = handle; reason = record { 0 = code } } in
+    let among : Contains (ends_by reason 0 links) one =
+    subst (λ (code : Option ℕ). IsAmong handle code (ends_by reason 0 links)) (ap (reason_at reason) is_open ∙ has) (due_is_among reason 0 handle links) in
+    in_flat_map (notes_ended view) (ends_by reason 0 links) one (Shut handle (record { 0 = code })) among (zero, omega arith, refl)
+
 due_noted : (slot : ℕ) (on : Bool) (setup : Setup) (facts : Facts) (handle reason : ℕ) (link : OpenLink)
     → link_at handle facts.links ≡ Some link → IsOverdue slot link reason
     → Contains (notes_after setup facts (TurnBegins slot on)) (Shut handle (record { 0 = reason }))
 due_noted slot on setup facts handle reason link is_open due =
-    let one : LinkEnded = record { handle = handle; reason = record { 0 = reason } } in
-    let reason_at_it = ap (reason_at slot) is_open ∙ reason_is slot link reason due in
-    let among : Contains (ends_in slot facts) one =
-    subst (λ (reason : Option ℕ). IsAmong handle reason (ends_in slot facts)) reason_at_it (due_is_among slot 0 handle facts.links) in
-    Contains-append_left (notes_ending slot facts ++ notes_entering slot (facts_ending slot facts).links) _ _
-    (Contains-append_left (notes_ending slot facts) (notes_entering slot (facts_ending slot facts).links) _
-    (in_flat_map (notes_ended facts.view) (ends_in slot facts) one (Shut handle (record { 0 = reason })) among (zero, omega arith, refl)))
+    let enters = notes_all_entering (facts_ending slot facts).view slot 0 (facts_ending slot facts).links in
+    Contains-append_left (notes_ending slot facts ++ enters) _ _
+    (Contains-append_left (notes_ending slot facts) enters _
+    (ended_noted (due_in slot) facts.view facts.links handle reason link is_open (reason_is slot link reason due)))
+
+-- as a turn ends
+left_noted : (setup : Setup) (facts : Facts) (handle reason : ℕ) (link : OpenLink)
+    → link_at handle (facts_handed facts).links ≡ Some link → IsLeaving link reason
+    → Contains (notes_after setup facts TurnEnds) (Shut handle (record { 0 = reason }))
+left_noted setup facts handle reason link is_open leaves =
+    Contains-append_right (notes_handed facts) (notes_leaving (facts_handed facts)) _
+    (ended_noted ending_in facts.view (facts_handed facts).links handle reason link is_open (left_is link reason leaves))
 
 -- at a Reset
 later_noted : (place : Option OpenLink) (first : ℕ) (links : Links) (note : Note)
@@ -321,6 +432,9 @@ shut_is_noted : (setup : Setup) (facts : Facts) (step : Step) (handle reason : �
 shut_is_noted setup facts step handle reason (overdue slot on link begins is_open due) =
     subst (λ (step : Step). Contains (notes_after setup facts step) (Shut handle (record { 0 = reason }))) (sym begins)
     (due_noted slot on setup facts handle reason link is_open due)
+shut_is_noted setup facts step handle reason (leaving link ends is_open leaves) =
+    subst (λ (step : Step). Contains (notes_after setup facts step) (Shut handle (record { 0 = reason }))) (sym ends)
+    (left_noted setup facts handle reason link is_open leaves)
 shut_is_noted setup facts step handle reason (reset link completed is_open code) =
     subst (λ (n : ℕ). Contains (notes_after setup facts step) (Shut handle (record { 0 = n }))) (sym code)
     (reset_noted setup facts handle link is_open step completed)
@@ -329,4 +443,5 @@ pub shuts_with_reason : (setup : Setup) (past : List Step) (step : Step) (handle
     → Contains (notes_after setup (facts_of setup past) step) (Shut handle (record { 0 = reason }))
     ↔ IsShut (facts_of setup past) step handle reason
 shuts_with_reason setup past step handle reason =
-    (step_shuts setup (facts_of setup past) step handle reason, shut_is_noted setup (facts_of setup past) step handle reason)
+    let facts = facts_of setup past in
+    (step_shuts setup facts step handle reason (own_handles setup past).handles, shut_is_noted setup facts step handle reason)

@@ -1,46 +1,46 @@
 -- What is noted in turns, note by note: links that are opened, enter events and are shut, and events for the host.
-use Rattle.std.proofs.Common.{◌≡◌, ℕ, ◌+◌, ◌<◌, ◌≤◌, Bool, true, false, Option, Some, None, List, [], ◌∷◌, ◌++◌, length, map, cond, refl, sym, ap, subst, ◌∙◌, arith}
+use Rattle.std.proofs.Common.{◌≡◌, ℕ, ◌+◌, ◌<◌, ◌≤◌, Bool, true, false, Option, Some, None, List, [], ◌∷◌, ◌++◌, length, map, cond, refl, sym, subst, ◌∙◌, arith}
 use Rattle.std.specs.Prelude.{◌&&◌, All, IfSome, ⊤, flat_map}
-use Rattle.std.proofs.lemmas.List.Elements.{All-append, All-cons, All-nil}
+use Rattle.std.proofs.lemmas.List.Elements.{All-append, All-cons, All-from_recursion, All-nil}
 use Rattle.acl_banks.specs.declared.pieces.Piece.{Piece}
+use Rattle.ble_base.specs.declared.error_codes.ErrCode.{ErrCode}
 use Rattle.ble_base.specs.declared.notes.Note.{Note}
-use Rattle.ble_base.specs.declared.notes.Note.TheVariants.{Up, Enter, Sent, Took}
+use Rattle.ble_base.specs.declared.notes.Note.TheVariants.{Up, Applied, Began, Done, Enter, Refused, Sent, Took}
+use Rattle.ble_base.specs.declared.procedure_kinds.Kind.{Kind}
 use Rattle.adv_pdu.specs.declared.pdu.AdvPdu.{AdvPdu}
 use Rattle.hci_evt.specs.declared.event.Event.{Event}
 use Rattle.hci_evt.specs.declared.event.Event.TheVariants.{DisconnectionComplete, CompletedPackets, ConnectionComplete, AdvertisingReport, EnhancedConnection, ChannelSelection}
 use Rattle.hci_evt.specs.Event.{mask_bit_of, written}
 use Rattle.host_view.specs.View.{View}
-use Rattle.instants.specs.declared.track.Change.{Change}
-use Rattle.instants.specs.Track.{next_number, number_if_due}
-use Rattle.link_model.proofs.InEvents.{past_in}
 use Rattle.link_model.specs.declared.setup.LinkSetup.{LinkSetup}
-use Rattle.link_model.specs.Acknowledgement.{Pdu}
-use Rattle.link_model.specs.Facts.{Facts as EndFacts}
-use Rattle.link_model.specs.Packets.{good_pdu, pdu_of}
-use Rattle.link_model.specs.Step.{PacketReceived}
-use Rattle.link_model.specs.End.{applied_notes, sent_notes_if, took_notes, took_notes_if}
+use Rattle.link_model.specs.Packets.{good_pdu}
 use Rattle.scan_init.specs.declared.reports.ReportKind.{ReportKind}
 use Rattle.scan_init.specs.declared.scanner.ScanAnswer.{ScanAnswer}
 use Rattle.scan_init.specs.Reports.{does_ask, kind_of, scan_answer}
 use Rattle.open_links.specs.declared.ended.LinkEnded.{LinkEnded}
 use Rattle.open_links.specs.declared.offers.Completed.{Completed}
-use Rattle.open_links.specs.Data.{completed_from}
-use Rattle.open_links.specs.OpenLinks.{Links, OpenLink, HaveHandles, facts_in, handles_from, link_after, link_at}
-use Rattle.open_links.specs.Turns.{end_by, ends_from, is_anchor, links_staying, notes_entering, notes_if, reason_in}
+use Rattle.open_links.specs.Data.{completed_from, link_reported, links_reported}
+use Rattle.open_links.specs.OpenLinks.{Links, OpenLink, HaveHandles, facts_in, handles_from, link_at}
+use Rattle.open_links.specs.Ended.{end_by}
+use Rattle.open_links.specs.Turns.{due_in, ending_in, ends_by, links_without}
 use Rattle.controller_model.specs.Step.{Step, HostOctet, TurnBegins, PacketHeard, NothingHeard, TurnEnds}
 use Rattle.controller_model.specs.Facts.{Setup, Facts}
 use Rattle.controller_model.specs.Events.{notes_of_events, passes}
 use Rattle.controller_model.specs.declared.doing.Doing.{Doing}
 use Rattle.controller_model.specs.declared.doing.Doing.TheVariants.{Advertises, CentralSends, PeripheralSends}
-use Rattle.controller_model.specs.Data.{event_completed, note_received}
-use Rattle.controller_model.specs.Heard.{asks_if, does_report, events_reported, has_room, link_received, link_taken, notes_taken, replies_in, reply_if, report_event, report_events, scanner_after, with_scanner}
-use Rattle.controller_model.specs.Links.{connection_complete, facts_ending, note_opened, note_shut, notes_ended, notes_ending, notes_opened, wants_enhanced}
+use Rattle.controller_model.specs.Data.{event_completed, facts_handed, note_received, notes_handed}
+use Rattle.controller_model.specs.Entering.{notes_all_entering}
+use Rattle.controller_model.specs.Heard.{asks_if, does_report, events_received, events_reported, has_room, link_received, link_taken, notes_taken, replies_in, reply_if, report_event, report_events, scanner_after, with_scanner}
+use Rattle.controller_model.specs.Links.{connection_complete, facts_ending, note_opened, note_shut, notes_ended, notes_ending, notes_leaving, notes_opened, wants_enhanced}
 use Rattle.controller_model.specs.Outcome.{notes_passed}
 use Rattle.controller_model.specs.Packets.{notes_doing, notes_sent}
 use Rattle.controller_model.specs.Side.{notes_after}
-use Rattle.controller_model.proofs.Always.{IsInTurn, begun_doing, ending_is}
-use Rattle.controller_model.proofs.Handles.{HaveOwnHandles, IsNew, below_at, change_opens, free_is_new, handles_kept, staying_opens}
+use Rattle.controller_model.proofs.Always.{IsInTurn, begun_doing, ending_is, facts_ended}
+use Rattle.controller_model.proofs.EndNotes.{entered_each, received_each, sent_each}
+use Rattle.controller_model.proofs.Handles.{HaveOwnHandles, IsNew, below_at, free_is_new, handles_kept, mapped_opens, receiving_opens, reported_same}
+use Rattle.controller_model.proofs.LinkNotes.{all_in, entering_too, procedures_too}
 use Rattle.controller_model.proofs.Phases.{EachOutcome, heard_is, unheard_is}
+use Rattle.controller_model.proofs.ProcedureEvents.{IsOfProcedure, reception_events}
 
 -- the events that a turn can cause
 abbrev pub IsOfTurn : Event → Type 0
@@ -50,7 +50,7 @@ IsOfTurn (ConnectionComplete status handle role peer_kind peer interval latency 
 IsOfTurn (AdvertisingReport kind address_kind address report rssi) = ⊤
 IsOfTurn (EnhancedConnection status handle role peer_kind peer local other interval latency timeout accuracy) = ⊤
 IsOfTurn (ChannelSelection handle algorithm) = ⊤
-IsOfTurn other = ⊥
+IsOfTurn other = IsOfProcedure other
 
 -- a fact of each note of a turn
 pub record EachNote (most : ℕ) (P : Note → Type 0) : Type 0 where
@@ -59,13 +59,21 @@ pub record EachNote (most : ℕ) (P : Note → Type 0) : Type 0 where
   pub opened : (link : LinkSetup) → link.handle < most → P (note_opened link)
   pub shut : (handle reason : ℕ) → handle < most → P (note_shut handle reason)
   pub entered : (handle event channel : ℕ) → handle < most → P (Enter handle (record { 0 = event }) channel)
+  pub applied : (handle number event : ℕ) → handle < most → P (Applied handle number (record { 0 = event }))
+  pub began : (handle : ℕ) (kind : Kind) → handle < most → P (Began handle kind)
+  pub refused : (handle : ℕ) (kind : Kind) (code : ErrCode) → handle < most → P (Refused handle kind code)
+  pub done : (handle : ℕ) (kind : Kind) → handle < most → P (Done handle kind)
   pub sent : (handle number llid : ℕ) (octets : List ℕ) → handle < most → P (Sent handle number llid (record { items = octets }))
   pub took : (handle number llid : ℕ) (octets : List ℕ) → handle < most → P (Took handle number llid (record { items = octets }))
 
-none_applied : (link : OpenLink) → next_number (facts_in link).parameters ≡ None
-none_applied link =
-    let t = (facts_in link).parameters in
-    ap (λ (waits : Option Change). number_if_due waits t.entered t.applied) (past_in link.setup link.past).free
+of_turn : (event : Event) → IsOfProcedure event → IsOfTurn event
+of_turn (DisconnectionComplete status handle reason) is = absurd is
+of_turn (CompletedPackets handle count) is = absurd is
+of_turn (ConnectionComplete status handle role peer_kind peer interval latency timeout accuracy) is = absurd is
+of_turn (AdvertisingReport kind address_kind address report rssi) is = absurd is
+of_turn (EnhancedConnection status handle role peer_kind peer local other interval latency timeout accuracy) is = absurd is
+of_turn (ChannelSelection handle algorithm) is = absurd is
+of_turn other is = is
 
 module _ (most : ℕ) (P : Note → Type 0) (each : EachNote most P) where
   both : (xs ys : List Note) → All P xs → All P ys → All P (xs ++ ys)
@@ -103,66 +111,56 @@ module _ (most : ℕ) (P : Note → Type 0) (each : EachNote most P) where
       both (notes_ended view (record { handle = handle; reason = record { 0 = reason } })) (flat_map (notes_ended view) others)
       (All-cons P _ _ (each.shut handle reason below) (event_noted view (DisconnectionComplete 0 handle reason) tt)) noted
 
-  ends_noted : (view : View) (slot first : ℕ) (links : Links) → first + length links ≤ most
-      → All P (flat_map (notes_ended view) (ends_from slot first links))
-  ends_noted view slot first [] room = All-nil P
-  ends_noted view slot first (None ∷ links) room = ends_noted view slot (first + 1) links (omega arith)
-  ends_noted view slot first (Some link ∷ links) room =
-      end_noted view first (reason_in slot link) (ends_from slot (first + 1) links) (omega arith)
-      (ends_noted view slot (first + 1) links (omega arith))
-
-  -- ---- links that enter an event
-
-  -- no indication takes effect, since none waits
-  applied_noted : (handle event : ℕ) (link : OpenLink) → All P (applied_notes handle event (next_number (facts_in link).parameters))
-  applied_noted handle event link =
-      subst (λ number. All P (applied_notes handle event number)) (sym (none_applied link)) (All-nil P)
-
-  entry_noted : (anchor : Bool) (slot : ℕ) (link : OpenLink) → link.setup.link.handle < most → All P (notes_if anchor slot link)
-  entry_noted false slot link below = All-nil P
-  entry_noted true slot link below =
-      both (applied_notes link.setup.link.handle _ (next_number (facts_in link).parameters)) _
-      (applied_noted link.setup.link.handle _ link)
-      (All-cons P _ [] (each.entered link.setup.link.handle _ _ below) (All-nil P))
-
-  entering_noted : (slot first : ℕ) (links : Links) → first + length links ≤ most → HaveHandles first links
-      → All P (notes_entering slot links)
-  entering_noted slot first [] room have = All-nil P
-  entering_noted slot first (None ∷ links) room have = entering_noted slot (first + 1) links (omega arith) have.1
-  entering_noted slot first (Some link ∷ links) room have =
-      let below : first < most = omega arith in
-      both (notes_if (is_anchor slot link) slot link) (notes_entering slot links)
-      (entry_noted (is_anchor slot link) slot link (subst (λ n. n < most) (sym have.0) below))
-      (entering_noted slot (first + 1) links (omega arith) have.1)
-
-  -- ---- data
-
-  sent_if : (noted : Bool) (handle : ℕ) (facts : EndFacts) → handle < most → All P (sent_notes_if noted handle facts)
-  sent_if true handle facts below = All-cons P _ [] (each.sent handle _ _ _ below) (All-nil P)
-  sent_if false handle facts below = All-nil P
-
-  sent_noted : (slot : ℕ) (found : Option OpenLink) → IfSome found (λ link. link.setup.link.handle < most) → All P (notes_sent slot found)
-  sent_noted slot None below = All-nil P
-  sent_noted slot (Some link) below = sent_if _ link.setup.link.handle (facts_in link) below
-
-  took_if : (noted : Bool) (handle : ℕ) (pdu : Pdu) (facts : EndFacts) → handle < most → All P (took_notes_if noted handle pdu facts)
-  took_if true handle pdu facts below = All-cons P _ [] (each.took handle _ _ _ below) (All-nil P)
-  took_if false handle pdu facts below = All-nil P
-
-  took_by : (handle : ℕ) (room : Bool) (found : Option (List ℕ)) (facts : EndFacts) → handle < most → All P (took_notes handle room found facts)
-  took_by handle room None facts below = All-nil P
-  took_by handle room (Some pdu) facts below = took_if _ handle (pdu_of pdu) facts below
-
-  took_noted : (slot : ℕ) (room : Bool) (found : Option OpenLink) (octets : List ℕ) → IfSome found (λ link. link.setup.link.handle < most)
-      → All P (notes_taken slot room found octets)
-  took_noted slot room None octets below = All-nil P
-  took_noted slot room (Some link) octets below = took_by link.setup.link.handle room (good_pdu link.setup (facts_in link) octets) (facts_in link) below
+  ends_noted : (view : View) (reason : OpenLink → Option ℕ) (first : ℕ) (links : Links) → first + length links ≤ most
+      → All P (flat_map (notes_ended view) (ends_by reason first links))
+  ends_noted view reason first [] room = All-nil P
+  ends_noted view reason first (None ∷ links) room = ends_noted view reason (first + 1) links (omega arith)
+  ends_noted view reason first (Some link ∷ links) room =
+      end_noted view first (reason link) (ends_by reason (first + 1) links) (omega arith)
+      (ends_noted view reason (first + 1) links (omega arith))
 
   below_most : (handle : ℕ) (links : Links) → HaveHandles 0 links → length links ≡ most
       → IfSome (link_at handle links) (λ link. link.setup.link.handle < most)
   below_most handle links have many =
       subst (λ n. IfSome (link_at handle links) (λ link. link.setup.link.handle < n)) (let same : 0 + length links ≡ most = omega (arith, many) in same)
       (below_at handle links have)
+
+  -- ---- links that enter an event
+
+  entering_noted : (view : View) (slot : ℕ) (links : Links) → HaveHandles 0 links → length links ≡ most
+      → All P (notes_all_entering view slot 0 (links_without (due_in slot) links))
+  entering_noted view slot links have many =
+      entering_too P (λ event is. each.up event (of_turn event is)) slot links
+      (λ handle link has is_open stays enters.
+      let own = link.setup.link.handle in
+      let below : own < most = subst (λ found. IfSome found (λ link. link.setup.link.handle < most)) is_open (below_most handle links have many) in
+      entered_each P link.setup slot (facts_in link) (record {
+        applied = λ number. each.applied own number _ below;
+        enter = each.entered own _ _ below;
+        done = λ kind. each.done own kind below;
+        began = λ kind. each.began own kind below;
+      }))
+      view 0 links have (all_in links)
+
+  -- ---- data
+
+  sent_noted : (slot : ℕ) (found : Option OpenLink) → IfSome found (λ link. link.setup.link.handle < most) → All P (notes_sent slot found)
+  sent_noted slot None below = All-nil P
+  sent_noted slot (Some link) below =
+      All-from_recursion P _
+      (sent_each P link.setup (facts_in link) (λ number llid octets. each.sent link.setup.link.handle number llid octets below))
+
+  took_noted : (slot : ℕ) (room : Bool) (found : Option OpenLink) (octets : List ℕ) → IfSome found (λ link. link.setup.link.handle < most)
+      → All P (notes_taken slot room found octets)
+  took_noted slot room None octets below = All-nil P
+  took_noted slot room (Some link) octets below =
+      let handle = link.setup.link.handle in
+      All-from_recursion P _
+      (received_each P link.setup slot room (good_pdu link.setup (facts_in link) octets) (facts_in link) (record {
+        took = λ number llid octets. each.took handle number llid octets below;
+        refused = λ kind code. each.refused handle kind code below;
+        done = λ kind. each.done handle kind below;
+      }))
 
   doing_noted : (doing : Doing) (facts : Facts) → HaveHandles 0 facts.links → length facts.links ≡ most → All P (notes_doing doing facts)
   doing_noted (CentralSends handle) facts have many =
@@ -240,12 +238,16 @@ module _ (most : ℕ) (P : Note → Type 0) (each : EachNote most P) where
             own.handles many);
         connects = λ channel octets pdu on access handle doing is_on hears answers next free in_range. nothing;
         received = λ handle octets.
+            let slot = facts.turn.slot in
             let room = has_room setup facts in
-            let after = link_received handle room octets facts in
-            let opens = change_opens handle (link_after (PacketReceived facts.turn.slot octets room)) facts.links (λ link. refl) in
-            both (notes_taken facts.turn.slot room (link_at handle facts.links) octets) _
-            (took_noted facts.turn.slot room (link_at handle facts.links) octets (below_most handle facts.links own.handles many))
-            (doing_noted (reply_if (replies_in (link_at handle facts.links) octets) handle) after (opens.handles own.handles) (opens.many ∙ many));
+            let place = link_at handle facts.links in
+            let opens = receiving_opens handle room octets facts in
+            both (notes_taken slot room place octets ++ notes_of_events facts.view (events_received handle slot room place octets)) _
+            (both (notes_taken slot room place octets) _ (took_noted slot room place octets (below_most handle facts.links own.handles many))
+            (procedures_too P (λ event is. each.up event (of_turn event is)) facts.view (events_received handle slot room place octets)
+            (reception_events handle slot room place octets)))
+            (doing_noted (reply_if (replies_in slot room place octets) handle) (link_received handle room octets facts) (opens.handles own.handles)
+            (opens.many ∙ many));
       }
 
   -- ---- step by step
@@ -254,12 +256,12 @@ module _ (most : ℕ) (P : Note → Type 0) (each : EachNote most P) where
       → All P (notes_after setup facts step)
   turn_noted setup facts (HostOctet octet) is own turn = absurd turn
   turn_noted setup facts (TurnBegins slot on) is own turn =
-      let stay = staying_opens slot facts.links in
-      both (notes_ending slot facts ++ notes_entering slot (facts_ending slot facts).links) _
-      (both (notes_ending slot facts) (notes_entering slot (facts_ending slot facts).links)
-      (ends_noted facts.view slot 0 facts.links (omega (arith, own.many, is)))
-      (subst (λ (next : Facts). All P (notes_entering slot next.links)) (sym (ending_is slot facts))
-      (entering_noted slot 0 (links_staying slot facts.links) (omega (arith, own.many, stay.many, is)) (stay.handles own.handles))))
+      let ending = notes_ending slot facts in
+      let entering = notes_all_entering (facts_ending slot facts).view slot 0 (facts_ending slot facts).links in
+      both (ending ++ entering) _
+      (both ending entering (ends_noted facts.view (due_in slot) 0 facts.links (omega (arith, own.many, is)))
+      (subst (λ (next : Facts). All P (notes_all_entering next.view slot 0 next.links)) (sym (ending_is slot facts))
+      (entering_noted (facts_ended (due_in slot) facts).view slot facts.links own.handles (own.many ∙ is))))
       (begun_doing (HaveOwnHandles setup) (HaveOwnHandles setup) (handles_kept setup).turns.starts (λ doing facts. All P (notes_doing doing facts))
       (λ doing facts may own. doing_noted doing facts own.handles (own.many ∙ is)) slot on facts own)
   turn_noted setup facts (PacketHeard octets) is own turn =
@@ -267,4 +269,8 @@ module _ (most : ℕ) (P : Note → Type 0) (each : EachNote most P) where
   turn_noted setup facts NothingHeard is own turn =
       unheard_is setup facts (λ outcome. All P (notes_passed outcome)) (phase_noted setup facts is own) facts.turn.doing refl
   turn_noted setup facts TurnEnds is own turn =
-      both (map note_received facts.received) _ (pieces_noted facts.received) (completed_noted facts.view (completed_from 0 facts.links))
+      let many : length facts.links ≡ most = own.many ∙ is in
+      let after : length (links_reported facts.links) ≡ most = (mapped_opens link_reported facts.links reported_same).many ∙ many in
+      both (notes_handed facts) (notes_leaving (facts_handed facts))
+      (both (map note_received facts.received) _ (pieces_noted facts.received) (completed_noted facts.view (completed_from 0 facts.links)))
+      (ends_noted facts.view ending_in 0 (links_reported facts.links) (omega (arith, after)))

@@ -27,20 +27,20 @@ use Rattle.host_view.specs.Unbuilt.{status_of}
 use Rattle.scan_init.specs.Reports.{ScannerFacts, does_ask, scan_answer}
 use Rattle.slot_plan.specs.declared.Activity.{Activity}
 use Rattle.slot_plan.specs.declared.Activity.TheVariants.{Link, Advertise, Scan, Initiate}
-use Rattle.instants.specs.Track.{next_number}
 use Rattle.link_model.specs.declared.setup.LinkSetup.{LinkSetup}
-use Rattle.link_model.specs.Acknowledgement.{Pdu}
-use Rattle.link_model.specs.Delivery.{notes_from as end_notes_from, notes_of as end_notes_of}
-use Rattle.link_model.specs.End.{applied_notes, facts_after as end_after, facts_of as end_facts, notes_after as end_notes, sent_notes_if, took_notes, took_notes_if}
+use Rattle.link_model.specs.End.{notes_from as end_notes_from, notes_of as end_notes_of}
+use Rattle.link_model.specs.End.{facts_after as end_after, notes_after as end_notes}
 use Rattle.link_model.specs.Facts.{Facts as EndFacts, first_facts as first_end}
-use Rattle.link_model.specs.Packets.{good_pdu, pdu_of}
+use Rattle.link_model.specs.Packets.{good_pdu}
 use Rattle.link_model.specs.Setup.{Setup as EndSetup}
-use Rattle.link_model.specs.Step.{Step as EndStep, DataGiven, EventEntered, PduFixed, PacketSent, PacketReceived, DataReported}
+use Rattle.link_model.specs.Step.{Step as EndStep, DataGiven, EventEntered, PduFixed, PacketSent, PacketReceived, RequestAnswered, DataReported}
+use Rattle.link_model.proofs.Pasts.{notes_grow}
 use Rattle.open_links.specs.Data.{complete_in, completed_from, link_reported, links_reported}
 use Rattle.open_links.specs.declared.offers.Offer.{Offer}
 use Rattle.open_links.specs.declared.offers.Offer.TheVariants.{NoLink, Empty, Overflow, Kept}
 use Rattle.open_links.specs.OpenLinks.{Links, OpenLink, HasHandle, HaveHandles, facts_in, handles_from, link_after, link_at, link_from, link_served, new_link, with_change, with_link}
-use Rattle.open_links.specs.Turns.{end_by, ends_from, entered_if, is_anchor, link_entered, links_entered, links_staying, notes_entering, notes_if, place_staying, reason_in, staying_by}
+use Rattle.open_links.specs.Ended.{end_by}
+use Rattle.open_links.specs.Turns.{due_in, ending_in, ends_by, entered_if, enters_in, link_entered, links_without, notes_entering, notes_if, place_without, staying_by}
 use Rattle.open_links.proofs.Ends.{stay_with_handles, stays_where_not_due}
 use Rattle.open_links.proofs.UnderHandles.{map_at}
 use Rattle.open_links.proofs.Handles.{changed_is, has_its_handle, opened_at, other_stays}
@@ -50,20 +50,22 @@ use Rattle.controller_model.specs.Step.{Step, HostOctet, TurnBegins, PacketHeard
 use Rattle.controller_model.specs.Facts.{Setup, Facts, first_facts}
 use Rattle.controller_model.specs.Answers.{answer_to}
 use Rattle.controller_model.specs.Commands.{events_caused, facts_commanded, facts_known, links_after, notes_before, notes_commanded, notes_known}
-use Rattle.controller_model.specs.Data.{event_completed, facts_offered, note_received, notes_ended_turn, notes_offered, offer_of}
+use Rattle.controller_model.specs.Data.{event_completed, facts_ended_turn, facts_handed, facts_offered, note_received, notes_ended_turn, notes_handed, notes_offered, offer_of}
 use Rattle.controller_model.specs.Events.{notes_of_events, passes}
-use Rattle.controller_model.specs.Heard.{asks_if, events_reported, has_room, link_heard, link_received, link_taken, notes_taken, opens, replies_in, reply_if, scanner_after, with_scanner}
-use Rattle.controller_model.specs.Links.{events_opened, note_opened, note_shut, notes_ended, notes_ending, notes_opened}
+use Rattle.controller_model.specs.Heard.{asks_if, events_received, events_reported, has_room, link_heard, link_received, link_taken, links_refusing, notes_taken, opens, replies_in, reply_if, scanner_after, with_scanner}
+use Rattle.controller_model.specs.Links.{events_opened, note_opened, note_shut, notes_ended, notes_ending, notes_leaving, notes_opened}
 use Rattle.controller_model.specs.Outcome.{Outcome, facts_passed, notes_passed}
 use Rattle.controller_model.specs.Packets.{facts_doing, links_sending, notes_doing, notes_sent}
 use Rattle.controller_model.specs.Radio.{fixing, links_fixing, outcome_begun}
 use Rattle.controller_model.specs.Side.{facts_after, facts_fed, facts_of, notes_after, notes_fed, notes_from, notes_of, result_of}
 use Rattle.controller_model.specs.Since.{AreOfShutLink, is_under, note_under, notes_opened_on, notes_under, opens_under, was_opened}
-use Rattle.controller_model.proofs.Always.{ending_is, facts_before_doing, holds_step, left_entering, links_won, opening_passes, served_is, winner_before_doing}
+use Rattle.controller_model.proofs.Always.{ending_is, facts_before_doing, facts_ended, holds_step, leaving_is, left_entering, links_won, opening_passes, served_is, winner_before_doing}
 use Rattle.controller_model.proofs.Books.{by_handle, is_not}
-use Rattle.controller_model.proofs.Handles.{HaveOwnHandles, IsNew, change_opens, free_is_new, handles_kept, own_handles}
+use Rattle.controller_model.proofs.EndNotes.{both_each, entered_each, received_each, sent_each}
+use Rattle.controller_model.proofs.Handles.{HaveOwnHandles, IsNew, free_is_new, handles_kept, mapped_opens, own_handles, receiving_opens, reported_same}
 use Rattle.controller_model.proofs.Phases.{EachOutcome, heard_is, unheard_is}
-use Rattle.controller_model.proofs.Places.{at_changed}
+use Rattle.controller_model.proofs.Places.{at_changed, refusal, refuses_at}
+use Rattle.controller_model.specs.Entering.{all_entered, events_entering, notes_all_entering}
 
 -- ---- lists of notes
 
@@ -106,54 +108,29 @@ pub record IsOn (own : ℕ) (note : Note) : Type 0 where
 abbrev pub AreOn : ℕ → List Note → Type 0
 AreOn own notes = AllByRecursion (IsOn own) notes
 
-both_on : (own : ℕ) (xs ys : List Note) → AreOn own xs → AreOn own ys → AreOn own (xs ++ ys)
-both_on own [] ys are also = also
-both_on own (x ∷ xs) ys are also = (are.0, both_on own xs ys are.1 also)
-
-applied_on : (own event : ℕ) (number : Option ℕ) → AreOn own (applied_notes own event number)
-applied_on own event None = tt
-applied_on own event (Some number) = (record { opens = λ handle. refl; under = λ handle. refl }, tt)
-
-sent_on : (noted : Bool) (own : ℕ) (facts : EndFacts) → AreOn own (sent_notes_if noted own facts)
-sent_on true own facts = (record { opens = λ handle. refl; under = λ handle. refl }, tt)
-sent_on false own facts = tt
-
-took_on : (noted : Bool) (own : ℕ) (pdu : Pdu) (facts : EndFacts) → AreOn own (took_notes_if noted own pdu facts)
-took_on true own pdu facts = (record { opens = λ handle. refl; under = λ handle. refl }, tt)
-took_on false own pdu facts = tt
-
-found_on : (own : ℕ) (room : Bool) (found : Option (List ℕ)) (facts : EndFacts) → AreOn own (took_notes own room found facts)
-found_on own room None facts = tt
-found_on own room (Some pdu) facts = took_on _ own (pdu_of pdu) facts
-
 -- what an end notes in a step is of its link
 step_on : (setup : EndSetup) (facts : EndFacts) (step : EndStep) → AreOn setup.link.handle (end_notes setup facts step)
-step_on setup facts (DataGiven start body) = tt
 step_on setup facts (EventEntered slot) =
-    both_on setup.link.handle (applied_notes setup.link.handle _ (next_number facts.parameters)) _
-    (applied_on setup.link.handle _ (next_number facts.parameters)) (record { opens = λ handle. refl; under = λ handle. refl }, tt)
-step_on setup facts PduFixed = tt
-step_on setup facts (PacketSent slot) = sent_on _ setup.link.handle facts
-step_on setup facts (PacketReceived slot octets room) = found_on setup.link.handle room (good_pdu setup facts octets) facts
-step_on setup facts DataReported = tt
-
--- what an end notes over one more step
-ended_from : (setup : EndSetup) (facts : EndFacts) (past : List EndStep) (step : EndStep)
-    → end_notes_from setup facts (past ++ step ∷ []) ≡ end_notes_from setup facts past ++ end_notes setup (fold (end_after setup) facts past) step
-ended_from setup facts [] step = append-nil (end_notes setup facts step)
-ended_from setup facts (first ∷ past) step =
-    ap (λ rest. end_notes setup facts first ++ rest) (ended_from setup (end_after setup facts first) past step)
-    ∙ sym (append_assoc (end_notes setup facts first) _ _)
-
-notes_grow : (setup : EndSetup) (past : List EndStep) (step : EndStep)
-    → end_notes_of setup (past ++ step ∷ []) ≡ end_notes_of setup past ++ end_notes setup (end_facts setup past) step
-unfolding end_notes_of end_facts
-notes_grow setup past step = ended_from setup (first_end setup) past step
+    entered_each (IsOn setup.link.handle) setup slot facts (record {
+      applied = λ number. record { opens = λ handle. refl; under = λ handle. refl };
+      enter = record { opens = λ handle. refl; under = λ handle. refl };
+      done = λ kind. record { opens = λ handle. refl; under = λ handle. refl };
+      began = λ kind. record { opens = λ handle. refl; under = λ handle. refl };
+    })
+step_on setup facts (PacketSent slot) =
+    sent_each (IsOn setup.link.handle) setup facts (λ number llid octets. record { opens = λ handle. refl; under = λ handle. refl })
+step_on setup facts (PacketReceived slot octets room) =
+    received_each (IsOn setup.link.handle) setup slot room (good_pdu setup facts octets) facts (record {
+      took = λ number llid octets. record { opens = λ handle. refl; under = λ handle. refl };
+      refused = λ kind code. record { opens = λ handle. refl; under = λ handle. refl };
+      done = λ kind. record { opens = λ handle. refl; under = λ handle. refl };
+    })
+step_on setup facts other = tt
 
 from_on : (setup : EndSetup) (facts : EndFacts) (past : List EndStep) → AreOn setup.link.handle (end_notes_from setup facts past)
 from_on setup facts [] = tt
 from_on setup facts (step ∷ past) =
-    both_on setup.link.handle (end_notes setup facts step) (end_notes_from setup (end_after setup facts step) past) (step_on setup facts step)
+    both_each (IsOn setup.link.handle) (end_notes setup facts step) (end_notes_from setup (end_after setup facts step) past) (step_on setup facts step)
     (from_on setup (end_after setup facts step) past)
 
 -- and so is all that it notes
@@ -336,9 +313,9 @@ module _ (handle : ℕ) where
   abbrev notes_by_end : View → ℕ → Option ℕ → List Note
   notes_by_end view first reason = flat_map (notes_ended view) (end_by first reason)
 
-  abbrev ended_notes : View → ℕ → ℕ → Option OpenLink → List Note
-  ended_notes view slot first None = []
-  ended_notes view slot first (Some link) = notes_by_end view first (reason_in slot link)
+  abbrev ended_notes : View → (OpenLink → Option ℕ) → ℕ → Option OpenLink → List Note
+  ended_notes view reason first None = []
+  ended_notes view reason first (Some link) = notes_by_end view first (reason link)
 
   by_end_else : (view : View) (first : ℕ) (reason : Option ℕ) → first ≢ handle → AreElse (notes_by_end view first reason)
   by_end_else view first None differs = tt
@@ -360,53 +337,75 @@ module _ (handle : ℕ) where
         notes_are = ap (λ b. cond b (notes ++ note_shut handle reason ∷ []) notes) (eq-eqb handle handle refl) ∙ ap (λ xs. xs ++ note_shut handle reason ∷ []) is.1;
       }))
 
-  ends_together : (view : View) (slot : ℕ) → GoTogether (place_staying slot) (ended_notes view slot)
-  ends_together view slot = record { none = refl; apart = apart; here = here }
+  ends_together : (view : View) (reason : OpenLink → Option ℕ) → GoTogether (place_without reason) (ended_notes view reason)
+  ends_together view reason = record { none = refl; apart = apart; here = here }
     where
-      apart : (first : ℕ) (place : Option OpenLink) → HasHandle first place → first ≢ handle → AreElse (ended_notes view slot first place)
+      apart : (first : ℕ) (place : Option OpenLink) → HasHandle first place → first ≢ handle → AreElse (ended_notes view reason first place)
       apart first None has differs = tt
-      apart first (Some link) has differs = by_end_else view first (reason_in slot link) differs
+      apart first (Some link) has differs = by_end_else view first (reason link) differs
 
-      here : (place : Option OpenLink) (notes : List Note) → IsNoted place notes → IsNotedAfter (place_staying slot place) notes (ended_notes view slot handle place)
+      here : (place : Option OpenLink) (notes : List Note) → IsNoted place notes → IsNotedAfter (place_without reason place) notes (ended_notes view reason handle place)
       here None notes is = is
-      here (Some link) notes is = end_here view (reason_in slot link) link notes is
+      here (Some link) notes is = end_here view (reason link) link notes is
 
-  ended_are : (view : View) (slot first : ℕ) (links : Links) → notes_from_places (ended_notes view slot) first links ≡ flat_map (notes_ended view) (ends_from slot first links)
-  ended_are view slot first [] = refl
-  ended_are view slot first (None ∷ links) = ended_are view slot (first + 1) links
-  ended_are view slot first (Some link ∷ links) =
-      ap (λ xs. notes_by_end view first (reason_in slot link) ++ xs) (ended_are view slot (first + 1) links)
-      ∙ sym (flat_map-append (notes_ended view) (end_by first (reason_in slot link)) (ends_from slot (first + 1) links))
+  ended_are : (view : View) (reason : OpenLink → Option ℕ) (first : ℕ) (links : Links)
+      → notes_from_places (ended_notes view reason) first links ≡ flat_map (notes_ended view) (ends_by reason first links)
+  ended_are view reason first [] = refl
+  ended_are view reason first (None ∷ links) = ended_are view reason (first + 1) links
+  ended_are view reason first (Some link ∷ links) =
+      ap (λ xs. notes_by_end view first (reason link) ++ xs) (ended_are view reason (first + 1) links)
+      ∙ sym (flat_map-append (notes_ended view) (end_by first (reason link)) (ends_by reason (first + 1) links))
+
+  -- what is noted as they end
+  ends_noted : (view : View) (reason : OpenLink → Option ℕ) (links : Links) (notes : List Note) → HaveHandles 0 links → IsNoted (link_at handle links) notes
+      → IsNotedAfter (link_at handle (links_without reason links)) notes (flat_map (notes_ended view) (ends_by reason 0 links))
+  ends_noted view reason links notes have is =
+      subst (λ place. IsNotedAfter place notes (flat_map (notes_ended view) (ends_by reason 0 links))) (sym (stays_where_not_due reason 0 handle links))
+      (subst (IsNotedAfter (place_without reason (link_at handle links)) notes) (ended_are view reason 0 links)
+      (places_noted (place_without reason) (ended_notes view reason) (ends_together view reason) 0 links notes have is))
 
   -- links enter their events
-  abbrev entered_notes : ℕ → ℕ → Option OpenLink → List Note
-  entered_notes slot first None = []
-  entered_notes slot first (Some link) = notes_if (is_anchor slot link) slot link
+  abbrev entered_notes : View → ℕ → ℕ → Option OpenLink → List Note
+  entered_notes view slot first place = notes_entering slot place ++ notes_of_events view (events_entering slot first place)
 
-  enters_together : (slot : ℕ) → GoTogether (option_map (link_entered slot)) (entered_notes slot)
-  enters_together slot = record { none = refl; apart = apart; here = here }
+  enters_together : (view : View) (slot : ℕ) → GoTogether (option_map (link_entered slot)) (entered_notes view slot)
+  enters_together view slot = record { none = refl; apart = apart; here = here }
     where
-      else_if : (anchor : Bool) (link : OpenLink) → link.setup.link.handle ≢ handle → AreElse (notes_if anchor slot link)
+      else_if : (enters : Bool) (link : OpenLink) → link.setup.link.handle ≢ handle → AreElse (notes_if enters slot link)
       else_if true link differs =
           on_else link.setup.link.handle (end_notes link.setup (facts_in link) (EventEntered slot)) differs (step_on link.setup (facts_in link) (EventEntered slot))
       else_if false link differs = tt
 
-      apart : (first : ℕ) (place : Option OpenLink) → HasHandle first place → first ≢ handle → AreElse (entered_notes slot first place)
-      apart first None has differs = tt
-      apart first (Some link) has differs = else_if (is_anchor slot link) link (λ same. differs (sym has ∙ same))
+      place_apart : (first : ℕ) (place : Option OpenLink) → HasHandle first place → first ≢ handle → AreElse (notes_entering slot place)
+      place_apart first None has differs = tt
+      place_apart first (Some link) has differs = else_if (enters_in slot link) link (λ same. differs (sym has ∙ same))
 
-      here_if : (anchor : Bool) (link : OpenLink) (notes : List Note) → IsNoted (Some link) notes → IsNotedAfter (Some (entered_if anchor slot link)) notes (notes_if anchor slot link)
+      apart : (first : ℕ) (place : Option OpenLink) → HasHandle first place → first ≢ handle → AreElse (entered_notes view slot first place)
+      apart first place has differs =
+          let events = events_entering slot first place in
+          both_else (notes_entering slot place) (notes_of_events view events) (place_apart first place has differs) (events_else view events)
+
+      here_if : (enters : Bool) (link : OpenLink) (notes : List Note) → IsNoted (Some link) notes → IsNotedAfter (Some (entered_if enters slot link)) notes (notes_if enters slot link)
       here_if true link notes is = step_noted (EventEntered slot) link notes is
       here_if false link notes is = is
 
-      here : (place : Option OpenLink) (notes : List Note) → IsNoted place notes → IsNotedAfter (option_map (link_entered slot) place) notes (entered_notes slot handle place)
-      here None notes is = is
-      here (Some link) notes is = here_if (is_anchor slot link) link notes is
+      place_here : (place : Option OpenLink) (notes : List Note) → IsNoted place notes
+          → IsNotedAfter (option_map (link_entered slot) place) notes (notes_entering slot place)
+      place_here None notes is = is
+      place_here (Some link) notes is = here_if (enters_in slot link) link notes is
 
-  entered_are : (slot first : ℕ) (links : Links) → notes_from_places (entered_notes slot) first links ≡ notes_entering slot links
-  entered_are slot first [] = refl
-  entered_are slot first (None ∷ links) = entered_are slot (first + 1) links
-  entered_are slot first (Some link ∷ links) = ap (λ xs. notes_if (is_anchor slot link) slot link ++ xs) (entered_are slot (first + 1) links)
+      here : (place : Option OpenLink) (notes : List Note) → IsNoted place notes → IsNotedAfter (option_map (link_entered slot) place) notes (entered_notes view slot handle place)
+      here place notes is =
+          let after = option_map (link_entered slot) place in
+          let entering = notes_entering slot place in
+          let events = events_entering slot handle place in
+          and_then after notes entering (notes_of_events view events)
+          (packets_noted after (then_noted notes entering) view events (place_here place notes is))
+
+  entered_are : (view : View) (slot first : ℕ) (links : Links)
+      → notes_from_places (entered_notes view slot) first links ≡ notes_all_entering view slot first links
+  entered_are view slot first [] = refl
+  entered_are view slot first (place ∷ links) = ap (λ xs. entered_notes view slot first place ++ xs) (entered_are view slot (first + 1) links)
 
   -- a Reset shuts all
   abbrev reset_notes : ℕ → Option OpenLink → List Note
@@ -503,23 +502,23 @@ module _ (handle : ℕ) where
     turn_noted slot on facts notes own is =
         let starts = (handles_kept setup).turns.starts in
         let outcome = outcome_begun slot on facts in
-        let staying = links_staying slot facts.links in
+        let staying = links_without (due_in slot) facts.links in
+        let view = (facts_ended (due_in slot) facts).view in
         let ending = notes_ending slot facts in
-        let entering = notes_entering slot staying in
-        let ended = subst (λ place. IsNotedAfter place notes ending) (sym (stays_where_not_due slot 0 handle facts.links))
-        (subst (IsNotedAfter (place_staying slot (link_at handle facts.links)) notes) (ended_are facts.view slot 0 facts.links)
-        (places_noted (place_staying slot) (ended_notes facts.view slot) (ends_together facts.view slot) 0 facts.links notes own.handles is)) in
+        let entering = notes_all_entering view slot 0 staying in
         let ended_notes = then_noted notes ending in
         let entered = subst (λ place. IsNotedAfter place ended_notes entering) (sym (map_at (option_map (link_entered slot)) 0 handle staying refl))
-        (subst (IsNotedAfter (option_map (link_entered slot) (link_at handle staying)) ended_notes) (entered_are slot 0 staying)
-        (places_noted (option_map (link_entered slot)) (entered_notes slot) (enters_together slot) 0 staying ended_notes (stay_with_handles slot 0 facts.links own.handles) ended)) in
+        (subst (IsNotedAfter (option_map (link_entered slot) (link_at handle staying)) ended_notes) (entered_are view slot 0 staying)
+        (places_noted (option_map (link_entered slot)) (entered_notes view slot) (enters_together view slot) 0 staying ended_notes
+        (stay_with_handles (due_in slot) 0 facts.links own.handles) (ends_noted facts.view (due_in slot) facts.links notes own.handles is))) in
         let all = then_noted ended_notes entering in
         let before : IsLeft all (facts_before_doing slot facts) = record {
           own = left_entering (HaveOwnHandles setup) starts.ends starts.begins starts.enters starts.wins starts.fixes slot facts own;
-          is = subst (λ (ended : Facts). IsNoted (link_at handle (links_entered slot ended.links)) all) (sym (ending_is slot facts)) entered;
+          is = subst (λ (ended : Facts). IsNoted (link_at handle (all_entered slot ended.links)) all) (sym (ending_is slot facts)) entered;
         } in
-        subst (λ (links : Links). IsNotedAfter (link_at handle (facts_passed outcome).links) notes (ending ++ notes_entering slot links ++ notes_doing outcome.next outcome.facts))
-        (sym (ap (λ (ended : Facts). ended.links) (ending_is slot facts)))
+        subst (λ (ended : Facts). IsNotedAfter (link_at handle (facts_passed outcome).links) notes
+        (ending ++ notes_all_entering ended.view slot 0 ended.links ++ notes_doing outcome.next outcome.facts))
+        (sym (ending_is slot facts))
         (and_then (link_at handle (facts_passed outcome).links) notes (ending ++ entering) (notes_doing outcome.next outcome.facts)
         (subst (λ xs. IsNotedAfter (link_at handle (facts_passed outcome).links) xs (notes_doing outcome.next outcome.facts)) (sym (fold-append (note_under handle) notes ending entering))
         (served_is (IsLeft all)
@@ -564,16 +563,29 @@ module _ (handle : ℕ) where
     taken_are slot room octets None = refl
     taken_are slot room octets (Some link) = refl
 
+    -- a request that is refused at once
+    refusing_noted : (refuses : Bool) (other : ℕ) (links : Links) (notes : List Note) → IsNoted (link_at handle links) notes
+        → IsNoted (link_at handle (links_refusing refuses other links)) notes
+    refusing_noted true other links notes is = silent_at (RequestAnswered refusal) other links notes (λ setup facts. refl) is
+    refusing_noted false other links notes is = is
+
     heard_noted : (other : ℕ) (octets : List ℕ) (facts : Facts) (notes : List Note) → HaveOwnHandles setup facts → IsNoted (link_at handle facts.links) notes
         → IsKeptBy notes (link_heard setup other octets facts)
     heard_noted other octets facts notes own is =
+        let slot = facts.turn.slot in
         let room = has_room setup facts in
-        let step = PacketReceived facts.turn.slot octets room in
-        let opens = change_opens other (link_after step) facts.links (λ link. refl) in
+        let step = PacketReceived slot octets room in
         let place = link_at other facts.links in
-        reply_noted (replies_in place octets) other (link_received other room octets facts) notes (notes_taken facts.turn.slot room place octets) (opens.handles own.handles)
-        (subst (IsNotedAfter (link_at handle (with_change other (link_after step) facts.links)) notes) (taken_are facts.turn.slot room octets place)
-        (step_at step other facts.links notes own.handles is))
+        let taken = notes_taken slot room place octets in
+        let events = events_received other slot room place octets in
+        let after = link_received other room octets facts in
+        let heard = refusing_noted (refuses_at other room octets facts) other (with_change other (link_after step) facts.links) (then_noted notes taken)
+        (subst (IsNotedAfter (link_at handle (with_change other (link_after step) facts.links)) notes) (taken_are slot room octets place)
+        (step_at step other facts.links notes own.handles is)) in
+        reply_noted (replies_in slot room place octets) other after notes (taken ++ notes_of_events facts.view events)
+        ((receiving_opens other room octets facts).handles own.handles)
+        (and_then (link_at handle after.links) notes taken (notes_of_events facts.view events)
+        (packets_noted (link_at handle after.links) (then_noted notes taken) facts.view events heard))
 
     phase_noted : (facts : Facts) (notes : List Note) → HaveOwnHandles setup facts → IsNoted (link_at handle facts.links) notes → EachOutcome setup facts (IsKeptBy notes)
     phase_noted facts notes own is = record {
@@ -600,13 +612,23 @@ module _ (handle : ℕ) where
     reported_noted None notes is = is
     reported_noted (Some link) notes is = reported_if (nat_lt 0 (complete_in link)) link notes is
 
-    ended_noted : (facts : Facts) (notes : List Note) → IsNoted (link_at handle facts.links) notes → IsNotedAfter (link_at handle (links_reported facts.links)) notes (notes_ended_turn facts)
-    ended_noted facts notes is =
+    handed_noted : (facts : Facts) (notes : List Note) → IsNoted (link_at handle facts.links) notes → IsNotedAfter (link_at handle (links_reported facts.links)) notes (notes_handed facts)
+    handed_noted facts notes is =
         let handed = map note_received facts.received in
         let events = map event_completed (completed_from 0 facts.links) in
-        elsewhere (link_at handle (links_reported facts.links)) notes (notes_ended_turn facts)
+        elsewhere (link_at handle (links_reported facts.links)) notes (notes_handed facts)
         (both_else handed (notes_of_events facts.view events) (pieces_else facts.received) (events_else facts.view events))
         (subst (λ place. IsNoted place notes) (sym (map_at (option_map link_reported) 0 handle facts.links refl)) (reported_noted (link_at handle facts.links) notes is))
+
+    -- then links end
+    ended_noted : (facts : Facts) (notes : List Note) → HaveOwnHandles setup facts → IsNoted (link_at handle facts.links) notes
+        → IsNotedAfter (link_at handle (facts_ended_turn facts).links) notes (notes_ended_turn facts)
+    ended_noted facts notes own is =
+        let handed = facts_handed facts in
+        let have = (mapped_opens link_reported facts.links reported_same).handles own.handles in
+        subst (λ (next : Facts). IsNotedAfter (link_at handle next.links) notes (notes_ended_turn facts)) (sym (leaving_is handed))
+        (and_then (link_at handle (links_without ending_in handed.links)) notes (notes_handed facts) (notes_leaving handed)
+        (ends_noted handed.view ending_in handed.links (then_noted notes (notes_handed facts)) have (handed_noted facts notes is)))
 
     -- an octet of the host
     known_noted : (accepted : Bool) (facts : Facts) (opcode : ℕ) (command : Command) (notes : List Note) → HaveOwnHandles setup facts → IsNoted (link_at handle facts.links) notes
@@ -654,7 +676,7 @@ module _ (handle : ℕ) where
     step_noted_by (TurnBegins slot on) facts notes own is = turn_noted slot on facts notes own is
     step_noted_by (PacketHeard octets) facts notes own is = heard_is setup facts (IsKeptBy notes) (phase_noted facts notes own is) facts.turn.doing octets refl
     step_noted_by NothingHeard facts notes own is = unheard_is setup facts (IsKeptBy notes) (phase_noted facts notes own is) facts.turn.doing refl
-    step_noted_by TurnEnds facts notes own is = ended_noted facts notes is
+    step_noted_by TurnEnds facts notes own is = ended_noted facts notes own is
 
     -- ---- all steps
 

@@ -25,28 +25,28 @@ use Rattle.advertise.proofs.Takings.{taken_connection}
 use Rattle.scan_init.specs.Initiating.{InitiatorFacts}
 use Rattle.scan_init.specs.Reports.{does_ask, scan_answer}
 use Rattle.link_model.specs.declared.setup.LinkSetup.{LinkSetup}
-use Rattle.link_model.specs.Step.{DataGiven, PacketReceived}
+use Rattle.link_model.specs.Step.{DataGiven}
 use Rattle.open_links.specs.declared.ended.LinkEnded.{LinkEnded}
 use Rattle.open_links.specs.Data.{link_reported}
 use Rattle.open_links.specs.OpenLinks.{Links, OpenLink, free_from, link_after, link_at, new_link, with_link}
-use Rattle.open_links.specs.Turns.{link_entered}
+use Rattle.open_links.specs.Turns.{ending_in, link_entered}
 use Rattle.controller_model.specs.declared.doing.Doing.{Doing}
 use Rattle.controller_model.specs.declared.doing.Doing.TheVariants.{Advertises, AwaitsRequest, Responds, AwaitsResponse, Connects, CentralListens, Rests}
 use Rattle.controller_model.specs.Step.{Step, HostOctet, TurnBegins, PacketHeard, NothingHeard, TurnEnds}
 use Rattle.controller_model.specs.Facts.{Setup, Facts, first_facts}
 use Rattle.controller_model.specs.Commands.{facts_accepted, initiator_after, links_after}
-use Rattle.controller_model.specs.Data.{facts_ended_turn}
+use Rattle.controller_model.specs.Data.{facts_ended_turn, facts_handed}
 use Rattle.controller_model.specs.Heard.{has_room, asks_if, facts_connecting, fields_sent, link_made, link_received, link_taken, replies_in, reply_if, scanner_after, with_scanner}
-use Rattle.controller_model.specs.Links.{ends_in}
 use Rattle.controller_model.specs.Outcome.{facts_passed}
 use Rattle.controller_model.specs.Packets.{facts_doing}
 use Rattle.controller_model.specs.Side.{facts_after, facts_of}
-use Rattle.controller_model.proofs.Always.{IsInTurn, MayBegin, advertising_noted, facts_ended, facts_opening, holds_step, initiating_noted, initiator_stopped, left_doing, links_shut, octet_keeps, opening_passes}
+use Rattle.controller_model.proofs.Always.{IsInTurn, MayBegin, advertising_noted, facts_ended, facts_opening, holds_step, initiating_noted, initiator_stopped, leaving_is, left_doing, links_shut, octet_keeps, opening_passes}
 use Rattle.controller_model.proofs.AdvertisersKnown.{AdvertisersKnown, advertisers_kept, advertisers_known, connectable_known}
 use Rattle.controller_model.proofs.Handles.{HaveOwnHandles, IsNew, free_is_new, handles_kept, own_handles}
-use Rattle.controller_model.proofs.OpenPlaces.{changed_opens, ended_agree, first_opens, fixed_opens, many, many-append, many_full, many_none, many_opened, many_shut, mapped_opens, opened_opens, opens, reset_opens, sent_opens, view_opens, won_opens}
+use Rattle.controller_model.proofs.OpenPlaces.{changed_opens, ended_agree, first_opens, fixed_opens, many, many-append, many_full, many_none, many_opened, many_shut, mapped_opens, opened_opens, opens, received_opens, reset_opens, sent_opens, view_opens, won_opens}
 use Rattle.controller_model.proofs.Phases.{EachOutcome, heard_is, unheard_is}
 use Rattle.controller_model.proofs.Room.{initiates_after, limit_after, may_connect}
+use Rattle.controller_model.specs.Links.{ends_for}
 
 -- ---- what the view tells
 
@@ -239,13 +239,13 @@ module _ (setup : Setup) (few : setup.links ≤ 6) (Room : Bool → ℕ → View
       ))
       (λ facts octet both. ((handles_kept setup).octet facts octet both.0, both.1)) facts octet (own, known)).1
 
-  ended_known : (slot : ℕ) (facts : Facts) → IsKnown Room setup facts → IsKnown Room setup (facts_ended slot facts)
-  ended_known slot facts known = record {
+  ended_known : (reason : OpenLink → Option ℕ) (facts : Facts) → IsKnown Room setup facts → IsKnown Room setup (facts_ended reason facts)
+  ended_known reason facts known = record {
     limit_is = known.limit_is;
-    places = ended_agree slot [] (spare setup) facts.view.links 0 facts.links refl known.places;
+    places = ended_agree reason [] (spare setup) facts.view.links 0 facts.links refl known.places;
     initiates_is = known.initiates_is;
     room = left.fewer (is_some facts.initiator) (many (opens facts.view.links)) _ facts.view.advertising facts.view.limit
-        (shut_fewer facts.view.links (ends_in slot facts)) known.room;
+        (shut_fewer facts.view.links (ends_for reason facts)) known.room;
   }
 
   doing_known : (doing : Doing) (facts : Facts) → IsKnown Room setup facts → IsKnown Room setup (facts_doing doing facts)
@@ -309,11 +309,10 @@ module _ (setup : Setup) (few : setup.links ≤ 6) (Room : Bool → ℕ → View
               subst (λ (initiates : Bool). P initiates link) (sym (ap is_some is_on)) (left.connects link refl),
             );
         received = λ handle octets.
-            let replies = replies_in (link_at handle facts.links) octets in
             let room = has_room setup facts in
-            let change = link_after (PacketReceived facts.turn.slot octets room) in (
+            let replies = replies_in facts.turn.slot room (link_at handle facts.links) octets in (
               doing_known (reply_if replies handle) (link_received handle room octets facts)
-                  (still_known facts _ (changed_opens change handle facts.links) known),
+                  (still_known facts _ (received_opens handle room octets facts) known),
               reply_makes (P (is_some facts.initiator)) replies handle,
             );
       }
@@ -336,4 +335,6 @@ module _ (setup : Setup) (few : setup.links ≤ 6) (Room : Bool → ℕ → View
   turn_known facts NothingHeard turn own both =
       unheard_is setup facts (λ outcome. InTurn (facts_passed outcome)) (passes_known facts own both) facts.turn.doing refl
   turn_known facts TurnEnds turn own both =
-      (doing_known Rests (facts_ended_turn facts) (still_known facts _ (mapped_opens link_reported facts.links) both.0), tt)
+      let handed = still_known facts _ (mapped_opens link_reported facts.links) both.0 in
+      let left = subst (IsKnown Room setup) (sym (leaving_is (facts_handed facts))) (ended_known ending_in (facts_handed facts) handed) in
+      (doing_known Rests (facts_ended_turn facts) left, tt)

@@ -10,6 +10,7 @@ use Rattle.hci_cmd.specs.declared.command.CmdRead.TheVariants.{Known, UnknownOpc
 use Rattle.hci_evt.specs.declared.event.Event.{Event}
 use Rattle.hci_evt.specs.declared.event.Event.TheVariants.{CommandComplete, CommandStatus}
 use Rattle.host_view.specs.Unbuilt.{status_of}
+use Rattle.link_model.specs.Facts.{params_of}
 use Rattle.open_links.specs.OpenLinks.{OpenLink, facts_in, link_at}
 use Rattle.controller_model.specs.Facts.{Setup, Facts}
 
@@ -39,7 +40,7 @@ features = 0x2F ∷ 0x40 ∷ replicate 6 0
 -- the channel map that a link uses (section 7.8.20)
 abbrev pub map_of : Option OpenLink → ℕ
 map_of None = 0
-map_of (Some link) = (facts_in link).parameters.params.map
+map_of (Some link) = (params_of (facts_in link)).map
 
 -- what an accepted command returns after its status (sections 7.3, 7.4 and 7.8); a command on a link returns the handle
 abbrev pub returned : Setup → Facts → Command → List ℕ

@@ -1,5 +1,5 @@
--- Data between a controller and its host: packets of the host, and what the host receives as a turn ends (Core 5.2,
--- volume 4 part E, sections 4.1, 5.4.2, 7.7.19 and 7.7.26).
+-- Data between a controller and its host: packets of the host, what the host receives as a turn ends, and the links that
+-- end then (Core 5.2, volume 4 part E, sections 4.1, 5.4.2, 7.7.19 and 7.7.26; volume 6 part B, section 5.1.6).
 use Rattle.std.specs.Prelude.{ℕ, ◌+◌, ◌==◌, Bool, List, [], ◌∷◌, ◌++◌, length, map, if◌then◌else◌}
 use Rattle.ble_base.specs.declared.notes.Note.{Note}
 use Rattle.ble_base.specs.declared.notes.Note.TheVariants.{Up}
@@ -15,6 +15,7 @@ use Rattle.open_links.specs.Data.{buffers_taken, completed_from, links_given, li
 use Rattle.open_links.specs.OpenLinks.{link_at}
 use Rattle.controller_model.specs.Events.{notes_of_events}
 use Rattle.controller_model.specs.Facts.{Setup, Facts}
+use Rattle.controller_model.specs.Links.{facts_leaving, notes_leaving}
 
 -- ---- a packet of the host
 
@@ -56,10 +57,17 @@ abbrev pub event_completed : Completed → Event
 event_completed completed = CompletedPackets completed.handle completed.count
 
 -- the host receives the pieces that links took, in order, and then which packets are complete, by handle
-abbrev pub notes_ended_turn : Facts → List Note
-notes_ended_turn facts =
+abbrev pub notes_handed : Facts → List Note
+notes_handed facts =
     map note_received facts.received
     ++ notes_of_events facts.view (map event_completed (completed_from 0 facts.links))
 
+abbrev pub facts_handed : Facts → Facts
+facts_handed facts = record facts { links = links_reported facts.links; received = [] }
+
+-- then the links end that are to end
+abbrev pub notes_ended_turn : Facts → List Note
+notes_ended_turn facts = notes_handed facts ++ notes_leaving (facts_handed facts)
+
 abbrev pub facts_ended_turn : Facts → Facts
-facts_ended_turn facts = record facts { links = links_reported facts.links; received = [] }
+facts_ended_turn facts = facts_leaving (facts_handed facts)

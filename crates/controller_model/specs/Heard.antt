@@ -1,9 +1,10 @@
 -- What a controller makes of a phase: of a packet that it heard, or of none (Core 5.2, volume 6 part B, sections 4.4.2
 -- to 4.4.4 and 4.5, and volume 4 part E, section 7.7.65.2).
-use Rattle.std.specs.Prelude.{ℕ, ◌+◌, ◌&&◌, nat_lt, not, Bool, true, false, List, [], ◌∷◌, ◌++◌, length, Option, Some, None, is_some, if◌then◌else◌}
+use Rattle.std.specs.Prelude.{ℕ, ◌+◌, ◌&&◌, nat_lt, not, Bool, true, false, List, [], ◌∷◌, ◌++◌, length, Option, Some, None, is_some, Err, if◌then◌else◌}
 use Rattle.ble_base.specs.declared.addresses.Address.{Address}
 use Rattle.ble_base.specs.declared.notes.Note.{Note}
 use Rattle.ble_base.specs.declared.roles.Role.TheVariants.{Central, Peripheral}
+use Rattle.ble_base.specs.ErrorCodes.{unsupported_remote_feature}
 use Rattle.ble_base.specs.Limits.{payload_octets}
 use Rattle.acl_banks.specs.declared.pieces.Piece.{Piece}
 use Rattle.adv_pdu.specs.declared.pdu.AdvPdu.{AdvPdu}
@@ -15,10 +16,14 @@ use Rattle.advertise.specs.declared.answers.AdvAnswer.TheVariants.{Ignore, Respo
 use Rattle.advertise.specs.Advertising.{AdvertiserFacts}
 use Rattle.advertise.specs.Answers.{advertiser_answer}
 use Rattle.hci_evt.specs.declared.event.Event.{Event}
-use Rattle.hci_evt.specs.declared.event.Event.TheVariants.{AdvertisingReport}
+use Rattle.hci_evt.specs.declared.event.Event.TheVariants.{AdvertisingReport, ParamRequest}
+use Rattle.hci_evt.specs.Event.{mask_bit_of}
+use Rattle.host_view.specs.View.{View}
 use Rattle.link_model.specs.declared.setup.LinkSetup.{LinkSetup}
 use Rattle.link_model.specs.Step.{PacketReceived}
-use Rattle.link_model.specs.End.{notes_after as end_notes, replies_of}
+use Rattle.link_model.specs.End.{notes_after as end_notes}
+use Rattle.link_model.specs.Facts.{params_of}
+use Rattle.link_model.specs.Receiving.{effect_of, replies_of}
 use Rattle.link_model.specs.Kept.{kept_of}
 use Rattle.scan_init.specs.declared.reports.ReportKind.{ReportKind}
 use Rattle.scan_init.specs.declared.scanner.ScanAnswer.{ScanAnswer}
@@ -27,10 +32,15 @@ use Rattle.scan_init.specs.Access.{nth_access}
 use Rattle.scan_init.specs.Initiating.{InitiatorFacts, connect_fields, is_accepted}
 use Rattle.scan_init.specs.Reports.{ScannerFacts, does_ask, event_type, kind_of, last_16, reports_after, scan_answer}
 use Rattle.open_links.specs.OpenLinks.{Links, OpenLink, facts_in, free_from, has_link_between, link_after, link_at, with_change}
+use Rattle.link_end.specs.Answers.{acked_of, given_of}
+use Rattle.open_links.specs.Hosts.{links_answered}
+use Rattle.procedure_stages.specs.declared.steps.Effect.{Effect}
+use Rattle.procedure_stages.specs.declared.steps.Effect.TheVariants.{AskHost, Nothing}
+use Rattle.procedure_events.specs.Calls.{events_of_reception}
 use Rattle.controller_model.specs.declared.doing.Doing.{Doing}
 use Rattle.controller_model.specs.declared.doing.Doing.TheVariants.{Advertises, AwaitsRequest, Responds, Scans, Requests, AwaitsResponse, Initiates, Connects, CentralSends, CentralListens, PeripheralListens, PeripheralSends, Rests}
 use Rattle.controller_model.specs.Answers.{next_word}
-use Rattle.controller_model.specs.Events.{notes_of_events}
+use Rattle.controller_model.specs.Events.{notes_of_events, passes}
 use Rattle.controller_model.specs.Facts.{Setup, Facts}
 use Rattle.controller_model.specs.Links.{address_kind, facts_opened, notes_opened}
 use Rattle.controller_model.specs.Outcome.{Outcome, goes_on}
@@ -207,9 +217,9 @@ initiator_heard (Some on) setup channel pdu facts = connects (link_to setup on p
 
 -- ---- a link that receives (section 4.5)
 
-abbrev pub replies_in : Option OpenLink → List ℕ → Bool
-replies_in None octets = false
-replies_in (Some link) octets = replies_of link.setup (facts_in link) octets
+abbrev pub replies_in : ℕ → Bool → Option OpenLink → List ℕ → Bool
+replies_in slot room None octets = false
+replies_in slot room (Some link) octets = replies_of link.setup (facts_in link) slot octets room
 
 abbrev pub reply_if : Bool → ℕ → Doing
 reply_if true handle = PeripheralSends handle
@@ -220,25 +230,55 @@ abbrev pub has_room : Setup → Facts → Bool
 has_room setup facts = nat_lt (length facts.received) setup.air_buffers
 
 -- the piece of data that a link takes, under its handle, and what it notes
-abbrev pub piece_taken : Bool → Option OpenLink → List ℕ → List (ℕ × Piece)
-piece_taken room None octets = []
-piece_taken room (Some link) octets = kept_of link.setup (facts_in link) octets room
+abbrev pub piece_taken : ℕ → Bool → Option OpenLink → List ℕ → List (ℕ × Piece)
+piece_taken slot room None octets = []
+piece_taken slot room (Some link) octets = kept_of link.setup (facts_in link) slot octets room
 
 abbrev pub notes_taken : ℕ → Bool → Option OpenLink → List ℕ → List Note
 notes_taken slot room None octets = []
 notes_taken slot room (Some link) octets = end_notes link.setup (facts_in link) (PacketReceived slot octets room)
 
+-- what its procedures do with the packet (volume 6 part B, section 5.1)
+abbrev pub effect_in : ℕ → Bool → Option OpenLink → List ℕ → Effect
+effect_in slot room None octets = Nothing
+effect_in slot room (Some link) octets = effect_of link.setup (facts_in link) slot octets room
+
+-- and the events for its host, after that
+abbrev pub events_received : ℕ → ℕ → Bool → Option OpenLink → List ℕ → List Event
+events_received handle slot room None octets = []
+events_received handle slot room (Some link) octets =
+    events_of_reception handle (params_of (facts_in link))
+    (facts_in (link_after (PacketReceived slot octets room) link)).peer (acked_of link.setup (facts_in link) octets)
+    (effect_of link.setup (facts_in link) slot octets room)
+    (given_of link.setup (facts_in link) slot octets room).refused
+    (given_of link.setup (facts_in link) slot octets room).done
+
+-- a request of the peer that the mask withholds from the host is refused at once (section 5.1.7)
+abbrev pub is_refused : View → ℕ → Effect → Bool
+is_refused view handle (AskHost min max latency timeout) =
+    not (passes view (mask_bit_of (ParamRequest handle min max latency timeout)))
+is_refused view handle other = false
+
+abbrev pub links_refusing : Bool → ℕ → Links → Links
+links_refusing refuses handle links =
+    if refuses then links_answered handle (Err (record { 0 = unsupported_remote_feature })) links else links
+
 abbrev pub link_received : ℕ → Bool → List ℕ → Facts → Facts
 link_received handle room octets facts = record facts {
-  links = with_change handle (link_after (PacketReceived facts.turn.slot octets room)) facts.links;
-  received = facts.received ++ piece_taken room (link_at handle facts.links) octets;
+  links =
+      links_refusing
+      (is_refused facts.view handle (effect_in facts.turn.slot room (link_at handle facts.links) octets)) handle
+      (with_change handle (link_after (PacketReceived facts.turn.slot octets room)) facts.links);
+  received = facts.received ++ piece_taken facts.turn.slot room (link_at handle facts.links) octets;
 }
 
 abbrev pub link_hearing : ℕ → Bool → List ℕ → Facts → Outcome
 link_hearing handle room octets facts = record {
   facts = link_received handle room octets facts;
-  notes = notes_taken facts.turn.slot room (link_at handle facts.links) octets;
-  next = reply_if (replies_in (link_at handle facts.links) octets) handle;
+  notes =
+      notes_taken facts.turn.slot room (link_at handle facts.links) octets
+      ++ notes_of_events facts.view (events_received handle facts.turn.slot room (link_at handle facts.links) octets);
+  next = reply_if (replies_in facts.turn.slot room (link_at handle facts.links) octets) handle;
 }
 
 abbrev pub link_heard : Setup → ℕ → List ℕ → Facts → Outcome

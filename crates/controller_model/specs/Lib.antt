@@ -15,9 +15,17 @@ pub mod Sent
 pub mod Intervals
 pub mod Connecting
 pub mod Host
+pub mod Plain
 pub mod Notes
 pub mod Between
 pub mod Since
 pub mod Rows
 pub mod Entering
 pub mod Shutting
+-- what the crates above use of those below
+pub use Rattle.control_end.specs as control_end
+pub use Rattle.link_end.specs as link_end
+pub use Rattle.link_model.specs as link_model
+pub use Rattle.open_links.specs as open_links
+pub use Rattle.procedure_stages.specs as procedure_stages
+pub use Rattle.procedure_values.specs as procedure_values

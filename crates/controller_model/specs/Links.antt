@@ -1,6 +1,6 @@
 -- Links that are opened and shut, and what the host receives of that (Core 5.2, volume 4 part E, sections 7.7.5,
 -- 7.7.65.1, 7.7.65.10 and 7.7.65.20).
-use Rattle.std.specs.Prelude.{ℕ, ◌==◌, Bool, true, false, List, [], ◌∷◌, map, flat_map, fold, replicate, None, if◌then◌else◌}
+use Rattle.std.specs.Prelude.{ℕ, ◌==◌, Bool, true, false, List, [], ◌∷◌, map, flat_map, fold, replicate, Option, None, if◌then◌else◌}
 use Rattle.ble_base.specs.Bits.{has_bit}
 use Rattle.ble_base.specs.declared.addresses.Address.{Address}
 use Rattle.ble_base.specs.declared.notes.Note.{Note}
@@ -15,9 +15,10 @@ use Rattle.link_model.specs.declared.setup.LinkSetup.{LinkSetup}
 use Rattle.slot_plan.specs.declared.Activity.{Activity}
 use Rattle.slot_plan.specs.declared.Activity.TheVariants.{Link, Advertise, Scan, Initiate}
 use Rattle.open_links.specs.declared.ended.LinkEnded.{LinkEnded}
-use Rattle.open_links.specs.Data.{received_past, received_without}
-use Rattle.open_links.specs.OpenLinks.{handles_from, link_at, with_link}
-use Rattle.open_links.specs.Turns.{ends_from, links_staying}
+use Rattle.open_links.specs.Data.{received_past}
+use Rattle.open_links.specs.Ended.{received_without}
+use Rattle.open_links.specs.OpenLinks.{OpenLink, handles_from, link_at, with_link}
+use Rattle.open_links.specs.Turns.{due_in, ending_in, ends_by, links_without}
 use Rattle.controller_model.specs.Events.{notes_of_events}
 use Rattle.controller_model.specs.Facts.{Facts, Radio, free_radio}
 
@@ -107,16 +108,30 @@ facts_shut facts ended = record facts {
   received = received_without ended.handle facts.received;
 }
 
--- the links that end by themselves at the start of a turn in this slot, by ascending handle
-abbrev pub ends_in : ℕ → Facts → List LinkEnded
-ends_in slot facts = ends_from slot 0 facts.links
+-- the links that end for a reason that some links have, by ascending handle
+abbrev pub ends_for : (OpenLink → Option ℕ) → Facts → List LinkEnded
+ends_for reason facts = ends_by reason 0 facts.links
 
+abbrev pub facts_without : (OpenLink → Option ℕ) → Facts → Facts
+facts_without reason facts =
+    fold facts_shut (record facts { links = links_without reason facts.links }) (ends_for reason facts)
+
+abbrev pub notes_without : (OpenLink → Option ℕ) → Facts → List Note
+notes_without reason facts = flat_map (notes_ended facts.view) (ends_for reason facts)
+
+-- those that end at the start of a turn in this slot (volume 6 part B, sections 4.5.2, 5.1.6 and 5.2)
 abbrev pub facts_ending : ℕ → Facts → Facts
-facts_ending slot facts =
-    fold facts_shut (record facts { links = links_staying slot facts.links }) (ends_in slot facts)
+facts_ending slot facts = facts_without (due_in slot) facts
 
 abbrev pub notes_ending : ℕ → Facts → List Note
-notes_ending slot facts = flat_map (notes_ended facts.view) (ends_in slot facts)
+notes_ending slot facts = notes_without (due_in slot) facts
+
+-- and those that end at the end of a turn (section 5.1.6)
+abbrev pub facts_leaving : Facts → Facts
+facts_leaving facts = facts_without ending_in facts
+
+abbrev pub notes_leaving : Facts → List Note
+notes_leaving facts = notes_without ending_in facts
 
 -- a Reset shuts all links, by ascending handle, with code 00 and without an event (section 7.3.2; our choice of the code)
 abbrev pub notes_reset : Facts → List Note

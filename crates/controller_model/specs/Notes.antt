@@ -75,7 +75,7 @@ HasHandleBelow links (Began handle kind) = handle < links
 HasHandleBelow links (Refused handle kind code) = handle < links
 HasHandleBelow links (Done handle kind) = handle < links
 
--- no control procedure begins, ends or is refused, and no indication takes effect (no procedure is built)
+-- no control procedure begins, ends or is refused, and no indication takes effect
 abbrev pub IsOfNoProcedure : Note → Type 0
 IsOfNoProcedure (Applied handle number event) = ⊥
 IsOfNoProcedure (Began handle kind) = ⊥

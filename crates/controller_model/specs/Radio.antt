@@ -14,11 +14,11 @@ use Rattle.slot_plan.specs.declared.Activity.TheVariants.{Link, Advertise, Scan,
 use Rattle.slot_plan.specs.declared.Want.{Want}
 use Rattle.slot_plan.specs.declared.plan.Hold.{Hold}
 use Rattle.slot_plan.specs.Holding.{PlanFacts, is_held_in, winner_of}
-use Rattle.open_links.specs.Data.{links_fixed}
-use Rattle.open_links.specs.OpenLinks.{Links, OpenLink, facts_in, link_at, link_served, with_change}
-use Rattle.open_links.specs.Turns.{links_entered, notes_entering, wants_from}
+use Rattle.link_model.specs.Step.{PduFixed}
+use Rattle.open_links.specs.OpenLinks.{Links, OpenLink, facts_in, in_event, link_after, link_at, link_served, with_change}
 use Rattle.controller_model.specs.declared.doing.Doing.{Doing}
 use Rattle.controller_model.specs.declared.doing.Doing.TheVariants.{Advertises, Scans, Initiates, CentralSends, PeripheralListens, Rests}
+use Rattle.controller_model.specs.Entering.{all_entered, notes_all_entering, wants_from}
 use Rattle.controller_model.specs.Facts.{Facts, Radio}
 use Rattle.controller_model.specs.Links.{facts_ending, notes_ending}
 use Rattle.controller_model.specs.Outcome.{Outcome, goes_on}
@@ -65,7 +65,7 @@ abbrev pub exchange_if : Bool → Role → ℕ → Doing
 exchange_if true role handle = exchange_begins role handle
 exchange_if false role handle = Rests
 
--- the first exchange of an event is in the slot of its anchor
+-- the first exchange of an event is in the slot of its anchor; a link that entered no event yet has none
 abbrev pub first_exchange : ℕ → Option OpenLink → Doing
 first_exchange handle None = Rests
 first_exchange handle (Some link) = exchange_begins link.setup.link.role handle
@@ -94,7 +94,7 @@ initiates_on (Some channel) = Initiates channel
 
 -- what wins a slot
 abbrev pub doing_won : ℕ → Activity → Facts → Doing
-doing_won slot (Link handle) facts = first_exchange handle (link_at handle facts.links)
+doing_won slot (Link handle) facts = first_exchange handle (in_event (link_at handle facts.links))
 doing_won slot Advertise facts = advertises_at 0 facts.advertising.on
 doing_won slot Scan facts = scans_on (scanner_channel slot facts.scanning.on)
 doing_won slot Initiate facts = initiates_on (initiator_channel slot facts.initiator)
@@ -105,7 +105,7 @@ slots_since slot None = 0
 slots_since slot (Some hold) = slot - hold.from.0
 
 abbrev pub doing_held : ℕ → Activity → Facts → Doing
-doing_held slot (Link handle) facts = second_exchange handle (link_at handle facts.links)
+doing_held slot (Link handle) facts = second_exchange handle (in_event (link_at handle facts.links))
 doing_held slot Advertise facts = advertises_at (slots_since slot facts.radio.hold) facts.advertising.on
 doing_held slot Scan facts = Rests
 doing_held slot Initiate facts = Rests
@@ -123,11 +123,16 @@ abbrev pub served_if_on : ℕ → Option AdvertiserFacts → Option AdvertiserFa
 served_if_on slot None = None
 served_if_on slot (Some on) = Some (advertiser_served slot on)
 
+-- the slots for which the event of the link that may be under a handle holds the radio
+abbrev pub span_at : Option OpenLink → ℕ
+span_at None = 0
+span_at (Some link) = span_of (facts_in link)
+
 -- the event of a link, and that of an advertiser, hold the radio; a scanner and an initiator have one slot
 abbrev pub facts_won : ℕ → Activity → Facts → Facts
 facts_won slot (Link handle) facts = record facts {
   links = with_change handle (link_served slot) facts.links;
-  radio = radio_held (Link handle) slot span_of;
+  radio = radio_held (Link handle) slot (span_at (link_at handle facts.links));
 }
 facts_won slot Advertise facts = record facts {
   advertising = record facts.advertising { on = served_if_on slot facts.advertising.on };
@@ -155,12 +160,12 @@ served true slot winner facts = radio_served (is_held_in facts.radio.hold slot) 
 
 -- the links enter their events, whether they get the radio or not
 abbrev pub facts_entering : ℕ → Facts → Facts
-facts_entering slot facts = record facts { links = links_entered slot facts.links }
+facts_entering slot facts = record facts { links = all_entered slot facts.links }
 
 abbrev pub entered : Bool → ℕ → Facts → Outcome
 entered on slot facts =
     record (served on slot (winner_of (plan_in slot facts) slot) (facts_entering slot facts)) {
-      notes = notes_entering slot facts.links;
+      notes = notes_all_entering facts.view slot 0 facts.links;
     }
 
 abbrev pub turn_begins : ℕ → Facts → Facts
@@ -168,8 +173,8 @@ turn_begins slot facts = record facts { turn = record facts.turn { begun = slot 
 
 -- a link that has the radio fixes the PDU that it sends next
 abbrev pub links_fixing : Doing → Links → Links
-links_fixing (CentralSends handle) links = links_fixed handle links
-links_fixing (PeripheralListens handle) links = links_fixed handle links
+links_fixing (CentralSends handle) links = with_change handle (link_after PduFixed) links
+links_fixing (PeripheralListens handle) links = with_change handle (link_after PduFixed) links
 links_fixing other links = links
 
 abbrev pub fixing : Outcome → Outcome

@@ -6,11 +6,12 @@ ghost use Rattle.std.specs.List.{Contains};
 ghost use Rattle.ack_bit.specs.Nonempty.{nonempty};
 ghost use Rattle.ble_base.specs.declared.notes.Note.{Note};
 ghost use Rattle.link_model.specs.Data.{data_of, is_empty};
-ghost use Rattle.link_model.specs.Delivery.{numbered_notes, sent_note, took_note};
+ghost use Rattle.link_model.specs.Numbers.{numbered_notes, sent_note, took_note};
 ghost use Rattle.open_links.specs.Data.{buffers_taken, complete_in};
 ghost use Rattle.open_links.specs.OpenLinks.{OpenLink, facts_in, link_at};
 ghost use Rattle.controller_model.specs.Between.{is_between_turns};
 ghost use Rattle.controller_model.specs.Facts.{Setup};
+ghost use Rattle.controller_model.specs.Shutting.{StaysIn};
 ghost use Rattle.controller_model.specs.Side.{facts_after, facts_of, notes_after, notes_of};
 ghost use Rattle.controller_model.specs.Since.{AreOfShutLink, ReportsInAll, data_up, data_waiting};
 ghost use Rattle.controller_model.specs.Since.{empties_of, notes_opened_on, notes_under, was_opened};
@@ -93,13 +94,15 @@ pub fn complete_packets_are_reported()
 {}
 
 /// What was sent or taken on a link is noted only where the link under that handle is open before
-/// the step and after it, and so are its data and its complete packets given to the host.
+/// the step and after it, and so are its data and its complete packets given to the host. As a turn
+/// ends the host is given these first, and then links end: so after such a step the link is open
+/// where it is not to end then.
 pub fn only_open_links_have_notes()
     ensures before { (setup : Setup) (past : List Step) (step : Step) (note : Note) (handle : ℕ)
         → setup.links ≤ 4096 → Contains (notes_after setup (facts_of setup past) step) note
         → is_data_note handle note ≡ true → IsSome (link_at handle (facts_of setup past).links) }
     ensures after { (setup : Setup) (past : List Step) (step : Step) (note : Note) (handle : ℕ)
         → setup.links ≤ 4096 → Contains (notes_after setup (facts_of setup past) step) note
-        → is_data_note handle note ≡ true
+        → is_data_note handle note ≡ true → StaysIn (facts_of setup past) step handle
         → IsSome (link_at handle (facts_after setup (facts_of setup past) step).links) }
 {}

@@ -27,7 +27,8 @@ ghost use Rattle.host_view.specs.View.{View};
 ghost use Rattle.host_view.specs.declared.view.TheConstants.{MOST_LINKS};
 ghost use Rattle.advertise.specs.Advertising.{AdvertiserFacts};
 ghost use Rattle.link_model.specs.declared.setup.LinkSetup.{LinkSetup};
-ghost use Rattle.open_links.specs.OpenLinks.{free_from, link_at};
+ghost use Rattle.open_links.specs.OpenLinks.{Links, free_from, link_at};
+ghost use Rattle.plain_links.specs.Plain.{ArePlain};
 ghost use Rattle.scan_init.specs.Access.{nth_access};
 ghost use Rattle.scan_init.specs.Initiating.{InitiatorFacts};
 ghost use Rattle.scan_init.specs.Windows.{slots_of};
@@ -39,7 +40,7 @@ ghost use Rattle.controller_model.specs.Answers.{AreOneAnswer, HasNoAnswer, IsAn
 ghost use Rattle.controller_model.specs.Answers.{complete_answer, next_word};
 ghost use Rattle.controller_model.specs.Commands.{facts_commanded};
 ghost use Rattle.controller_model.specs.Connecting.{SendsEach};
-ghost use Rattle.controller_model.specs.Entering.{IsEntered, begins_turn};
+ghost use Rattle.controller_model.specs.Entering.{IsEntered, IsInEvent, begins_turn};
 ghost use Rattle.controller_model.specs.Events.{notes_of_events};
 ghost use Rattle.controller_model.specs.Heard.{answers_by_connecting, fields_sent, link_to};
 ghost use Rattle.controller_model.specs.Packets.{advertising_packet, pdu_heard, verdict_advertising};
@@ -53,6 +54,7 @@ ghost use Rattle.controller_model.specs.Host.{HeardNothing, commands_accepted, c
 ghost use Rattle.controller_model.specs.Host.{commands_of, host_octets};
 ghost use Rattle.controller_model.specs.Host.{is_answered, le_rand_count, opcodes_in, opcodes_of};
 ghost use Rattle.controller_model.specs.Host.{with_answer};
+ghost use Rattle.controller_model.specs.Plain.{AllPlain, IsPlainEntry};
 ghost use Rattle.controller_model.specs.Notes.{HadNoLink, HasHandleBelow, IsOfNoProcedure};
 ghost use Rattle.controller_model.specs.Notes.{answers_among, answers_of};
 ghost use Rattle.controller_model.specs.Notes.{as_two_octets, one_further, without_le_events};
@@ -136,10 +138,13 @@ pub fn notes_name_links_of_the_controller()
         → All (HasHandleBelow setup.links) (notes_of setup past) }
 {}
 
-/// No note is of a control procedure or of an indication that takes effect: no control procedure is
-/// built.
-pub fn no_note_is_of_a_procedure()
+/// Where each link of a controller is plain before a call on it and after it, no note of the call is
+/// of a control procedure: none begins, is done or is refused, and no indication takes effect. A
+/// link is plain where its host asked for no procedure, and it took no control PDU.
+pub fn plain_links_note_no_procedure()
     ensures { (setup : Setup) (past : List Step) (step : Step)
+        → AllPlain (facts_of setup past).links
+        → AllPlain (facts_after setup (facts_of setup past) step).links
         → All IsOfNoProcedure (notes_after setup (facts_of setup past) step) }
 {}
 
@@ -219,10 +224,12 @@ pub fn a_controller_opens_links_as_it_may()
 {}
 
 /// As a turn begins in a slot, a controller notes that a link enters an event exactly where the
-/// link does not end in that slot and the anchor of its next event is there, whether the radio is
-/// on or not; at no other time does it note so. The events of a link are numbered from 0 on, the
-/// anchor of event e is e intervals after the first one, and the channel of each event is that of
-/// its number (Core 5.2, volume 6 part B, sections 4.5.1 and 4.5.8).
+/// link does not end in that slot, none of its procedures ended it, and the anchor of its next
+/// event is there, whether the radio is on or not; at no other time does it note so. The events of
+/// a link are numbered from 0 on, and the channel of each event is the one that the end of the link
+/// has then. A plain link that enters event e does so e intervals after its first anchor, on the
+/// channel of that number in the map of its CONNECT_IND (Core 5.2, volume 6 part B, sections 4.5.1
+/// and 4.5.8).
 pub fn events_are_entered_at_their_anchors()
     ensures entered { (setup : Setup) (past : List Step) (slot : ℕ) (on : Bool)
         (handle event channel : ℕ)
@@ -233,13 +240,30 @@ pub fn events_are_entered_at_their_anchors()
         (handle event channel : ℕ)
         → Contains (notes_after setup (facts_of setup past) step)
         (Enter handle (record { 0 = event }) channel) → begins_turn step ≡ true }
+    ensures on_plain_links { (slot : ℕ) (links : Links) (handle event channel : ℕ)
+        (entered : IsEntered slot links handle event channel)
+        → ArePlain entered.link.setup entered.link.past
+        → IsPlainEntry slot entered.link event channel }
 {}
 
-/// A controller notes that a link is shut exactly in two cases. As a turn begins it is overdue:
+/// A controller sends and receives on a link only once it entered an event: where that is what is
+/// done in the next phase, the link is not open any more, or has entered one (Core 5.2, volume 6
+/// part B, section 4.5.1).
+pub fn exchanges_are_in_events()
+    ensures { (setup : Setup) (past : List Step)
+        → IsInEvent (facts_of setup past).turn.doing (facts_of setup past).links }
+{}
+
+/// A controller notes that a link is shut exactly in three cases. As a turn begins it is overdue:
 /// with 3E where it received nothing good and six intervals have passed since the CONNECT_IND, with
 /// 08 where its supervision timeout has passed since the last good packet (Core 5.2, volume 6 part
-/// B, section 4.5.2). Or an octet of the host completes a Reset, 0C03 with no parameters, which is
-/// accepted at any time and shuts each open link with 00 (volume 4 part E, section 7.3.2).
+/// B, section 4.5.2), else with 22 where its peer did not answer a procedure in time (section 5.2),
+/// else with 16 where its supervision timeout has passed since the host ended it (section 5.1.6).
+/// As a turn ends it leaves: with 16 where its LL_TERMINATE_IND is acknowledged, else with the code
+/// with which one of its procedures ended it, else with that of the peer where it has sent a packet
+/// since it took LL_TERMINATE_IND of the peer. Or an octet of the host completes a Reset, 0C03 with
+/// no parameters, which is accepted at any time and shuts each open link with 00 (volume 4 part E,
+/// section 7.3.2).
 pub fn links_are_shut_with_their_reason()
     ensures shut { (setup : Setup) (past : List Step) (step : Step) (handle reason : ℕ)
         → Contains (notes_after setup (facts_of setup past) step)

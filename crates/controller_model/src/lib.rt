@@ -16,10 +16,10 @@ pub use crate::doing::{Doing, Turn};
 pub use crate::laws::{
     a_controller_opens_links_as_it_may, a_host_is_answered_whatever_the_turns, a_pdu_is_understood,
     an_advertiser_keeps_its_interval, commands_are_answered_in_order,
-    each_command_is_answered_once, events_are_entered_at_their_anchors,
-    links_are_shut_with_their_reason, no_note_is_of_a_procedure,
-    notes_name_links_of_the_controller, past_grows, random_words_go_round,
-    refused_command_changes_nothing, what_is_sent_is_a_pdu,
+    each_command_is_answered_once, events_are_entered_at_their_anchors, exchanges_are_in_events,
+    links_are_shut_with_their_reason, notes_name_links_of_the_controller, past_grows,
+    plain_links_note_no_procedure, random_words_go_round, refused_command_changes_nothing,
+    what_is_sent_is_a_pdu,
 };
 pub use crate::rows::{
     worked_advertisement, worked_answers, worked_connection, worked_data, worked_link, worked_rows,
