@@ -7,12 +7,11 @@ ghost use Rattle.adv_pdu.specs.Pdu.{FitsBits};
 ghost use Rattle.adv_pdu.specs.declared.pdu.AdvPdu.TheVariants.{ScanReq, ScanRsp};
 ghost use Rattle.advertise.specs.Advertising.{advertisement};
 ghost use Rattle.arrayvec.specs.ArrayVec.{array_vec_len};
-ghost use Rattle.link_model.specs.Times.{span_of};
 ghost use Rattle.slot_plan.specs.declared.Activity.TheVariants.{Advertise, Link};
 ghost use Rattle.slot_plan.specs.Holding.{is_held_in, winner_of};
 ghost use Rattle.open_links.specs.Knowing.{Knows as KnowsLinks};
 ghost use Rattle.open_links.specs.OpenLinks.{Links};
-ghost use Rattle.open_links.specs.Turns.{links_entered, notes_entering, wants_from};
+ghost use Rattle.controller_model.specs.Entering.{all_entered, notes_all_entering, wants_from};
 ghost use Rattle.controller_model.specs.Facts.{free_radio};
 ghost use Rattle.controller_model.specs.Links.{radio_without};
 ghost use Rattle.controller_model.specs.Radio.{advertises_at, advertises_on, initiator_channel};
@@ -25,14 +24,14 @@ use crate::scanning::Scanning;
 use adv_pdu::AdvPdu;
 use advertise::AdvOn;
 use ble_base::{Address, Outbox, SlotNo};
+use host_notes::enter_links;
+use host_view::HostView;
 use open_links::OpenLinks;
 use scan_init::{AcceptList, Initiator, ScanAnswer};
 use slot_plan::{Activity, Plan};
 use std::marker::Model;
 
-/// The slots for which the event of a link holds the radio, and that of an advertiser.
-const LINK_SLOTS: u8 = 2;
-
+/// The slots for which an event of an advertiser holds the radio.
 const ADVERTISING_SLOTS: u8 = 3;
 
 /// The radio of a controller, and what it does there without a link.
@@ -137,33 +136,35 @@ impl Activities {
         self.initiator.as_ref()?.wants(slot)
     }
 
-    /// All links enter the events whose anchors are in this slot. It gives what wins the slot, of
-    /// the links and of what is done without one.
+    /// All links enter the events whose anchors are in this slot, and the host, which has this
+    /// view, hears of that. It gives what wins the slot, of the links and of what is done without
+    /// one.
     pub fn enter<const L: usize, const T: usize, const R: usize>(
         &mut self,
+        view: &HostView,
         links: &mut OpenLinks<L, T, R>,
         slot: SlotNo,
         out: &mut Outbox,
     ) -> Option<Activity>
         requires slot { slot.0 < 2 ^ 32 }
         requires size { L ≤ 6 }
-        requires room { array_vec_len out.old ≤ 30 }
+        requires room { array_vec_len out.old ≤ 28 }
         ensures same { self.new ≡ self.old }
         ensures knows { (known : Links) (received : List (ℕ × Piece))
             → KnowsLinks links.old known received
-            → KnowsLinks links.new (links_entered slot.0 known) received }
+            → KnowsLinks links.new (all_entered slot.0 known) received }
         ensures notes { (known : Links) (received : List (ℕ × Piece))
             → KnowsLinks links.old known received
-            → out.new.items ≡ out.old.items ++ notes_entering slot.0 known }
+            → out.new.items ≡ out.old.items ++ notes_all_entering view.now slot.0 0 known }
         ensures winner { (known : Links) (received : List (ℕ × Piece))
             → KnowsLinks links.old known received
             → result ≡ winner_of (plan_with (wants_from slot.0 0 known) slot.0 self.old) slot.0 }
-        ensures few { array_vec_len out.new ≤ array_vec_len out.old + 30 }
+        ensures few { array_vec_len out.new ≤ array_vec_len out.old + 36 }
         ensures counts { (links.new.heard_to ≡ links.old.heard_to)
             × (links.new.unreported ≡ links.old.unreported) }
     {
         self.plan.clear();
-        links.enter(slot, &mut self.plan, out);
+        enter_links(view, links, slot, &mut self.plan, out);
         let advertises = self.advertising.wants(slot);
         want_if(&mut self.plan, advertises, Activity::Advertise);
         let scans = self.scanning.channel(slot).is_some();
@@ -173,12 +174,12 @@ impl Activities {
         self.plan.winner(slot)
     }
 
-    /// The event of a link holds the radio from this slot on.
-    pub fn hold_for_link(&mut self, handle: u16, slot: SlotNo)
+    /// The event of a link holds the radio in this number of slots, from this one on.
+    pub fn hold_for_link(&mut self, handle: u16, slot: SlotNo, slots: u8)
         ensures { self.new
-            ≡ record self.old { radio = radio_held (Link handle) slot.0 span_of } }
+            ≡ record self.old { radio = radio_held (Link handle) slot.0 slots } }
     {
-        self.plan.hold(slot, LINK_SLOTS);
+        self.plan.hold(slot, slots);
         self.holder = Activity::Link(handle);
     }
 

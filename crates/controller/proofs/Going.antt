@@ -10,6 +10,7 @@ use Rattle.h4_frames.specs.Machine.{framer_after}
 use Rattle.controller_model.specs.declared.doing.Doing.{Doing}
 use Rattle.controller_model.specs.declared.doing.Doing.TheVariants.{Advertises, Rests}
 use Rattle.controller_model.specs.Data.{facts_ended_turn, notes_ended_turn}
+use Rattle.controller_model.specs.Entering.{IsInEvent}
 use Rattle.controller_model.specs.Step.{Step, HostOctet, TurnEnds}
 use Rattle.controller_model.specs.Facts.{Setup, Facts, Use}
 use Rattle.controller_model.specs.Outcome.{Outcome, facts_passed, notes_passed}
@@ -18,6 +19,7 @@ use Rattle.controller_model.specs.Side.{facts_after, facts_fed, facts_of, first_
 use Rattle.controller_model.proofs.Feds.{fed_octets, turn_octets}
 use Rattle.controller_model.proofs.Pasts.{facts_more}
 use Rattle.controller_model.proofs.Always.{IsInTurn}
+use Rattle.controller_model.proofs.Exchanges.{OutcomeInEvent}
 use Rattle.controller.specs.Framed.{IsFramed}
 use Rattle.controller.specs.Held.{Held}
 use Rattle.controller.specs.Knowing.{Goes, IsAt, IsWholeAt, Knows}
@@ -145,6 +147,10 @@ prepares_again has new heard noted next wanted facts p =
       notes = p.notes ∙ ap (λ (more : List Note). heard ++ more) (notes_resting facts next);
       wants = p.wants ∙ use_resting facts next;
     }
+
+-- the link on which it is done has entered an event
+pub next_in_event : (outcome : Outcome) (next : Doing) → next ≡ outcome.next → OutcomeInEvent outcome → IsInEvent next outcome.facts.links
+next_in_event outcome next does is = subst (λ (doing : Doing). IsInEvent doing outcome.facts.links) (sym does) is
 
 -- what comes of the step, and what is prepared then
 pub turn_goes : (setup : Setup) (past : List Step) (step : Step) (was new : Held) (before heard noted : List Note) (next : Doing) (wanted : Use) (outcome : Outcome)

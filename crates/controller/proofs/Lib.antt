@@ -4,4 +4,5 @@ pub mod Beginning
 pub mod Connecting
 pub mod FrameOctets
 pub mod Going
+pub mod Hearing
 pub mod Shutting

@@ -1,20 +1,21 @@
 -- Links that are shut, by what is held.
-use Rattle.std.proofs.Common.{◌≡◌, ℕ, List, [], ◌∷◌, refl, ap, sym, subst, ◌∙◌}
+use Rattle.std.proofs.Common.{◌≡◌, ℕ, Option, List, [], ◌∷◌, refl, ap, sym, subst, ◌∙◌}
 use Rattle.std.specs.Prelude.{fold}
 use Rattle.acl_banks.specs.declared.pieces.Piece.{Piece}
 use Rattle.host_view.specs.Noted.{view_noted}
 use Rattle.host_view.specs.View.{View}
 use Rattle.open_links.specs.Knowing.{Knows as KnowsLinks}
 use Rattle.open_links.specs.declared.ended.LinkEnded.{LinkEnded}
-use Rattle.open_links.specs.Data.{received_ended}
-use Rattle.open_links.specs.Turns.{links_staying}
+use Rattle.open_links.specs.Ended.{received_ended}
 use Rattle.controller_model.specs.Facts.{Setup, Facts}
-use Rattle.controller_model.specs.Links.{ends_in, facts_ending, facts_shut, note_shut, radio_without}
+use Rattle.controller_model.specs.Links.{ends_for, facts_shut, facts_without, note_shut, radio_without}
 use Rattle.activities.specs.Held.{HeldActivities}
 use Rattle.controller.specs.Held.{Held}
 use Rattle.controller.specs.Knowing.{IsAt}
 use Rattle.controller.specs.Order.{Stays}
 use Rattle.controller.specs.Steps.{held_shut}
+use Rattle.open_links.specs.OpenLinks.{OpenLink}
+use Rattle.open_links.specs.Turns.{links_without}
 
 -- with any pieces that the host has not received
 abbrev with_received : List (ℕ × Piece) → Facts → Facts
@@ -42,14 +43,14 @@ received_is : (ended : List LinkEnded) (facts : Facts) → (fold facts_shut fact
 received_is [] facts = refl
 received_is (first ∷ rest) facts = received_is rest (facts_shut facts first)
 
--- the links that are due are taken out, and then each is shut
-pub ending_is : (has : Setup) (held without new : Held) (facts : Facts) (slot : ℕ) (ended : List LinkEnded)
+-- the links that end for a reason are taken out, and then each is shut
+pub ending_is : (has : Setup) (held without new : Held) (facts : Facts) (reason : OpenLink → Option ℕ) (ended : List LinkEnded)
     → without ≡ record held { links = without.links }
-    → KnowsLinks without.links (links_staying slot facts.links) (received_ended (ends_in slot facts) facts.received) → ended ≡ ends_in slot facts
-    → new ≡ fold held_shut without ended → IsAt has held facts → IsAt has new (facts_ending slot facts)
-ending_is has held without new facts slot ended rest links are is k =
-    let staying : Facts = record facts { links = links_staying slot facts.links } in
-    let received = received_ended (ends_in slot facts) facts.received in
+    → KnowsLinks without.links (links_without reason facts.links) (received_ended (ends_for reason facts) facts.received) → ended ≡ ends_for reason facts
+    → new ≡ fold held_shut without ended → IsAt has held facts → IsAt has new (facts_without reason facts)
+ending_is has held without new facts reason ended rest links are is k =
+    let staying : Facts = record facts { links = links_without reason facts.links } in
+    let received = received_ended (ends_for reason facts) facts.received in
     let k2 : IsAt has without (with_received received staying) = record {
       setup = ap (λ (h : Held). h.setup) rest ∙ k.setup;
       view = ap (λ (h : Held). h.view) rest ∙ k.view;
@@ -59,8 +60,8 @@ ending_is has held without new facts slot ended rest links are is k =
       activities = ap (λ (h : Held). h.activities) rest ∙ k.activities;
       links = links;
     } in
-    rw (is, are) (subst (λ (pieces : List (ℕ × Piece)). IsAt has (fold held_shut without (ends_in slot facts)) (with_received pieces (facts_ending slot facts)))
-    (sym (received_is (ends_in slot facts) staying)) (all_shut has (ends_in slot facts) without staying received k2))
+    rw (is, are) (subst (λ (pieces : List (ℕ × Piece)). IsAt has (fold held_shut without (ends_for reason facts)) (with_received pieces (facts_without reason facts)))
+    (sym (received_is (ends_for reason facts) staying)) (all_shut has (ends_for reason facts) without staying received k2))
 
 -- what shutting leaves as it is
 pub shut_stays : (ended : List LinkEnded) (held : Held) → Stays held (fold held_shut held ended)

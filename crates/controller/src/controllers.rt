@@ -47,7 +47,7 @@ pub struct Controller<const L: usize, const T: usize, const R: usize> {
 }
 
 impl<const L: usize, const T: usize, const R: usize> Model for Controller<L, T, R> {
-    ghost use Rattle.std.specs.Prelude.{◌<◌, ◌≤◌, ◌^◌, length};
+    ghost use Rattle.std.specs.Prelude.{◌*◌, ◌+◌, ◌<◌, ◌≤◌, ◌^◌, length};
     ghost use Rattle.controller.specs.Fitting.{CanDo};
     ghost use Rattle.controller.specs.Held.{Held};
     ghost use Rattle.controller.specs.Order.{IsOrdered};
@@ -55,7 +55,7 @@ impl<const L: usize, const T: usize, const R: usize> Model for Controller<L, T, 
     ghost Value = { Held };
 
     ghost invariant = { λ c. (c.next_word < length c.words.items) × (T ≤ 255) × (L ≤ 6)
-        × (R ≤ 48) × (c.turn.slot < 2 ^ 32) × CanDo L c.turn.doing
+        × (8 * L + R ≤ 56) × (c.turn.slot < 2 ^ 32) × CanDo L c.turn.doing
         × IsOrdered c.between c.turn c.links };
 
     ghost view = { λ c. record {
@@ -201,7 +201,7 @@ impl<const L: usize, const T: usize, const R: usize> Controller<L, T, R> {
     }
 
     /// Ends the turn: the host receives the data that was taken in it, and which of its packets are
-    /// complete.
+    /// complete, and the links end that are to end.
     pub fn end_turn(&mut self, out: &mut Outbox)
         requires empty { out.old.items ≡ [] }
         ensures goes { (setup : Setup) (past : List Step) → Knows setup self.old past
@@ -210,6 +210,7 @@ impl<const L: usize, const T: usize, const R: usize> Controller<L, T, R> {
     {
         controller_model::no_more_than_its_buffers();
         self.hand_over(out);
+        self.leave_links(out);
         self.end();
     }
 }

@@ -1,8 +1,8 @@
 //! Data of the host and for it: the packets that it gives, the pieces that it receives, and which of
 //! its packets are complete (Core 5.2, volume 4 part E, sections 4.1, 5.4.2, 7.7.19 and 7.7.26).
-ghost use Rattle.std.specs.Prelude.{◌≡◌, ◌≤◌, ◌<◌, ◌++◌, [], length};
+ghost use Rattle.std.specs.Prelude.{◌≡◌, ◌≤◌, ◌<◌, ◌+◌, ◌*◌, ◌++◌, [], length};
 ghost use Rattle.arrayvec.specs.ArrayVec.{array_vec_len};
-ghost use Rattle.controller_model.specs.Data.{facts_ended_turn, facts_offered, notes_ended_turn};
+ghost use Rattle.controller_model.specs.Data.{facts_handed, facts_offered, notes_handed};
 ghost use Rattle.controller_model.specs.Data.{notes_offered, offer_of};
 ghost use Rattle.controller_model.specs.Facts.{Setup, Facts};
 ghost use Rattle.controller.specs.Framed.{HasOctets};
@@ -60,9 +60,10 @@ impl<const L: usize, const T: usize, const R: usize> Controller<L, T, R> {
     pub(crate) fn hand_over(&mut self, out: &mut Outbox)
         requires room { out.old.items ≡ [] }
         ensures at { (has : Setup) (facts : Facts) → IsAt has self.old facts
-            → length facts.received ≤ has.air_buffers → IsAt has self.new (facts_ended_turn facts) }
+            → length facts.received ≤ has.air_buffers → IsAt has self.new (facts_handed facts) }
         ensures notes { (has : Setup) (facts : Facts) → IsAt has self.old facts
-            → length facts.received ≤ has.air_buffers → out.new.items ≡ notes_ended_turn facts }
+            → length facts.received ≤ has.air_buffers → out.new.items ≡ notes_handed facts }
+        ensures few { array_vec_len out.new + 2 * L ≤ 64 }
         ensures framer { self.new.framer ≡ self.old.framer }
         ensures turn { self.new.turn ≡ self.old.turn }
         ensures between { self.new.between ≡ self.old.between }

@@ -11,6 +11,7 @@
 mod answers;
 mod commands;
 mod controllers;
+mod exchanges;
 mod host_data;
 mod intents;
 mod opening;

@@ -8,14 +8,15 @@ ghost use Rattle.adv_pdu.specs.Pdu.{sender_of};
 ghost use Rattle.adv_pdu.specs.Ranges.{IsInRange};
 ghost use Rattle.scan_init.specs.Reports.{does_ask};
 ghost use Rattle.open_links.specs.Knowing.{Knows as KnowsLinks};
-ghost use Rattle.open_links.specs.OpenLinks.{Links, free_from};
+ghost use Rattle.open_links.specs.OpenLinks.{Links, free_from, link_at};
+ghost use Rattle.controller_model.specs.Entering.{HasEntered, IsInEvent};
 ghost use Rattle.controller_model.specs.Facts.{Setup, Facts};
 ghost use Rattle.scan_init.specs.Access.{next_access_of as next_access_from};
 ghost use Rattle.controller_model.specs.Packets.{pdu_heard};
 ghost use Rattle.controller_model.specs.Heard.{advertiser_answers, advertiser_heard};
 ghost use Rattle.controller_model.specs.Heard.{answers_by_connecting, asks_if, connects, if_pdu, taken_if};
 ghost use Rattle.controller_model.specs.Heard.{access_found, fields_sent, heard, initiator_heard};
-ghost use Rattle.controller_model.specs.Heard.{is_new_between, link_heard, link_to};
+ghost use Rattle.controller_model.specs.Heard.{is_new_between, link_heard, link_to, reply_if};
 ghost use Rattle.controller_model.specs.Heard.{scanner_heard, taken_under, unheard};
 ghost use Rattle.activities.specs.Fitting.{IsAnswerable};
 ghost use Rattle.controller.specs.Fitting.{CanDo, CanFollow, IsOpenable};
@@ -30,7 +31,7 @@ use adv_pdu::{AdvPdu, ConnectFields};
 use advertise::AdvAnswer;
 use ble_base::{Address, Outbox, Role, SlotNo};
 use controller_model::Doing;
-use host_notes::{event_reported, tell_if};
+use host_notes::{event_reported, hear_on_link, tell_if};
 use link_model::LinkSetup;
 use scan_init::{Initiator, ScanAnswer, next_access};
 
@@ -56,6 +57,18 @@ fn asks_if(asks: bool, channel: u8, pdu: &AdvPdu) -> Doing
             channel,
             advertiser: pdu.sender(),
         }
+    } else {
+        Doing::Rests
+    }
+}
+
+/// What follows octets that reached the link under a handle: it answers them, or does not.
+fn reply_if(replies: bool, handle: u16) -> Doing
+    ensures value { result ≡ reply_if replies handle }
+    ensures can { (links : ℕ) → CanFollow links result }
+{
+    if replies {
+        Doing::PeripheralSends { handle }
     } else {
         Doing::Rests
     }
@@ -351,21 +364,19 @@ impl<const L: usize, const T: usize, const R: usize> Controller<L, T, R> {
         requires none { HasNotReceived self.old.between self.old.turn self.old.links }
         requires room { array_vec_len out.old ≤ 50 }
         ensures passes { (has : Setup) (facts : Facts) → IsAt has self.old facts
+            → HasEntered (link_at handle facts.links)
             → PassesOn has self.new out.old.items out.new.items result
             (link_heard has handle octets.now facts) }
         ensures can { CanFollow L result }
-        ensures few { array_vec_len out.new ≤ array_vec_len out.old + 5 }
+        ensures few { array_vec_len out.new ≤ array_vec_len out.old + 9 }
         ensures framer { self.new.framer ≡ self.old.framer }
         ensures begun { self.new.turn.begun ≡ self.old.turn.begun }
         ensures between { self.new.between ≡ self.old.between }
     {
         let slot = SlotNo(self.turn.slot);
-        let step = self.links.heard(handle, octets, slot, out);
+        let replies = hear_on_link(&self.view, &mut self.links, handle, octets, slot, out);
         self.turn.doing = Doing::Rests;
-        match step {
-            Some(step) if step.reply => Doing::PeripheralSends { handle },
-            _ => Doing::Rests,
-        }
+        reply_if(replies, handle)
     }
 
     /// What follows what was done in a phase in which nothing was heard.
@@ -426,9 +437,10 @@ impl<const L: usize, const T: usize, const R: usize> Controller<L, T, R> {
     pub(crate) fn hear(&mut self, octets: &[u8], out: &mut Outbox) -> Doing
         requires room { array_vec_len out.old ≤ 50 }
         ensures passes { (has : Setup) (facts : Facts) → IsAt has self.old facts
+            → IsInEvent facts.turn.doing facts.links
             → PassesOn has self.new out.old.items out.new.items result
             (heard has facts.turn.doing octets.now facts) }
-        ensures few { array_vec_len out.new ≤ array_vec_len out.old + 5 }
+        ensures few { array_vec_len out.new ≤ array_vec_len out.old + 9 }
         ensures can { CanDo L result }
         ensures once { ReceivesOnce self.new.between self.new.turn self.new.links result }
         ensures framer { self.new.framer ≡ self.old.framer }

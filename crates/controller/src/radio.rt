@@ -6,6 +6,7 @@ ghost use Rattle.open_links.specs.Knowing.{Knows as KnowsLinks};
 ghost use Rattle.open_links.specs.OpenLinks.{Links, link_after, link_at, with_change};
 ghost use Rattle.link_model.specs.Step.{PacketSent};
 ghost use Rattle.controller_model.specs.declared.doing.Doing.TheVariants.{Rests};
+ghost use Rattle.controller_model.specs.Entering.{HasEntered, IsInEvent};
 ghost use Rattle.controller_model.specs.Facts.{Setup, Facts};
 ghost use Rattle.controller_model.specs.Packets.{facts_doing, links_sending, listens_on};
 ghost use Rattle.controller_model.specs.Packets.{notes_doing, notes_sent, sends_on, use_for};
@@ -15,6 +16,7 @@ ghost use Rattle.controller.specs.Knowing.{IsAt, use_wanted};
 ghost use Rattle.controller.specs.Order.{MayBegin, ReceivesOnce, Stays};
 
 use crate::controllers::Controller;
+use crate::exchanges::send;
 use crate::intents::Intent;
 use crate::packets::{send_packet, send_pdu};
 use activities::{connect_ind, judge};
@@ -58,19 +60,19 @@ impl<const L: usize, const T: usize, const R: usize> Controller<L, T, R> {
     fn send_on(&mut self, handle: u16, out: &mut Outbox) -> Intent
         requires { array_vec_len out.old ≤ 59 }
         ensures at { (has : Setup) (facts : Facts) → IsAt has self.old facts
-            → IsAt has self.new (record facts {
+            → HasEntered (link_at handle facts.links) → IsAt has self.new (record facts {
               links = with_change handle (link_after (PacketSent facts.turn.slot)) facts.links;
             }) }
         ensures notes { (has : Setup) (facts : Facts) → IsAt has self.old facts
-            → out.new.items
+            → HasEntered (link_at handle facts.links) → out.new.items
             ≡ out.old.items ++ notes_sent facts.turn.slot (link_at handle facts.links) }
         ensures wanted { (links : Links) (received : List (ℕ × Piece))
-            → KnowsLinks self.old.links links received
+            → KnowsLinks self.old.links links received → HasEntered (link_at handle links)
             → use_wanted result ≡ sends_on (link_at handle links) }
         ensures stays { Stays self.old self.new }
     {
         let channel = self.links.channel(handle);
-        let packet = self.links.to_send(handle, SlotNo(self.turn.slot), out);
+        let packet = send(&mut self.links, handle, SlotNo(self.turn.slot), out);
         send_packet(channel, packet)
     }
 
@@ -79,13 +81,14 @@ impl<const L: usize, const T: usize, const R: usize> Controller<L, T, R> {
         requires can { CanDo L doing }
         requires room { array_vec_len out.old ≤ 59 }
         ensures at { (has : Setup) (facts : Facts) → IsAt has self.old facts
-            → IsAt has self.new (record facts {
+            → IsInEvent doing facts.links → IsAt has self.new (record facts {
               links = links_sending facts.turn.slot doing facts.links;
             }) }
         ensures notes { (has : Setup) (facts : Facts) → IsAt has self.old facts
+            → IsInEvent doing facts.links
             → out.new.items ≡ out.old.items ++ notes_doing doing facts }
         ensures wanted { (has : Setup) (facts : Facts) → IsAt has self.old facts
-            → use_wanted result ≡ use_for facts doing }
+            → IsInEvent doing facts.links → use_wanted result ≡ use_for facts doing }
         ensures stays { Stays self.old self.new }
     {
         match doing {
@@ -148,11 +151,12 @@ impl<const L: usize, const T: usize, const R: usize> Controller<L, T, R> {
         requires once { ReceivesOnce self.old.between self.old.turn self.old.links doing }
         requires room { array_vec_len out.old ≤ 59 }
         ensures at { (has : Setup) (facts : Facts) → IsAt has self.old facts
-            → IsAt has self.new (facts_doing doing facts) }
+            → IsInEvent doing facts.links → IsAt has self.new (facts_doing doing facts) }
         ensures notes { (has : Setup) (facts : Facts) → IsAt has self.old facts
+            → IsInEvent doing facts.links
             → out.new.items ≡ out.old.items ++ notes_doing doing facts }
         ensures wanted { (has : Setup) (facts : Facts) → IsAt has self.old facts
-            → use_wanted result ≡ use_for facts doing }
+            → IsInEvent doing facts.links → use_wanted result ≡ use_for facts doing }
         ensures stays { Stays self.old self.new }
     {
         if let Doing::Rests = doing {
@@ -169,11 +173,12 @@ impl<const L: usize, const T: usize, const R: usize> Controller<L, T, R> {
         requires once { ReceivesOnce self.old.between self.old.turn self.old.links doing }
         requires room { array_vec_len out.old ≤ 59 }
         ensures at { (has : Setup) (facts : Facts) → IsAt has self.old facts
-            → IsAt has self.new (facts_doing doing facts) }
+            → IsInEvent doing facts.links → IsAt has self.new (facts_doing doing facts) }
         ensures notes { (has : Setup) (facts : Facts) → IsAt has self.old facts
+            → IsInEvent doing facts.links
             → out.new.items ≡ out.old.items ++ notes_doing doing facts }
         ensures wanted { (has : Setup) (facts : Facts) → IsAt has self.old facts
-            → use_wanted result ≡ use_for facts doing }
+            → IsInEvent doing facts.links → use_wanted result ≡ use_for facts doing }
         ensures stays { Stays self.old self.new }
     {
         let intent = self.intent(doing, out);

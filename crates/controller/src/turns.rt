@@ -3,20 +3,21 @@ ghost use Rattle.std.specs.Prelude.{◌≡◌, ◌≤◌, ◌<◌, ◌+◌, ◌^
 ghost use Rattle.arrayvec.specs.ArrayVec.{array_vec_len};
 ghost use Rattle.acl_banks.specs.declared.pieces.Piece.{Piece};
 ghost use Rattle.open_links.specs.Knowing.{Knows as KnowsLinks};
-ghost use Rattle.open_links.specs.OpenLinks.{Links, link_at};
-ghost use Rattle.open_links.specs.Turns.{notes_entering};
+ghost use Rattle.open_links.specs.OpenLinks.{Links, in_event, link_at};
 ghost use Rattle.slot_plan.specs.Holding.{winner_of};
+ghost use Rattle.controller_model.specs.Entering.{IsInEvent, notes_all_entering};
 ghost use Rattle.controller_model.specs.Facts.{Setup, Facts};
 ghost use Rattle.controller_model.specs.Radio.{advertises_on, doing_held, doing_won, exchange_begins};
 ghost use Rattle.controller_model.specs.Radio.{facts_entering, facts_won, first_exchange};
 ghost use Rattle.controller_model.specs.Radio.{initiates_on, links_fixing, outcome_begun, plan_in};
-ghost use Rattle.controller_model.specs.Radio.{scans_on, second_exchange, served, turn_begins};
-ghost use Rattle.controller_model.specs.Radio.{winner_served};
+ghost use Rattle.controller_model.specs.Radio.{scans_on, second_exchange, served, span_at};
+ghost use Rattle.controller_model.specs.Radio.{turn_begins, winner_served};
 ghost use Rattle.controller.specs.Fitting.{CanDo};
 ghost use Rattle.controller.specs.Knowing.{IsAt, Passes};
 ghost use Rattle.controller.specs.Order.{HasNotReceived, MayBegin, Stays};
 
 use crate::controllers::Controller;
+use crate::exchanges::ready;
 use ble_base::{Outbox, Role, SlotNo};
 use controller_model::Doing;
 use open_links::OpenLinks;
@@ -33,19 +34,19 @@ fn exchange_begins(role: Role, handle: u16) -> Doing
     }
 }
 
-/// The first exchange of the event of the link under a handle.
+/// The first exchange of the event of the link under a handle, once it entered one.
 fn first_exchange<const L: usize, const T: usize, const R: usize>(
     links: &OpenLinks<L, T, R>,
     handle: u16,
 ) -> Doing
     ensures value { (known : Links) (received : List (ℕ × Piece))
         → KnowsLinks links.now known received
-        → result ≡ first_exchange handle (link_at handle known) }
+        → result ≡ first_exchange handle (in_event (link_at handle known)) }
     ensures can { CanDo L result }
 {
-    match links.setup(handle) {
-        None => Doing::Rests,
-        Some(setup) => exchange_begins(setup.role, handle),
+    match (links.has_entered(handle), links.setup(handle)) {
+        (Some(true), Some(setup)) => exchange_begins(setup.role, handle),
+        _ => Doing::Rests,
     }
 }
 
@@ -56,12 +57,26 @@ fn second_exchange<const L: usize, const T: usize, const R: usize>(
 ) -> Doing
     ensures value { (known : Links) (received : List (ℕ × Piece))
         → KnowsLinks links.now known received
-        → result ≡ second_exchange handle (link_at handle known) }
+        → result ≡ second_exchange handle (in_event (link_at handle known)) }
     ensures can { CanDo L result }
 {
     match links.again(handle) {
         Some(true) => first_exchange(links, handle),
         _ => Doing::Rests,
+    }
+}
+
+/// The slots for which the event of the link under a handle holds the radio.
+fn span_at<const L: usize, const T: usize, const R: usize>(
+    links: &OpenLinks<L, T, R>,
+    handle: u16,
+) -> u8
+    ensures { (known : Links) (received : List (ℕ × Piece)) → KnowsLinks links.now known received
+        → result ≡ span_at (link_at handle known) }
+{
+    match links.span(handle) {
+        None => 0,
+        Some(slots) => slots,
     }
 }
 
@@ -102,20 +117,23 @@ fn initiates_on(channel: Option<u8>) -> Doing
 }
 
 impl<const L: usize, const T: usize, const R: usize> Controller<L, T, R> {
-    /// All links enter the events whose anchors are in this slot. It gives what wins the slot.
+    /// All links enter the events whose anchors are in this slot, and the host hears of that. It
+    /// gives what wins the slot.
     fn enter_events(&mut self, slot: SlotNo, out: &mut Outbox) -> Option<Activity>
         requires slot { slot.0 < 2 ^ 32 }
-        requires room { array_vec_len out.old ≤ 30 }
+        requires room { array_vec_len out.old ≤ 28 }
         ensures at { (has : Setup) (facts : Facts) → IsAt has self.old facts
             → IsAt has self.new (facts_entering slot.0 facts) }
         ensures notes { (has : Setup) (facts : Facts) → IsAt has self.old facts
-            → out.new.items ≡ out.old.items ++ notes_entering slot.0 facts.links }
+            → out.new.items
+            ≡ out.old.items ++ notes_all_entering facts.view slot.0 0 facts.links }
         ensures winner { (has : Setup) (facts : Facts) → IsAt has self.old facts
             → result ≡ winner_of (plan_in slot.0 facts) slot.0 }
-        ensures few { array_vec_len out.new ≤ array_vec_len out.old + 30 }
+        ensures few { array_vec_len out.new ≤ array_vec_len out.old + 36 }
         ensures stays { Stays self.old self.new }
     {
-        self.activities.enter(&mut self.links, slot, out)
+        self.activities
+            .enter(&self.view, &mut self.links, slot, out)
     }
 
     /// What an activity that wins a slot does first.
@@ -157,8 +175,9 @@ impl<const L: usize, const T: usize, const R: usize> Controller<L, T, R> {
     {
         match activity {
             Activity::Link(handle) => {
+                let slots = span_at(&self.links, handle);
                 self.links.serve(handle, slot);
-                self.activities.hold_for_link(handle, slot);
+                self.activities.hold_for_link(handle, slot, slots);
             }
             Activity::Advertise => self.activities.serve_advertiser(slot),
             Activity::Scan | Activity::Initiate => {}
@@ -208,14 +227,14 @@ impl<const L: usize, const T: usize, const R: usize> Controller<L, T, R> {
     /// The link that has the radio, if one has it, fixes the PDU that it sends next.
     fn fix(&mut self, doing: Doing)
         ensures links { (links : Links) (received : List (ℕ × Piece))
-            → KnowsLinks self.old.links links received
+            → KnowsLinks self.old.links links received → IsInEvent doing links
             → KnowsLinks self.new.links (links_fixing doing links) received }
         ensures rest { self.new ≡ record self.old { links = self.new.links } }
         ensures stays { Stays self.old self.new }
     {
         match doing {
             Doing::CentralSends { handle } | Doing::PeripheralListens { handle } => {
-                self.links.ready(handle);
+                ready(&mut self.links, handle);
             }
             _ => {}
         }
@@ -245,7 +264,7 @@ impl<const L: usize, const T: usize, const R: usize> Controller<L, T, R> {
             → Passes has self.new out.old.items out.new.items result
             (outcome_begun slot.0 on facts) }
         ensures can { CanDo L result }
-        ensures few { array_vec_len out.new ≤ 50 }
+        ensures few { array_vec_len out.new ≤ 52 }
         ensures framer { self.new.framer ≡ self.old.framer }
         ensures begun { self.new.turn.begun ≡ slot.0 + 1 }
         ensures none { HasNotReceived self.new.between self.new.turn self.new.links }

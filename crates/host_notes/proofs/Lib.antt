@@ -1,2 +1,5 @@
 -- The lemmas of this crate.
 pub mod Words
+pub mod Entered
+pub mod InEvent
+pub mod Received

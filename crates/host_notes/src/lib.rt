@@ -1,10 +1,12 @@
 //! What a controller notes for its host: answers to its commands, the events that its masks let
-//! through, links that are opened and shut, and data (Core 5.2, volume 4 part E, sections 5.4 and
-//! 7.7).
+//! through, links that are opened and shut, what their control procedures do, and data (Core 5.2,
+//! volume 4 part E, sections 5.4 and 7.7).
 #![tactic(auto)]
 
 mod answers;
 mod data;
+mod entering;
+mod hearing;
 mod links;
 mod masks;
 mod reports;
@@ -13,6 +15,8 @@ pub use answers::{
     Fields, fields_with, put_longest, refused_answer, short_answer, status_answer, tell_accepted,
 };
 pub use data::{hand_up, tell_completed, tell_offer};
+pub use entering::enter_links;
+pub use hearing::hear_on_link;
 pub use links::{note_opened, note_shuts, tell_caused, tell_ends, tell_opened};
 pub use masks::{tell, tell_if};
 pub use reports::event_reported;

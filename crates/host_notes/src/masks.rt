@@ -17,7 +17,7 @@ use host_view::HostView;
 const LE_META: u8 = 61;
 
 /// Whether the masks of the host let an event through.
-fn passes(view: &HostView, event: &Event) -> bool
+pub(crate) fn passes(view: &HostView, event: &Event) -> bool
     ensures { result ≡ passes view.now (mask_bit_of event.now) }
 {
     match mask_bit(event) {

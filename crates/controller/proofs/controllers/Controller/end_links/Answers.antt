@@ -1,5 +1,6 @@
 -- Proof of `controllers::Controller::end_links`.
 use Rattle.std.proofs.Common.{◌∙◌, sym, subst}
+use Rattle.open_links.specs.Turns.{due_in}
 use Rattle.controller.specs.Held.{Held}
 use Rattle.controller.specs.Order.{Stays}
 use Rattle.controller.proofs.Shutting.{both_stay, ending_is, shut_stays}
@@ -7,10 +8,10 @@ use Rattle.controller.proofs.controllers.Controller.end_links.Goals as goal
 
 pub returns-clause-at : goal.returns-clause-at
 returns-clause-at g c = λ has facts k.
-    ending_is has _ _ _ facts _ _ c.take_due-ended.ensures.rest (c.take_due-ended.ensures.links facts.links facts.received k.links)
-    (c.as_slice-2.ensures.value ∙ c.take_due-ended.ensures.ends facts.links facts.received k.links) c.shut_all.ensures k
+    ending_is has _ _ _ facts (due_in c.args.slot.0) _ c.take_due-ended.ensures.rest (c.take_due-ended.ensures.links facts.links facts.received k.links)
+    (c.as_slice.ensures.value ∙ c.take_due-ended.ensures.ends facts.links facts.received k.links) c.end_all.ensures.held k
 
 pub returns-clause-stays : goal.returns-clause-stays
 returns-clause-stays g c =
     both_stay _ _ _ c.take_due-ended.ensures.stays
-    (subst (λ (held : Held). Stays c.take_due-ended.new.self held) (sym c.shut_all.ensures) (shut_stays c.as_slice-2.result.now c.take_due-ended.new.self))
+    (subst (λ (held : Held). Stays c.take_due-ended.new.self held) (sym c.end_all.ensures.held) (shut_stays c.as_slice.result.now c.take_due-ended.new.self))

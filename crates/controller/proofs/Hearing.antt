@@ -1,0 +1,81 @@
+-- A link that hears octets in a phase.
+use Rattle.std.proofs.Common.{◌≡◌, ◌⊎◌, inl, inr, ℕ, Bool, List, ◌++◌, length, nat_lt, ap, sym, subst, ◌∙◌, append_assoc}
+use Rattle.acl_banks.specs.declared.pieces.Piece.{Piece}
+use Rattle.ble_base.specs.declared.notes.Note.{Note}
+use Rattle.host_view.specs.View.{View}
+use Rattle.link_model.specs.Step.{PacketReceived}
+use Rattle.open_links.specs.Knowing.{HeldLinks, Knows as KnowsLinks}
+use Rattle.open_links.specs.OpenLinks.{Links, link_after, link_at, with_change}
+use Rattle.controller_model.specs.declared.doing.Doing.{Doing}
+use Rattle.controller_model.specs.declared.doing.Doing.TheVariants.{CentralListens, PeripheralListens, Rests}
+use Rattle.controller_model.specs.declared.doing.Turn.{Turn}
+use Rattle.controller_model.specs.Entering.{HasEntered, IsInEvent}
+use Rattle.controller_model.specs.Events.{notes_of_events}
+use Rattle.controller_model.specs.Facts.{Setup, Facts}
+use Rattle.controller_model.specs.Heard.{effect_in, events_received, heard, is_refused, link_heard, links_refusing, notes_taken, piece_taken, replies_in, reply_if}
+use Rattle.controller.specs.Held.{Held}
+use Rattle.controller.specs.Knowing.{IsAt, PassesOn}
+
+-- what a link is after octets, and what is noted and done then, of which it knows the view, the slot and the buffers
+module _ (handle : ℕ) (octets : List ℕ) (known : Links) (received : List (ℕ × Piece)) where
+  abbrev Hears : HeldLinks → View → ℕ → ℕ → Type 0
+  Hears new view slot air =
+      let room = nat_lt (length received) air in
+      KnowsLinks new
+      (links_refusing (is_refused view handle (effect_in slot room (link_at handle known) octets)) handle
+      (with_change handle (link_after (PacketReceived slot octets room)) known))
+      (received ++ piece_taken slot room (link_at handle known) octets)
+
+  abbrev notes_hearing : List Note → View → ℕ → ℕ → List Note
+  notes_hearing before view slot air =
+      let room = nat_lt (length received) air in
+      before ++ notes_taken slot room (link_at handle known) octets
+      ++ notes_of_events view (events_received handle slot room (link_at handle known) octets)
+
+  abbrev replies_hearing : ℕ → ℕ → Bool
+  replies_hearing slot air = replies_in slot (nat_lt (length received) air) (link_at handle known) octets
+
+pub hears_is : (has : Setup) (held new : Held) (facts : Facts) (handle : ℕ) (octets : List ℕ) (before noted : List Note) (replies : Bool) (next : Doing)
+    → new ≡ record held { turn = record held.turn { doing = Rests }; links = new.links }
+    → Hears handle octets facts.links facts.received new.links held.view held.turn.slot held.setup.air_buffers
+    → noted ≡ notes_hearing handle octets facts.links facts.received before held.view held.turn.slot held.setup.air_buffers
+    → replies ≡ replies_hearing handle octets facts.links facts.received held.turn.slot held.setup.air_buffers
+    → next ≡ reply_if replies handle → IsAt has held facts → PassesOn has new before noted next (link_heard has handle octets facts)
+hears_is has held new facts handle octets before noted replies next rest links notes reply does k =
+    record {
+      at = record {
+        setup = ap (λ (h : Held). h.setup) rest ∙ k.setup;
+        view = ap (λ (h : Held). h.view) rest ∙ k.view;
+        place = ap (λ (h : Held). h.place) rest ∙ k.place;
+        access = ap (λ (h : Held). h.access) rest ∙ k.access;
+        turn = ap (λ (h : Held). h.turn) rest ∙ ap (λ (turn : Turn). record turn { doing = Rests }) k.turn;
+        activities = ap (λ (h : Held). h.activities) rest ∙ k.activities;
+        links = subst (λ (at : View × (ℕ × ℕ)). Hears handle octets facts.links facts.received new.links at.0 at.1.0 at.1.1) is links;
+      };
+      notes = notes
+          ∙ (λ i. notes_hearing handle octets facts.links facts.received before (k.view i) (k.turn i).slot (k.setup i).air_buffers)
+          ∙ append_assoc before _ _;
+      doing = does ∙ ap (λ test. reply_if test handle)
+          (reply ∙ (λ i. replies_hearing handle octets facts.links facts.received (k.turn i).slot (k.setup i).air_buffers));
+    }
+  where
+    is : ◌≡◌ {A = View × (ℕ × ℕ)} (held.view, (held.turn.slot, held.setup.air_buffers)) (facts.view, (facts.turn.slot, has.air_buffers))
+    is = λ i. (k.view i, ((k.turn i).slot, (k.setup i).air_buffers))
+
+-- what comes of a phase is known by what was done in it
+module _ (has : Setup) (held new : Held) (facts : Facts) (octets : List ℕ) (before noted : List Note) (next : Doing) (k : IsAt has held facts)
+    (in_event : IsInEvent facts.turn.doing facts.links) where
+  heard_on : (doing : Doing) → held.turn.doing ≡ doing
+      → (IsInEvent doing facts.links → PassesOn has new before noted next (heard has doing octets facts))
+      → PassesOn has new before noted next (heard has facts.turn.doing octets facts)
+  heard_on doing is passes =
+      let does : facts.turn.doing ≡ doing = sym (ap (λ (turn : Turn). turn.doing) k.turn) ∙ is in
+      subst (λ (doing : Doing). PassesOn has new before noted next (heard has doing octets facts)) (sym does)
+      (passes (subst (λ (doing : Doing). IsInEvent doing facts.links) does in_event))
+
+  -- it listened on a link
+  pub heard_on_link : (handle : ℕ) → (held.turn.doing ≡ CentralListens handle) ⊎ (held.turn.doing ≡ PeripheralListens handle)
+      → (HasEntered (link_at handle facts.links) → PassesOn has new before noted next (link_heard has handle octets facts))
+      → PassesOn has new before noted next (heard has facts.turn.doing octets facts)
+  heard_on_link handle (inl is) passes = heard_on (CentralListens handle) is passes
+  heard_on_link handle (inr is) passes = heard_on (PeripheralListens handle) is passes
