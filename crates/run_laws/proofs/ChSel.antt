@@ -11,10 +11,10 @@ use Rattle.adv_pdu.specs.Ranges.{is_in_range}
 use Rattle.advertise.specs.declared.answers.AdvAnswer.TheVariants.{Connect as Takes}
 use Rattle.advertise.specs.declared.params.AdvParams.{AdvParams}
 use Rattle.advertise.specs.Answers.{advertiser_answer, is_scan_answered}
-use Rattle.link_model.specs.Setup.{Setup as EndSetup}
-use Rattle.link_model.specs.declared.setup.LinkSetup.{LinkSetup}
+use Rattle.run_model.specs.link_model.Setup.{Setup as EndSetup}
+use Rattle.run_model.specs.link_model.declared.setup.LinkSetup.{LinkSetup}
 use Rattle.scan_init.specs.Initiating.{InitiatorFacts, is_accepted, is_connectable_to, is_sought}
-use Rattle.open_links.specs.OpenLinks.{OpenLink, free_from, link_at}
+use Rattle.run_model.specs.open_links.OpenLinks.{OpenLink, free_from, link_at}
 use Rattle.controller_model.specs.declared.doing.Doing.{Doing}
 use Rattle.controller_model.specs.declared.doing.Doing.TheVariants.{Advertises, Requests, Initiates, Connects, CentralSends}
 use Rattle.controller_model.specs.declared.doing.Turn.{Turn}
@@ -39,7 +39,7 @@ use Rattle.run_laws.proofs.Hearings.{IsOnAir}
 use Rattle.run_laws.proofs.SentPackets.{HasChSel}
 use Rattle.run_laws.proofs.TurnPlaces.{Within}
 use Rattle.run_laws.proofs.TurnSteps.{FitsChannel, IsListening, begins_may, initiates, octet_turn, pending, phase_turn}
-use Rattle.link_model.specs.Pair.{AreOneLink}
+use Rattle.run_model.specs.link_model.OneLink.{AreOneLink}
 use Rattle.run_laws.specs.Ends.{AreEnds, IsOpen, OpenEnd}
 use Rattle.run_laws.proofs.SameEvent.{one_connect_ind}
 

@@ -7,7 +7,7 @@ use Rattle.ble_base.specs.declared.notes.Note.{Note}
 use Rattle.adv_pdu.specs.declared.pdu.AdvPdu.{AdvPdu}
 use Rattle.adv_pdu.specs.declared.pdu.AdvPdu.TheVariants.{Connect}
 use Rattle.adv_pdu.specs.declared.pdu.ConnectFields.{ConnectFields}
-use Rattle.link_model.specs.declared.setup.LinkSetup.{LinkSetup}
+use Rattle.run_model.specs.link_model.declared.setup.LinkSetup.{LinkSetup}
 use Rattle.scan_init.specs.Access.{nth_access}
 use Rattle.controller_model.specs.declared.doing.Doing.{Doing}
 use Rattle.controller_model.specs.declared.doing.Doing.TheVariants.{Advertises, Connects, Rests}
@@ -34,7 +34,7 @@ use Rattle.run_model.proofs.Walk.{Place, AtBegins, AtPackets, AtListening, AtEnd
 use Rattle.run_laws.specs.Access.{connects_in, connects_sent}
 use Rattle.run_laws.proofs.SentPackets.{IsUseSent, Says}
 use Rattle.run_laws.proofs.TurnPlaces.{AllStand, Between, Within, at_stage, event_past, stands_first, stands_kept}
-use Rattle.run_laws.proofs.TurnSteps.{IsMade, MakesWell, begins_count, begins_may, may_pending, octet_turn, pending, phase_turn}
+use Rattle.run_laws.proofs.TurnSteps.{IsMade, MakesWell, begins_count, begins_may, ends_count, may_pending, octet_turn, pending, phase_turn}
 use Rattle.run_laws.proofs.Hearings.{own_facts, use_sent_at, wanted_is}
 use Rattle.run_laws.proofs.ByCalls.{StandsBy, at_turn, last_turn}
 
@@ -210,7 +210,7 @@ hear_leads setup facts received = λ count is.
     passed.count ∙ ap (λ n. n + pending (facts_after setup facts (step_of received)).turn.doing) (is ∙ zero_more count)
 
 end_leads : (setup : Setup) (facts : Facts) → pending facts.turn.doing ≡ 0 → Leads setup pending pending facts (facts_after setup facts TurnEnds)
-end_leads setup facts none = λ count is. is ∙ ap (λ n. count + n) none
+end_leads setup facts none = λ count is. ends_count setup facts ∙ is ∙ ap (λ n. count + n) none
 
 -- ---- other events
 

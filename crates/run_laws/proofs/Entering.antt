@@ -9,17 +9,16 @@ use Rattle.adv_pdu.specs.Ranges.{IsInRange}
 use Rattle.advertise.specs.declared.answers.AdvAnswer.TheVariants.{Ignore, Respond, Connect as Takes}
 use Rattle.advertise.specs.declared.params.AdvParams.{AdvParams}
 use Rattle.advertise.specs.Answers.{advertiser_answer, is_scan_answered}
-use Rattle.link_model.specs.Setup.{Setup as EndSetup}
-use Rattle.link_model.specs.Step.{Step as EndStep, DataGiven, PduFixed, PacketSent, PacketReceived, DataReported}
-use Rattle.link_model.specs.Events.{anchor_of, count_entry, entries_in}
-use Rattle.link_model.proofs.InEvents.{past_in}
-use Rattle.open_links.proofs.Ends.{entered_setup}
+use Rattle.run_model.specs.link_model.Setup.{Setup as EndSetup}
+use Rattle.run_model.specs.link_model.Step.{Step as EndStep, DataGiven, EventEntered, PduFixed, PacketSent, PacketReceived, RequestAnswered, DataReported}
+use Rattle.plain_links.specs.Plain.{ArePlain}
+use Rattle.plain_links.specs.Events.{anchor_of, count_entry, entries_in}
+use Rattle.plain_links.proofs.Growing.{plain_front}
+use Rattle.run_model.proofs.open_links.Unmoved.{entered_setup}
 use Rattle.std.proofs.lemmas.List.Sums.{fold-append}
-use Rattle.link_model.specs.declared.setup.LinkSetup.{LinkSetup}
-use Rattle.open_links.specs.OpenLinks.{OpenLink, link_after, link_at, link_served, new_link}
-use Rattle.open_links.specs.Slots.{IsOnTime}
-use Rattle.open_links.specs.Turns.{is_anchor, link_entered}
-use Rattle.open_links.proofs.OnTime.{new_on_time, through_on_time}
+use Rattle.run_model.specs.link_model.declared.setup.LinkSetup.{LinkSetup}
+use Rattle.run_model.specs.open_links.OpenLinks.{OpenLink, link_after, link_at, link_served, new_link}
+use Rattle.run_model.specs.open_links.Turns.{entered_if, enters_in, link_entered}
 use Rattle.controller_model.specs.declared.doing.Doing.{Doing}
 use Rattle.controller_model.specs.declared.doing.Doing.TheVariants.{Rests}
 use Rattle.controller_model.specs.declared.doing.Turn.{Turn}
@@ -35,9 +34,11 @@ use Rattle.run_model.specs.Run.{Given, facts_at, run_of, setup_at, history_of}
 use Rattle.run_model.proofs.LinkEnds.{AreTaken}
 use Rattle.run_model.proofs.Stations.{is_in}
 use Rattle.run_laws.specs.Ends.{HaveOneConnectInd}
+use Rattle.run_laws.specs.OnTime.{IsOnTime}
+use Rattle.run_laws.proofs.OnTime.{enters_on_time, new_on_time, same_on_time}
 use Rattle.run_laws.proofs.OpenSteps.{EachOpen, IsKeptOpen, MayOpen, begin_open, end_open, none_open, octet_open, open_has, phase_open, IsKeptByHosts, IsKeptServed}
 use Rattle.run_laws.proofs.TurnPlaces.{Between, IsTurned, Stage, Within, stands_in_run, turned}
-use Rattle.run_laws.proofs.TurnSteps.{FitsChannel, FitsFirst, IsListening, begins_listening, may_fit, phase_fits, phase_listens, initiates, pending, MakesWell, begins_begun, begins_make, begins_may, begins_slot, octet_turn, phase_makes, phase_turn}
+use Rattle.run_laws.proofs.TurnSteps.{FitsChannel, FitsFirst, IsListening, begins_listening, may_fit, phase_fits, phase_listens, initiates, pending, MakesWell, begins_begun, begins_make, begins_may, begins_slot, ends_turn, octet_turn, phase_makes, phase_turn}
 
 -- ---- a link that is taken has its fields in range
 
@@ -109,7 +110,14 @@ turn_kept setup = record {
         listens = phase_listens setup facts received;
         fits = phase_fits setup facts received in_turn.fits;
       };
-  ends = λ begun facts in_turn. record { begun_is = in_turn.begun_is; slot_is = tt; does = refl; makes = tt; listens = tt; fits = tt };
+  ends = λ begun facts in_turn. record {
+    begun_is = ap (λ (turn : Turn). turn.begun) (ends_turn setup facts) ∙ in_turn.begun_is;
+    slot_is = tt;
+    does = refl;
+    makes = tt;
+    listens = tt;
+    fits = tt;
+  };
 }
 
 pub turn_first : (setup : Setup) → IsInTurn setup Between 0 (first_facts setup)
@@ -119,22 +127,16 @@ turn_first setup = record { begun_is = refl; slot_is = tt; does = refl; makes = 
 
 -- a link before this slot
 pub record IsEntering (slot : ℕ) (link : OpenLink) : Type 0 where
-  pub on_time : IsOnTime slot link
+  pub on_time : ArePlain link.setup link.past → IsOnTime slot link
   pub some : 1 ≤ link.setup.link.fields.interval
   -- it was opened earlier
   pub earlier : link.setup.opened < slot
-
-same_on_time : (slot : ℕ) (one other : OpenLink) → other.setup ≡ one.setup → entries_in other.past ≡ entries_in one.past → IsOnTime slot one → IsOnTime slot other
-same_on_time slot one other setup entries on_time = record {
-  entered = λ event before. rw setup (on_time.entered event (omega (arith, entries, before)));
-  all = λ event before. rw entries (on_time.all event (subst (λ s. anchor_of s event < slot) setup before));
-}
 
 -- a step that enters no event
 other_step : (slot : ℕ) (link : OpenLink) (step : EndStep) → entries_in (link.past ++ step ∷ []) ≡ entries_in link.past → IsEntering slot link
     → IsEntering slot (link_after step link)
 other_step slot link step none entering = record {
-  on_time = same_on_time slot link (link_after step link) refl none entering.on_time;
+  on_time = λ plain. same_on_time slot link (link_after step link) refl none (entering.on_time (plain_front link.setup link.past (step ∷ []) plain));
   some = entering.some;
   earlier = entering.earlier;
 }
@@ -149,8 +151,11 @@ entering_hosts slot = record {
 entering_served : (slot : ℕ) → IsKeptServed (IsEntering slot)
 entering_served slot = record {
   hosts = entering_hosts slot;
-  served = λ now link entering.
-      record { on_time = same_on_time slot link (link_served now link) refl refl entering.on_time; some = entering.some; earlier = entering.earlier };
+  served = λ now link entering. record {
+    on_time = λ plain. same_on_time slot link (link_served now link) refl refl (entering.on_time plain);
+    some = entering.some;
+    earlier = entering.earlier;
+  };
   fixed = λ link entering. other_step slot link PduFixed (fold-append count_entry 0 link.past (PduFixed ∷ [])) entering;
   sent = λ now link entering. other_step slot link (PacketSent now) (fold-append count_entry 0 link.past (PacketSent now ∷ [])) entering;
 }
@@ -160,12 +165,21 @@ entering_open slot = record {
   serving = entering_served slot;
   received = λ now octets room link entering.
       other_step slot link (PacketReceived now octets room) (fold-append count_entry 0 link.past (PacketReceived now octets room ∷ [])) entering;
+  answered = λ answer link entering. other_step slot link (RequestAnswered answer) (fold-append count_entry 0 link.past (RequestAnswered answer ∷ [])) entering;
 }
+
+-- what was plain as a link entered its event was plain before
+plain_before : (slot : ℕ) (link : OpenLink) → ArePlain (link_entered slot link).setup (link_entered slot link).past → ArePlain link.setup link.past
+plain_before slot link = by (enters_in slot link)
+  where
+    by : (enters : Bool) → ArePlain (entered_if enters slot link).setup (entered_if enters slot link).past → ArePlain link.setup link.past
+    by true plain = plain_front link.setup link.past (EventEntered slot ∷ []) plain
+    by false plain = plain
 
 entered_next : (slot : ℕ) (link : OpenLink) → IsEntering slot link → IsEntering (slot + 1) (link_entered slot link)
 entered_next slot link entering =
-    let same = entered_setup (is_anchor slot link) slot link in record {
-      on_time = through_on_time past_in slot ([] ∷ []) link entering.some entering.on_time;
+    let same = entered_setup slot link in record {
+      on_time = λ plain. let before = plain_before slot link plain in enters_on_time slot link before entering.some (entering.on_time before);
       some = subst (λ (s : EndSetup). 1 ≤ s.link.fields.interval) (sym same) entering.some;
       earlier = let before = entering.earlier in subst (λ (s : EndSetup). s.opened < slot + 1) (sym same) (omega (arith, before));
     }
@@ -173,7 +187,7 @@ entered_next slot link entering =
 opened_now : (link : LinkSetup) (slot begun : ℕ) → slot + 1 ≡ begun → IsInRange link.fields → IsEntering begun (new_link (record { link = link; opened = slot }))
 opened_now link slot begun now is =
     let interval = is.parameters.interval_from in record {
-      on_time = subst (λ n. IsOnTime n (new_link (record { link = link; opened = slot }))) now (new_on_time (record { link = link; opened = slot }));
+      on_time = λ plain. subst (λ n. IsOnTime n (new_link (record { link = link; opened = slot }))) now (new_on_time (record { link = link; opened = slot }));
       some = omega (arith, interval);
       earlier = omega (arith, now);
     }
@@ -218,16 +232,17 @@ entering_kept taken setup = record {
 entering_first : (setup : Setup) → AreEntering setup Between 0 (first_facts setup)
 entering_first setup = record { in_turn = turn_first setup; each = none_open (IsEntering 0) setup.links }
 
--- at any time of a run
+-- at any time of a run a plain link is on time
 pub entering_in_run : AreTaken → (given : Given) (before rest : List Event) (station handle : ℕ) (link : OpenLink) → AreDistinct given.stations
     → is_in station given.stations ≡ true → history_of (run_of given) ≡ before ++ rest
-    → link_at handle (facts_at given station before).links ≡ Some link → IsOnTime (facts_at given station before).turn.begun link
-entering_in_run taken given before rest station handle link distinct is at is_open =
+    → link_at handle (facts_at given station before).links ≡ Some link → ArePlain link.setup link.past
+    → IsOnTime (facts_at given station before).turn.begun link
+entering_in_run taken given before rest station handle link distinct is at is_open plain =
     let setup = setup_at given station in
     let past = past_of station before in
     let stands = stands_in_run given before rest station distinct is at in
     let are = turned setup (AreEntering setup) (entering_kept taken setup) past stands.at (entering_first setup) stands.is in
-    subst (λ n. IsOnTime n link) (sym are.in_turn.begun_is) (open_has (IsEntering stands.at.begun) 0 handle (facts_of setup past).links link are.each is_open).on_time
+    subst (λ n. IsOnTime n link) (sym are.in_turn.begun_is) ((open_has (IsEntering stands.at.begun) 0 handle (facts_of setup past).links link are.each is_open).on_time plain)
 
 -- ---- both ends of one link
 

@@ -4,9 +4,9 @@ use Rattle.std.specs.Prelude.{map, take, if◌then◌else◌}
 use Rattle.std.proofs.lemmas.Bool.{eqb-true}
 use Rattle.adv_pdu.specs.declared.pdu.AdvPdu.{AdvPdu}
 use Rattle.adv_pdu.specs.Pdu.{IsPdu}
-use Rattle.link_model.specs.Packets.{packet_sent}
-use Rattle.link_model.specs.Step.{PacketSent}
-use Rattle.open_links.specs.OpenLinks.{OpenLink, facts_in, link_after, link_at}
+use Rattle.run_model.specs.link_model.Packets.{packet_sent}
+use Rattle.run_model.specs.link_model.Step.{PacketSent}
+use Rattle.run_model.specs.open_links.OpenLinks.{OpenLink, facts_in, link_after, link_at}
 use Rattle.controller_model.specs.declared.doing.Doing.{Doing}
 use Rattle.controller_model.specs.declared.doing.Doing.TheVariants.{Advertises, CentralSends, PeripheralSends}
 use Rattle.controller_model.specs.Step.{Step, HostOctet, TurnBegins, NothingHeard, TurnEnds}

@@ -1,32 +1,33 @@
 -- What each call keeps of the links of one station, and how a call on one of two stations keeps what relates their links.
 use Rattle.std.proofs.Common.{◌≡◌, ℕ, ◌+◌, ◌<◌, ◌≤◌, ◌==◌, Bool, true, false, Option, Some, None, List, [], ◌∷◌, refl, sym, subst, ◌∙◌, arith}
-use Rattle.std.specs.Prelude.{if◌then◌else◌}
-use Rattle.std.specs.Option.{option_map}
+use Rattle.std.specs.Prelude.{Result}
 use Rattle.std.proofs.lemmas.Bool.{eqb-true}
-use Rattle.link_model.specs.Setup.{Setup as EndSetup}
-use Rattle.link_model.specs.Acknowledgement.{first_acknowledgement}
-use Rattle.link_model.specs.Step.{DataGiven, PduFixed, PacketSent, PacketReceived, DataReported}
-use Rattle.open_links.specs.OpenLinks.{Links, OpenLink, link_after, link_at, link_from, link_served, new_link, with_change, with_change_from}
-use Rattle.open_links.specs.Turns.{is_anchor, link_entered}
-use Rattle.open_links.proofs.Ends.{entered_setup}
+use Rattle.run_model.specs.link_model.Setup.{Setup as EndSetup}
+use Rattle.run_model.specs.link_model.Acknowledgement.{first_acknowledgement}
+use Rattle.ble_base.specs.declared.error_codes.ErrCode.{ErrCode}
+use Rattle.run_model.specs.procedure_values.declared.asks.Ask.{Ask}
+use Rattle.run_model.specs.link_model.Step.{DataGiven, PduFixed, PacketSent, PacketReceived, RequestAnswered, DataReported}
+use Rattle.run_model.specs.open_links.OpenLinks.{Links, OpenLink, link_after, link_at, link_served, new_link}
+use Rattle.run_model.specs.open_links.Turns.{link_entered}
+use Rattle.run_model.proofs.open_links.Unmoved.{entered_setup}
 use Rattle.controller_model.specs.declared.doing.Turn.{Turn}
 use Rattle.controller_model.specs.Step.{Step, HostOctet, TurnBegins, TurnEnds}
 use Rattle.controller_model.specs.Facts.{Setup, Facts, first_facts}
 use Rattle.controller_model.specs.Heard.{reply_if}
-use Rattle.controller_model.specs.Packets.{links_sending, listens_on}
+use Rattle.controller_model.specs.Packets.{listens_on}
 use Rattle.controller_model.specs.Side.{facts_after, facts_of}
 use Rattle.controller_model.proofs.Always.{holds_step}
 use Rattle.controller_model.proofs.Handles.{HaveOwnHandles, handles_kept, own_handles}
 use Rattle.run_model.specs.Run.{Given, setup_at, step_of}
 use Rattle.run_model.proofs.Stations.{is_in}
 use Rattle.run_laws.specs.Ends.{link_listened}
-use Rattle.run_laws.proofs.Agreed.{Agree, ack_given, ack_of, ack_reported, agree_entered, agree_fixed, agree_given, agree_new, agree_reported, agree_sent, agree_served, first_ack}
+use Rattle.run_laws.proofs.Agreed.{Agree, ack_given, ack_of, ack_reported, agree_answered, agree_entered, agree_fixed, agree_given, agree_new, agree_reported, agree_sent, agree_served, first_ack}
 use Rattle.run_laws.proofs.ByCalls.{IsCalled, IsKeptByCalls}
 use Rattle.run_laws.proofs.Entering.{IsInTurn}
-use Rattle.run_laws.proofs.LinkPasses.{IsPassing, IsPassingOn, Leaves, LeavesAll, Opens, OpensOne, Receives, ReceivesOn, is_on_link, phase_passes}
-use Rattle.run_laws.proofs.OpenSteps.{AtOpen, EachOpen, IsKeptByHosts, IsKeptOpen, IsKeptServed, MayOpen, begin_open, changed, end_open, none_open, octet_open, phase_open, open_more, opened, sends}
+use Rattle.run_laws.proofs.LinkPasses.{IsPassingOn, LeavesAll, OpensOne, ReceivesOn, is_on_link, links_receiving, phase_passes_on}
+use Rattle.run_laws.proofs.OpenSteps.{EachOpen, IsKeptByHosts, IsKeptOpen, IsKeptServed, MayOpen, begin_open, changed, changed_at, end_open, none_open, octet_open, phase_open, open_more, opened, refuses as refusing, sends}
 use Rattle.run_laws.proofs.TurnPlaces.{Within}
-use Rattle.run_laws.proofs.TurnSteps.{MakesWell, begins_begun, begins_slot, octet_turn, phase_turn}
+use Rattle.run_laws.proofs.TurnSteps.{MakesWell, begins_begun, begins_slot, ends_turn, octet_turn, phase_turn}
 use Rattle.run_laws.proofs.TwoStations.{differs_back as apart_back}
 
 -- ---- the links of one station
@@ -76,10 +77,10 @@ short_served = record {
 }
 
 short_open : IsKeptOpen TakesShort
-short_open = record { serving = short_served; received = λ now octets room link is. is }
+short_open = record { serving = short_served; received = λ now octets room link is. is; answered = λ answer link is. is }
 
 short_entered : (now : ℕ) (link : OpenLink) → TakesShort link → TakesShort (link_entered now link)
-short_entered now link is = subst (λ (s : EndSetup). 27 ≤ s.link.max_rx) (sym (entered_setup (is_anchor now link) now link)) is
+short_entered now link is = subst (λ (s : EndSetup). 27 ≤ s.link.max_rx) (sym (entered_setup now link)) is
 
 may_short : (setup : Setup) (phases turns : ℕ) (facts : Facts) → IsInTurn setup (Within phases) turns facts → MayOpen TakesShort short_open facts
 may_short setup phases turns facts in_turn = record {
@@ -88,7 +89,7 @@ may_short setup phases turns facts in_turn = record {
 }
 
 before_entered : (slot now : ℕ) (link : OpenLink) → OpenedBefore slot link → OpenedBefore slot (link_entered now link)
-before_entered slot now link is = subst (λ (s : EndSetup). s.opened < slot) (sym (entered_setup (is_anchor now link) now link)) is
+before_entered slot now link is = subst (λ (s : EndSetup). s.opened < slot) (sym (entered_setup now link)) is
 
 before_fresh : (slot : ℕ) (link : OpenLink) → OpenedBefore slot link → IsFresh slot link
 before_fresh slot link is = λ same. absurd (omega (arith, is, same))
@@ -127,20 +128,25 @@ station_begins setup facts slot on begun is =
     }
 
 pub station_ends : (setup : Setup) (facts : Facts) → IsStation setup facts → IsStation setup (facts_after setup facts TurnEnds)
-station_ends setup facts is = record {
-  own = own_step setup facts TurnEnds is.own;
-  earlier = end_open (OpenedBefore facts.turn.begun) (before_hosts facts.turn.begun) setup facts is.earlier;
-  fresh = end_open (IsFresh facts.turn.slot) (fresh_hosts facts.turn.slot) setup facts is.fresh;
-  short = end_open TakesShort short_served.hosts setup facts is.short;
-  old = λ does. absurd cc;
-}
+station_ends setup facts is =
+    let same = ends_turn setup facts in
+    let after = facts_after setup facts TurnEnds in record {
+      own = own_step setup facts TurnEnds is.own;
+      earlier = subst (λ (turn : Turn). EachOpen (OpenedBefore turn.begun) after.links) (sym same)
+          (end_open (OpenedBefore facts.turn.begun) (before_hosts facts.turn.begun) setup facts is.earlier);
+      fresh = subst (λ (turn : Turn). EachOpen (IsFresh turn.slot) after.links) (sym same)
+          (end_open (IsFresh facts.turn.slot) (fresh_hosts facts.turn.slot) setup facts is.fresh);
+      short = end_open TakesShort short_served.hosts setup facts is.short;
+      old = λ does. absurd cc;
+    }
 
 -- what receives, and may send after that, was opened before
-received_before : (slot now handle : ℕ) (octets : List ℕ) (room replies : Bool) (links : Links) → EachOpen (OpenedBefore slot) links
-    → EachOpen (OpenedBefore slot) (links_sending now (reply_if replies handle) (with_change handle (link_after (PacketReceived now octets room)) links))
-received_before slot now handle octets room replies links each =
-    sends (OpenedBefore slot) (before_served slot) now (reply_if replies handle) _
-    (changed (OpenedBefore slot) handle (link_after (PacketReceived now octets room)) links (λ link is. is) each)
+received_before : (slot handle : ℕ) (octets : List ℕ) (room refuses replies : Bool) (facts : Facts) → EachOpen (OpenedBefore slot) facts.links
+    → EachOpen (OpenedBefore slot) (links_receiving handle octets room refuses replies facts)
+received_before slot handle octets room refuses replies facts each =
+    sends (OpenedBefore slot) (before_served slot) facts.turn.slot (reply_if replies handle) _
+    (refusing (OpenedBefore slot) (λ answer link is. is) refuses handle _
+    (changed (OpenedBefore slot) handle (link_after (PacketReceived facts.turn.slot octets room)) facts.links (λ link is. is) each))
 
 now_before : (slot begun : ℕ) → slot + 1 ≡ begun → slot < begun
 now_before slot begun is = omega (arith, is)
@@ -148,40 +154,40 @@ now_before slot begun is = omega (arith, is)
 no_link : (X : Type 0) (on : Bool) → on ≡ false → on ≡ true → X
 no_link X on off is = absurd (let h : true ≡ false = sym is ∙ off in absurd cc)
 
-passing_before : (facts after : Facts) (received : Option (List ℕ)) (begun : ℕ) → facts.turn.slot + 1 ≡ begun → IsPassing facts received after
+passing_before : (facts after : Facts) (received : Option (List ℕ)) (begun : ℕ) → facts.turn.slot + 1 ≡ begun → IsPassingOn facts received after
     → EachOpen (OpenedBefore begun) facts.links → EachOpen (OpenedBefore begun) after.links
-passing_before facts after received begun now (Leaves same on) each = subst (EachOpen (OpenedBefore begun)) (sym same) each
-passing_before facts after received begun now (Opens link is none) each =
+passing_before facts after received begun now (LeavesAll same on) each = subst (EachOpen (OpenedBefore begun)) (sym same) each
+passing_before facts after received begun now (OpensOne link is none) each =
     subst (EachOpen (OpenedBefore begun)) (sym is)
     (opened (OpenedBefore begun) (record { link = link; opened = facts.turn.slot }) facts.links (now_before facts.turn.slot begun now) each)
-passing_before facts after received begun now (Receives handle octets is wanted on room replies links_are) each =
-    subst (EachOpen (OpenedBefore begun)) (sym links_are) (received_before begun facts.turn.slot handle octets room replies facts.links each)
+passing_before facts after received begun now (ReceivesOn handle octets is wanted listens on room refuses replies refused links_are) each =
+    subst (EachOpen (OpenedBefore begun)) (sym links_are) (received_before begun handle octets room refuses replies facts each)
 
-passing_fresh : (setup : Setup) (facts after : Facts) (received : Option (List ℕ)) → IsStation setup facts → IsPassing facts received after
+passing_fresh : (setup : Setup) (facts after : Facts) (received : Option (List ℕ)) → IsStation setup facts → IsPassingOn facts received after
     → EachOpen (IsFresh facts.turn.slot) after.links
-passing_fresh setup facts after received station (Leaves same on) = subst (EachOpen (IsFresh facts.turn.slot)) (sym same) station.fresh
-passing_fresh setup facts after received station (Opens link is none) =
+passing_fresh setup facts after received station (LeavesAll same on) = subst (EachOpen (IsFresh facts.turn.slot)) (sym same) station.fresh
+passing_fresh setup facts after received station (OpensOne link is none) =
     subst (EachOpen (IsFresh facts.turn.slot)) (sym is)
     (opened (IsFresh facts.turn.slot) (record { link = link; opened = facts.turn.slot }) facts.links
     (λ same. first_ack (record { link = link; opened = facts.turn.slot })) station.fresh)
-passing_fresh setup facts after received station (Receives handle octets is wanted on room replies links_are) =
+passing_fresh setup facts after received station (ReceivesOn handle octets is wanted listens on room refuses replies refused links_are) =
     let slot = facts.turn.slot in
     subst (EachOpen (IsFresh slot)) (sym links_are)
-    (open_more (OpenedBefore slot) (IsFresh slot) _ (before_fresh slot) (received_before slot slot handle octets room replies facts.links (station.old on)))
+    (open_more (OpenedBefore slot) (IsFresh slot) _ (before_fresh slot) (received_before slot handle octets room refuses replies facts (station.old on)))
 
-passing_old : (setup : Setup) (facts after : Facts) (received : Option (List ℕ)) → IsStation setup facts → IsPassing facts received after
+passing_old : (setup : Setup) (facts after : Facts) (received : Option (List ℕ)) → IsStation setup facts → IsPassingOn facts received after
     → is_on_link after.turn.doing ≡ true → EachOpen (OpenedBefore facts.turn.slot) after.links
-passing_old setup facts after received station (Leaves same on) does = subst (EachOpen (OpenedBefore facts.turn.slot)) (sym same) (station.old (on does))
-passing_old setup facts after received station (Opens link is none) does = no_link _ (is_on_link after.turn.doing) none does
-passing_old setup facts after received station (Receives handle octets is wanted on room replies links_are) does =
+passing_old setup facts after received station (LeavesAll same on) does = subst (EachOpen (OpenedBefore facts.turn.slot)) (sym same) (station.old (on does))
+passing_old setup facts after received station (OpensOne link is none) does = no_link _ (is_on_link after.turn.doing) none does
+passing_old setup facts after received station (ReceivesOn handle octets is wanted listens on room refuses replies refused links_are) does =
     subst (EachOpen (OpenedBefore facts.turn.slot)) (sym links_are)
-    (received_before facts.turn.slot facts.turn.slot handle octets room replies facts.links (station.old on))
+    (received_before facts.turn.slot handle octets room refuses replies facts (station.old on))
 
 pub station_passes : (setup : Setup) (facts : Facts) (phases turns : ℕ) (received : Option (List ℕ)) → IsInTurn setup (Within phases) turns facts → IsStation setup facts
     → IsStation setup (facts_after setup facts (step_of received))
 station_passes setup facts phases turns received in_turn is =
     let after = facts_after setup facts (step_of received) in
-    let passing = phase_passes setup facts received in_turn.listens in
+    let passing = phase_passes_on setup facts received in_turn.listens in
     let turn = phase_turn setup facts received in
     let now = in_turn.slot_is ∙ sym in_turn.begun_is in record {
       own = own_step setup facts (step_of received) is.own;
@@ -220,9 +226,18 @@ pub record IsKeptByFirst (R : OpenLink → OpenLink → Type 0) : Type 0 where
   pub served : (slot : ℕ) (one other : OpenLink) → R one other → R (link_served slot one) other
   pub sent : (slot : ℕ) (one other : OpenLink) → R one other → R (link_after (PacketSent slot) one) other
   pub entered : (slot : ℕ) (one other : OpenLink) → R one other → R (link_entered slot one) other
+  pub answered : (answer : Result Ask ErrCode) (one other : OpenLink) → R one other → R (link_after (RequestAnswered answer) one) other
 
 pub agree_kept : IsKeptByFirst Agree
-agree_kept = record { given = agree_given; reported = agree_reported; fixed = agree_fixed; served = agree_served; sent = agree_sent; entered = agree_entered }
+agree_kept = record {
+  given = agree_given;
+  reported = agree_reported;
+  fixed = agree_fixed;
+  served = agree_served;
+  sent = agree_sent;
+  entered = agree_entered;
+  answered = agree_answered;
+}
 
 module _ (R : OpenLink → OpenLink → Type 0) (kept : IsKeptByFirst R) (others : Links) where
   pub all_entered : (slot : ℕ) (one : OpenLink) → EachOpen (R one) others → EachOpen (R (link_entered slot one)) others
@@ -242,25 +257,6 @@ module _ (R : OpenLink → OpenLink → Type 0) (kept : IsKeptByFirst R) (others
     sent = λ slot one all. open_more (R one) (R (link_after (PacketSent slot) one)) others (λ other is. kept.sent slot one other is) all;
   }
 
--- a change of the link under one handle
-changed_at : (P : OpenLink → Type 0) (first handle : ℕ) (change : OpenLink → OpenLink) (links : Links)
-    → ((link : OpenLink) → link_from first handle links ≡ Some link → P link → P (change link)) → EachOpen P links
-    → EachOpen P (with_change_from first handle (option_map change) links)
-changed_at P first handle change [] more each = tt
-changed_at P first handle change (place ∷ links) more each = at (first == handle) refl more (changed_at P (first + 1) handle change links)
-  where
-    here : (one : Option OpenLink) → ((link : OpenLink) → one ≡ Some link → P link → P (change link)) → AtOpen P one → AtOpen P (option_map change one)
-    here None more has = tt
-    here (Some link) more has = more link refl has
-
-    at : (test : Bool) → (first == handle) ≡ test
-        → ((link : OpenLink) → (if test then place else link_from (first + 1) handle links) ≡ Some link → P link → P (change link))
-        → (((link : OpenLink) → link_from (first + 1) handle links ≡ Some link → P link → P (change link)) → EachOpen P links
-        → EachOpen P (with_change_from (first + 1) handle (option_map change) links))
-        → EachOpen P (if test then option_map change place ∷ links else place ∷ with_change_from (first + 1) handle (option_map change) links)
-    at true is own rest = (here place own each.0, each.1)
-    at false is own rest = (each.0, rest own each.1)
-
 -- a phase of the first station keeps a relation that a new link has, and one that receives keeps
 pub passing_keeps : (R : OpenLink → OpenLink → Type 0) → IsKeptByFirst R → (others : Links) (facts after : Facts) (received : Option (List ℕ))
     → ((end : EndSetup) → end.opened ≡ facts.turn.slot → EachOpen (R (new_link end)) others)
@@ -272,11 +268,13 @@ passing_keeps R kept others facts after received new heard (LeavesAll same on) a
 passing_keeps R kept others facts after received new heard (OpensOne link is none) all =
     let end : EndSetup = record { link = link; opened = facts.turn.slot } in
     subst (λ links. AllPairs R links others) (sym is) (opened (λ one. EachOpen (R one) others) end facts.links (new end refl) all)
-passing_keeps R kept others facts after received new heard (ReceivesOn handle octets is wanted listens on room replies links_are) all =
+passing_keeps R kept others facts after received new heard (ReceivesOn handle octets is wanted listens on room refuses replies refused links_are) all =
     subst (λ links. AllPairs R links others) (sym links_are)
     (sends (λ one. EachOpen (R one) others) (all_served R kept others) facts.turn.slot (reply_if replies handle) _
+    (refusing (λ one. EachOpen (R one) others)
+    (λ answer one each. open_more (R one) (R (link_after (RequestAnswered answer) one)) others (λ other is. kept.answered answer one other is) each) refuses handle _
     (changed_at (λ one. EachOpen (R one) others) 0 handle (link_after (PacketReceived facts.turn.slot octets room)) facts.links
-    (λ one at each. heard handle octets room one is listens wanted at each) all))
+    (λ one at each. heard handle octets room one is listens wanted at each) all)))
 
 -- a link that opens while those of the other station that have its slot are fresh
 pub new_agree : (slot : ℕ) (others : Links) → EachOpen (IsFresh slot) others → (end : EndSetup) → end.opened ≡ slot → WithAll others (new_link end)

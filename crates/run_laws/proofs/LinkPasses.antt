@@ -8,15 +8,15 @@ use Rattle.advertise.specs.declared.answers.AdvAnswer.{AdvAnswer}
 use Rattle.advertise.specs.declared.answers.AdvAnswer.TheVariants.{Ignore, Respond, Connect as Takes}
 use Rattle.advertise.specs.Advertising.{AdvertiserFacts}
 use Rattle.advertise.specs.Answers.{advertiser_answer}
-use Rattle.link_model.specs.Step.{PacketReceived}
-use Rattle.link_model.specs.declared.setup.LinkSetup.{LinkSetup}
+use Rattle.run_model.specs.link_model.Step.{PacketReceived}
+use Rattle.run_model.specs.link_model.declared.setup.LinkSetup.{LinkSetup}
 use Rattle.scan_init.specs.Initiating.{InitiatorFacts}
 use Rattle.scan_init.specs.Reports.{ScannerFacts, does_ask, scan_answer}
-use Rattle.open_links.specs.OpenLinks.{free_from, link_after, link_at, with_change, with_link}
+use Rattle.run_model.specs.open_links.OpenLinks.{Links, free_from, link_after, link_at, with_change, with_link}
 use Rattle.controller_model.specs.declared.doing.Doing.{Doing}
 use Rattle.controller_model.specs.declared.doing.Doing.TheVariants.{Advertises, AwaitsRequest, Scans, Requests, AwaitsResponse, Initiates, Connects, CentralSends, CentralListens, PeripheralListens, PeripheralSends}
 use Rattle.controller_model.specs.Facts.{Setup, Facts}
-use Rattle.controller_model.specs.Heard.{advertiser_answers, advertiser_heard, asks_if, connects, has_room, heard, if_pdu, initiator_heard, link_taken, link_to, opens, replies_in, reply_if, scanner_after, scanner_heard, taken_if, taken_under, unheard, with_scanner}
+use Rattle.controller_model.specs.Heard.{advertiser_answers, advertiser_heard, asks_if, connects, effect_in, has_room, heard, if_pdu, initiator_heard, is_refused, link_taken, link_to, links_refusing, opens, reply_if, scanner_after, scanner_heard, taken_if, taken_under, unheard, with_scanner}
 use Rattle.controller_model.specs.Outcome.{Outcome, facts_passed}
 use Rattle.controller_model.specs.Packets.{facts_doing, links_sending, listens_on, pdu_heard}
 use Rattle.controller_model.specs.Side.{facts_after}
@@ -33,29 +33,20 @@ is_on_link (PeripheralListens handle) = true
 is_on_link (PeripheralSends handle) = true
 is_on_link other = false
 
-pub data IsPassing (facts : Facts) (received : Option (List ℕ)) (after : Facts) : Type 0 where
-  Leaves : after.links ≡ facts.links → (is_on_link after.turn.doing ≡ true → is_on_link facts.turn.doing ≡ true) → IsPassing facts received after
-  Opens : (link : LinkSetup) → after.links ≡ with_link (record { link = link; opened = facts.turn.slot }) facts.links
-      → is_on_link after.turn.doing ≡ false → IsPassing facts received after
-  Receives : (handle : ℕ) (octets : List ℕ) → received ≡ Some octets → facts.wanted ≡ listens_on (link_at handle facts.links)
-      → is_on_link facts.turn.doing ≡ true → (room replies : Bool)
-      → after.links ≡ links_sending facts.turn.slot (reply_if replies handle) (with_change handle (link_after (PacketReceived facts.turn.slot octets room)) facts.links)
-      → IsPassing facts received after
+-- a link receives: it may refuse a request of the peer at once
+abbrev pub links_receiving : ℕ → List ℕ → Bool → Bool → Bool → Facts → Links
+links_receiving handle octets room refuses replies facts =
+    links_sending facts.turn.slot (reply_if replies handle)
+    (links_refusing refuses handle (with_change handle (link_after (PacketReceived facts.turn.slot octets room)) facts.links))
 
--- the same, with the link that receives named by what it does
 pub data IsPassingOn (facts : Facts) (received : Option (List ℕ)) (after : Facts) : Type 0 where
   LeavesAll : after.links ≡ facts.links → (is_on_link after.turn.doing ≡ true → is_on_link facts.turn.doing ≡ true) → IsPassingOn facts received after
   OpensOne : (link : LinkSetup) → after.links ≡ with_link (record { link = link; opened = facts.turn.slot }) facts.links
       → is_on_link after.turn.doing ≡ false → IsPassingOn facts received after
   ReceivesOn : (handle : ℕ) (octets : List ℕ) → received ≡ Some octets → facts.wanted ≡ listens_on (link_at handle facts.links)
-      → link_listened facts.turn.doing ≡ Some handle → is_on_link facts.turn.doing ≡ true → (room replies : Bool)
-      → after.links ≡ links_sending facts.turn.slot (reply_if replies handle) (with_change handle (link_after (PacketReceived facts.turn.slot octets room)) facts.links)
-      → IsPassingOn facts received after
-
-passing : (facts after : Facts) (received : Option (List ℕ)) → IsPassingOn facts received after → IsPassing facts received after
-passing facts after received (LeavesAll same on) = Leaves same on
-passing facts after received (OpensOne link is none) = Opens link is none
-passing facts after received (ReceivesOn handle octets is wanted listens on room replies links_are) = Receives handle octets is wanted on room replies links_are
+      → link_listened facts.turn.doing ≡ Some handle → is_on_link facts.turn.doing ≡ true → (room refuses replies : Bool)
+      → refuses ≡ is_refused facts.view handle (effect_in facts.turn.slot room (link_at handle facts.links) octets)
+      → after.links ≡ links_receiving handle octets room refuses replies facts → IsPassingOn facts received after
 
 module _ (facts : Facts) (received : Option (List ℕ)) where
   abbrev Passing : Outcome → Type 0
@@ -123,9 +114,9 @@ heard_passes setup facts octets (AwaitsResponse channel) is listens =
 heard_passes setup facts octets (Initiates channel) is listens =
     pdu_passes facts (Some octets) (pdu_heard channel octets) _ (λ pdu. initiator_passes facts (Some octets) facts.initiator setup channel pdu)
 heard_passes setup facts octets (CentralListens handle) is listens =
-    ReceivesOn handle octets refl listens (ap link_listened is) (ap is_on_link is) (has_room setup facts) (replies_in (link_at handle facts.links) octets) refl
+    ReceivesOn handle octets refl listens (ap link_listened is) (ap is_on_link is) (has_room setup facts) _ _ refl refl
 heard_passes setup facts octets (PeripheralListens handle) is listens =
-    ReceivesOn handle octets refl listens (ap link_listened is) (ap is_on_link is) (has_room setup facts) (replies_in (link_at handle facts.links) octets) refl
+    ReceivesOn handle octets refl listens (ap link_listened is) (ap is_on_link is) (has_room setup facts) _ _ refl refl
 heard_passes setup facts octets (Advertises channel) is listens = unheard_passes facts (Some octets) (Advertises channel) is
 heard_passes setup facts octets doing is listens = unheard_passes facts (Some octets) doing is
 
@@ -133,7 +124,3 @@ pub phase_passes_on : (setup : Setup) (facts : Facts) (received : Option (List �
     → IsPassingOn facts received (facts_after setup facts (step_of received))
 phase_passes_on setup facts None listens = unheard_passes facts None facts.turn.doing refl
 phase_passes_on setup facts (Some octets) listens = heard_passes setup facts octets facts.turn.doing refl listens
-
-pub phase_passes : (setup : Setup) (facts : Facts) (received : Option (List ℕ)) → IsListening facts facts.turn.doing
-    → IsPassing facts received (facts_after setup facts (step_of received))
-phase_passes setup facts received listens = passing facts _ received (phase_passes_on setup facts received listens)

@@ -6,13 +6,13 @@ use Rattle.std.proofs.lemmas.Bool.{false_from_ne_true}
 use Rattle.ble_base.specs.declared.roles.Role.{Role}
 use Rattle.ble_base.specs.declared.roles.Role.TheVariants.{Central, Peripheral}
 use Rattle.advertise.specs.Advertising.{AdvertiserFacts}
-use Rattle.link_model.specs.End.{replies_by, replies_of}
-use Rattle.link_model.specs.Packets.{good_pdu}
-use Rattle.link_model.specs.Setup.{Setup as EndSetup}
-use Rattle.link_model.specs.Step.{PduFixed, PacketSent, PacketReceived}
-use Rattle.link_model.specs.Times.{has_second_exchange}
-use Rattle.open_links.specs.OpenLinks.{Links, OpenLink, facts_in, link_after, link_at, link_served, with_change}
-use Rattle.open_links.proofs.Handles.{changed_is}
+use Rattle.run_model.specs.link_model.Receiving.{facts_received, has_ended, replies_by, replies_of}
+use Rattle.run_model.specs.link_model.Packets.{good_pdu}
+use Rattle.run_model.specs.link_model.Setup.{Setup as EndSetup}
+use Rattle.run_model.specs.link_model.Step.{PduFixed, PacketSent, PacketReceived}
+use Rattle.run_model.specs.link_model.Times.{has_second_exchange}
+use Rattle.run_model.specs.open_links.OpenLinks.{Links, OpenLink, facts_in, has_entered, in_event, link_after, link_at, link_served, with_change}
+use Rattle.run_model.proofs.open_links.Handles.{changed_is}
 use Rattle.slot_plan.specs.declared.Activity.{Activity}
 use Rattle.slot_plan.specs.declared.Activity.TheVariants.{Link, Advertise, Scan, Initiate}
 use Rattle.slot_plan.specs.Holding.{is_held_in, winner_of}
@@ -20,7 +20,7 @@ use Rattle.controller_model.specs.declared.doing.Doing.{Doing}
 use Rattle.controller_model.specs.declared.doing.Doing.TheVariants.{Advertises, CentralSends, CentralListens, PeripheralListens, PeripheralSends, Rests}
 use Rattle.controller_model.specs.Step.{Step, TurnBegins}
 use Rattle.controller_model.specs.Facts.{Setup, Facts}
-use Rattle.controller_model.specs.Heard.{has_room, link_heard, replies_in, reply_if, heard, unheard}
+use Rattle.controller_model.specs.Heard.{has_room, link_heard, links_refusing, replies_in, reply_if, heard, unheard}
 use Rattle.controller_model.specs.Links.{facts_ending}
 use Rattle.controller_model.specs.Outcome.{Outcome, facts_passed}
 use Rattle.controller_model.specs.Packets.{facts_doing}
@@ -28,7 +28,7 @@ use Rattle.controller_model.specs.Radio.{advertises_at, advertises_on, doing_hel
 use Rattle.controller_model.specs.Sent.{SendsOn}
 use Rattle.controller_model.specs.Side.{facts_after, facts_of}
 use Rattle.run_model.specs.Run.{step_of}
-use Rattle.run_laws.proofs.LinkPasses.{IsPassing, Leaves, Opens, Receives, is_on_link, phase_passes}
+use Rattle.run_laws.proofs.LinkPasses.{IsPassingOn, LeavesAll, OpensOne, ReceivesOn, is_on_link, phase_passes_on}
 use Rattle.run_laws.proofs.Entering.{IsInTurn, turn_first, turn_kept}
 use Rattle.run_laws.proofs.TurnPlaces.{Between, IsTurned, Standing, Stage, Within, at_stage, standing, turned}
 
@@ -98,23 +98,34 @@ exchange_in : (role : Role) (handle : ℕ) (links : Links) → HasRole role (lin
 exchange_in Central handle links has = (refl, has)
 exchange_in Peripheral handle links has = (refl, has)
 
-first_in : (slot handle : ℕ) (links : Links) (found : Option OpenLink) → link_at handle links ≡ found
-    → IsInPhase 0 (with_change handle (link_served slot) links) (first_exchange handle found)
-first_in slot handle links None at = tt
-first_in slot handle links (Some link) at =
+entered_in : (entered : Bool) (slot handle : ℕ) (links : Links) (link : OpenLink) → link_at handle links ≡ Some link
+    → IsInPhase 0 (with_change handle (link_served slot) links) (first_exchange handle (if entered then Some link else None))
+entered_in true slot handle links link at =
     let role = link.setup.link.role in
     exchange_in role handle (with_change handle (link_served slot) links)
     (role_changed role handle (link_served slot) links (λ one. refl) (subst (HasRole role) (sym at) refl))
+entered_in false slot handle links link at = tt
+
+first_in : (slot handle : ℕ) (links : Links) (found : Option OpenLink) → link_at handle links ≡ found
+    → IsInPhase 0 (with_change handle (link_served slot) links) (first_exchange handle (in_event found))
+first_in slot handle links None at = tt
+first_in slot handle links (Some link) at = entered_in (has_entered link) slot handle links link at
 
 exchange_if_in : (continues : Bool) (role : Role) (handle : ℕ) (links : Links) → HasRole role (link_at handle links)
     → IsInPhase 0 links (exchange_if continues role handle)
 exchange_if_in true role handle links has = exchange_in role handle links has
 exchange_if_in false role handle links has = tt
 
-second_in : (handle : ℕ) (links : Links) (found : Option OpenLink) → link_at handle links ≡ found → IsInPhase 0 links (second_exchange handle found)
-second_in handle links None at = tt
-second_in handle links (Some link) at =
+again_in : (entered : Bool) (handle : ℕ) (links : Links) (link : OpenLink) → link_at handle links ≡ Some link
+    → IsInPhase 0 links (second_exchange handle (if entered then Some link else None))
+again_in true handle links link at =
     exchange_if_in (has_second_exchange (facts_in link)) link.setup.link.role handle links (subst (HasRole link.setup.link.role) (sym at) refl)
+again_in false handle links link at = tt
+
+second_in : (handle : ℕ) (links : Links) (found : Option OpenLink) → link_at handle links ≡ found
+    → IsInPhase 0 links (second_exchange handle (in_event found))
+second_in handle links None at = tt
+second_in handle links (Some link) at = again_in (has_entered link) handle links link at
 
 on_in : (channel : Option ℕ) (links : Links) → IsInPhase 0 links (advertises_on channel)
 on_in None links = tt
@@ -186,42 +197,56 @@ off_link phases links (Advertises channel) off = tt
 off_link phases links other off = tt
 
 -- a peripheral alone answers
-reply_by : (role : Role) (handle : ℕ) (links : Links) (pdu : Option (List ℕ)) → HasRole role (link_at handle links)
-    → (phases : ℕ) → (role ≡ Peripheral → phases ≡ 1) → IsInPhase phases links (reply_if (replies_by role pdu) handle)
-reply_by Central handle links pdu has phases second = tt
-reply_by Peripheral handle links None has phases second = tt
-reply_by Peripheral handle links (Some octets) has phases second = (second refl, has)
+reply_by : (role : Role) (ended : Bool) (handle : ℕ) (links : Links) (pdu : Option (List ℕ)) → HasRole role (link_at handle links)
+    → (phases : ℕ) → (role ≡ Peripheral → phases ≡ 1) → IsInPhase phases links (reply_if (replies_by role ended pdu) handle)
+reply_by Central ended handle links pdu has phases second = tt
+reply_by Peripheral true handle links None has phases second = tt
+reply_by Peripheral false handle links None has phases second = tt
+reply_by Peripheral true handle links (Some octets) has phases second = tt
+reply_by Peripheral false handle links (Some octets) has phases second = (second refl, has)
 
-reply_in : (role : Role) (handle : ℕ) (links after : Links) (octets : List ℕ) (found : Option OpenLink) (phases : ℕ) → HasRole role found → HasRole role (link_at handle after)
-    → (role ≡ Peripheral → phases ≡ 1) → IsInPhase phases after (reply_if (replies_in found octets) handle)
+reply_in : (role : Role) (slot handle : ℕ) (room : Bool) (links after : Links) (octets : List ℕ) (found : Option OpenLink) (phases : ℕ) → HasRole role found
+    → HasRole role (link_at handle after) → (role ≡ Peripheral → phases ≡ 1)
+    → IsInPhase phases after (reply_if (replies_in slot room found octets) handle)
 unfolding replies_of
-reply_in role handle links after octets None phases is has second = tt
-reply_in role handle links after octets (Some link) phases is has second =
-    subst (λ (r : Role). IsInPhase phases after (reply_if (replies_by r (good_pdu link.setup (facts_in link) octets)) handle)) (sym is)
-    (reply_by role handle after (good_pdu link.setup (facts_in link) octets) has phases second)
+reply_in role slot handle room links after octets None phases is has second = tt
+reply_in role slot handle room links after octets (Some link) phases is has second =
+    let own = link.setup.link.role in
+    let pdu = good_pdu link.setup (facts_in link) octets in
+    let ended = has_ended (facts_received own slot room pdu (facts_in link)) in
+    subst (λ (r : Role). IsInPhase phases after (reply_if (replies_by r ended pdu) handle)) (sym is)
+    (reply_by role ended handle after pdu has phases second)
 
 next_phase : (phases first : ℕ) → phases ≡ first → suc phases ≡ first + 1
 next_phase phases first is = omega (arith, is)
 
+-- what receives, and refuses a request of the peer at once, keeps its role
+role_refusing : (role : Role) (does : Bool) (handle : ℕ) (links : Links) → HasRole role (link_at handle links)
+    → HasRole role (link_at handle (links_refusing does handle links))
+role_refusing role true handle links has = role_changed role handle _ links (λ link. refl) has
+role_refusing role false handle links has = has
+
 heard_in : (role : Role) (setup : Setup) (facts : Facts) (phases handle : ℕ) (octets : List ℕ) → HasRole role (link_at handle facts.links) → (role ≡ Peripheral → suc phases ≡ 1)
-    → IsInPhase (suc phases) (facts_passed (link_heard setup handle octets facts)).links (reply_if (replies_in (link_at handle facts.links) octets) handle)
+    → IsInPhase (suc phases) (facts_passed (link_heard setup handle octets facts)).links (link_heard setup handle octets facts).next
 heard_in role setup facts phases handle octets has second =
     let outcome = link_heard setup handle octets facts in
+    let room = has_room setup facts in
+    let after = with_change handle (link_after (PacketReceived facts.turn.slot octets room)) facts.links in
     doing_in (suc phases) outcome.next outcome.facts
-    (reply_in role handle facts.links outcome.facts.links octets (link_at handle facts.links) (suc phases) has
-    (role_changed role handle (link_after (PacketReceived facts.turn.slot octets (has_room setup facts))) facts.links (λ link. refl) has) second)
+    (reply_in role facts.turn.slot handle room facts.links outcome.facts.links octets (link_at handle facts.links) (suc phases) has
+    (role_refusing role _ handle after (role_changed role handle _ facts.links (λ link. refl) has)) second)
 
 no_central : (phases : ℕ) → Central ≡ Peripheral → phases ≡ 1
 no_central phases same = absurd cc
 
-off_passing : (facts after : Facts) (received : Option (List ℕ)) (phases : ℕ) → is_on_link facts.turn.doing ≡ false → IsPassing facts received after → DoesIn phases after
-off_passing facts after received phases off (Leaves same on) =
+off_passing : (facts after : Facts) (received : Option (List ℕ)) (phases : ℕ) → is_on_link facts.turn.doing ≡ false → IsPassingOn facts received after → DoesIn phases after
+off_passing facts after received phases off (LeavesAll same on) =
     off_link phases after.links after.turn.doing (false_from_ne_true (is_on_link after.turn.doing) (λ does. let h : true ≡ false = sym (on does) ∙ off in absurd cc))
-off_passing facts after received phases off (Opens link is none) = off_link phases after.links after.turn.doing none
-off_passing facts after received phases off (Receives handle octets is wanted on room replies links_are) = absurd (let h : true ≡ false = sym on ∙ off in absurd cc)
+off_passing facts after received phases off (OpensOne link is none) = off_link phases after.links after.turn.doing none
+off_passing facts after received phases off (ReceivesOn handle octets is wanted listens on room refuses replies refused links_are) = absurd (let h : true ≡ false = sym on ∙ off in absurd cc)
 
 pub passes_in : (setup : Setup) (facts : Facts) (received : Option (List ℕ)) (phases : ℕ) (doing : Doing) → facts.turn.doing ≡ doing → IsInPhase phases facts.links doing
-    → IsPassing facts received (facts_after setup facts (step_of received)) → DoesIn (suc phases) (facts_after setup facts (step_of received))
+    → IsPassingOn facts received (facts_after setup facts (step_of received)) → DoesIn (suc phases) (facts_after setup facts (step_of received))
 passes_in setup facts None phases (CentralSends handle) doing is passing =
     subst (λ (d : Doing). IsInPhase (suc phases) (facts_passed (unheard d facts)).links (unheard d facts).next) (sym doing) (next_phase phases 0 is.0, is.1)
 passes_in setup facts (Some octets) phases (CentralSends handle) doing is passing =
@@ -256,7 +281,7 @@ phases_kept setup = let kept = turn_kept setup in record {
   begins = λ begun on facts is. record { in_turn = kept.begins begun on facts is.in_turn; phase = begins_in setup begun on facts };
   passes = λ phases begun received facts is. record {
     in_turn = kept.passes phases begun received facts is.in_turn;
-    phase = passes_in setup facts received phases facts.turn.doing refl is.phase (phase_passes setup facts received is.in_turn.listens);
+    phase = passes_in setup facts received phases facts.turn.doing refl is.phase (phase_passes_on setup facts received is.in_turn.listens);
   };
   ends = λ begun facts is. record { in_turn = kept.ends begun facts is.in_turn; phase = refl };
 }

@@ -1,6 +1,7 @@
 -- The open links of a controller after each call on it.
-use Rattle.std.proofs.Common.{◌≡◌, ℕ, zero, suc, ◌+◌, ◌==◌, Bool, true, false, Option, Some, None, List, [], ◌∷◌, replicate, refl, sym, subst}
-use Rattle.std.specs.Prelude.{⊤, nat_lt, if◌then◌else◌, ◌&&◌}
+use Rattle.std.proofs.Common.{◌≡◌, ℕ, zero, suc, ◌+◌, ◌≤◌, ◌==◌, Bool, true, false, Option, Some, None, List, [], ◌∷◌, replicate, refl, sym, subst, ◌∙◌, arith}
+use Rattle.std.proofs.lemmas.Bool.{eqb-true}
+use Rattle.std.specs.Prelude.{⊤, nat_lt, if◌then◌else◌, ◌&&◌, Result}
 use Rattle.std.specs.Option.{option_map}
 use Rattle.adv_pdu.specs.declared.pdu.AdvPdu.{AdvPdu}
 use Rattle.adv_pdu.specs.declared.pdu.ConnectFields.{ConnectFields}
@@ -16,33 +17,37 @@ use Rattle.hci_cmd.specs.declared.command.CmdRead.{CmdRead}
 use Rattle.hci_cmd.specs.declared.command.CmdRead.TheVariants.{Known, UnknownOpcode, BadLength}
 use Rattle.hci_cmd.specs.Command.{command_of}
 use Rattle.host_view.specs.Unbuilt.{status_of}
-use Rattle.link_model.specs.Setup.{Setup as EndSetup}
-use Rattle.link_model.specs.Step.{DataGiven, PduFixed, PacketSent, PacketReceived, DataReported}
-use Rattle.link_model.specs.declared.setup.LinkSetup.{LinkSetup}
+use Rattle.ble_base.specs.declared.error_codes.ErrCode.{ErrCode}
+use Rattle.run_model.specs.procedure_values.declared.asks.Ask.{Ask}
+use Rattle.run_model.specs.link_model.Setup.{Setup as EndSetup}
+use Rattle.run_model.specs.link_model.Step.{DataGiven, PduFixed, PacketSent, PacketReceived, RequestAnswered, DataReported}
+use Rattle.run_model.specs.link_model.declared.setup.LinkSetup.{LinkSetup}
 use Rattle.slot_plan.specs.declared.Activity.{Activity}
 use Rattle.slot_plan.specs.declared.Activity.TheVariants.{Link, Advertise, Scan, Initiate}
 use Rattle.slot_plan.specs.Holding.{is_held_in, winner_of}
-use Rattle.open_links.specs.Data.{complete_in, links_reported}
-use Rattle.open_links.specs.OpenLinks.{Links, OpenLink, link_after, link_at, link_from, link_served, new_link, with_change, with_change_from, with_link, without_links}
-use Rattle.open_links.specs.Turns.{link_entered, links_entered, links_staying, reason_in, staying_by}
+use Rattle.run_model.specs.open_links.Data.{complete_in, links_reported}
+use Rattle.run_model.specs.open_links.OpenLinks.{Links, OpenLink, link_after, link_at, link_from, link_served, new_link, with_change, with_change_from, with_link, without_links}
+use Rattle.run_model.proofs.open_links.Handles.{here, later}
+use Rattle.run_model.specs.open_links.Turns.{due_in, ending_in, link_entered, links_without, staying_by}
 use Rattle.scan_init.specs.Reports.{does_ask, scan_answer}
 use Rattle.controller_model.specs.declared.doing.Doing.{Doing}
 use Rattle.controller_model.specs.declared.doing.Doing.TheVariants.{Advertises, Connects, CentralSends, PeripheralListens, PeripheralSends, Rests}
 use Rattle.controller_model.specs.Step.{HostOctet, TurnBegins, TurnEnds}
 use Rattle.controller_model.specs.Facts.{Setup, Facts}
 use Rattle.controller_model.specs.Commands.{facts_commanded, facts_known, links_after}
-use Rattle.open_links.specs.declared.offers.Offer.{Offer}
-use Rattle.open_links.specs.declared.offers.Offer.TheVariants.{NoLink, Empty, Overflow, Kept}
-use Rattle.controller_model.specs.Data.{facts_offered, offer_of}
-use Rattle.controller_model.specs.Heard.{asks_if, has_room, link_taken, opens, replies_in, reply_if}
+use Rattle.run_model.specs.open_links.declared.offers.Offer.{Offer}
+use Rattle.run_model.specs.open_links.declared.offers.Offer.TheVariants.{NoLink, Empty, Overflow, Kept}
+use Rattle.controller_model.specs.Data.{facts_handed, facts_offered, offer_of}
+use Rattle.controller_model.specs.Heard.{asks_if, effect_in, has_room, is_refused, link_taken, links_refusing, opens, replies_in, reply_if}
 use Rattle.controller_model.specs.Links.{facts_ending}
 use Rattle.controller_model.specs.Outcome.{Outcome, facts_passed}
 use Rattle.controller_model.specs.Packets.{links_sending}
 use Rattle.controller_model.specs.Radio.{facts_entering, links_fixing, outcome_begun, plan_in, served, radio_served, turn_begins, winner_served}
 use Rattle.controller_model.specs.Side.{facts_after, facts_fed, result_of}
-use Rattle.controller_model.proofs.Always.{ending_is, links_won, opening_passes, winning_is}
+use Rattle.controller_model.proofs.Always.{ending_is, leaving_is, links_won, opening_passes, winning_is}
 use Rattle.controller_model.proofs.Phases.{EachOutcome, heard_is, unheard_is}
 use Rattle.run_model.specs.Run.{step_of}
+use Rattle.controller_model.specs.Entering.{all_entered}
 
 -- ---- a fact of each open link
 
@@ -67,6 +72,29 @@ open_has P first handle (place ∷ links) link each is = at (first == handle) is
     at true found rest = here place each.0 found
     at false found rest = rest found
 
+-- a link is under a handle from the first on
+from_first : (first handle : ℕ) (links : Links) (link : OpenLink) → link_from first handle links ≡ Some link → first ≤ handle
+from_first first handle [] link is = absurd cc
+from_first first handle (place ∷ links) link is = at (first == handle) refl is (from_first (first + 1) handle links link)
+  where
+    at : (test : Bool) → (first == handle) ≡ test → (if test then place else link_from (first + 1) handle links) ≡ Some link
+        → (link_from (first + 1) handle links ≡ Some link → first + 1 ≤ handle) → first ≤ handle
+    at true same found rest = let equal = eqb-true first handle same in omega (arith, equal)
+    at false other found rest = let more = rest found in omega (arith, more)
+
+pub each_under : (P : OpenLink → Type 0) (first : ℕ) (links : Links) → ((handle : ℕ) (link : OpenLink) → link_from first handle links ≡ Some link → P link) → EachOpen P links
+each_under P first [] has = tt
+each_under P first (place ∷ links) has = (
+  at place refl,
+  each_under P (first + 1) links (λ handle link is.
+      let from = from_first (first + 1) handle links link is in
+      has handle link (later first handle place links (omega (arith, from)) ∙ is)),
+)
+  where
+    at : (one : Option OpenLink) → place ≡ one → AtOpen P one
+    at None is = tt
+    at (Some link) is = has first link (here first place links ∙ is)
+
 pub open_more : (P Q : OpenLink → Type 0) (links : Links) → ((link : OpenLink) → P link → Q link) → EachOpen P links → EachOpen Q links
 open_more P Q [] more each = tt
 open_more P Q (None ∷ links) more each = (tt, open_more P Q links more each.1)
@@ -78,10 +106,29 @@ none_open P (suc many) = (tt, none_open P many)
 
 -- the links that enter their events
 pub enter_open : (P Q : OpenLink → Type 0) (slot : ℕ) (links : Links) → ((link : OpenLink) → P link → Q (link_entered slot link)) → EachOpen P links
-    → EachOpen Q (links_entered slot links)
+    → EachOpen Q (all_entered slot links)
 enter_open P Q slot [] more each = tt
 enter_open P Q slot (None ∷ links) more each = (tt, enter_open P Q slot links more each.1)
 enter_open P Q slot (Some link ∷ links) more each = (more link each.0, enter_open P Q slot links more each.1)
+
+-- a change of the link under one handle
+pub changed_at : (P : OpenLink → Type 0) (first handle : ℕ) (change : OpenLink → OpenLink) (links : Links)
+    → ((link : OpenLink) → link_from first handle links ≡ Some link → P link → P (change link)) → EachOpen P links
+    → EachOpen P (with_change_from first handle (option_map change) links)
+changed_at P first handle change [] more each = tt
+changed_at P first handle change (place ∷ links) more each = at (first == handle) refl more (changed_at P (first + 1) handle change links)
+  where
+    here : (one : Option OpenLink) → ((link : OpenLink) → one ≡ Some link → P link → P (change link)) → AtOpen P one → AtOpen P (option_map change one)
+    here None more has = tt
+    here (Some link) more has = more link refl has
+
+    at : (test : Bool) → (first == handle) ≡ test
+        → ((link : OpenLink) → (if test then place else link_from (first + 1) handle links) ≡ Some link → P link → P (change link))
+        → (((link : OpenLink) → link_from (first + 1) handle links ≡ Some link → P link → P (change link)) → EachOpen P links
+        → EachOpen P (with_change_from (first + 1) handle (option_map change) links))
+        → EachOpen P (if test then option_map change place ∷ links else place ∷ with_change_from (first + 1) handle (option_map change) links)
+    at true is own rest = (here place own each.0, each.1)
+    at false is own rest = (each.0, rest own each.1)
 
 -- what its host gives, and what is reported to it, keeps the fact
 pub record IsKeptByHosts (P : OpenLink → Type 0) : Type 0 where
@@ -95,10 +142,11 @@ pub record IsKeptServed (P : OpenLink → Type 0) : Type 0 where
   pub fixed : (link : OpenLink) → P link → P (link_after PduFixed link)
   pub sent : (slot : ℕ) (link : OpenLink) → P link → P (link_after (PacketSent slot) link)
 
--- and what receives
+-- and what receives, and refuses a request of the peer at once
 pub record IsKeptOpen (P : OpenLink → Type 0) : Type 0 where
   pub serving : IsKeptServed P
   pub received : (slot : ℕ) (octets : List ℕ) (room : Bool) (link : OpenLink) → P link → P (link_after (PacketReceived slot octets room) link)
+  pub answered : (answer : Result Ask ErrCode) (link : OpenLink) → P link → P (link_after (RequestAnswered answer) link)
 
 module _ (P : OpenLink → Type 0) where
   changed_from : (first handle : ℕ) (change : Option OpenLink → Option OpenLink) (links : Links)
@@ -122,14 +170,19 @@ module _ (P : OpenLink → Type 0) where
   pub opened : (end : EndSetup) (links : Links) → P (new_link end) → EachOpen P links → EachOpen P (with_link end links)
   opened end links has each = changed_from 0 end.link.handle _ links (λ place before. has) each
 
-  stays : (slot : ℕ) (links : Links) → EachOpen P links → EachOpen P (links_staying slot links)
-  stays slot [] each = tt
-  stays slot (None ∷ links) each = (tt, stays slot links each.1)
-  stays slot (Some link ∷ links) each = (by (reason_in slot link), stays slot links each.1)
+  stays : (reason : OpenLink → Option ℕ) (links : Links) → EachOpen P links → EachOpen P (links_without reason links)
+  stays reason [] each = tt
+  stays reason (None ∷ links) each = (tt, stays reason links each.1)
+  stays reason (Some link ∷ links) each = (by (reason link), stays reason links each.1)
     where
-      by : (reason : Option ℕ) → AtOpen P (staying_by reason link)
+      by : (why : Option ℕ) → AtOpen P (staying_by why link)
       by None = each.0
-      by (Some reason) = tt
+      by (Some code) = tt
+
+  pub refuses : ((answer : Result Ask ErrCode) (link : OpenLink) → P link → P (link_after (RequestAnswered answer) link)) → (does : Bool) (handle : ℕ)
+      (links : Links) → EachOpen P links → EachOpen P (links_refusing does handle links)
+  refuses answered true handle links each = changed handle _ links (answered _) each
+  refuses answered false handle links each = each
 
   resets : (links : Links) → EachOpen P (without_links links)
   resets [] = tt
@@ -171,7 +224,7 @@ module _ (P : OpenLink → Type 0) where
 
     -- ---- a turn ends
 
-    reports : (links : Links) → EachOpen P links → EachOpen P (links_reported links)
+    pub reports : (links : Links) → EachOpen P links → EachOpen P (links_reported links)
     reports [] each = tt
     reports (None ∷ links) each = (tt, reports links each.1)
     reports (Some link ∷ links) each = (by (nat_lt 0 (complete_in link)), reports links each.1)
@@ -181,7 +234,9 @@ module _ (P : OpenLink → Type 0) where
         by false = each.0
 
     pub end_open : (setup : Setup) (facts : Facts) → EachOpen P facts.links → EachOpen P (facts_after setup facts TurnEnds).links
-    end_open setup facts each = reports facts.links each
+    end_open setup facts each =
+        subst (λ (left : Facts). EachOpen P left.links) (sym (leaving_is (facts_handed facts)))
+        (stays ending_in (links_reported facts.links) (reports facts.links each))
 
   module _ (kept : IsKeptServed P) where
     wins : (slot : ℕ) (activity : Activity) (links : Links) → EachOpen P links → EachOpen P (links_won slot activity links)
@@ -255,9 +310,13 @@ module _ (P : OpenLink → Type 0) where
           asks_open (false && does_ask (scan_answer on.params facts.view.accepted on.recent pdu)) facts.turn.slot channel pdu facts.links each;
       connects = λ channel octets pdu on access handle doing is_on hears answers next free in_range. each;
       received = λ handle octets.
-          sends kept.serving facts.turn.slot (reply_if (replies_in (link_at handle facts.links) octets) handle) _
-          (changed handle (link_after (PacketReceived facts.turn.slot octets (has_room setup facts))) facts.links
-          (kept.received facts.turn.slot octets (has_room setup facts)) each);
+          let slot = facts.turn.slot in
+          let room = has_room setup facts in
+          let found = link_at handle facts.links in
+          let step = PacketReceived slot octets room in
+          sends kept.serving slot (reply_if (replies_in slot room found octets) handle) _
+          (refuses kept.answered (is_refused facts.view handle (effect_in slot room found octets)) handle _
+          (changed handle (link_after step) facts.links (kept.received slot octets room) each));
     }
 
     pub phase_open : (setup : Setup) (facts : Facts) (received : Option (List ℕ)) → MayOpen facts → EachOpen P facts.links
@@ -270,7 +329,7 @@ pub begin_open : (P Q : OpenLink → Type 0) → IsKeptServed Q → (setup : Set
     → ((link : OpenLink) → P link → Q (link_entered slot link)) → EachOpen P facts.links → EachOpen Q (facts_after setup facts (TurnBegins slot on)).links
 begin_open P Q kept setup slot on facts enters each =
     let begun = turn_begins slot (facts_ending slot facts) in
-    let stayed : EachOpen P begun.links = subst (λ ended. EachOpen P ended.links) (sym (ending_is slot facts)) (stays P slot facts.links each) in
+    let stayed : EachOpen P begun.links = subst (λ ended. EachOpen P ended.links) (sym (ending_is slot facts)) (stays P (due_in slot) facts.links each) in
     let winner = winner_of (plan_in slot begun) slot in
     let outcome = served on slot winner (facts_entering slot begun) in
     passed_open Q kept (outcome_begun slot on facts)

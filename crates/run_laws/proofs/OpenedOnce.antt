@@ -3,9 +3,9 @@ use Rattle.std.proofs.Common.{◌≡◌, ◌≢◌, ℕ, ◌+◌, ◌<◌, ◌==
 use Rattle.std.specs.Prelude.{◌&&◌}
 use Rattle.std.proofs.lemmas.Bool.{eqb-true, eqb-false}
 use Rattle.adv_pdu.specs.declared.pdu.AdvPdu.{AdvPdu}
-use Rattle.link_model.specs.Setup.{Setup as EndSetup}
-use Rattle.open_links.specs.OpenLinks.{Links, OpenLink, free_from, link_at}
-use Rattle.open_links.proofs.Handles.{two_handles}
+use Rattle.run_model.specs.link_model.Setup.{Setup as EndSetup}
+use Rattle.run_model.specs.open_links.OpenLinks.{Links, OpenLink, free_from, link_at}
+use Rattle.run_model.proofs.open_links.Handles.{two_handles}
 use Rattle.scan_init.specs.Reports.{does_ask, scan_answer}
 use Rattle.controller_model.specs.declared.doing.Doing.{Doing}
 use Rattle.controller_model.specs.declared.doing.Doing.TheVariants.{Advertises, AwaitsRequest, Initiates, Connects}
@@ -95,7 +95,7 @@ outcomes_unopened setup facts none = record {
       asks_unopened (false && does_ask (scan_answer on.params facts.view.accepted on.recent pdu)) channel pdu (with_scanner (scanner_after on facts.view.accepted pdu) facts);
   connects = λ channel octets pdu on access handle doing is_on hears answers next free in_range leads_on. none (ap leads doing);
   received = λ handle octets.
-      reply_unopened (replies_in (link_at handle facts.links) octets) handle (link_received handle (has_room setup facts) octets facts);
+      reply_unopened (replies_in facts.turn.slot (has_room setup facts) (link_at handle facts.links) octets) handle (link_received handle (has_room setup facts) octets facts);
 }
 
 module _ (setup : Setup) (facts : Facts) (received : Option (List ℕ)) where

@@ -13,11 +13,12 @@ use Rattle.adv_pdu.specs.declared.pdu.ConnectFields.{ConnectFields}
 use Rattle.air_frame.specs.declared.Heard.TheVariants.{NotOurs, Broken, Whole}
 use Rattle.air_frame.specs.Hearing.{heard_in}
 use Rattle.air_frame.specs.Packet.{access_octets, is_packet, pdu_in}
-use Rattle.link_model.specs.Facts.{Facts as EndFacts}
-use Rattle.link_model.specs.Packets.{packet_sent, verdict_by, verdict_of}
-use Rattle.link_model.specs.Setup.{Setup as EndSetup}
-use Rattle.link_model.specs.Step.{PacketSent}
-use Rattle.open_links.specs.OpenLinks.{Links, OpenLink, facts_in, link_after, link_at}
+use Rattle.run_model.specs.link_model.Facts.{Facts as EndFacts}
+use Rattle.run_model.specs.link_model.Packets.{packet_sent, verdict_of}
+use Rattle.run_model.specs.link_model.Verdicts.{verdict_by}
+use Rattle.run_model.specs.link_model.Setup.{Setup as EndSetup}
+use Rattle.run_model.specs.link_model.Step.{PacketSent}
+use Rattle.run_model.specs.open_links.OpenLinks.{Links, OpenLink, facts_in, link_after, link_at}
 use Rattle.scan_init.specs.Access.{IsNthAccess, access_at, nth_access}
 use Rattle.scan_init.proofs.Numbers.{each_valid}
 use Rattle.controller_model.specs.declared.doing.Doing.{Doing}

@@ -8,10 +8,10 @@ use Rattle.adv_pdu.specs.declared.pdu.AdvPdu.TheVariants.{Ind, Direct, Nonconn, 
 use Rattle.adv_pdu.specs.Pdu.{IsPdu}
 use Rattle.advertise.specs.declared.params.AdvParams.{AdvParams}
 use Rattle.advertise.specs.Advertising.{AdvertiserFacts, advertisement}
-use Rattle.link_model.specs.Packets.{packet_sent}
-use Rattle.link_model.specs.Step.{PacketSent}
-use Rattle.open_links.specs.OpenLinks.{Links, OpenLink, facts_in, link_after, link_at, with_change}
-use Rattle.open_links.proofs.Handles.{changed_is}
+use Rattle.run_model.specs.link_model.Packets.{packet_sent}
+use Rattle.run_model.specs.link_model.Step.{PacketSent}
+use Rattle.run_model.specs.open_links.OpenLinks.{Links, OpenLink, facts_in, link_after, link_at, with_change}
+use Rattle.run_model.proofs.open_links.Handles.{changed_is}
 use Rattle.scan_init.specs.Reports.{ScannerFacts}
 use Rattle.controller_model.specs.declared.doing.Doing.{Doing}
 use Rattle.controller_model.specs.declared.doing.Doing.TheVariants.{Advertises, AwaitsRequest, Responds, Scans, Requests, AwaitsResponse, Initiates, Connects, CentralSends, CentralListens, PeripheralListens, PeripheralSends, Rests}

@@ -11,28 +11,28 @@ use Rattle.hci_cmd.specs.declared.command.CmdRead.{CmdRead}
 use Rattle.hci_cmd.specs.declared.command.CmdRead.TheVariants.{Known, UnknownOpcode, BadLength}
 use Rattle.hci_cmd.specs.Command.{command_of}
 use Rattle.host_view.specs.Unbuilt.{status_of}
-use Rattle.link_model.specs.declared.setup.LinkSetup.{LinkSetup}
+use Rattle.run_model.specs.link_model.declared.setup.LinkSetup.{LinkSetup}
 use Rattle.scan_init.specs.Access.{nth_access}
 use Rattle.scan_init.specs.Reports.{does_ask, scan_answer}
 use Rattle.slot_plan.specs.declared.Activity.{Activity}
 use Rattle.slot_plan.specs.Holding.{is_held_in, winner_of}
-use Rattle.open_links.specs.OpenLinks.{link_at}
+use Rattle.run_model.specs.open_links.OpenLinks.{link_at}
 use Rattle.controller_model.specs.declared.doing.Doing.{Doing}
 use Rattle.controller_model.specs.declared.doing.Doing.TheVariants.{Advertises, AwaitsRequest, Responds, AwaitsResponse, Initiates, Connects, CentralListens, Rests, PeripheralListens, Scans}
 use Rattle.controller_model.specs.declared.doing.Turn.{Turn}
-use Rattle.controller_model.specs.Step.{HostOctet, TurnBegins}
+use Rattle.controller_model.specs.Step.{HostOctet, TurnBegins, TurnEnds}
 use Rattle.controller_model.specs.Facts.{Setup, Facts, Listens}
 use Rattle.controller_model.specs.Commands.{facts_commanded, facts_known}
-use Rattle.open_links.specs.declared.offers.Offer.{Offer}
-use Rattle.open_links.specs.declared.offers.Offer.TheVariants.{NoLink, Empty, Overflow, Kept}
-use Rattle.controller_model.specs.Data.{facts_offered, offer_of}
+use Rattle.run_model.specs.open_links.declared.offers.Offer.{Offer}
+use Rattle.run_model.specs.open_links.declared.offers.Offer.TheVariants.{NoLink, Empty, Overflow, Kept}
+use Rattle.controller_model.specs.Data.{facts_handed, facts_offered, offer_of}
 use Rattle.controller_model.specs.Heard.{access_found, asks_if, has_room, link_received, link_taken, opens, replies_in, reply_if, scanner_after, with_scanner, unheard, heard}
 use Rattle.controller_model.specs.Links.{facts_ending}
 use Rattle.controller_model.specs.Outcome.{facts_passed}
 use Rattle.controller_model.specs.Packets.{facts_doing, listens_on}
 use Rattle.controller_model.specs.Radio.{facts_entering, plan_in, radio_served, served, turn_begins, winner_served, outcome_begun}
 use Rattle.controller_model.specs.Side.{facts_after, facts_fed, result_of}
-use Rattle.controller_model.proofs.Always.{IsKeptAtStarts, MayBegin, facts_opening, opening_passes, start_keeps, winning_is, IsAdvertisingChannel}
+use Rattle.controller_model.proofs.Always.{IsKeptAtStarts, MayBegin, facts_opening, leaving_is, opening_passes, start_keeps, winning_is, IsAdvertisingChannel}
 use Rattle.controller_model.proofs.Phases.{EachOutcome, heard_is, unheard_is}
 use Rattle.run_model.specs.Run.{step_of}
 
@@ -103,7 +103,7 @@ MayOnce slot facts = facts.turn.begun ≡ slot + 1 → MayBegin facts.turn.doing
 may_kept : (slot : ℕ) → IsKeptAtStarts (λ facts. ⊤) (MayOnce slot)
 may_kept slot = record {
   weakens = λ facts may. tt;
-  ends = λ slot facts any. tt;
+  ends = λ reason facts any. tt;
   begins = λ slot facts any. tt;
   enters = λ slot facts any. tt;
   wins = λ slot activity facts any. tt;
@@ -120,7 +120,7 @@ Counts number facts = facts.connections ≡ number
 count_kept : (number : ℕ) → IsKeptAtStarts (Counts number) (Counts number)
 count_kept number = record {
   weakens = λ facts is. is;
-  ends = λ slot facts is. is;
+  ends = λ reason facts is. is;
   begins = λ slot facts is. is;
   enters = λ slot facts is. is;
   wins = λ slot activity facts is. is;
@@ -130,6 +130,14 @@ count_kept number = record {
 
 pub begins_count : (setup : Setup) (slot : ℕ) (on : Bool) (facts : Facts) → (facts_after setup facts (TurnBegins slot on)).connections ≡ facts.connections
 begins_count setup slot on facts = start_keeps (Counts facts.connections) (Counts facts.connections) (count_kept facts.connections) slot on facts refl
+
+-- ---- a turn ends
+
+pub ends_turn : (setup : Setup) (facts : Facts) → (facts_after setup facts TurnEnds).turn ≡ record facts.turn { doing = Rests }
+ends_turn setup facts = ap (λ (left : Facts). record left.turn { doing = Rests }) (leaving_is (facts_handed facts))
+
+pub ends_count : (setup : Setup) (facts : Facts) → (facts_after setup facts TurnEnds).connections ≡ facts.connections
+ends_count setup facts = ap (λ (left : Facts). left.connections) (leaving_is (facts_handed facts))
 
 -- ---- what is done in which phase
 
@@ -207,7 +215,7 @@ passes_each setup facts = record {
     last = λ first. absurd (let h : true ≡ false = ap initiates (sym doing) ∙ first in absurd cc);
   };
   received = λ handle octets.
-      reply_on facts (link_received handle (has_room setup facts) octets facts) (replies_in (link_at handle facts.links) octets) handle refl refl;
+      reply_on facts (link_received handle (has_room setup facts) octets facts) (replies_in facts.turn.slot (has_room setup facts) (link_at handle facts.links) octets) handle refl refl;
 }
 
 pub phase_turn : (setup : Setup) (facts : Facts) (received : Option (List ℕ)) → IsPassed facts (facts_after setup facts (step_of received))
@@ -264,7 +272,7 @@ passes_making setup facts = record {
       asks_make setup facts.connections (false && does_ask (scan_answer on.params facts.view.accepted on.recent pdu)) channel pdu;
   connects = λ channel octets pdu on access handle doing is_on hears answers next free in_range.
       record { number = facts.connections; counted = refl; access = next; in_range = in_range; receives = omega arith };
-  received = λ handle octets. reply_makes setup facts.connections (replies_in (link_at handle facts.links) octets) handle;
+  received = λ handle octets. reply_makes setup facts.connections (replies_in facts.turn.slot (has_room setup facts) (link_at handle facts.links) octets) handle;
 }
 
 pub phase_makes : (setup : Setup) (facts : Facts) (received : Option (List ℕ))
@@ -339,7 +347,7 @@ passes_fitting setup facts fits = record {
   answered = λ channel octets pdu on doing is_on hears.
       asks_fit (false && does_ask (scan_answer on.params facts.view.accepted on.recent pdu)) channel pdu;
   connects = λ channel octets pdu on access handle doing is_on hears answers next free in_range. tt;
-  received = λ handle octets. reply_fits (replies_in (link_at handle facts.links) octets) handle;
+  received = λ handle octets. reply_fits (replies_in facts.turn.slot (has_room setup facts) (link_at handle facts.links) octets) handle;
 }
 
 pub phase_fits : (setup : Setup) (facts : Facts) (received : Option (List ℕ)) → FitsChannel facts.turn.doing → FitsChannel (facts_after setup facts (step_of received)).turn.doing

@@ -1,21 +1,21 @@
 -- In every run, both ends of one link stay in agreement, if each hears of its link only what the other sends.
-use Rattle.std.proofs.Common.{◌≡◌, ℕ, ◌+◌, ◌==◌, ◌≤◌, ◌⊎◌, inl, inr, Bool, true, false, Option, Some, None, List, [], ◌∷◌, ◌++◌, replicate, refl, sym, ap, subst, ◌∙◌, append_assoc, arith}
+use Rattle.std.proofs.Common.{◌≡◌, ℕ, ◌==◌, ◌⊎◌, inl, inr, Bool, true, false, Option, Some, None, List, [], ◌∷◌, ◌++◌, replicate, refl, sym, ap, subst, ◌∙◌, append_assoc}
 use Rattle.std.specs.Prelude.{if◌then◌else◌}
 use Rattle.std.proofs.lemmas.Bool.{eqb-true}
 use Rattle.ble_base.specs.declared.verdicts.Verdict.TheVariants.{Broken as BrokenPacket, Good}
 use Rattle.air_frame.specs.declared.Heard.{Heard}
 use Rattle.air_frame.specs.declared.Heard.TheVariants.{NotOurs, Broken, Whole}
-use Rattle.link_model.specs.End.{facts_received}
-use Rattle.link_model.specs.Facts.{Facts as EndFacts}
-use Rattle.link_model.specs.Packets.{good_in, good_pdu, has_room_for, heard_of, pdu_by, verdict_by, verdict_of}
-use Rattle.link_model.specs.Pair.{AreInAgreement}
-use Rattle.link_model.specs.Setup.{Setup as EndSetup}
-use Rattle.link_model.specs.Step.{PacketReceived, PacketSent}
-use Rattle.link_model.proofs.Received.{IsHeardWhole}
-use Rattle.open_links.specs.OpenLinks.{Links, OpenLink, facts_in, link_after, link_at, link_from, new_link}
-use Rattle.open_links.specs.Turns.{is_anchor}
-use Rattle.open_links.proofs.Ends.{entered_setup}
-use Rattle.open_links.proofs.Handles.{here, later}
+use Rattle.run_model.specs.link_model.Receiving.{facts_received}
+use Rattle.run_model.specs.link_model.Facts.{Facts as EndFacts}
+use Rattle.run_model.specs.link_model.Verdicts.{good_in, has_room_for, pdu_by, verdict_by}
+use Rattle.run_model.specs.link_model.Packets.{good_pdu, heard_of, verdict_of}
+use Rattle.run_model.specs.link_model.OneLink.{AreInAgreement}
+use Rattle.run_model.specs.link_model.Setup.{Setup as EndSetup}
+use Rattle.run_model.specs.link_model.Step.{PacketReceived, PacketSent}
+use Rattle.run_model.proofs.link_model.Hearing.{IsHeardWhole}
+use Rattle.run_model.specs.open_links.OpenLinks.{Links, OpenLink, facts_in, link_after, link_at, new_link}
+use Rattle.plain_links.proofs.Growing.{plain_front}
+use Rattle.run_model.proofs.open_links.Unmoved.{entered_setup}
 use Rattle.controller_model.specs.Step.{Step, HostOctet, TurnBegins, PacketHeard, NothingHeard, TurnEnds}
 use Rattle.controller_model.specs.Facts.{Facts, Setup}
 use Rattle.controller_model.specs.Side.{facts_after, facts_of}
@@ -26,13 +26,15 @@ use Rattle.run_model.specs.Run.{Given, facts_at, history_of, run_of, setup_at, s
 use Rattle.run_model.proofs.LinkEnds.{AreTaken, IsUnderstood}
 use Rattle.run_model.proofs.Stations.{is_in}
 use Rattle.run_laws.specs.Ends.{AreEnds, HasSent, HaveOneConnectInd, HearEachOther, HearsItsLink, IsOpen, OpenEnd, ReceivesGood}
+use Rattle.run_laws.specs.Plainness.{IsPlainLink}
+use Rattle.run_laws.proofs.PlainLinks.{links_plain}
 use Rattle.run_laws.proofs.Agreed.{Agree, ack_of, agree_by, agree_received, exchange, step_facts}
 use Rattle.run_laws.proofs.ByCalls.{all_facts}
 use Rattle.run_laws.proofs.EachCall.{IsCallOf, IsPhase, call_at, facts_called, facts_others, kept_along}
 use Rattle.run_laws.proofs.DistinctAccess.{AreApart}
 use Rattle.run_laws.proofs.InAgreement.{AllAgree, AllPairs, IsKeptByFirst, IsStation, TakesShort, WithAll, agree_kept, all_entered, all_hosts, all_served, first_station, new_agree, one_slot, pairs_back, passing_keeps, station_begins, station_ends, station_fed, station_passes}
 use Rattle.run_laws.proofs.LinkPasses.{phase_passes_on}
-use Rattle.run_laws.proofs.OpenSteps.{AtOpen, EachOpen, begin_open, end_open, none_open, octet_open, open_has, open_more}
+use Rattle.run_laws.proofs.OpenSteps.{EachOpen, begin_open, each_under, end_open, none_open, octet_open, open_has, open_more}
 use Rattle.run_laws.proofs.OpenedOnce.{opened_once}
 use Rattle.run_laws.proofs.OwnLinks.{hear_each_other}
 use Rattle.run_laws.proofs.SameEvent.{apart_ends, one_connect_ind}
@@ -63,7 +65,8 @@ on_kept end = record {
   served = λ slot one other agree own. agree_kept.served slot one other (agree own);
   sent = λ slot one other agree own. agree_kept.sent slot one other (agree own);
   entered = λ slot one other agree own.
-      agree_kept.entered slot one other (agree (subst (λ s. HaveOneConnectInd s end) (entered_setup (is_anchor slot one) slot one) own));
+      agree_kept.entered slot one other (agree (subst (λ s. HaveOneConnectInd s end) (entered_setup slot one) own));
+  answered = λ answer one other agree own. agree_kept.answered answer one other (agree own);
 }
 
 -- ---- what is received
@@ -75,44 +78,21 @@ unfolding good_pdu verdict_of
 good_or_kept slot room octets link = got (of (heard_of link.setup (facts_in link) octets))
   where
     at : (fits : Bool) (pdu : List ℕ) → ((if fits then Good else BrokenPacket) ≡ Good)
-        ⊎ ((facts_received slot room (pdu_by fits pdu) (facts_in link)).acknowledgement ≡ ack_of link)
+        ⊎ ((facts_received link.setup.link.role slot room (pdu_by fits pdu) (facts_in link)).acknowledgement ≡ ack_of link)
     at true pdu = inl refl
     at false pdu = inr refl
 
     of : (heard : Heard) → (verdict_by link.setup.link.max_rx heard ≡ Good)
-        ⊎ ((facts_received slot room (good_in link.setup.link.max_rx heard) (facts_in link)).acknowledgement ≡ ack_of link)
+        ⊎ ((facts_received link.setup.link.role slot room (good_in link.setup.link.max_rx heard) (facts_in link)).acknowledgement ≡ ack_of link)
     of NotOurs = inr refl
     of Broken = inr refl
     of (Whole pdu) = at (has_room_for link.setup.link.max_rx pdu.items) pdu.items
 
     got : (verdict_by link.setup.link.max_rx (heard_of link.setup (facts_in link) octets) ≡ Good)
-        ⊎ ((facts_received slot room (good_in link.setup.link.max_rx (heard_of link.setup (facts_in link) octets)) (facts_in link)).acknowledgement ≡ ack_of link)
+        ⊎ ((facts_received link.setup.link.role slot room (good_in link.setup.link.max_rx (heard_of link.setup (facts_in link) octets)) (facts_in link)).acknowledgement ≡ ack_of link)
         → (verdict_of link.setup (facts_in link) octets ≡ Good) ⊎ (ack_of (link_after (PacketReceived slot octets room) link) ≡ ack_of link)
     got (inl good) = inl good
     got (inr kept) = inr (ap (λ (f : EndFacts). f.acknowledgement) (step_facts link (PacketReceived slot octets room)) ∙ kept)
-
--- a link is under a handle from the first on
-pub from_first : (first handle : ℕ) (links : Links) (link : OpenLink) → link_from first handle links ≡ Some link → first ≤ handle
-from_first first handle [] link is = absurd cc
-from_first first handle (place ∷ links) link is = at (first == handle) refl is (from_first (first + 1) handle links link)
-  where
-    at : (test : Bool) → (first == handle) ≡ test → (if test then place else link_from (first + 1) handle links) ≡ Some link
-        → (link_from (first + 1) handle links ≡ Some link → first + 1 ≤ handle) → first ≤ handle
-    at true same found rest = let equal = eqb-true first handle same in omega (arith, equal)
-    at false other found rest = let more = rest found in omega (arith, more)
-
-pub each_under : (P : OpenLink → Type 0) (first : ℕ) (links : Links) → ((handle : ℕ) (link : OpenLink) → link_from first handle links ≡ Some link → P link) → EachOpen P links
-each_under P first [] has = tt
-each_under P first (place ∷ links) has = (
-  at place refl,
-  each_under P (first + 1) links (λ handle link is.
-      let from = from_first (first + 1) handle links link is in
-      has handle link (later first handle place links (omega (arith, from)) ∙ is)),
-)
-  where
-    at : (one : Option OpenLink) → place ≡ one → AtOpen P one
-    at None is = tt
-    at (Some link) is = has first link (here first place links ∙ is)
 
 one_some : (may : Option OpenLink) (one other : OpenLink) → may ≡ Some one → may ≡ Some other → one ≡ other
 one_some may one other is is_too = let same : Some one ≡ Some other = sym is ∙ is_too in cc
@@ -126,14 +106,17 @@ module _ (whole : IsHeardWhole) (given : Given) (six : HaveAddresses given) (dis
   others = (facts_at given far.station before).links
 
   -- it takes it from the far end
-  taken_from : (slot : ℕ) (room : Bool) (octets : List ℕ) (one : OpenLink) → TakesShort one → HaveOneConnectInd one.setup end.link.setup
+  taken_from : (slot : ℕ) (room : Bool) (octets : List ℕ) (one : OpenLink) → IsPlainLink one → TakesShort one → HaveOneConnectInd one.setup end.link.setup
       → HasSent given before far (facts_in one).event.channel octets → EachOpen (AgreeOn end.link.setup one) others
       → EachOpen (AgreeOn end.link.setup (link_after (PacketReceived slot octets room) one)) others
-  taken_from slot room octets one fits is_end sent all =
+  taken_from slot room octets one plain fits is_end sent all =
       let from = link_after (PacketSent sent.slot) sent.link in
       let after = link_after (PacketReceived slot octets room) one in
       let agree = open_has (AgreeOn end.link.setup one) 0 sent.handle others from all sent.is_open in
-      let taken : Agree after from = agree_received whole slot sent.slot room one sent.link octets fits sent.packet (sym sent.channel_is) (agree is_end) in
+      let from_plain = plain_front sent.link.setup sent.link.past (PacketSent sent.slot ∷ [])
+      (links_plain given six distinct before rest at far.station in_too sent.handle from sent.is_open) in
+      let taken : Agree after from =
+      agree_received whole slot sent.slot room one sent.link octets plain from_plain fits sent.packet (sym sent.channel_is) (agree is_end) in
       each_under (AgreeOn end.link.setup after) 0 others (λ handle other is_open own both.
       let opened = sym both.opened ∙ is_end.opened ∙ same.opened ∙ sym sent.is_end.opened in
       let under = opened_once given before rest far.station handle sent.handle other from distinct in_too at is_open sent.is_open opened in
@@ -141,10 +124,10 @@ module _ (whole : IsHeardWhole) (given : Given) (six : HaveAddresses given) (dis
       subst (λ l. AreInAgreement (ack_of after) (ack_of l)) equal (taken (subst (λ (l : OpenLink). HaveOneConnectInd one.setup l.setup) (sym equal) both)))
 
   -- what is not good changes nothing, and what is of another link says nothing of this one
-  received_from : (slot : ℕ) (room : Bool) (octets : List ℕ) (one : OpenLink) → TakesShort one
+  received_from : (slot : ℕ) (room : Bool) (octets : List ℕ) (one : OpenLink) → IsPlainLink one → TakesShort one
       → (verdict_of one.setup (facts_in one) octets ≡ Good → HaveOneConnectInd one.setup end.link.setup → HasSent given before far (facts_in one).event.channel octets)
       → EachOpen (AgreeOn end.link.setup one) others → EachOpen (AgreeOn end.link.setup (link_after (PacketReceived slot octets room) one)) others
-  received_from slot room octets one fits hears all = by (good_or_kept slot room octets one)
+  received_from slot room octets one plain fits hears all = by (good_or_kept slot room octets one)
     where
       by : (verdict_of one.setup (facts_in one) octets ≡ Good) ⊎ (ack_of (link_after (PacketReceived slot octets room) one) ≡ ack_of one)
           → EachOpen (AgreeOn end.link.setup (link_after (PacketReceived slot octets room) one)) others
@@ -154,7 +137,7 @@ module _ (whole : IsHeardWhole) (given : Given) (six : HaveAddresses given) (dis
       by (inl good) =
           each_under (AgreeOn end.link.setup (link_after (PacketReceived slot octets room) one)) 0 others (λ handle other is_open own.
           open_has (AgreeOn end.link.setup (link_after (PacketReceived slot octets room) one)) 0 handle others other
-          (taken_from slot room octets one fits own (hears good own) all) is_open own)
+          (taken_from slot room octets one plain fits own (hears good own) all) is_open own)
 
 -- ---- what is kept
 
@@ -213,6 +196,7 @@ module _ (whole : IsHeardWhole) (given : Given) (six : HaveAddresses given) (dis
               (new_agree far_facts.turn.slot far_facts.links are.is_other.fresh end (now ∙ slots)))
               (λ handle octets room link was listens wanted is_open all.
               received_from whole given six distinct one other same in_too before (Called one.station (step_of received) ∷ rest) at facts.turn.slot room octets link
+              (links_plain given six distinct before (Called one.station (step_of received) ∷ rest) at one.station in_it handle link is_open)
               (open_has TakesShort 0 handle facts.links link are.is_one.short is_open)
               (λ good. hears octets link (ap step_of was) (record { handle = handle; listens = listens; is_open = is_open; is_good = good })) all)
               (phase_passes_on setup facts received phase.in_turn.listens) are.agree;

@@ -2,10 +2,10 @@
 use Rattle.std.specs.Prelude.{◌≡◌, ℕ, List, ◌∷◌, ◌++◌, Option, Some, None}
 use Rattle.ble_base.specs.declared.roles.Role.TheVariants.{Central, Peripheral}
 use Rattle.ble_base.specs.declared.verdicts.Verdict.TheVariants.{Good}
-use Rattle.link_model.specs.Packets.{packet_sent, verdict_of}
-use Rattle.link_model.specs.Setup.{Setup}
-use Rattle.link_model.specs.Step.{PacketSent}
-use Rattle.open_links.specs.OpenLinks.{OpenLink, facts_in, link_after, link_at}
+use Rattle.run_model.specs.link_model.Packets.{packet_sent, verdict_of}
+use Rattle.run_model.specs.link_model.Setup.{Setup}
+use Rattle.run_model.specs.link_model.Step.{PacketSent}
+use Rattle.run_model.specs.open_links.OpenLinks.{OpenLink, facts_in, link_after, link_at}
 use Rattle.controller_model.specs.declared.doing.Doing.{Doing}
 use Rattle.controller_model.specs.declared.doing.Doing.TheVariants.{CentralListens, PeripheralListens}
 use Rattle.controller_model.specs.Facts.{Facts}

@@ -2,9 +2,9 @@
 //! that they rest on: the contracts are the laws.
 ghost use Rattle.std.specs.Prelude.{◌≡◌, ◌++◌, ◌∷◌, [], ℕ, List, length};
 ghost use Rattle.std.specs.List.{Contains};
-ghost use Rattle.link_model.specs.Delivery.{IsDelivered};
-ghost use Rattle.link_model.specs.Pair.{AreInAgreement};
-ghost use Rattle.open_links.specs.OpenLinks.{facts_in};
+ghost use Rattle.run_model.specs.link_model.Delivery.{IsDelivered};
+ghost use Rattle.run_model.specs.link_model.OneLink.{AreInAgreement};
+ghost use Rattle.run_model.specs.open_links.OpenLinks.{facts_in};
 ghost use Rattle.radio_replay.specs.Script.{Script};
 ghost use Rattle.run_model.specs.Feeding.{AreDistinct};
 ghost use Rattle.run_model.specs.History.{Event};

@@ -2,10 +2,10 @@
 //! contracts are the laws.
 ghost use Rattle.std.specs.Prelude.{◌≡◌, ◌≢◌, ◌++◌, ◌∷◌, ℕ, Bool, List, Some, length};
 ghost use Rattle.std.specs.List.{Contains};
-ghost use Rattle.link_model.specs.Events.{IsInEvent, entries_in};
-ghost use Rattle.link_model.specs.Pair.{AreInOneEvent, AreOneLink};
-ghost use Rattle.open_links.specs.OpenLinks.{OpenLink, facts_in, link_at};
-ghost use Rattle.open_links.specs.Slots.{IsOnTime};
+ghost use Rattle.run_model.specs.link_model.OneLink.{AreOneLink};
+ghost use Rattle.run_model.specs.open_links.OpenLinks.{OpenLink, facts_in, link_at};
+ghost use Rattle.plain_links.specs.Plain.{ArePlain};
+ghost use Rattle.plain_links.specs.Events.{AreInOneEvent, IsInEvent, entries_in};
 ghost use Rattle.radio_replay.specs.Script.{Script};
 ghost use Rattle.run_model.specs.Feeding.{AreDistinct};
 ghost use Rattle.run_model.specs.History.{Event, TurnBegan, turns_begun};
@@ -13,6 +13,7 @@ ghost use Rattle.run_model.specs.LinkEnds.{HaveAddresses};
 ghost use Rattle.run_model.specs.Pair.{given_of};
 ghost use Rattle.run_model.specs.Run.{Given, GoesOn, facts_at, history_of, run_of};
 ghost use Rattle.run_laws.specs.Ends.{AreEnds, HaveOneConnectInd, IsOpen, OpenEnd};
+ghost use Rattle.run_laws.specs.OnTime.{IsOnTime};
 
 /// The two ends of a link are at two stations, and have the fields of one CONNECT_IND and its slot.
 pub fn ends_of_one_link_have_one_connect_ind()
@@ -29,13 +30,14 @@ pub fn ends_of_one_link_have_one_connect_ind()
 /// is before each turn, and at the end of a run.
 pub fn each_end_enters_its_events()
     ensures on_time { (given : Given) (before rest : List Event) (station handle : ℕ)
-        (link : OpenLink) → AreDistinct given.stations → Contains given.stations station
+        (link : OpenLink) → AreDistinct given.stations → HaveAddresses given
+        → Contains given.stations station
         → history_of (run_of given) ≡ before ++ rest
         → link_at handle (facts_at given station before).links ≡ Some link
         → IsOnTime (facts_at given station before).turn.begun link }
     ensures together { (given : Given) (before rest : List Event) (central peripheral : OpenEnd)
-        → AreDistinct given.stations → Contains given.stations central.station
-        → Contains given.stations peripheral.station
+        → AreDistinct given.stations → HaveAddresses given
+        → Contains given.stations central.station → Contains given.stations peripheral.station
         → history_of (run_of given) ≡ before ++ rest → AreEnds before central peripheral
         → IsOpen given before central → IsOpen given before peripheral
         → (facts_at given central.station before).turn.begun
@@ -55,9 +57,10 @@ pub fn each_end_enters_its_events()
 }
 
 /// At any time of a run, both open ends of one link have one CONNECT_IND, its slot, and one
-/// algorithm for the channels. So where they have entered the same number of events they are in one
-/// event: with one anchor, one set of parameters and one channel. Each is in the event of its
-/// CONNECT_IND with that number (Core 5.2, volume 6 part B, sections 4.5.1, 4.5.3 and 4.5.8).
+/// algorithm for the channels. So where they have entered the same number of events, and no control
+/// procedure runs on them, they are in one event: with one anchor, one set of parameters and one
+/// channel. Each is in the event of its CONNECT_IND with that number (Core 5.2, volume 6 part B,
+/// sections 4.5.1, 4.5.3 and 4.5.8). That none runs in any run is `links_are_plain`.
 pub fn ends_of_one_link_agree()
     ensures one_link { (given : Given) (before rest : List Event) (central peripheral : OpenEnd)
         → AreDistinct given.stations → HaveAddresses given
@@ -66,9 +69,10 @@ pub fn ends_of_one_link_agree()
         → IsOpen given before central → IsOpen given before peripheral
         → AreOneLink central.link.setup peripheral.link.setup }
     ensures one_event { (one other : OpenLink) → AreOneLink one.setup other.setup
+        → ArePlain one.setup one.past → ArePlain other.setup other.past
         → entries_in one.past ≡ entries_in other.past
         → AreInOneEvent (facts_in one) (facts_in other) }
-    ensures by_number { (link : OpenLink)
+    ensures by_number { (link : OpenLink) → ArePlain link.setup link.past
         → IsInEvent link.setup (entries_in link.past) (facts_in link) }
     ensures pair { (a b : List ℕ) (script : Script) (before rest : List Event)
         (central peripheral : OpenEnd)
@@ -81,6 +85,6 @@ pub fn ends_of_one_link_agree()
         → AreOneLink central.link.setup peripheral.link.setup }
 {
     controller_model::a_pdu_is_understood();
-    link_model::ends_agree_in_each_event();
-    link_model::events_follow_the_connect_ind();
+    plain_links::plain_ends_agree_in_each_event();
+    plain_links::a_plain_link_runs_no_procedure();
 }

@@ -5,6 +5,7 @@ mod access;
 mod agreement;
 mod ends;
 mod entries;
+mod plain;
 mod rows;
 
 pub use crate::access::access_addresses_are_taken_in_order;
@@ -16,4 +17,7 @@ pub use crate::ends::{
     each_end_enters_its_events, ends_of_one_link_agree, ends_of_one_link_have_one_connect_ind,
 };
 pub use crate::entries::both_ends_enter_an_event_in_one_slot;
+pub use crate::plain::{
+    links_are_plain, links_of_a_run_end_by_supervision, no_call_of_a_run_notes_a_procedure,
+};
 pub use crate::rows::worked_ends;

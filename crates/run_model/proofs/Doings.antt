@@ -13,7 +13,7 @@ use Rattle.controller_model.specs.Heard.{asks_if, has_room, link_received, link_
 use Rattle.controller_model.specs.Packets.{advertising_packet, facts_doing}
 use Rattle.controller_model.specs.Outcome.{facts_passed}
 use Rattle.controller_model.specs.Side.{facts_of}
-use Rattle.open_links.specs.OpenLinks.{link_at}
+use Rattle.controller_model.specs.open_links.OpenLinks.{link_at}
 use Rattle.controller_model.proofs.Always.{IsKept, MayBegin, always, opening_passes}
 use Rattle.controller_model.proofs.Phases.{EachOutcome}
 
@@ -60,7 +60,9 @@ passes_wanting setup facts = record {
   answered = λ channel octets pdu on doing is_on hears.
       asks_wants (false && does_ask (scan_answer on.params facts.view.accepted on.recent pdu)) channel pdu (with_scanner (scanner_after on facts.view.accepted pdu) facts);
   connects = λ channel octets pdu on access handle doing is_on hears answers next free in_range. (refl, refl);
-  received = λ handle octets. reply_wants (replies_in (link_at handle facts.links) octets) handle (link_received handle (has_room setup facts) octets facts);
+  received = λ handle octets.
+      reply_wants (replies_in facts.turn.slot (has_room setup facts) (link_at handle facts.links) octets) handle
+      (link_received handle (has_room setup facts) octets facts);
 }
 
 wanting_kept : (setup : Setup) → IsKept setup Any WantsIt
@@ -71,7 +73,7 @@ wanting_kept setup = record {
   turns = record {
     starts = record {
       weakens = λ facts wants. tt;
-      ends = λ slot facts any. tt;
+      ends = λ reason facts any. tt;
       begins = λ slot facts any. tt;
       enters = λ slot facts any. tt;
       wins = λ slot activity facts any. tt;

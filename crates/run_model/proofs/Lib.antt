@@ -30,3 +30,7 @@ pub mod OpenedLinks
 pub mod Numbers
 pub mod CallNotes
 pub mod NoteLines
+-- what the crates above use of those below
+pub use Rattle.controller_model.proofs.control_model as control_model
+pub use Rattle.controller_model.proofs.link_model as link_model
+pub use Rattle.controller_model.proofs.open_links as open_links

@@ -13,9 +13,9 @@ use Rattle.advertise.specs.declared.answers.AdvAnswer.TheVariants.{Ignore, Respo
 use Rattle.advertise.specs.declared.params.AdvParams.{AdvParams}
 use Rattle.advertise.specs.Advertising.{AdvertiserFacts}
 use Rattle.advertise.specs.Answers.{IsTaken, advertiser_answer, is_scan_answered}
-use Rattle.link_model.specs.declared.setup.LinkSetup.{LinkSetup}
-use Rattle.link_model.specs.Setup.{Setup as EndSetup}
-use Rattle.open_links.specs.OpenLinks.{OpenLink, link_at}
+use Rattle.controller_model.specs.link_model.declared.setup.LinkSetup.{LinkSetup}
+use Rattle.controller_model.specs.link_model.Setup.{Setup as EndSetup}
+use Rattle.controller_model.specs.open_links.OpenLinks.{OpenLink, link_at}
 use Rattle.radio_replay.specs.declared.fates.Fate.{Fate}
 use Rattle.radio_replay.specs.Script.{Script}
 use Rattle.controller_model.specs.declared.doing.Doing.{Doing}

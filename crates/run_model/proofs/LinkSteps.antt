@@ -19,36 +19,38 @@ use Rattle.hci_cmd.specs.declared.command.CmdRead.{CmdRead}
 use Rattle.hci_cmd.specs.declared.command.CmdRead.TheVariants.{Known, UnknownOpcode, BadLength}
 use Rattle.hci_cmd.specs.Command.{command_of}
 use Rattle.host_view.specs.Unbuilt.{status_of}
-use Rattle.link_model.specs.Setup.{Setup as EndSetup}
-use Rattle.link_model.specs.Step.{DataGiven, PduFixed, PacketSent, PacketReceived, DataReported}
-use Rattle.link_model.specs.declared.setup.LinkSetup.{LinkSetup}
+use Rattle.controller_model.specs.link_model.Setup.{Setup as EndSetup}
+use Rattle.controller_model.specs.link_model.Step.{DataGiven, PduFixed, PacketSent, PacketReceived, DataReported}
+use Rattle.controller_model.specs.link_model.declared.setup.LinkSetup.{LinkSetup}
 use Rattle.scan_init.specs.Initiating.{InitiatorFacts}
 use Rattle.scan_init.specs.Reports.{ScannerFacts}
 use Rattle.slot_plan.specs.declared.Activity.{Activity}
 use Rattle.slot_plan.specs.declared.Activity.TheVariants.{Link, Advertise, Scan, Initiate}
 use Rattle.slot_plan.specs.Holding.{is_held_in, winner_of}
-use Rattle.open_links.specs.Data.{complete_in, links_reported}
-use Rattle.open_links.specs.OpenLinks.{Links, OpenLink, free_from, link_after, link_at, link_from, link_served, with_change, with_change_from, with_link, without_links}
-use Rattle.open_links.specs.Turns.{is_anchor, entered_if, links_entered, links_staying, reason_in, staying_by}
+use Rattle.controller_model.specs.open_links.Data.{complete_in, links_reported}
+use Rattle.controller_model.specs.open_links.OpenLinks.{Links, OpenLink, free_from, link_after, link_at, link_from, link_served, with_change, with_change_from, with_link, without_links}
+use Rattle.controller_model.specs.open_links.Turns.{due_in, ending_in, links_without, staying_by}
+use Rattle.controller_model.proofs.open_links.Unmoved.{entered_setup}
 use Rattle.controller_model.specs.declared.doing.Doing.{Doing}
-use Rattle.controller_model.specs.declared.doing.Doing.TheVariants.{Advertises, AwaitsRequest, Scans, Requests, AwaitsResponse, Initiates, Connects, CentralSends, CentralListens, PeripheralListens, PeripheralSends, Rests}
+use Rattle.controller_model.specs.declared.doing.Doing.TheVariants.{Advertises, AwaitsRequest, Scans, Requests, AwaitsResponse, Initiates, Connects, CentralSends, CentralListens, PeripheralListens, PeripheralSends}
 use Rattle.controller_model.specs.Step.{Step, HostOctet, TurnBegins, PacketHeard, NothingHeard, TurnEnds}
 use Rattle.controller_model.specs.Facts.{Setup, Facts}
 use Rattle.controller_model.specs.Commands.{facts_commanded, facts_known, links_after}
-use Rattle.open_links.specs.declared.offers.Offer.{Offer}
-use Rattle.open_links.specs.declared.offers.Offer.TheVariants.{NoLink, Empty, Overflow, Kept}
-use Rattle.controller_model.specs.Data.{facts_offered, offer_of}
-use Rattle.controller_model.specs.Heard.{advertiser_answers, advertiser_heard, connects, has_room, heard, if_pdu, initiator_heard, is_new_between, link_heard, link_taken, link_to, opens, scanner_heard, taken_if, taken_under, unheard}
+use Rattle.controller_model.specs.open_links.declared.offers.Offer.{Offer}
+use Rattle.controller_model.specs.open_links.declared.offers.Offer.TheVariants.{NoLink, Empty, Overflow, Kept}
+use Rattle.controller_model.specs.Data.{facts_ended_turn, facts_handed, facts_offered, offer_of}
+use Rattle.controller_model.specs.Heard.{advertiser_answers, advertiser_heard, connects, has_room, heard, if_pdu, initiator_heard, is_new_between, link_heard, link_taken, link_to, links_refusing, opens, scanner_heard, taken_if, taken_under, unheard}
 use Rattle.controller_model.specs.Links.{facts_ending}
 use Rattle.controller_model.specs.Outcome.{Outcome, facts_passed}
 use Rattle.controller_model.specs.Packets.{links_sending, pdu_heard}
 use Rattle.controller_model.specs.Radio.{facts_entering, links_fixing, outcome_begun, plan_in, served, radio_served, turn_begins, winner_served}
 use Rattle.controller_model.specs.Side.{facts_after, facts_fed, result_of}
-use Rattle.controller_model.proofs.Always.{ending_is, links_won, opening_is, winning_is}
+use Rattle.controller_model.proofs.Always.{ending_is, leaving_is, links_won, opening_is, winning_is}
 use Rattle.controller_model.proofs.LinkNotes.{AreIn, first_in, rest_in}
 use Rattle.controller_model.proofs.Phases.{EachOutcome, heard_is, unheard_is}
 use Rattle.run_model.specs.OnAir.{ends_phase}
 use Rattle.run_model.specs.Run.{step_of}
+use Rattle.controller_model.specs.Entering.{all_entered}
 
 -- ---- a fact of what each link was set up with
 
@@ -112,23 +114,19 @@ module _ (P : EndSetup → Type 0) where
   opened : (end : EndSetup) (links : Links) → P end → EachLink P links → EachLink P (with_link end links)
   opened end links has each = changed_from 0 end.link.handle _ links (λ place before. has) each
 
-  stays : (slot : ℕ) (links : Links) → EachLink P links → EachLink P (links_staying slot links)
-  stays slot [] each = tt
-  stays slot (None ∷ links) each = (tt, stays slot links each.1)
-  stays slot (Some link ∷ links) each = (by (reason_in slot link), stays slot links each.1)
+  stays : (reason : OpenLink → Option ℕ) (links : Links) → EachLink P links → EachLink P (links_without reason links)
+  stays reason [] each = tt
+  stays reason (None ∷ links) each = (tt, stays reason links each.1)
+  stays reason (Some link ∷ links) each = (by (reason link), stays reason links each.1)
     where
-      by : (reason : Option ℕ) → AtPlace P (staying_by reason link)
+      by : (why : Option ℕ) → AtPlace P (staying_by why link)
       by None = each.0
-      by (Some reason) = tt
+      by (Some code) = tt
 
-  enters : (slot : ℕ) (links : Links) → EachLink P links → EachLink P (links_entered slot links)
+  enters : (slot : ℕ) (links : Links) → EachLink P links → EachLink P (all_entered slot links)
   enters slot [] each = tt
   enters slot (None ∷ links) each = (tt, enters slot links each.1)
-  enters slot (Some link ∷ links) each = (by (is_anchor slot link), enters slot links each.1)
-    where
-      by : (anchor : Bool) → P (entered_if anchor slot link).setup
-      by true = each.0
-      by false = each.0
+  enters slot (Some link ∷ links) each = (subst P (sym (entered_setup slot link)) each.0, enters slot links each.1)
 
   fixes : (doing : Doing) (links : Links) → EachLink P links → EachLink P (links_fixing doing links)
   fixes (CentralSends handle) links each = changed handle (link_after PduFixed) links (λ link. refl) each
@@ -144,6 +142,10 @@ module _ (P : EndSetup → Type 0) where
       by : (complete : Bool) → P (if complete then link_after DataReported link else link).setup
       by true = each.0
       by false = each.0
+
+  refuses : (does : Bool) (handle : ℕ) (links : Links) → EachLink P links → EachLink P (links_refusing does handle links)
+  refuses true handle links each = changed handle _ links (λ link. refl) each
+  refuses false handle links each = each
 
   resets : (links : Links) → EachLink P (without_links links)
   resets [] = tt
@@ -207,7 +209,7 @@ module _ (P : EndSetup → Type 0) where
   served_linked true slot winner facts each = radio_linked (is_held_in facts.radio.hold slot) slot winner facts each
 
   ended_linked : (slot : ℕ) (facts : Facts) → EachLink P facts.links → EachLink P (facts_ending slot facts).links
-  ended_linked slot facts each = subst (λ ended. EachLink P ended.links) (sym (ending_is slot facts)) (stays slot facts.links each)
+  ended_linked slot facts each = subst (λ ended. EachLink P ended.links) (sym (ending_is slot facts)) (stays (due_in slot) facts.links each)
 
   begun_linked : (slot : ℕ) (on : Bool) (facts : Facts) → EachLink P facts.links → EachLink P (outcome_begun slot on facts).facts.links
   begun_linked slot on facts each =
@@ -304,7 +306,8 @@ module _ (P : EndSetup → Type 0) where
   received_linked : (setup : Setup) (handle : ℕ) (octets : List ℕ) (facts : Facts) → EachLink P facts.links
       → EachLink P (link_heard setup handle octets facts).facts.links
   received_linked setup handle octets facts each =
-      changed handle (link_after (PacketReceived facts.turn.slot octets (has_room setup facts))) facts.links (λ link. refl) each
+      let step = PacketReceived facts.turn.slot octets (has_room setup facts) in
+      refuses _ handle (with_change handle (link_after step) facts.links) (changed handle (link_after step) facts.links (λ link. refl) each)
 
   heard_linked : (setup : Setup) (facts : Facts) (octets : List ℕ) (doing : Doing) → facts.turn.doing ≡ doing → MayOpenNew facts (PacketHeard octets)
       → EachLink P facts.links → EachLink P (heard setup doing octets facts).facts.links
@@ -324,6 +327,11 @@ module _ (P : EndSetup → Type 0) where
 
   -- ---- a step
 
+  left_linked : (facts : Facts) → EachLink P facts.links → EachLink P (facts_ended_turn facts).links
+  left_linked facts each =
+      subst (λ left. EachLink P left.links) (sym (leaving_is (facts_handed facts)))
+      (stays ending_in (links_reported facts.links) (reports facts.links each))
+
   passed_linked : (outcome : Outcome) → EachLink P outcome.facts.links → EachLink P (facts_passed outcome).links
   passed_linked outcome each = sends outcome.facts.turn.slot outcome.next outcome.facts.links each
 
@@ -334,7 +342,7 @@ module _ (P : EndSetup → Type 0) where
       passed_linked (heard setup facts.turn.doing octets facts) (heard_linked setup facts octets facts.turn.doing refl may each)
   step_opens setup facts NothingHeard may each =
       passed_linked (unheard facts.turn.doing facts) (unheard_linked facts facts.turn.doing (λ channel link is. may.made channel link refl is) each)
-  step_opens setup facts TurnEnds may each = sends facts.turn.slot Rests (links_reported facts.links) (reports facts.links each)
+  step_opens setup facts TurnEnds may each = left_linked facts each
 
   pub step_linked : (setup : Setup) (facts : Facts) (step : Step) → MayOpen facts step → EachLink P facts.links → EachLink P (facts_after setup facts step).links
   step_linked setup facts step may each = step_opens setup facts step (record {

@@ -3,7 +3,7 @@ use Rattle.std.proofs.Common.{◌≡◌, ℕ, ◌+◌, ◌==◌, Bool, true, fal
 use Rattle.std.specs.Prelude.{map}
 use Rattle.std.proofs.lemmas.Bool.{eqb-true}
 use Rattle.ble_base.specs.declared.notes.Note.{Note}
-use Rattle.link_model.specs.Setup.{Setup as EndSetup}
+use Rattle.controller_model.specs.link_model.Setup.{Setup as EndSetup}
 use Rattle.controller_model.specs.Step.{Step, HostOctet}
 use Rattle.controller_model.specs.Facts.{Facts}
 use Rattle.controller_model.specs.Side.{facts_of, notes_after}

@@ -6,9 +6,9 @@ use Rattle.ble_base.specs.declared.addresses.Address.{Address}
 use Rattle.ble_base.specs.declared.notes.Note.{Note}
 use Rattle.ble_base.specs.declared.notes.Note.TheVariants.{Opened}
 use Rattle.ble_base.specs.declared.roles.Role.{Role}
-use Rattle.link_model.specs.Setup.{Setup as EndSetup}
-use Rattle.open_links.specs.OpenLinks.{Links as Places, OpenLink, link_at}
-use Rattle.open_links.proofs.Handles.{handle_is}
+use Rattle.controller_model.specs.link_model.Setup.{Setup as EndSetup}
+use Rattle.controller_model.specs.open_links.OpenLinks.{Links as Places, OpenLink, link_at}
+use Rattle.controller_model.proofs.open_links.Handles.{handle_is}
 use Rattle.controller_model.specs.Step.{Step, HostOctet, TurnBegins, TurnEnds}
 use Rattle.controller_model.specs.Facts.{Facts}
 use Rattle.controller_model.specs.Side.{facts_after, facts_of, notes_after}

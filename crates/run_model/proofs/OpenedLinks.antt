@@ -6,10 +6,10 @@ use Rattle.ble_base.specs.declared.addresses.Address.{Address}
 use Rattle.ble_base.specs.declared.notes.Note.{Note}
 use Rattle.ble_base.specs.declared.notes.Note.TheVariants.{Opened}
 use Rattle.ble_base.specs.declared.roles.Role.{Role}
-use Rattle.link_model.specs.declared.setup.LinkSetup.{LinkSetup}
-use Rattle.link_model.specs.Setup.{Setup as EndSetup}
-use Rattle.open_links.specs.OpenLinks.{Links as Places, link_at, new_link}
-use Rattle.open_links.proofs.Handles.{handle_is, opened_at}
+use Rattle.controller_model.specs.link_model.declared.setup.LinkSetup.{LinkSetup}
+use Rattle.controller_model.specs.link_model.Setup.{Setup as EndSetup}
+use Rattle.controller_model.specs.open_links.OpenLinks.{Links as Places, link_at, new_link}
+use Rattle.controller_model.proofs.open_links.Handles.{handle_is, opened_at}
 use Rattle.scan_init.specs.Reports.{scan_answer}
 use Rattle.controller_model.specs.Step.{Step, HostOctet, TurnBegins, PacketHeard, NothingHeard, TurnEnds}
 use Rattle.controller_model.specs.Facts.{Facts, Setup}
@@ -34,7 +34,7 @@ use Rattle.run_model.proofs.LinkEnds.{IsLast}
 use Rattle.run_model.proofs.LinkSteps.{MayOpen, each_in, link_has, step_opens}
 use Rattle.run_model.proofs.Linked.{numbered_more}
 use Rattle.run_model.proofs.LinksKnown.{last_by_call}
-use Rattle.run_model.proofs.OpenedNotes.{doing_open, events_open, is_opened, neither, opens_under, outside_open, taken_open}
+use Rattle.run_model.proofs.OpenedNotes.{doing_open, events_open, is_opened, neither, opens_under, outside_open, hearing_open}
 
 -- a link that is noted as opened is open after the step, under a handle that was free
 record IsOpenNow (facts : Facts) (links : Places) (handle : ℕ) (role : Role) : Type 0 where
@@ -111,7 +111,7 @@ phase_now setup facts own = record {
   connects = λ channel octets pdu on access handle doing is_on hears answers next free in_range. tt;
   received = λ handle octets.
       passed_now facts (link_heard setup handle octets facts)
-      (λ other. taken_open other facts.turn.slot (has_room setup facts) (link_at handle facts.links) octets);
+      (λ other. hearing_open other (has_room setup facts) handle octets facts);
 }
 
 step_now : (setup : Setup) (facts : Facts) (step : Step) → HaveOwnHandles setup facts

@@ -1,12 +1,14 @@
 -- Which links a step notes as opened: those that it opens, each under a handle that was free.
-use Rattle.std.proofs.Common.{◌≡◌, ℕ, ◌==◌, ◌||◌, Bool, true, false, Option, Some, None, List, [], ◌∷◌, ◌++◌, map, refl, sym, ap, subst, ◌∙◌}
-use Rattle.std.specs.Prelude.{◌&&◌, not, filter, flat_map}
+use Rattle.std.proofs.Common.{◌≡◌, ℕ, ◌+◌, ◌==◌, ◌||◌, Bool, true, false, Option, Some, None, List, [], ◌∷◌, ◌++◌, map, refl, sym, ap, subst, ◌∙◌}
+use Rattle.std.specs.Prelude.{◌&&◌, not, filter, flat_map, if◌then◌else◌}
 use Rattle.std.specs.List.{list_any}
 use Rattle.std.proofs.lemmas.Bool.{eqb-true}
 use Rattle.std.proofs.lemmas.List.Folds.{list_any-append}
 use Rattle.acl_banks.specs.declared.pieces.Piece.{Piece}
 use Rattle.ble_base.specs.declared.notes.Note.{Note}
-use Rattle.ble_base.specs.declared.notes.Note.TheVariants.{Up, Opened}
+use Rattle.ble_base.specs.declared.notes.Note.TheVariants.{Up, Opened, Enter}
+use Rattle.ble_base.specs.declared.error_codes.ErrCode.{ErrCode}
+use Rattle.ble_base.specs.declared.procedure_kinds.Kind.{Kind}
 use Rattle.adv_pdu.specs.declared.pdu.AdvPdu.{AdvPdu}
 use Rattle.adv_pdu.specs.declared.pdu.ConnectFields.{ConnectFields}
 use Rattle.adv_pdu.specs.Pdu.{sender_of}
@@ -28,30 +30,39 @@ use Rattle.hci_evt.specs.Event.{mask_bit_of, written}
 use Rattle.host_view.specs.View.{View}
 use Rattle.host_view.specs.Unbuilt.{status_of}
 use Rattle.data_pdu.specs.Header.{header_in}
-use Rattle.instants.specs.Track.{next_number}
-use Rattle.link_model.specs.declared.setup.LinkSetup.{LinkSetup}
-use Rattle.link_model.specs.Acknowledgement.{Pdu, is_acked}
-use Rattle.link_model.specs.Data.{is_empty}
-use Rattle.link_model.specs.Facts.{Facts as EndFacts}
-use Rattle.link_model.specs.Packets.{good_pdu, pdu_of}
-use Rattle.link_model.specs.End.{applied_notes, has_new_pdu, is_accepted, sent_notes_if, took_notes, took_notes_if}
+use Rattle.controller_model.specs.link_model.declared.setup.LinkSetup.{LinkSetup}
+use Rattle.controller_model.specs.control_end.declared.answers.Entry.{Entry}
+use Rattle.controller_model.specs.control_end.declared.answers.Taken.{Taken}
+use Rattle.controller_model.specs.link_model.Acknowledgement.{Pdu, is_acked}
+use Rattle.controller_model.specs.link_model.Setup.{Setup as EndSetup}
+use Rattle.controller_model.specs.link_model.Data.{is_empty, numbered}
+use Rattle.controller_model.specs.link_model.declared.events.ConnectionEvent.{ConnectionEvent}
+use Rattle.controller_model.specs.link_model.Facts.{Facts as EndFacts}
+use Rattle.controller_model.specs.link_model.Packets.{good_pdu}
+use Rattle.controller_model.specs.link_model.Verdicts.{pdu_of}
+use Rattle.controller_model.specs.link_model.Events.{applied_notes}
+use Rattle.controller_model.specs.link_model.Controls.{goes_on, is_procedure_pdu, pdu_fixed}
+use Rattle.controller_model.specs.link_model.Entering.{began_notes, done_notes, event_notes, facts_entered}
+use Rattle.controller_model.specs.link_model.Receiving.{accepts, acked_kind, acks_control, facts_before_taking, given_if, given_notes, has_acknowledged, received_notes, refused_notes, taken_notes, took_notes_if}
+use Rattle.controller_model.specs.link_model.Sending.{sent_notes_if}
 use Rattle.scan_init.specs.Reports.{scan_answer}
-use Rattle.open_links.specs.declared.ended.LinkEnded.{LinkEnded}
-use Rattle.open_links.specs.Data.{completed_from}
-use Rattle.open_links.specs.OpenLinks.{Links, OpenLink, facts_in, free_from, handles_from, link_at}
-use Rattle.open_links.specs.Turns.{is_anchor, notes_entering, notes_if}
+use Rattle.controller_model.specs.open_links.declared.ended.LinkEnded.{LinkEnded}
+use Rattle.controller_model.specs.open_links.Data.{completed_from}
+use Rattle.controller_model.specs.open_links.OpenLinks.{Links, OpenLink, facts_in, free_from, handles_from, link_at}
+use Rattle.controller_model.specs.open_links.Turns.{due_in, ending_in, enters_in, entry_in, notes_entering, notes_if}
 use Rattle.controller_model.specs.declared.doing.Doing.{Doing}
 use Rattle.controller_model.specs.declared.doing.Doing.TheVariants.{Advertises, AwaitsRequest, Connects, CentralSends, PeripheralSends}
 use Rattle.controller_model.specs.Step.{Step, HostOctet, TurnBegins, PacketHeard, NothingHeard, TurnEnds}
 use Rattle.controller_model.specs.Facts.{Setup, Facts}
 use Rattle.controller_model.specs.Answers.{answer_to}
 use Rattle.controller_model.specs.Commands.{events_caused, notes_before, notes_commanded, notes_known}
-use Rattle.open_links.specs.declared.offers.Offer.{Offer}
-use Rattle.open_links.specs.declared.offers.Offer.TheVariants.{NoLink, Empty, Overflow, Kept}
-use Rattle.controller_model.specs.Data.{event_completed, note_received, notes_ended_turn, notes_offered, offer_of}
+use Rattle.controller_model.specs.open_links.declared.offers.Offer.{Offer}
+use Rattle.controller_model.specs.open_links.declared.offers.Offer.TheVariants.{NoLink, Empty, Overflow, Kept}
+use Rattle.controller_model.specs.Data.{event_completed, facts_handed, note_received, notes_ended_turn, notes_handed, notes_offered, offer_of}
+use Rattle.controller_model.specs.Entering.{events_entering, notes_all_entering}
 use Rattle.controller_model.specs.Events.{notes_of_events, passes}
-use Rattle.controller_model.specs.Heard.{advertiser_answers, advertiser_heard, events_reported, has_room, heard, if_pdu, is_new_between, link_heard, link_taken, notes_taken, opens, scanner_heard, taken_if, taken_under, unheard}
-use Rattle.controller_model.specs.Links.{ends_in, events_opened, facts_ending, note_shut, notes_ended, notes_ending, notes_opened}
+use Rattle.controller_model.specs.Heard.{advertiser_answers, advertiser_heard, events_received, events_reported, has_room, heard, if_pdu, is_new_between, link_heard, link_hearing, link_taken, notes_taken, opens, scanner_heard, taken_if, taken_under, unheard}
+use Rattle.controller_model.specs.Links.{ends_for, events_opened, facts_ending, note_shut, notes_ended, notes_ending, notes_leaving, notes_opened}
 use Rattle.controller_model.specs.Outcome.{Outcome, notes_passed}
 use Rattle.controller_model.specs.Packets.{notes_doing, notes_sent, pdu_heard}
 use Rattle.controller_model.specs.Radio.{outcome_begun}
@@ -123,15 +134,16 @@ module _ (handle : ℕ) where
 
   -- ---- data
 
-  sent_if_open : (noted : Bool) (other : ℕ) (facts : EndFacts) → is_opened handle (sent_notes_if noted other facts) ≡ false
-  sent_if_open true other facts = refl
-  sent_if_open false other facts = refl
+  sent_if_open : (noted : Bool) (other number : ℕ) (pdu : Pdu) → is_opened handle (sent_notes_if noted other number pdu) ≡ false
+  sent_if_open true other number pdu = refl
+  sent_if_open false other number pdu = refl
 
   sent_open : (slot : ℕ) (found : Option OpenLink) → is_opened handle (notes_sent slot found) ≡ false
   sent_open slot None = refl
   sent_open slot (Some link) =
       let facts = facts_in link in
-      sent_if_open (is_acked facts.acknowledgement && not (is_empty facts.outgoing.fixed)) link.setup.link.handle facts
+      sent_if_open (is_acked facts.acknowledgement && not (is_empty (pdu_fixed facts))) link.setup.link.handle
+      (numbered facts.acknowledgement.sent) (pdu_fixed facts)
 
   pub doing_open : (doing : Doing) (facts : Facts) → is_opened handle (notes_doing doing facts) ≡ false
   doing_open (CentralSends other) facts = sent_open facts.turn.slot (link_at other facts.links)
@@ -143,26 +155,53 @@ module _ (handle : ℕ) where
   took_if_open true other pdu facts = refl
   took_if_open false other pdu facts = refl
 
-  took_open : (other : ℕ) (room : Bool) (found : Option (List ℕ)) (facts : EndFacts) → is_opened handle (took_notes other room found facts) ≡ false
-  took_open other room None facts = refl
-  took_open other room (Some pdu) facts =
-      let accepted = is_accepted room (has_new_pdu facts (header_in pdu)) (pdu_of pdu) in
-      took_if_open (accepted && not (is_empty (pdu_of pdu))) other (pdu_of pdu) facts
+  done_open : (other : ℕ) (kind : Option Kind) → is_opened handle (done_notes other kind) ≡ false
+  done_open other None = refl
+  done_open other (Some kind) = refl
 
-  pub taken_open : (slot : ℕ) (room : Bool) (found : Option OpenLink) (octets : List ℕ) → is_opened handle (notes_taken slot room found octets) ≡ false
+  refused_open : (other : ℕ) (refused : Option (Kind × ErrCode)) → is_opened handle (refused_notes other refused) ≡ false
+  refused_open other None = refl
+  refused_open other (Some (kind, code)) = refl
+
+  given_open : (other : ℕ) (given : Taken) → is_opened handle (given_notes other given) ≡ false
+  given_open other given =
+      neither (refused_notes other given.refused) (done_notes other given.done) (refused_open other given.refused) (done_open other given.done)
+
+  pdu_open : (other slot : ℕ) (accepted : Bool) (pdu : Pdu) (facts : EndFacts) → is_opened handle (taken_notes other accepted pdu slot facts) ≡ false
+  pdu_open other slot accepted pdu facts =
+      let given = given_if (accepted && is_procedure_pdu pdu) pdu slot facts in
+      neither (took_notes_if (accepted && not (is_empty pdu)) other pdu facts) (given_notes other given)
+      (took_if_open (accepted && not (is_empty pdu)) other pdu facts) (given_open other given)
+
+  received_open : (setup : EndSetup) (slot : ℕ) (room : Bool) (found : Option (List ℕ)) (facts : EndFacts)
+      → is_opened handle (received_notes setup slot room found facts) ≡ false
+  received_open setup slot room None facts = refl
+  received_open setup slot room (Some pdu) facts =
+      let header = header_in pdu in
+      let now = facts_before_taking setup.link.role slot header facts in
+      let accepted = accepts room header (pdu_of pdu) now in
+      let done = acked_kind (acks_control (has_acknowledged facts header) facts) facts in
+      neither (done_notes setup.link.handle done) (taken_notes setup.link.handle accepted (pdu_of pdu) slot now)
+      (done_open setup.link.handle done) (pdu_open setup.link.handle slot accepted (pdu_of pdu) now)
+
+  taken_open : (slot : ℕ) (room : Bool) (found : Option OpenLink) (octets : List ℕ) → is_opened handle (notes_taken slot room found octets) ≡ false
   taken_open slot room None octets = refl
-  taken_open slot room (Some link) octets = took_open link.setup.link.handle room (good_pdu link.setup (facts_in link) octets) (facts_in link)
+  taken_open slot room (Some link) octets =
+      received_open link.setup slot room (good_pdu link.setup (facts_in link) octets) (facts_in link)
+
+  -- a link that receives, with the events for its host
+  pub hearing_open : (room : Bool) (other : ℕ) (octets : List ℕ) (facts : Facts) → is_opened handle (link_hearing other room octets facts).notes ≡ false
+  hearing_open room other octets facts =
+      let slot = facts.turn.slot in
+      let found = link_at other facts.links in
+      let events = events_received other slot room found octets in
+      neither (notes_taken slot room found octets) (notes_of_events facts.view events) (taken_open slot room found octets) (events_open facts.view events)
 
   pieces_open : (pieces : List (ℕ × Piece)) → is_opened handle (map note_received pieces) ≡ false
   pieces_open [] = refl
   pieces_open (piece ∷ pieces) = pieces_open pieces
 
-  ended_turn_open : (facts : Facts) → is_opened handle (notes_ended_turn facts) ≡ false
-  ended_turn_open facts =
-      let events = map event_completed (completed_from 0 facts.links) in
-      neither (map note_received facts.received) (notes_of_events facts.view events) (pieces_open facts.received) (events_open facts.view events)
-
-  -- ---- a turn begins
+  -- ---- links that end
 
   ended_open : (view : View) (ended : List LinkEnded) → is_opened handle (flat_map (notes_ended view) ended) ≡ false
   ended_open view [] = refl
@@ -170,28 +209,61 @@ module _ (handle : ℕ) where
       neither (notes_ended view one) (flat_map (notes_ended view) ended)
       (events_open view (DisconnectionComplete 0 one.handle one.reason.0 ∷ [])) (ended_open view ended)
 
+  ended_turn_open : (facts : Facts) → is_opened handle (notes_ended_turn facts) ≡ false
+  ended_turn_open facts =
+      let events = map event_completed (completed_from 0 facts.links) in
+      neither (notes_handed facts) (notes_leaving (facts_handed facts))
+      (neither (map note_received facts.received) (notes_of_events facts.view events) (pieces_open facts.received) (events_open facts.view events))
+      (ended_open facts.view (ends_for ending_in (facts_handed facts)))
+
+  -- ---- a turn begins
+
   applied_open : (other event : ℕ) (number : Option ℕ) → is_opened handle (applied_notes other event number) ≡ false
   applied_open other event None = refl
   applied_open other event (Some number) = refl
 
-  entry_open : (anchor : Bool) (slot : ℕ) (link : OpenLink) → is_opened handle (notes_if anchor slot link) ≡ false
+  began_open : (other : ℕ) (kind : Option Kind) → is_opened handle (began_notes other kind) ≡ false
+  began_open other None = refl
+  began_open other (Some kind) = refl
+
+  event_open : (other : ℕ) (event : ConnectionEvent) (entry : Entry) → is_opened handle (event_notes other event entry) ≡ false
+  event_open other event entry =
+      let applied = applied_notes other event.number entry.applied in
+      let entered = Enter other (record { 0 = event.number }) event.channel ∷ [] in
+      let done = done_notes other entry.done in
+      neither (applied ++ entered ++ done) (began_notes other entry.began)
+      (neither (applied ++ entered) done (neither applied entered (applied_open other event.number entry.applied) refl) (done_open other entry.done))
+      (began_open other entry.began)
+
+  going_open : (goes : Bool) (other : ℕ) (event : ConnectionEvent) (entry : Entry)
+      → is_opened handle (if goes then event_notes other event entry else []) ≡ false
+  going_open true other event entry = event_open other event entry
+  going_open false other event entry = refl
+
+  entry_open : (enters : Bool) (slot : ℕ) (link : OpenLink) → is_opened handle (notes_if enters slot link) ≡ false
   entry_open false slot link = refl
   entry_open true slot link =
-      neither (applied_notes link.setup.link.handle _ (next_number (facts_in link).parameters)) _
-      (applied_open link.setup.link.handle _ (next_number (facts_in link).parameters)) refl
+      going_open (goes_on (facts_in link)) link.setup.link.handle (facts_entered link.setup slot (facts_in link)).event (entry_in slot link)
 
-  entering_open : (slot : ℕ) (links : Links) → is_opened handle (notes_entering slot links) ≡ false
-  entering_open slot [] = refl
-  entering_open slot (None ∷ links) = entering_open slot links
-  entering_open slot (Some link ∷ links) =
-      neither (notes_if (is_anchor slot link) slot link) (notes_entering slot links) (entry_open (is_anchor slot link) slot link) (entering_open slot links)
+  entering_open : (slot : ℕ) (place : Option OpenLink) → is_opened handle (notes_entering slot place) ≡ false
+  entering_open slot None = refl
+  entering_open slot (Some link) = entry_open (enters_in slot link) slot link
+
+  all_open : (view : View) (slot first : ℕ) (links : Links) → is_opened handle (notes_all_entering view slot first links) ≡ false
+  all_open view slot first [] = refl
+  all_open view slot first (place ∷ links) =
+      let events = events_entering slot first place in
+      neither (notes_entering slot place ++ notes_of_events view events) (notes_all_entering view slot (first + 1) links)
+      (neither (notes_entering slot place) (notes_of_events view events) (entering_open slot place) (events_open view events))
+      (all_open view slot (first + 1) links)
 
   begun_open : (slot : ℕ) (on : Bool) (setup : Setup) (facts : Facts) → is_opened handle (notes_after setup facts (TurnBegins slot on)) ≡ false
   begun_open slot on setup facts =
       let outcome = outcome_begun slot on facts in
-      neither (notes_ending slot facts ++ notes_entering slot (facts_ending slot facts).links) (notes_doing outcome.next outcome.facts)
-      (neither (notes_ending slot facts) (notes_entering slot (facts_ending slot facts).links)
-      (ended_open facts.view (ends_in slot facts)) (entering_open slot (facts_ending slot facts).links))
+      let ended = facts_ending slot facts in
+      let entering = notes_all_entering ended.view slot 0 ended.links in
+      neither (notes_ending slot facts ++ entering) (notes_doing outcome.next outcome.facts)
+      (neither (notes_ending slot facts) entering (ended_open facts.view (ends_for (due_in slot) facts)) (all_open ended.view slot 0 ended.links))
       (doing_open outcome.next outcome.facts)
 
   -- a step that ends no phase opens none
@@ -240,8 +312,7 @@ module _ (handle : ℕ) where
         (events_open facts.view (events_reported (scan_answer on.params facts.view.accepted on.recent pdu) pdu));
     connects = λ channel octets pdu on access other doing is_on hears answers next free in_range. nothing;
     received = λ other octets.
-        passed_free facts (link_heard setup other octets facts)
-        (taken_open facts.turn.slot (has_room setup facts) (link_at other facts.links) octets);
+        passed_free facts (link_heard setup other octets facts) (hearing_open (has_room setup facts) other octets facts);
   }
 
   pub opened_was_free : (setup : Setup) (facts : Facts) (step : Step) → HaveOwnHandles setup facts → is_opened handle (notes_after setup facts step) ≡ true

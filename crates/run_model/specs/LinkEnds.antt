@@ -6,7 +6,7 @@ use Rattle.ble_base.specs.declared.roles.Role.{Role}
 use Rattle.ble_base.specs.declared.roles.Role.TheVariants.{Central, Peripheral}
 use Rattle.adv_pdu.specs.declared.pdu.AdvPdu.TheVariants.{Connect}
 use Rattle.adv_pdu.specs.declared.pdu.ConnectFields.{ConnectFields}
-use Rattle.link_model.specs.Setup.{Setup}
+use Rattle.controller_model.specs.link_model.Setup.{Setup}
 use Rattle.controller_model.specs.Packets.{pdu_heard}
 use Rattle.run_model.specs.History.{Event, Transmitted, Hearing, has_received, turns_begun}
 use Rattle.run_model.specs.Links.{is_advertising}

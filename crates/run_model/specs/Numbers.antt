@@ -1,7 +1,7 @@
 -- The number of an open link at a station: that of its CONNECT_IND (our choice).
 use Rattle.std.specs.Prelude.{◌≡◌, ℕ, ◌+◌, List, Some}
-use Rattle.link_model.specs.Setup.{Setup}
-use Rattle.open_links.specs.OpenLinks.{OpenLink, link_at}
+use Rattle.controller_model.specs.link_model.Setup.{Setup}
+use Rattle.controller_model.specs.open_links.OpenLinks.{OpenLink, link_at}
 use Rattle.run_model.specs.History.{Event}
 use Rattle.run_model.specs.LinkEnds.{HasConnectInd}
 use Rattle.run_model.specs.Links.{links_of}

@@ -4,7 +4,7 @@ ghost use Rattle.std.specs.Prelude.{◌≡◌, ℕ, true, false, List, ◌∷◌
 ghost use Rattle.ble_base.specs.declared.notes.Note.{Note};
 ghost use Rattle.ble_base.specs.declared.roles.Side.{Side};
 ghost use Rattle.journal.specs.declared.entries.Entry.{Entry};
-ghost use Rattle.open_links.specs.OpenLinks.{OpenLink, link_at};
+ghost use Rattle.controller_model.specs.open_links.OpenLinks.{OpenLink, link_at};
 ghost use Rattle.radio_replay.specs.Script.{Script};
 ghost use Rattle.run_model.specs.Feeding.{AreDistinct, is_note};
 ghost use Rattle.run_model.specs.History.{Event, Noted};

@@ -1,6 +1,6 @@
 -- Proof of `agreement::ends_that_hear_each_other_agree`.
-use Rattle.link_model.proofs.Taking.{past_delivered}
-use Rattle.open_links.specs.OpenLinks.{facts_in}
+use Rattle.run_model.proofs.link_model.Taking.{past_delivered}
+use Rattle.run_model.specs.open_links.OpenLinks.{facts_in}
 use Rattle.run_model.proofs.Stations.{contains_in}
 use Rattle.run_laws.proofs.Agreed.{ack_of, exchange}
 use Rattle.run_laws.proofs.TwoEnds.{stays_in_agreement}
