@@ -5,7 +5,7 @@ use Rattle.std.specs.List.{AllZip}
 use Rattle.std.proofs.lemmas.List.Elements.{All-head, All-tail}
 use Rattle.outside.specs.Known.{WhereKnown}
 use Rattle.journal.specs.declared.entries.Entry.{Entry}
-use Rattle.run_model.specs.Pair.{given_of, EndsUnseen}
+use Rattle.pair_world.specs.run_model.Pair.{given_of, EndsUnseen}
 use Rattle.radio_replay.specs.Schedule.{Reading, Right, Wrong, TooMany}
 use Rattle.ble_tool.specs.declared.faults.Fault.{Fault}
 use Rattle.ble_tool.specs.declared.faults.Fault.TheVariants.{CannotRead, BadLine, CannotWrite, NoMemory, Unseen, TooLong, TooManyTurns}

@@ -4,10 +4,10 @@ use Rattle.std.specs.Prelude.{OnOk, IfOk, IfErr}
 use Rattle.std.specs.Result.{IsErrAnd}
 use Rattle.journal.specs.declared.entries.Entry.{Entry}
 use Rattle.journal.specs.Text.{text}
-use Rattle.journal_pdus.specs.Lawful.{IsLawful, IsWhole}
+use Rattle.pair_world.specs.journal_pdus.Lawful.{IsLawful, IsWhole}
 use Rattle.pair_world.specs.Faults.{IsDueAtFault, IsLawfulSoFar, IsRunFault}
-use Rattle.run_model.specs.Pair.{given_of, IsRun}
-use Rattle.run_model.specs.Run.{Given}
+use Rattle.pair_world.specs.run_model.Pair.{given_of, IsRun}
+use Rattle.pair_world.specs.run_model.Run.{Given}
 use Rattle.pair_world.specs.declared.run.RunFault.{RunFault}
 use Rattle.pair_world.specs.declared.run.RunFault.TheVariants.{Unseen as EndedUnseen, Memory as NoRoomForRun}
 use Rattle.radio_replay.specs.declared.faults.ScheduleFault.{ScheduleFault}

@@ -3,10 +3,10 @@ use Rattle.std.specs.Prelude.{◌≡◌, ℕ, List, [], slice_index_or, Option, 
 use Rattle.ble_base.specs.declared.Config.{Config}
 use Rattle.journal.specs.declared.entries.Entry.{Entry}
 use Rattle.journal.specs.Text.{text}
-use Rattle.journal_pdus.specs.Lawful.{IsLawful, IsWhole}
-use Rattle.journal_pdus.specs.Undelivered.{IsUndelivered}
-use Rattle.run_model.specs.Pair.{given_of, IsRun, EndsUnseen}
-use Rattle.run_model.specs.Run.{Given}
+use Rattle.pair_world.specs.journal_pdus.Lawful.{IsLawful, IsWhole}
+use Rattle.pair_world.specs.journal_pdus.Undelivered.{IsUndelivered}
+use Rattle.pair_world.specs.run_model.Pair.{given_of, IsRun, EndsUnseen}
+use Rattle.pair_world.specs.run_model.Run.{Given}
 use Rattle.radio_replay.specs.Schedule.{Right, Wrong, TooMany, schedule_of, line_number}
 use Rattle.radio_replay.specs.Script.{Script, Turn}
 use Rattle.ble_tool.specs.declared.faults.Fault.{Fault}

@@ -4,7 +4,7 @@ use Rattle.std.specs.List.{AllZip}
 use Rattle.outside.specs.Count.{HasRisen}
 use Rattle.ble_base.specs.declared.Config.{Config}
 use Rattle.journal.specs.declared.entries.Entry.{Entry}
-use Rattle.run_model.specs.Pair.{given_of, EndsUnseen}
+use Rattle.pair_world.specs.run_model.Pair.{given_of, EndsUnseen}
 use Rattle.radio_replay.specs.Schedule.{Right, schedule_of}
 use Rattle.radio_replay.specs.Script.{Turn}
 use Rattle.ble_tool.specs.declared.commands.Command.{Command}

@@ -2,8 +2,8 @@
 ghost use Rattle.std.specs.Prelude.{◌≡◌, ◌++◌, ◌<◌, ◌≤◌, length, map, vec_items, None};
 ghost use Rattle.std.specs.Prelude.{OnOk, IfOk, IfErr};
 ghost use Rattle.journal.specs.Text.{text};
-ghost use Rattle.journal_pdus.specs.Lawful.{IsLawful, IsWhole};
-ghost use Rattle.run_model.specs.Pair.{given_of};
+ghost use Rattle.pair_world.specs.journal_pdus.Lawful.{IsLawful, IsWhole};
+ghost use Rattle.pair_world.specs.run_model.Pair.{given_of};
 ghost use Rattle.radio_replay.specs.Schedule.{Right, schedule_of};
 ghost use Rattle.ble_tool.specs.Causes.{IsWriteFault, OfRun, OfPair, IsScheduleFault};
 ghost use Rattle.ble_tool.specs.Causes.{IsEndOf, IsWrittenEnd, IsPairFault};

@@ -5,16 +5,18 @@ use Rattle.std.proofs.lemmas.Bool.{eqb-true, eqb-false, and_left}
 use Rattle.std.proofs.lemmas.List.{length_push}
 use Rattle.ack_bit.specs.AckBits.{is_new}
 use Rattle.ack_bit.proofs.Links.{acked_count, says}
-use Rattle.link_model.specs.Acknowledgement.{Acknowledgement, Pdu, after_sending, bits_of, empty_pdu, end_of, first_acknowledgement, is_acked, next_sent}
-use Rattle.link_model.specs.Data.{is_data, is_empty}
-use Rattle.link_model.specs.Facts.{Facts}
-use Rattle.link_model.specs.Packets.{header_sent, packet_sent, pdu_sent}
-use Rattle.link_model.specs.Pair.{AreInAgreement}
-use Rattle.link_model.specs.Step.{PacketSent, PacketReceived}
-use Rattle.link_model.proofs.Payloads.{IsShort, past_pdu_short}
-use Rattle.link_model.proofs.Received.{IsHeardWhole}
-use Rattle.open_links.specs.OpenLinks.{OpenLink, facts_in, link_after}
-use Rattle.run_laws.proofs.Agreed.{ack_of, ack_sent, heard_ack, heard_by, out_after, packet_of, sent_ack}
+use Rattle.journal_packets.specs.link_model.Acknowledgement.{Acknowledgement, Pdu, after_sending, bits_of, empty_pdu, end_of, first_acknowledgement, is_acked, next_sent}
+use Rattle.journal_packets.specs.link_model.Data.{is_data, is_empty}
+use Rattle.journal_packets.specs.link_model.Controls.{pdu_fixed}
+use Rattle.journal_packets.specs.link_model.Facts.{Facts}
+use Rattle.journal_packets.specs.link_model.Packets.{header_sent, packet_sent, pdu_sent}
+use Rattle.journal_packets.specs.link_model.OneLink.{AreInAgreement}
+use Rattle.journal_packets.specs.link_model.Step.{PacketSent, PacketReceived}
+use Rattle.journal_packets.proofs.plain_links.Payloads.{IsShort, past_pdu_short}
+use Rattle.journal_packets.proofs.link_model.Hearing.{IsHeardWhole}
+use Rattle.journal_packets.specs.open_links.OpenLinks.{OpenLink, facts_in, link_after}
+use Rattle.journal_packets.specs.run_laws.Plainness.{IsPlainLink}
+use Rattle.journal_packets.proofs.run_laws.Agreed.{ack_of, ack_sent, heard_ack, heard_by, out_after, packet_of, sent_ack}
 use Rattle.journal_acks.specs.Counted.{IsCounted}
 use Rattle.journal_acks.specs.Exchange.{Exchanged, first_exchanged, with_heard, with_sent}
 
@@ -37,7 +39,7 @@ sends_counted end ack next is = record {
 
 pub link_sends : (slot : ℕ) (link : OpenLink) (end : Exchanged) → IsCounted end (ack_of link) → IsCounted (with_sent end) (ack_of (link_after (PacketSent slot) link))
 link_sends slot link end is =
-    subst (IsCounted (with_sent end)) (sym (ack_sent slot link)) (sends_counted end (ack_of link) (facts_in link).outgoing.fixed is)
+    subst (IsCounted (with_sent end)) (sym (ack_sent slot link)) (sends_counted end (ack_of link) (pdu_fixed (facts_in link)) is)
 
 -- ---- an end that receives what the other one sent
 
@@ -103,7 +105,7 @@ module _ (sender : Facts) (one : Acknowledgement) (short : IsShort (pdu_sent sen
       ∙ counted fresh one.accepted (pdu_sent sender) (length (sent_ack sender).sent)
       ((says (end_of (sent_ack sender)) (end_of one) (packet_of sender true) agreed).fresh
       ∙ ap (λ pdus. length pdus == length one.accepted + 1)
-      (sent_again (sent_ack sender) sender.outgoing.fixed (is_acked (sent_ack sender)) refl (out_after sender one agreed)))
+      (sent_again (sent_ack sender) (pdu_fixed sender) (is_acked (sent_ack sender)) refl (out_after sender one agreed)))
       ahead.sent_only ahead.at_most_one_ahead
 
   heard_told : IsTold (sent_ack sender) one (pdu_sent sender) (heard_by sender true one) (heard_by sender false one)
@@ -115,20 +117,20 @@ module _ (sender : Facts) (one : Acknowledgement) (short : IsShort (pdu_sent sen
     sent = refl;
   }
 
-pub told : IsHeardWhole → (slot now : ℕ) (one from : OpenLink) (octets : List ℕ) → 27 ≤ one.setup.link.max_rx → from.setup.link.fields ≡ one.setup.link.fields
+pub told : IsHeardWhole → (slot now : ℕ) (one from : OpenLink) (octets : List ℕ) → IsPlainLink one → IsPlainLink from → 27 ≤ one.setup.link.max_rx → from.setup.link.fields ≡ one.setup.link.fields
     → octets ≡ packet_sent from.setup (facts_in from) → (facts_in from).event.channel ≡ (facts_in one).event.channel
     → AreInAgreement (ack_of (link_after (PacketSent now) from)) (ack_of one)
     → IsTold (ack_of (link_after (PacketSent now) from)) (ack_of one) (pdu_sent (facts_in from))
     (ack_of (link_after (PacketReceived slot octets true) one)) (ack_of (link_after (PacketReceived slot octets false) one))
-told whole slot now one from octets fits fields packet channel agreed =
+told whole slot now one from octets plain from_plain fits fields packet channel agreed =
     let once = subst (λ a. AreInAgreement a (ack_of one)) (ack_sent now from) agreed in
     subst (λ a. IsTold a (ack_of one) (pdu_sent (facts_in from)) (ack_of (link_after (PacketReceived slot octets true) one)) (ack_of (link_after (PacketReceived slot octets false) one)))
     (sym (ack_sent now from))
     (subst (λ a. IsTold (sent_ack (facts_in from)) (ack_of one) (pdu_sent (facts_in from)) a (ack_of (link_after (PacketReceived slot octets false) one)))
-    (sym (heard_ack whole slot true one from octets fits (sym fields) packet channel once))
+    (sym (heard_ack whole slot true one from octets plain from_plain fits (sym fields) packet channel once))
     (subst (λ a. IsTold (sent_ack (facts_in from)) (ack_of one) (pdu_sent (facts_in from)) (heard_by (facts_in from) true (ack_of one)) a)
-    (sym (heard_ack whole slot false one from octets fits (sym fields) packet channel once))
-    (heard_told (facts_in from) (ack_of one) (past_pdu_short from.setup from.past) once)))
+    (sym (heard_ack whole slot false one from octets plain from_plain fits (sym fields) packet channel once))
+    (heard_told (facts_in from) (ack_of one) (past_pdu_short from.setup from.past from_plain) once)))
 
 -- what the line of its packet says, before it is noted that the PDU is taken
 heard_accepted : (empty : Bool) (from one : Exchanged) (sender ack next : ℕ) → (empty ≡ true → next ≡ sender) → (empty ≡ false → next ≡ ack)

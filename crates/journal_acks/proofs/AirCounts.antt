@@ -8,13 +8,14 @@ use Rattle.ble_base.specs.declared.roles.Role.TheVariants.{Central, Peripheral}
 use Rattle.ble_base.specs.declared.roles.Side.{Side}
 use Rattle.ble_base.specs.declared.roles.Side.TheVariants.{A, B}
 use Rattle.air_frame.specs.Packet.{access_octets}
-use Rattle.link_model.specs.Packets.{pdu_sent}
-use Rattle.link_model.specs.Data.{is_empty}
-use Rattle.link_model.specs.Pair.{AreInAgreement}
-use Rattle.link_model.proofs.Payloads.{past_form}
-use Rattle.link_model.proofs.Received.{IsHeardWhole}
-use Rattle.link_model.specs.Step.{PacketSent, PacketReceived}
-use Rattle.open_links.specs.OpenLinks.{OpenLink, facts_in, link_after, link_at}
+use Rattle.journal_packets.specs.link_model.Packets.{pdu_sent}
+use Rattle.journal_packets.specs.link_model.Data.{is_empty}
+use Rattle.journal_packets.specs.link_model.OneLink.{AreInAgreement}
+use Rattle.journal_packets.proofs.plain_links.Growing.{plain_front}
+use Rattle.journal_packets.proofs.plain_links.Payloads.{past_form}
+use Rattle.journal_packets.proofs.link_model.Hearing.{IsHeardWhole}
+use Rattle.journal_packets.specs.link_model.Step.{PacketSent, PacketReceived}
+use Rattle.journal_packets.specs.open_links.OpenLinks.{OpenLink, facts_in, link_after, link_at}
 use Rattle.controller_model.specs.declared.doing.Turn.{Turn}
 use Rattle.controller_model.specs.Facts.{Facts, Sends, Listens}
 use Rattle.controller_model.proofs.Always.{IsAdvertisingChannel}
@@ -32,17 +33,18 @@ use Rattle.run_model.specs.Run.{Given, facts_at, fate_at, hearings_of, setup_at,
 use Rattle.run_model.proofs.LinkEnds.{is_listener, received_event}
 use Rattle.run_model.proofs.Stations.{is_in, among, in_more_other, in_more_same, not_before}
 use Rattle.run_model.proofs.Walk.{Place, AtPackets}
-use Rattle.run_laws.specs.Ends.{HaveOneConnectInd}
-use Rattle.run_laws.proofs.Agreed.{Agree, ack_of}
-use Rattle.run_laws.proofs.ByCalls.{Holds}
-use Rattle.run_laws.proofs.ConnectInds.{on_channel}
-use Rattle.run_laws.proofs.Hearings.{wanted_is}
-use Rattle.run_laws.proofs.InAgreement.{AreStations, TakesShort, WithAll, differs_back}
-use Rattle.run_laws.proofs.OpenSteps.{open_has}
-use Rattle.run_laws.proofs.OwnLinks.{sent_begins}
-use Rattle.run_laws.proofs.TurnPlaces.{Within}
-use Rattle.journal_links.specs.Opened.{central_side}
-use Rattle.journal_links.specs.Begun.{LinkBegun, link_numbered, links_begun}
+use Rattle.journal_packets.specs.run_laws.Plainness.{IsPlainLink}
+use Rattle.journal_packets.specs.run_laws.Ends.{HaveOneConnectInd}
+use Rattle.journal_packets.proofs.run_laws.Agreed.{Agree, ack_of}
+use Rattle.journal_packets.proofs.run_laws.ByCalls.{Holds}
+use Rattle.journal_packets.proofs.run_laws.ConnectInds.{on_channel}
+use Rattle.journal_packets.proofs.run_laws.Hearings.{wanted_is}
+use Rattle.journal_packets.proofs.run_laws.InAgreement.{AreStations, TakesShort, WithAll, differs_back}
+use Rattle.journal_packets.proofs.run_laws.OpenSteps.{open_has}
+use Rattle.journal_packets.proofs.run_laws.OwnLinks.{sent_begins}
+use Rattle.journal_packets.proofs.run_laws.TurnPlaces.{Within}
+use Rattle.journal_packets.specs.journal_links.Opened.{central_side}
+use Rattle.journal_packets.specs.journal_links.Begun.{LinkBegun, link_numbered, links_begun}
 use Rattle.journal_packets.specs.Belonging.{first_number, link_of_packet}
 use Rattle.journal_packets.specs.Senders.{IsOfSendersLink}
 use Rattle.journal_acks.specs.Counted.{IsCounted}
@@ -240,6 +242,9 @@ module _ (whole : IsHeardWhole) (given : Given) (Q : Place → List Event → Ty
     abbrev pub own_number : ℕ
     own_number = number_at station sent.handle history
 
+    pub sender_plain : IsPlainLink sent.link
+    sender_plain = plain_front sent.link.setup sent.link.past (PacketSent sent.slot ∷ []) (known.plain here history q station is sent.handle link_sent sent.is_open)
+
     -- it is to send on that link
     pub sends_it : sends_under sent.handle (facts station).turn.doing ≡ true
     sends_it = sends_on sent.handle (facts station).turn.doing sent.sends
@@ -351,7 +356,7 @@ module _ (whole : IsHeardWhole) (given : Given) (Q : Place → List Event → Ty
           empty_is : carries_empty (link_numbered (number_at other handle history) (journal_of history)) channel octets ≡ is_empty (pdu_sent (facts_in sent.link))
           empty_is =
               ap (λ may. carries_empty may channel octets) begun.is_link
-              ∙ sent_empty whole sent.link.setup (facts_in sent.link) begun.link channel octets (past_form sent.link.setup sent.link.past)
+              ∙ sent_empty whole sent.link.setup (facts_in sent.link) begun.link channel octets (past_form sent.link.setup sent.link.past sender_plain)
               (begun.fields ∙ sym connect_ind.fields) sent.channel_is sent.packet
 
           abbrev taken : Bool → OpenLink
@@ -361,7 +366,7 @@ module _ (whole : IsHeardWhole) (given : Given) (Q : Place → List Event → Ty
           tells : IsTold (ack_of link_sent) (ack_of link) (pdu_sent (facts_in sent.link)) (ack_of (taken true)) (ack_of (taken false))
           tells =
               let fits = open_has TakesShort 0 handle (facts other).links link (holds.so_far.last.each other is_too).short is_open in
-              told whole (facts other).turn.slot sent.slot link sent.link octets fits connect_ind.fields sent.packet
+              told whole (facts other).turn.slot sent.slot link sent.link octets (known.plain here history q other is_too handle link is_open) sender_plain fits connect_ind.fields sent.packet
               (sym sent.channel_is ∙ listening.channel_is ∙ ap (λ (l : OpenLink). (facts_in l).event.channel) (sym one.links)) agreed
 
           sent_as : IsCounted (with_sent (exchange_at (number_at other handle history) history (side_of station))) (ack_of link_sent)

@@ -1,10 +1,11 @@
 -- What a controller notes in each kind of call, and in which of them no note says that a PDU is taken.
-use Rattle.std.proofs.Common.{◌≡◌, ℕ, ◌==◌, ◌&&◌, not, Bool, true, false, Option, Some, None, List, [], ◌∷◌, ◌++◌, map, refl}
+use Rattle.std.proofs.Common.{◌≡◌, ℕ, ◌+◌, ◌==◌, Bool, true, false, Option, Some, None, List, [], ◌∷◌, ◌++◌, map, refl}
 use Rattle.std.specs.Prelude.{flat_map, filter, All}
-use Rattle.std.proofs.lemmas.List.Elements.{All-append, All-cons, All-head, All-nil, All-tail}
+use Rattle.std.proofs.lemmas.List.Elements.{All-append, All-cons, All-from_recursion, All-head, All-nil, All-tail}
 use Rattle.acl_banks.specs.declared.pieces.Piece.{Piece}
 use Rattle.ble_base.specs.declared.notes.Note.{Note}
-use Rattle.ble_base.specs.declared.notes.Note.TheVariants.{Up, Sent, Took, Applied, Enter}
+use Rattle.ble_base.specs.declared.notes.Note.TheVariants.{Up, Sent, Took, Applied, Began, Done, Enter}
+use Rattle.ble_base.specs.declared.procedure_kinds.Kind.{Kind}
 use Rattle.h4_frames.specs.declared.packet.HostPacket.TheVariants.{Command as HostCommand, Acl}
 use Rattle.h4_frames.specs.declared.packet.Fed.{Fed}
 use Rattle.h4_frames.specs.declared.packet.Fed.TheVariants.{More, Packet, LostSync}
@@ -18,29 +19,26 @@ use Rattle.hci_evt.specs.declared.event.Event.TheVariants.{DisconnectionComplete
 use Rattle.hci_evt.specs.Event.{mask_bit_of, written}
 use Rattle.host_view.specs.View.{View}
 use Rattle.host_view.specs.Unbuilt.{status_of}
-use Rattle.instants.specs.Track.{next_number}
-use Rattle.link_model.specs.Acknowledgement.{is_acked}
-use Rattle.link_model.specs.Data.{is_empty}
-use Rattle.link_model.specs.End.{applied_notes, sent_notes_if}
-use Rattle.link_model.specs.Facts.{Facts as EndFacts}
-use Rattle.open_links.specs.declared.ended.LinkEnded.{LinkEnded}
-use Rattle.open_links.specs.declared.offers.Offer.{Offer}
-use Rattle.open_links.specs.declared.offers.Offer.TheVariants.{NoLink, Empty, Overflow, Kept}
-use Rattle.open_links.specs.Data.{completed_from}
-use Rattle.open_links.specs.OpenLinks.{Links, OpenLink, facts_in, handles_from, link_at}
-use Rattle.open_links.specs.Turns.{is_anchor, notes_entering, notes_if}
+use Rattle.journal_packets.specs.open_links.declared.ended.LinkEnded.{LinkEnded}
+use Rattle.journal_packets.specs.open_links.declared.offers.Offer.{Offer}
+use Rattle.journal_packets.specs.open_links.declared.offers.Offer.TheVariants.{NoLink, Empty, Overflow, Kept}
+use Rattle.journal_packets.specs.open_links.Data.{completed_from}
+use Rattle.journal_packets.specs.open_links.OpenLinks.{Links, OpenLink, facts_in, handles_from, link_at}
+use Rattle.journal_packets.specs.open_links.Turns.{due_in, ending_in, enters_in, notes_entering, notes_if}
 use Rattle.controller_model.specs.declared.doing.Doing.{Doing}
 use Rattle.controller_model.specs.declared.doing.Doing.TheVariants.{Advertises, CentralSends, PeripheralSends}
 use Rattle.controller_model.specs.Step.{HostOctet, TurnBegins, TurnEnds}
 use Rattle.controller_model.specs.Facts.{Setup, Facts}
 use Rattle.controller_model.specs.Answers.{answer_to}
 use Rattle.controller_model.specs.Commands.{events_caused, notes_before, notes_commanded, notes_known}
-use Rattle.controller_model.specs.Data.{acl_packet, event_completed, note_received, notes_offered, offer_of}
+use Rattle.controller_model.specs.Data.{acl_packet, event_completed, facts_handed, note_received, notes_handed, notes_offered, offer_of}
+use Rattle.controller_model.specs.Entering.{events_entering, notes_all_entering}
 use Rattle.controller_model.specs.Events.{notes_of_events, passes}
-use Rattle.controller_model.specs.Links.{ends_in, facts_ending, note_shut, notes_ended, notes_ending}
+use Rattle.controller_model.specs.Links.{ends_for, facts_ending, note_shut, notes_ended, notes_ending, notes_leaving}
 use Rattle.controller_model.specs.Packets.{notes_doing, notes_sent}
 use Rattle.controller_model.specs.Radio.{outcome_begun}
 use Rattle.controller_model.specs.Side.{notes_after, notes_fed, result_of}
+use Rattle.controller_model.proofs.EndNotes.{entered_each, sent_each}
 
 abbrev pub is_taking : Note → Bool
 is_taking (Took handle number llid body) = true
@@ -125,24 +123,36 @@ module _ (P : Note → Type 0) (of : IsOfFeeds P) where
   octet_noted setup facts octet = fed_noted setup facts (result_of facts.octets octet)
 
   pub ending_noted : (slot : ℕ) (facts : Facts) → All P (notes_ending slot facts)
-  ending_noted slot facts = ends_noted facts.view (ends_in slot facts)
+  ending_noted slot facts = ends_noted facts.view (ends_for (due_in slot) facts)
 
   -- as a turn ends
   pieces_noted : (pieces : List (ℕ × Piece)) → All P (map note_received pieces)
   pieces_noted [] = All-nil P
   pieces_noted (piece ∷ pieces) = All-cons P _ _ (of.up (acl_packet piece)) (pieces_noted pieces)
 
-  pub end_noted : (setup : Setup) (facts : Facts) → All P (notes_after setup facts TurnEnds)
-  end_noted setup facts =
+  handed_noted : (facts : Facts) → All P (notes_handed facts)
+  handed_noted facts =
       All-append P (map note_received facts.received) _ (pieces_noted facts.received)
       (events_noted facts.view (map event_completed (completed_from 0 facts.links)))
 
+  pub end_noted : (setup : Setup) (facts : Facts) → All P (notes_after setup facts TurnEnds)
+  end_noted setup facts =
+      All-append P (notes_handed facts) (notes_leaving (facts_handed facts)) (handed_noted facts)
+      (ends_noted facts.view (ends_for ending_in (facts_handed facts)))
+
 -- ---- a fact of all that is noted as a turn begins
+
+-- what is noted before a link is to send: the links that end, and the events that are entered
+abbrev pub notes_starting : ℕ → Facts → List Note
+notes_starting slot facts =
+    notes_ending slot facts ++ notes_all_entering (facts_ending slot facts).view slot 0 (facts_ending slot facts).links
 
 pub record IsOfStarts (P : Note → Type 0) : Type 0 where
   pub feeds : IsOfFeeds P
   pub applied : (handle number event : ℕ) → P (Applied handle number (record { 0 = event }))
   pub entered : (handle event channel : ℕ) → P (Enter handle (record { 0 = event }) channel)
+  pub done : (handle : ℕ) (kind : Kind) → P (Done handle kind)
+  pub began : (handle : ℕ) (kind : Kind) → P (Began handle kind)
 
 pub record IsOfBegins (P : Note → Type 0) : Type 0 where
   pub starts : IsOfStarts P
@@ -150,15 +160,9 @@ pub record IsOfBegins (P : Note → Type 0) : Type 0 where
 
 -- of all that is noted as a link is to send
 module _ (P : Note → Type 0) (sent : (handle number llid : ℕ) (octets : List ℕ) → P (Sent handle number llid (record { items = octets }))) where
-  sent_if : (noted : Bool) (handle : ℕ) (facts : EndFacts) → All P (sent_notes_if noted handle facts)
-  sent_if true handle facts = All-cons P _ [] (sent handle _ _ _) (All-nil P)
-  sent_if false handle facts = All-nil P
-
   sent_noted : (slot : ℕ) (found : Option OpenLink) → All P (notes_sent slot found)
   sent_noted slot None = All-nil P
-  sent_noted slot (Some link) =
-      let facts = facts_in link in
-      sent_if (is_acked facts.acknowledgement && not (is_empty facts.outgoing.fixed)) link.setup.link.handle facts
+  sent_noted slot (Some link) = All-from_recursion P _ (sent_each P link.setup (facts_in link) (sent link.setup.link.handle))
 
   pub doing_noted : (doing : Doing) (facts : Facts) → All P (notes_doing doing facts)
   doing_noted (CentralSends handle) facts = sent_noted facts.turn.slot (link_at handle facts.links)
@@ -168,33 +172,40 @@ module _ (P : Note → Type 0) (sent : (handle number llid : ℕ) (octets : List
 
 -- of all that is noted before that
 module _ (P : Note → Type 0) (of : IsOfStarts P) where
-  applied_noted : (handle event : ℕ) (number : Option ℕ) → All P (applied_notes handle event number)
-  applied_noted handle event None = All-nil P
-  applied_noted handle event (Some number) = All-cons P _ [] (of.applied handle number event) (All-nil P)
-
-  pub entry_noted : (anchor : Bool) (slot : ℕ) (link : OpenLink) → All P (notes_if anchor slot link)
+  pub entry_noted : (enters : Bool) (slot : ℕ) (link : OpenLink) → All P (notes_if enters slot link)
   entry_noted false slot link = All-nil P
   entry_noted true slot link =
-      All-append P (applied_notes link.setup.link.handle _ (next_number (facts_in link).parameters)) _
-      (applied_noted link.setup.link.handle _ (next_number (facts_in link).parameters))
-      (All-cons P _ [] (of.entered link.setup.link.handle _ _) (All-nil P))
+      let handle = link.setup.link.handle in
+      All-from_recursion P _
+      (entered_each P link.setup slot (facts_in link) (record {
+        applied = λ number. of.applied handle number _;
+        enter = of.entered handle _ _;
+        done = of.done handle;
+        began = of.began handle;
+      }))
 
-  entering_noted : (slot : ℕ) (links : Links) → All P (notes_entering slot links)
-  entering_noted slot [] = All-nil P
-  entering_noted slot (None ∷ links) = entering_noted slot links
-  entering_noted slot (Some link ∷ links) =
-      All-append P (notes_if (is_anchor slot link) slot link) (notes_entering slot links)
-      (entry_noted (is_anchor slot link) slot link) (entering_noted slot links)
+  at_place : (slot : ℕ) (place : Option OpenLink) → All P (notes_entering slot place)
+  at_place slot None = All-nil P
+  at_place slot (Some link) = entry_noted (enters_in slot link) slot link
 
-  pub start_noted : (slot : ℕ) (facts : Facts) → All P (notes_ending slot facts ++ notes_entering slot (facts_ending slot facts).links)
+  entering_noted : (view : View) (slot handle : ℕ) (links : Links) → All P (notes_all_entering view slot handle links)
+  entering_noted view slot handle [] = All-nil P
+  entering_noted view slot handle (place ∷ links) =
+      let events = notes_of_events view (events_entering slot handle place) in
+      All-append P (notes_entering slot place ++ events) _
+      (All-append P (notes_entering slot place) events (at_place slot place) (events_noted P of.feeds view (events_entering slot handle place)))
+      (entering_noted view slot (handle + 1) links)
+
+  pub start_noted : (slot : ℕ) (facts : Facts) → All P (notes_starting slot facts)
   start_noted slot facts =
-      All-append P (notes_ending slot facts) (notes_entering slot (facts_ending slot facts).links)
-      (ending_noted P of.feeds slot facts) (entering_noted slot (facts_ending slot facts).links)
+      let ending = facts_ending slot facts in
+      All-append P (notes_ending slot facts) (notes_all_entering ending.view slot 0 ending.links)
+      (ending_noted P of.feeds slot facts) (entering_noted ending.view slot 0 ending.links)
 
 pub begin_noted : (P : Note → Type 0) (of : IsOfBegins P) (setup : Setup) (slot : ℕ) (on : Bool) (facts : Facts)
     → All P (notes_after setup facts (TurnBegins slot on))
 begin_noted P of setup slot on facts =
-    All-append P (notes_ending slot facts ++ notes_entering slot (facts_ending slot facts).links) _ (start_noted P of.starts slot facts)
+    All-append P (notes_starting slot facts) _ (start_noted P of.starts slot facts)
     (doing_noted P of.sent (outcome_begun slot on facts).next (outcome_begun slot on facts).facts)
 
 -- ---- no PDU is taken as a turn begins, and a new one is sent last of all
@@ -205,6 +216,8 @@ none_taken = record {
     feeds = record { up = λ octets. refl; shut = λ handle reason. refl };
     applied = λ handle number event. refl;
     entered = λ handle event channel. refl;
+    done = λ handle kind. refl;
+    began = λ handle kind. refl;
   };
   sent = λ handle number llid octets. refl;
 }
@@ -214,4 +227,6 @@ no_data = record {
   feeds = record { up = λ octets. record { takes = refl; sends = refl }; shut = λ handle reason. record { takes = refl; sends = refl } };
   applied = λ handle number event. record { takes = refl; sends = refl };
   entered = λ handle event channel. record { takes = refl; sends = refl };
+  done = λ handle kind. record { takes = refl; sends = refl };
+  began = λ handle kind. record { takes = refl; sends = refl };
 }

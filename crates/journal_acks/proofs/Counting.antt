@@ -6,11 +6,12 @@ use Rattle.ble_base.specs.declared.notes.Note.TheVariants.{Opened}
 use Rattle.ble_base.specs.declared.roles.Role.{Role}
 use Rattle.ble_base.specs.declared.roles.Side.{Side}
 use Rattle.air_frame.specs.Packet.{access_octets}
-use Rattle.link_model.specs.Setup.{Setup as EndSetup}
-use Rattle.link_model.specs.Step.{PacketReceived}
-use Rattle.link_model.proofs.Received.{IsHeardWhole}
-use Rattle.open_links.specs.OpenLinks.{OpenLink, link_after, link_at}
+use Rattle.journal_packets.specs.link_model.Setup.{Setup as EndSetup}
+use Rattle.journal_packets.specs.link_model.Step.{PacketReceived}
+use Rattle.journal_packets.proofs.link_model.Hearing.{IsHeardWhole}
+use Rattle.journal_packets.specs.open_links.OpenLinks.{OpenLink, link_after, link_at}
 use Rattle.controller_model.specs.declared.doing.Turn.{Turn}
+use Rattle.controller_model.specs.Plain.{AllPlain}
 use Rattle.controller_model.specs.Since.{notes_opened_on}
 use Rattle.controller_model.specs.Step.{Step}
 use Rattle.controller_model.specs.Facts.{Facts, Sends}
@@ -20,14 +21,14 @@ use Rattle.run_model.specs.Links.{is_advertising, links_of}
 use Rattle.run_model.specs.Run.{Given, after_call, facts_at, setup_at, use_at}
 use Rattle.run_model.proofs.Stations.{is_in}
 use Rattle.run_model.proofs.Walk.{Place, AtPackets, IsKept}
-use Rattle.run_laws.specs.Ends.{HaveOneConnectInd}
-use Rattle.run_laws.proofs.Agreed.{ack_of}
-use Rattle.run_laws.proofs.Hearings.{other_facts}
-use Rattle.run_laws.proofs.InAgreement.{AllAgree}
-use Rattle.run_laws.proofs.TurnPlaces.{event_past}
-use Rattle.journal_links.specs.LinkLines.{AreLinesOf, lines_of}
-use Rattle.journal_links.specs.Opened.{central_side}
-use Rattle.journal_links.specs.Begun.{LinkBegun, link_numbered, links_begun}
+use Rattle.journal_packets.specs.run_laws.Ends.{HaveOneConnectInd}
+use Rattle.journal_packets.proofs.run_laws.Agreed.{ack_of}
+use Rattle.journal_packets.proofs.run_laws.Hearings.{other_facts}
+use Rattle.journal_packets.proofs.run_laws.InAgreement.{AllAgree}
+use Rattle.journal_packets.proofs.run_laws.TurnPlaces.{event_past}
+use Rattle.journal_packets.specs.journal_links.LinkLines.{AreLinesOf, lines_of}
+use Rattle.journal_packets.specs.journal_links.Opened.{central_side}
+use Rattle.journal_packets.specs.journal_links.Begun.{LinkBegun, link_numbered, links_begun}
 use Rattle.journal_packets.specs.Belonging.{first_number}
 use Rattle.journal_packets.specs.Senders.{IsOfSendersLink}
 use Rattle.journal_acks.specs.Counted.{IsCounted}
@@ -69,6 +70,9 @@ pub record AreKnown (given : Given) (Q : Place → List Event → Type 0) : Type
   -- a link that is noted as opened has no line of its side yet
   pub fresh : (place : Place) (history : List Event) → Q place history → (station handle : ℕ) (role : Role) (own peer : Address) (before more : List Event) → is_in station given.stations ≡ true
       → history ≡ before ++ Noted station (Opened handle role own peer) ∷ more → lines_of (side_of station) ((links_of before).last_of station) (journal_of before) ≡ []
+  -- no control procedure runs on an open link
+  pub plain : (place : Place) (history : List Event) → Q place history → (station : ℕ) → is_in station given.stations ≡ true
+      → AllPlain (facts_at given station history).links
   -- both open ends of a link are in agreement
   pub agree : IsHeardWhole → (place : Place) (history : List Event) → Q place history → (one other : ℕ) → is_in one given.stations ≡ true → is_in other given.stations ≡ true
       → (one == other) ≡ false → AllAgree (facts_at given one history).links (facts_at given other history).links

@@ -1,43 +1,44 @@
 -- The PDUs that a call notes are those of one link, which began before this turn.
-use Rattle.std.proofs.Common.{◌≡◌, ℕ, ◌+◌, ◌<◌, ◌==◌, ◌&&◌, not, Bool, true, false, Option, Some, None, List, [], ◌++◌, refl, sym, ap, subst, ◌∙◌}
+use Rattle.std.proofs.Common.{◌≡◌, ℕ, ◌+◌, ◌<◌, ◌==◌, Bool, true, false, Option, Some, None, List, [], ◌++◌, refl, sym, ap, subst, ◌∙◌}
 use Rattle.std.specs.Prelude.{All}
 use Rattle.std.specs.Option.{option_map}
-use Rattle.std.proofs.lemmas.List.Elements.{All-append, All-cons, All-nil}
+use Rattle.std.proofs.lemmas.List.Elements.{All-append, All-from_recursion, All-nil}
 use Rattle.ble_base.specs.declared.notes.Note.{Note}
 use Rattle.ble_base.specs.declared.notes.Note.TheVariants.{Up, Sent, Took}
-use Rattle.link_model.specs.Acknowledgement.{Pdu, is_acked}
-use Rattle.link_model.specs.Data.{is_empty}
-use Rattle.link_model.specs.End.{notes_after as end_notes, sent_notes_if, took_notes, took_notes_if}
-use Rattle.link_model.specs.Facts.{Facts as EndFacts}
-use Rattle.link_model.specs.Packets.{good_pdu, pdu_of}
-use Rattle.link_model.specs.Step.{PacketSent, PacketReceived}
-use Rattle.open_links.specs.OpenLinks.{Links, OpenLink, facts_in, link_after, link_at, with_change}
-use Rattle.open_links.specs.Turns.{notes_entering}
-use Rattle.open_links.proofs.Handles.{handle_is}
+use Rattle.journal_packets.specs.link_model.Setup.{Setup as EndSetup}
+use Rattle.journal_packets.specs.link_model.End.{notes_after as end_notes}
+use Rattle.journal_packets.specs.link_model.Packets.{good_pdu}
+use Rattle.journal_packets.specs.link_model.Step.{PacketSent, PacketReceived}
+use Rattle.journal_packets.specs.open_links.OpenLinks.{Links, OpenLink, facts_in, link_after, link_at, with_change}
+use Rattle.journal_packets.proofs.open_links.Handles.{handle_is}
 use Rattle.controller_model.specs.declared.doing.Doing.{Doing}
 use Rattle.controller_model.specs.declared.doing.Doing.TheVariants.{Advertises, CentralSends, CentralListens, PeripheralListens, PeripheralSends}
 use Rattle.controller_model.specs.Step.{TurnBegins}
 use Rattle.controller_model.specs.Facts.{Setup, Facts}
-use Rattle.controller_model.specs.Heard.{has_room, link_heard, link_received, notes_taken, replies_in, reply_if}
-use Rattle.controller_model.specs.Links.{facts_ending, notes_ending}
-use Rattle.controller_model.specs.Outcome.{notes_passed}
+use Rattle.controller_model.specs.Heard.{events_received, has_room, link_heard, link_received, notes_taken, replies_in, reply_if}
+use Rattle.controller_model.specs.Events.{notes_of_events}
+use Rattle.controller_model.specs.Outcome.{facts_passed, notes_passed}
 use Rattle.controller_model.specs.Packets.{links_sending, notes_doing, notes_sent}
+use Rattle.controller_model.specs.Plain.{AllPlain}
 use Rattle.controller_model.specs.Radio.{outcome_begun}
-use Rattle.controller_model.specs.Side.{notes_after}
+use Rattle.controller_model.specs.Side.{facts_after, notes_after}
 use Rattle.controller_model.proofs.Always.{begun_doing}
+use Rattle.controller_model.proofs.EndNotes.{received_each, sent_each}
 use Rattle.controller_model.proofs.Handles.{HaveOwnHandles, handles_kept}
+use Rattle.controller_model.proofs.Places.{link_receiving, receiving_is}
 use Rattle.run_model.specs.History.{Event, turns_begun}
 use Rattle.run_model.specs.Journal.{journal_of}
 use Rattle.run_model.specs.Run.{Given, facts_at, setup_at, step_of}
-use Rattle.run_laws.proofs.LinkPasses.{is_on_link}
-use Rattle.journal_links.specs.Begun.{LinkBegun, link_numbered}
-use Rattle.journal_acks.proofs.CallNotes.{HasNoData, all_more, begin_noted, no_data, start_noted}
+use Rattle.journal_packets.specs.run_laws.Plainness.{IsPlainLink}
+use Rattle.journal_packets.proofs.run_laws.LinkPasses.{is_on_link}
+use Rattle.journal_packets.specs.journal_links.Begun.{LinkBegun, link_numbered}
+use Rattle.journal_acks.proofs.CallNotes.{HasNoData, all_more, begin_noted, events_noted, no_data, notes_starting, start_noted}
 use Rattle.journal_acks.proofs.Exchanging.{OpensNone, number_at, opening_none}
 use Rattle.journal_acks.proofs.FirstCounts.{IsCallOf, IsOnly, OfLink, OfNone}
-use Rattle.journal_acks.proofs.LinkCalls.{begins_under, received_quiet}
+use Rattle.journal_acks.proofs.LinkCalls.{begins_under, received_quiet, receiving_setup, takes_plain}
 use Rattle.journal_acks.proofs.LinkUses.{listens_under, sends_under}
 use Rattle.journal_acks.proofs.PhaseNotes.{IsOnLink, IsPhaseOf, IsPlainPhase, SendsFrom, SendsNothing, SendsOne, sends_from}
-use Rattle.journal_acks.proofs.UnderHandles.{change_by}
+use Rattle.journal_acks.proofs.UnderHandles.{change_by, sent_if}
 use Rattle.journal_acks.proofs.TwoStations.{same_number}
 
 -- the link with a number began before this turn
@@ -54,25 +55,14 @@ of_no_other handle (Took other number llid body) has = absurd (let h : true ≡ 
 of_no_other handle (Up packet) has = tt
 of_no_other handle note has = tt
 
-only_sent_if : (noted : Bool) (handle other : ℕ) (facts : EndFacts) → other ≡ handle → All (IsOnly handle) (sent_notes_if noted other facts)
-only_sent_if true handle other facts same = All-cons (IsOnly handle) _ [] same (All-nil (IsOnly handle))
-only_sent_if false handle other facts same = All-nil (IsOnly handle)
-
 only_sent : (slot handle : ℕ) (link : OpenLink) → link.setup.link.handle ≡ handle → All (IsOnly handle) (end_notes link.setup (facts_in link) (PacketSent slot))
-only_sent slot handle link same =
-    let facts = facts_in link in
-    only_sent_if (is_acked facts.acknowledgement && not (is_empty facts.outgoing.fixed)) handle link.setup.link.handle facts same
-
-only_took_if : (noted : Bool) (handle other : ℕ) (pdu : Pdu) (facts : EndFacts) → other ≡ handle → All (IsOnly handle) (took_notes_if noted other pdu facts)
-only_took_if true handle other pdu facts same = All-cons (IsOnly handle) _ [] same (All-nil (IsOnly handle))
-only_took_if false handle other pdu facts same = All-nil (IsOnly handle)
-
-only_took_by : (handle other : ℕ) (room : Bool) (found : Option (List ℕ)) (facts : EndFacts) → other ≡ handle → All (IsOnly handle) (took_notes other room found facts)
-only_took_by handle other room None facts same = All-nil (IsOnly handle)
-only_took_by handle other room (Some pdu) facts same = only_took_if _ handle other (pdu_of pdu) facts same
+only_sent slot handle link same = All-from_recursion (IsOnly handle) _ (sent_each (IsOnly handle) link.setup (facts_in link) (λ number llid octets. same))
 
 only_took : (slot handle : ℕ) (room : Bool) (octets : List ℕ) (link : OpenLink) → link.setup.link.handle ≡ handle → All (IsOnly handle) (notes_taken slot room (Some link) octets)
-only_took slot handle room octets link same = only_took_by handle link.setup.link.handle room (good_pdu link.setup (facts_in link) octets) (facts_in link) same
+only_took slot handle room octets link same =
+    All-from_recursion (IsOnly handle) _
+    (received_each (IsOnly handle) link.setup slot room (good_pdu link.setup (facts_in link) octets) (facts_in link)
+    (record { took = λ number llid body. same; refused = λ kind code. tt; done = λ kind. tt }))
 
 -- ---- a turn begins
 
@@ -109,10 +99,10 @@ module _ (given : Given) (station : ℕ) (history : List Event) (own : HaveOwnHa
       by : SendsFrom (outcome_begun slot on (facts_at given station history)).next (outcome_begun slot on (facts_at given station history)).facts
           → IsCallOf given station (TurnBegins slot on) history
       by (SendsNothing none) =
-          let start = notes_ending slot facts ++ notes_entering slot (facts_ending slot facts).links in
+          let start = notes_starting slot facts in
           OfNone (All-append HasNoData start _ (start_noted HasNoData no_data slot facts) (subst (All HasNoData) (sym none) (All-nil HasNoData)))
       by (SendsOne other base found sends are) =
-          let start = notes_ending slot facts ++ notes_entering slot (facts_ending slot facts).links in
+          let start = notes_starting slot facts in
           let outcome = outcome_begun slot on facts in
           let sent = sent_at outcome.facts.turn.slot other outcome.next outcome.facts.links base sends found in
           let begun = begins_under setup facts slot on other (link_after (PacketSent outcome.facts.turn.slot) base) sent in
@@ -131,26 +121,51 @@ listens_on_link handle (PeripheralListens other) on = refl
 listens_on_link handle (Advertises channel) on = absurd cc
 listens_on_link handle other on = absurd cc
 
--- the link that received is under its handle still
-pub received_at : (slot other : ℕ) (octets : List ℕ) (room : Bool) (links : Links) (link : OpenLink) → link_at other links ≡ Some link
-    → link_at other (with_change other (link_after (PacketReceived slot octets room)) links) ≡ Some (link_after (PacketReceived slot octets room) link)
-received_at slot other octets room links link at =
-    change_here (other == other) other other (link_after (PacketReceived slot octets room)) links link refl (same_number other) at
+-- the link that received is under its handle still, and the one that sends
+pub received_at : (other : ℕ) (octets : List ℕ) (room : Bool) (facts : Facts) (link : OpenLink) → link_at other facts.links ≡ Some link
+    → link_at other (link_received other room octets facts).links ≡ Some (link_receiving other room octets facts link)
+received_at other octets room facts link at =
+    ap (link_at other) (receiving_is other room octets facts)
+    ∙ change_here (other == other) other other (link_receiving other room octets facts) facts.links link refl (same_number other) at
 
-only_reply : (replies : Bool) (other : ℕ) (facts : Facts) (link : OpenLink) → link_at other facts.links ≡ Some link → link.setup.link.handle ≡ other
-    → All (IsOnly other) (notes_doing (reply_if replies other) facts)
-only_reply true other facts link at same = subst (All (IsOnly other)) (sym (ap (notes_sent facts.turn.slot) at)) (only_sent facts.turn.slot other link same)
-only_reply false other facts link at same = All-nil (IsOnly other)
+replied_at : (replies : Bool) (slot other : ℕ) (links : Links) (link : OpenLink) → link_at other links ≡ Some link
+    → link_at other (links_sending slot (reply_if replies other) links) ≡ Some (sent_if replies slot link)
+replied_at true slot other links link at = change_here (other == other) other other (link_after (PacketSent slot)) links link refl (same_number other) at
+replied_at false slot other links link at = at
+
+-- a link that is plain after it received was plain as it took the packet
+pub plain_heard : (setup : Setup) (facts : Facts) (other : ℕ) (octets : List ℕ) (link : OpenLink) → link_at other facts.links ≡ Some link
+    → AllPlain (facts_passed (link_heard setup other octets facts)).links → IsPlainLink (link_after (PacketReceived facts.turn.slot octets (has_room setup facts)) link)
+plain_heard setup facts other octets link at plain =
+    let room = has_room setup facts in
+    let slot = facts.turn.slot in
+    let replies = replies_in slot room (link_at other facts.links) octets in
+    let after = sent_if replies slot (link_receiving other room octets facts link) in
+    takes_plain other room octets facts link replies after refl
+    (plain other after (replied_at replies slot other (link_received other room octets facts).links _ (received_at other octets room facts link at)))
+
+only_reply : (replies : Bool) (other : ℕ) (then_on : Facts) (link : OpenLink) → link_at other then_on.links ≡ Some link → link.setup.link.handle ≡ other
+    → All (IsOnly other) (notes_doing (reply_if replies other) then_on)
+only_reply true other then_on link at same = subst (All (IsOnly other)) (sym (ap (notes_sent then_on.turn.slot) at)) (only_sent then_on.turn.slot other link same)
+only_reply false other then_on link at same = All-nil (IsOnly other)
 
 -- where there is no link nothing is noted
 pub unfound : (setup : Setup) (facts : Facts) (other : ℕ) (octets : List ℕ) → link_at other facts.links ≡ None → notes_passed (link_heard setup other octets facts) ≡ []
 unfound setup facts other octets none =
-    ap (λ found. notes_taken facts.turn.slot (has_room setup facts) found octets ++ notes_doing (reply_if (replies_in found octets) other) (link_received other (has_room setup facts) octets facts)) none
+    let slot = facts.turn.slot in
+    let room = has_room setup facts in
+    ap (λ found. notes_taken slot room found octets ++ notes_of_events facts.view (events_received other slot room found octets)
+    ++ notes_doing (reply_if (replies_in slot room found octets) other) (link_received other room octets facts)) none
 
 pub on_link_notes : (setup : Setup) (facts : Facts) (received : Option (List ℕ)) (other : ℕ) (octets : List ℕ) → received ≡ Some octets
     → notes_after setup facts (step_of (Some octets)) ≡ notes_passed (link_heard setup other octets facts)
     → notes_after setup facts (step_of received) ≡ notes_passed (link_heard setup other octets facts)
 on_link_notes setup facts received other octets some are = ap (λ may. notes_after setup facts (step_of may)) some ∙ are
+
+pub on_link_facts : (setup : Setup) (facts : Facts) (received : Option (List ℕ)) (other : ℕ) (octets : List ℕ) → received ≡ Some octets
+    → facts_after setup facts (step_of (Some octets)) ≡ facts_passed (link_heard setup other octets facts)
+    → facts_after setup facts (step_of received) ≡ facts_passed (link_heard setup other octets facts)
+on_link_facts setup facts received other octets some are = ap (λ may. facts_after setup facts (step_of may)) some ∙ are
 
 module _ (given : Given) (station : ℕ) (history : List Event) (received : Option (List ℕ)) (own : HaveOwnHandles (setup_at given station) (facts_at given station history))
     (old : is_on_link (facts_at given station history).turn.doing ≡ true → (handle : ℕ) (link : OpenLink) → link_at handle (facts_at given station history).links ≡ Some link
@@ -169,12 +184,15 @@ module _ (given : Given) (station : ℕ) (history : List Event) (received : Opti
           let facts = facts_at given station history in
           let room = has_room setup facts in
           let slot = facts.turn.slot in
+          let events = events_received other slot room (link_at other facts.links) octets in
           let handle = handle_is 0 other facts.links link own.handles is in
           let has = old (listens_on_link other facts.turn.doing (listens other ∙ same_number other)) other link is in
           OfLink other has.link has.is_link has.before
           (subst (All (IsOnly other)) (sym are)
-          (All-append (IsOnly other) (notes_taken slot room (link_at other facts.links) octets) _
+          (All-append (IsOnly other) (notes_taken slot room (link_at other facts.links) octets ++ notes_of_events facts.view events) _
+          (All-append (IsOnly other) (notes_taken slot room (link_at other facts.links) octets) (notes_of_events facts.view events)
           (subst (λ found. All (IsOnly other) (notes_taken slot room found octets)) (sym is) (only_took slot other room octets link handle))
-          (only_reply (replies_in (link_at other facts.links) octets) other (link_received other room octets facts) (link_after (PacketReceived slot octets room) link)
-          (received_at slot other octets room facts.links link is) handle)))
+          (all_more HasNoData (IsOnly other) (of_no_other other) _ (events_noted HasNoData no_data.feeds facts.view events)))
+          (only_reply (replies_in slot room (link_at other facts.links) octets) other (link_received other room octets facts) (link_receiving other room octets facts link)
+          (received_at other octets room facts link is) (ap (λ (end : EndSetup). end.link.handle) (receiving_setup other room octets facts link) ∙ handle))))
           (subst (All (OpensNone other)) (sym are) (received_quiet other setup other octets facts))

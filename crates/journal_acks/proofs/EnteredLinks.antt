@@ -1,16 +1,17 @@
 -- A controller sends and listens only on a link that has entered an event.
 use Rattle.std.proofs.Common.{◌≡◌, ℕ, ◌+◌, ◌<◌, Bool, true, false, Option, Some, None, List, refl, sym, ap, subst, ◌∙◌, arith}
+use Rattle.std.specs.Prelude.{◌&&◌, not, if◌then◌else◌}
 use Rattle.std.specs.Option.{option_map}
-use Rattle.link_model.specs.declared.events.ConnectionEvent.{ConnectionEvent}
-use Rattle.link_model.specs.End.{facts_of as end_facts}
-use Rattle.link_model.specs.Events.{entries_in}
-use Rattle.link_model.specs.Facts.{Facts as EndFacts}
-use Rattle.link_model.specs.Setup.{Setup as EndSetup}
-use Rattle.link_model.specs.Step.{Step as EndStep, EventEntered, PduFixed, PacketSent, PacketReceived}
-use Rattle.link_model.specs.Times.{has_second_exchange}
-use Rattle.open_links.specs.OpenLinks.{OpenLink, facts_in, link_after, link_at, new_link}
-use Rattle.open_links.specs.Turns.{entered_if, is_anchor, link_entered, links_entered, wants_entering, wants_if}
-use Rattle.open_links.proofs.Ends.{entered_setup}
+use Rattle.journal_packets.specs.link_model.declared.events.ConnectionEvent.{ConnectionEvent}
+use Rattle.journal_packets.specs.link_model.End.{facts_of as end_facts}
+use Rattle.journal_packets.specs.plain_links.Events.{entries_in}
+use Rattle.journal_packets.specs.link_model.Facts.{Facts as EndFacts}
+use Rattle.journal_packets.specs.link_model.Setup.{Setup as EndSetup}
+use Rattle.journal_packets.specs.link_model.Step.{Step as EndStep, EventEntered, PduFixed, PacketSent, PacketReceived}
+use Rattle.journal_packets.specs.link_model.Times.{has_second_exchange}
+use Rattle.journal_packets.specs.open_links.OpenLinks.{OpenLink, facts_in, has_entered, in_event, link_after, link_at, new_link}
+use Rattle.journal_packets.specs.open_links.Turns.{entered_if, enters_in, link_entered, wants_entering, wants_if}
+use Rattle.journal_packets.proofs.open_links.Unmoved.{entered_setup}
 use Rattle.slot_plan.specs.Holding.{is_held_in, winner_of}
 use Rattle.slot_plan.specs.declared.Activity.{Activity}
 use Rattle.slot_plan.specs.declared.Activity.TheVariants.{Link, Advertise, Scan, Initiate}
@@ -22,14 +23,17 @@ use Rattle.controller_model.specs.Links.{facts_ending}
 use Rattle.controller_model.specs.Radio.{doing_held, doing_won, exchange_if, facts_entering, first_exchange, initiator_channel, plan_in, radio_served, scanner_channel, second_exchange, served, slots_since, turn_begins, winner_served}
 use Rattle.controller_model.specs.Side.{facts_after}
 use Rattle.controller_model.proofs.Always.{ending_is}
+use Rattle.controller_model.proofs.Places.{link_receiving}
 use Rattle.run_model.specs.Run.{step_of}
-use Rattle.run_laws.proofs.Agreed.{step_facts}
-use Rattle.run_laws.proofs.TurnPlaces.{Between, IsTurned, Stage}
-use Rattle.journal_acks.proofs.LinkCalls.{HasPassed, IsNew, Stays, Takes, begins_under, fixed_if, passes_under}
+use Rattle.journal_packets.proofs.run_laws.Agreed.{step_facts}
+use Rattle.journal_packets.proofs.run_laws.TurnPlaces.{Between, IsTurned, Stage}
+use Rattle.journal_acks.proofs.HeardSteps.{fixed_same, sent_in}
+use Rattle.journal_acks.proofs.LinkCalls.{HasPassed, IsNew, Stays, Takes, begins_under, fixed_if, passes_under, receiving_entries}
 use Rattle.journal_acks.proofs.LinkPhases.{IsPhased, phased_first, phased_kept}
 use Rattle.journal_acks.proofs.LinkUses.{listens_under, sends_under}
 use Rattle.journal_acks.proofs.RadioUses.{Listening, Sending, Uses, advertises_off, exchange_uses, first_of_both, initiates_off, no_link, off_uses, rests_uses, scans_off, winner_wants}
 use Rattle.journal_acks.proofs.UnderHandles.{WasAlike, end_under, map_under, octet_under, sent_if, entries_after}
+use Rattle.controller_model.specs.Entering.{all_entered}
 
 -- it has entered an event
 abbrev pub HasEntered : OpenLink → Type 0
@@ -40,7 +44,7 @@ HasEntered link = 0 < entries_in link.past
 one_more : (n m : ℕ) → m ≡ n + 1 → 0 < m
 one_more n m is = omega (arith, is)
 
-entered_at : (anchor : Bool) (slot : ℕ) (link : OpenLink) → wants_if anchor slot link ≡ true → HasEntered (entered_if anchor slot link)
+entered_at : (enters : Bool) (slot : ℕ) (link : OpenLink) → wants_if enters slot link ≡ true → HasEntered (entered_if enters slot link)
 entered_at true slot link wants = one_more (entries_in link.past) _ (entries_after link (EventEntered slot))
 entered_at false slot link wants = absurd cc
 
@@ -48,7 +52,7 @@ entered_at false slot link wants = absurd cc
 abbrev pub IsGoing : OpenLink → Type 0
 IsGoing link = (facts_in link).event.heard ≡ true → HasEntered link
 
-entered_goes : (anchor : Bool) (slot : ℕ) (link : OpenLink) → IsGoing link → IsGoing (entered_if anchor slot link)
+entered_goes : (enters : Bool) (slot : ℕ) (link : OpenLink) → IsGoing link → IsGoing (entered_if enters slot link)
 entered_goes true slot link going = λ on. one_more (entries_in link.past) _ (entries_after link (EventEntered slot))
 entered_goes false slot link going = going
 
@@ -65,12 +69,14 @@ entries_fixed false link = refl
 
 sent_goes : (sends : Bool) (slot : ℕ) (link : OpenLink) → IsGoing link → IsGoing (sent_if sends slot link)
 sent_goes true slot link going = λ on.
-    subst (λ n. 0 < n) (sym (entries_sent true slot link)) (going (ap (λ (f : EndFacts). f.event.heard) (sym (step_facts link (PacketSent slot))) ∙ on))
+    subst (λ n. 0 < n) (sym (entries_sent true slot link))
+    (going (sym (ap (λ (f : EndFacts). f.event.heard) (step_facts link (PacketSent slot)) ∙ ap (λ (e : ConnectionEvent). e.heard) (sent_in slot (facts_in link)).event) ∙ on))
 sent_goes false slot link going = going
 
 fixed_goes : (fixes : Bool) (link : OpenLink) → IsGoing link → IsGoing (fixed_if fixes link)
 fixed_goes true link going = λ on.
-    subst (λ n. 0 < n) (sym (entries_fixed true link)) (going (ap (λ (f : EndFacts). f.event.heard) (sym (step_facts link PduFixed)) ∙ on))
+    subst (λ n. 0 < n) (sym (entries_fixed true link))
+    (going (sym (ap (λ (f : EndFacts). f.event.heard) (step_facts link PduFixed) ∙ ap (λ (e : ConnectionEvent). e.heard) (fixed_same (facts_in link)).event) ∙ on))
 fixed_goes false link going = going
 
 -- the same link, but for data that its host gave it or that was reported
@@ -89,37 +95,52 @@ same_goes one other setup past going = λ on.
 
 -- ---- a turn begins
 
+-- a link that has entered an event is open
+pub open_in_event : (place : Option OpenLink) (one : OpenLink) → in_event place ≡ Some one → place ≡ Some one
+open_in_event None one is = absurd cc
+open_in_event (Some link) one is = by (has_entered link) is
+  where
+    by : (entered : Bool) → (if entered then Some link else None) ≡ Some one → Some link ≡ Some one
+    by true same = same
+    by false none = absurd cc
+
+-- an event with a second exchange was heard in the first
+pub continued : (facts : EndFacts) → has_second_exchange facts ≡ true → facts.event.heard ≡ true
+continued facts is =
+    let both = first_of_both (facts.event.heard && facts.event.more) (not facts.lengths.long && not facts.lengths.changed) is in
+    first_of_both facts.event.heard facts.event.more both
+
 -- the links before they enter their events, and one of them
 module _ (slot handle : ℕ) (begun : Facts) (link : OpenLink) (at : link_at handle begun.links ≡ Some link) where
   -- what it is then
   entered_is : (found : Option OpenLink) (other : ℕ) → other ≡ handle → link_at other (facts_entering slot begun).links ≡ found → found ≡ Some (link_entered slot link)
   entered_is found other same is =
-      sym is ∙ ap (λ n. link_at n (links_entered slot begun.links)) same ∙ map_under (option_map (link_entered slot)) refl 0 handle begun.links ∙ ap (option_map (link_entered slot)) at
+      sym is ∙ ap (λ n. link_at n (all_entered slot begun.links)) same ∙ map_under (option_map (link_entered slot)) refl 0 handle begun.links ∙ ap (option_map (link_entered slot)) at
 
   won_uses : (activity : Activity) → (activity ≡ Link handle → wants_entering slot link ≡ true) → Uses handle (doing_won slot activity (facts_entering slot begun)) → HasEntered (link_entered slot link)
-  won_uses (Link other) wants uses = by (link_at other (facts_entering slot begun).links) uses
+  won_uses (Link other) wants uses = by (in_event (link_at other (facts_entering slot begun).links)) uses
     where
       by : (found : Option OpenLink) → Uses handle (first_exchange other found) → HasEntered (link_entered slot link)
       by None uses = off_uses handle Rests _ refl uses
-      by (Some one) uses = entered_at (is_anchor slot link) slot link (wants (ap Link (exchange_uses one.setup.link.role handle other uses)))
+      by (Some one) uses = entered_at (enters_in slot link) slot link (wants (ap Link (exchange_uses one.setup.link.role handle other uses)))
   won_uses Advertise wants uses = off_uses handle _ _ (advertises_off 0 begun.advertising.on) uses
   won_uses Scan wants uses = off_uses handle _ _ (scans_off (scanner_channel slot begun.scanning.on)) uses
   won_uses Initiate wants uses = off_uses handle _ _ (initiates_off (initiator_channel slot begun.initiator)) uses
 
   held_uses : IsGoing link → (activity : Activity) → Uses handle (doing_held slot activity (facts_entering slot begun)) → HasEntered (link_entered slot link)
-  held_uses going (Link other) uses = by (link_at other (facts_entering slot begun).links) refl uses
+  held_uses going (Link other) uses = by (in_event (link_at other (facts_entering slot begun).links)) refl uses
     where
       if_by : (one : OpenLink) (continues : Bool) → has_second_exchange (facts_in one) ≡ continues → link_at other (facts_entering slot begun).links ≡ Some one
           → Uses handle (exchange_if continues one.setup.link.role other) → HasEntered (link_entered slot link)
       if_by one true is found uses =
           let some : Some one ≡ Some (link_entered slot link) = entered_is (Some one) other (exchange_uses one.setup.link.role handle other uses) found in
           let same : one ≡ link_entered slot link = cc in
-          entered_goes (is_anchor slot link) slot link going (ap (λ (l : OpenLink). (facts_in l).event.heard) (sym same) ∙ first_of_both (facts_in one).event.heard (facts_in one).event.more is)
+          entered_goes (enters_in slot link) slot link going (ap (λ (l : OpenLink). (facts_in l).event.heard) (sym same) ∙ continued (facts_in one) is)
       if_by one false is found uses = off_uses handle Rests _ refl uses
 
-      by : (found : Option OpenLink) → link_at other (facts_entering slot begun).links ≡ found → Uses handle (second_exchange other found) → HasEntered (link_entered slot link)
+      by : (found : Option OpenLink) → in_event (link_at other (facts_entering slot begun).links) ≡ found → Uses handle (second_exchange other found) → HasEntered (link_entered slot link)
       by None is uses = off_uses handle Rests _ refl uses
-      by (Some one) is uses = if_by one (has_second_exchange (facts_in one)) refl is uses
+      by (Some one) is uses = if_by one (has_second_exchange (facts_in one)) refl (open_in_event (link_at other (facts_entering slot begun).links) one is) uses
   held_uses going Advertise uses = off_uses handle _ _ (advertises_off (slots_since slot begun.radio.hold) begun.advertising.on) uses
   held_uses going Scan uses = off_uses handle Rests _ refl uses
   held_uses going Initiate uses = off_uses handle Rests _ refl uses
@@ -156,13 +177,13 @@ begun_entered setup slot on facts going handle after is =
     let has = begins_under setup facts slot on handle after is in
     let sends = sends_under handle next.turn.doing in
     let begun = turn_begins slot (facts_ending slot facts) in
-    let entered = entered_if (is_anchor slot has.link) slot has.link in
+    let entered = entered_if (enters_in slot has.link) slot has.link in
     let at : link_at handle begun.links ≡ Some has.link = ap (λ (ended : Facts). link_at handle ended.links) (ending_is slot facts) ∙ has.stayed in
-    let setup_is : has.entered.setup ≡ entered.setup = has.setup_is ∙ sym (entered_setup (is_anchor slot has.link) slot has.link) in
+    let setup_is : has.entered.setup ≡ entered.setup = has.setup_is ∙ sym (entered_setup slot has.link) in
     let count = ap (λ (l : OpenLink). entries_in l.past) has.is ∙ entries_sent sends slot has.base ∙ ap (λ (l : OpenLink). entries_in l.past) has.base_is
     ∙ entries_fixed has.fixes has.entered ∙ ap entries_in has.past_is in (
       subst IsGoing (sym has.is) (sent_goes sends slot has.base (subst IsGoing (sym has.base_is) (fixed_goes has.fixes has.entered (same_goes entered has.entered setup_is has.past_is
-          (entered_goes (is_anchor slot has.link) slot has.link (going handle has.link has.was)))))),
+          (entered_goes (enters_in slot has.link) slot has.link (going handle has.link has.was)))))),
       (λ uses. subst (λ n. 0 < n) (sym count) (served_uses slot handle begun has.link at (going handle has.link has.was) on uses)),
     )
 
@@ -179,8 +200,9 @@ passed_entered facts after room received handle link going sends listens (Stays 
     by (Sending on) = absurd (let h : true ≡ false = sym on ∙ none in absurd cc)
     by (Listening on) = sends handle link was (listened on)
 passed_entered facts after room received handle link going sends listens (Takes base octets was some on same) =
-    let taken = link_after (PacketReceived facts.turn.slot octets room) base in
-    let count = ap (λ (l : OpenLink). entries_in l.past) same ∙ entries_sent (sends_under handle after.turn.doing) facts.turn.slot taken ∙ entries_received facts.turn.slot octets room base in
+    let taken = link_receiving handle room octets facts base in
+    let count = ap (λ (l : OpenLink). entries_in l.past) same ∙ entries_sent (sends_under handle after.turn.doing) facts.turn.slot taken
+    ∙ receiving_entries handle room octets facts base in
     let entered : HasEntered link = subst (λ n. 0 < n) (sym count) (listens handle base was on) in
     ((λ continues. entered), (λ uses. entered))
 

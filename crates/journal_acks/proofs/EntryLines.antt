@@ -6,25 +6,18 @@ use Rattle.ble_base.specs.declared.notes.Note.TheVariants.{Up, Enter as EnterNot
 use Rattle.ble_base.specs.declared.roles.Side.{Side}
 use Rattle.journal.specs.declared.entries.Entry.{Entry}
 use Rattle.journal.specs.declared.entries.Entry.TheVariants.{Air, Enter}
-use Rattle.link_model.proofs.InEvents.{past_in}
-use Rattle.link_model.specs.Delivery.{notes_of}
-use Rattle.link_model.specs.End.{facts_of}
-use Rattle.link_model.specs.Events.{IsInEvent, entries_in}
-use Rattle.link_model.specs.Facts.{first_facts}
-use Rattle.link_model.specs.Setup.{Setup}
-use Rattle.link_model.specs.Step.{Step}
-use Rattle.open_links.specs.OpenLinks.{OpenLink}
+use Rattle.journal_packets.specs.plain_links.Events.{entries_in}
+use Rattle.journal_packets.specs.link_model.Setup.{Setup}
+use Rattle.journal_packets.specs.link_model.Step.{Step}
+use Rattle.journal_packets.specs.open_links.OpenLinks.{OpenLink}
 use Rattle.controller_model.specs.Since.{notes_opened_on}
 use Rattle.run_model.specs.History.{Event}
 use Rattle.run_model.specs.Journal.{journal_of, side_of}
-use Rattle.journal_links.specs.LinkLines.{AreLinesOf}
+use Rattle.journal_packets.specs.run_laws.Plainness.{IsPlainLink}
+use Rattle.journal_packets.specs.journal_links.LinkLines.{AreLinesOf}
 use Rattle.journal_acks.specs.Carried.{channel_after, channel_entered}
 use Rattle.journal_acks.specs.EventOrder.{entered_after, entered_on}
-use Rattle.journal_acks.proofs.EntryNotes.{AreInOrder, Reading, channel_by, channel_noted, count_note, end_entered, is_entry, read_note, read_off}
-
-first_in : (setup : Setup) → IsInEvent setup 0 (first_facts setup)
-unfolding facts_of
-first_in setup = past_in setup []
+use Rattle.journal_acks.proofs.EntryNotes.{AreInOrder, Reading, channel_by, channel_noted, count_note, end_numbered, is_entry, past_entered, read_note, read_off}
 
 -- ---- the channel of the last one
 
@@ -52,13 +45,13 @@ read_channel before (note ∷ notes) = read_channel before notes
 abbrev pub channel_at : ℕ → ℕ → List Event → Option ℕ
 channel_at number station history = channel_entered number (side_of station) (journal_of history)
 
-pub channel_read : (journal : List Entry) (station number : ℕ) (link : OpenLink) → AreLinesOf journal station number (notes_opened_on link.setup link.past)
+pub channel_read : (journal : List Entry) (station number : ℕ) (link : OpenLink) → IsPlainLink link → AreLinesOf journal station number (notes_opened_on link.setup link.past)
     → channel_entered number (side_of station) journal ≡ channel_by link.setup (entries_in link.past)
-unfolding channel_entered notes_of
-channel_read journal station number link are =
+unfolding channel_entered
+channel_read journal station number link plain are =
     read_off channels journal station number (notes_opened_on link.setup link.past) are
     ∙ read_channel None (notes_opened_on link.setup link.past)
-    ∙ (end_entered link.setup 0 (first_facts link.setup) link.past (first_in link.setup)).channel
+    ∙ (past_entered link.setup link.past plain).channel
 
 -- ---- how many there are
 
@@ -89,5 +82,4 @@ count_read journal station number notes are = read_off counts journal station nu
 
 -- the events that an end noted are numbered from 0 on
 pub end_in_order : (setup : Setup) (past : List Step) → AreInOrder 0 (notes_opened_on setup past)
-unfolding notes_of
-end_in_order setup past = (tt, (end_entered setup 0 (first_facts setup) past (first_in setup)).order)
+end_in_order setup past = (tt, (end_numbered setup past).order)

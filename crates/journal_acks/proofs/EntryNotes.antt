@@ -1,29 +1,45 @@
 -- The events among the notes of a link: they are numbered one after another, and what is read of their lines is read of
 -- them.
-use Rattle.std.proofs.Common.{◌≡◌, ℕ, zero, suc, ◌+◌, ◌-◌, ◌==◌, ◌&&◌, Bool, true, false, Option, Some, None, List, [], ◌∷◌, ◌++◌, refl, sym, ap, subst, ◌∙◌, arith}
+use Rattle.std.proofs.Common.{◌≡◌, ℕ, zero, suc, ◌+◌, ◌==◌, ◌&&◌, Bool, true, false, Option, Some, None, List, [], ◌∷◌, ◌++◌, is_none, refl, sym, ap, subst, ◌∙◌, arith}
 use Rattle.std.specs.Prelude.{fold, map, ⊤, if◌then◌else◌}
+use Rattle.std.specs.List.{AllByRecursion}
 use Rattle.std.proofs.lemmas.Bool.{eq-eqb}
 use Rattle.std.proofs.lemmas.List.Sums.{fold-append}
+use Rattle.ble_base.specs.declared.error_codes.ErrCode.{ErrCode}
 use Rattle.ble_base.specs.declared.notes.Note.{Note}
 use Rattle.ble_base.specs.declared.notes.Note.TheVariants.{Up, Enter}
+use Rattle.ble_base.specs.declared.procedure_kinds.Kind.{Kind}
 use Rattle.ble_base.specs.declared.roles.Side.{Side}
 use Rattle.ble_base.specs.declared.roles.Side.TheVariants.{A, B}
-use Rattle.instants.specs.Track.{next_number}
+use Rattle.journal_packets.specs.control_end.declared.answers.Entry.{Entry as EndEntry}
+use Rattle.journal_packets.specs.control_end.Answers.{entry_of}
+use Rattle.journal_packets.specs.control_end.Held.{held_of}
+use Rattle.journal_packets.proofs.control_model.Moving.{enters_track}
+use Rattle.instants.specs.Track.{TrackFacts, event_of}
 use Rattle.journal.specs.declared.entries.Entry.{Entry}
 use Rattle.journal.specs.declared.entries.Entry.TheVariants.{Air, Enter as EnterLine}
-use Rattle.link_model.proofs.InEvents.{step_in}
-use Rattle.link_model.specs.Acknowledgement.{Pdu}
-use Rattle.link_model.specs.Delivery.{notes_from}
-use Rattle.link_model.specs.End.{applied_notes, facts_after, facts_entered, notes_after, sent_notes_if, took_notes, took_notes_if}
-use Rattle.link_model.specs.Events.{IsInEvent, channel_after, count_entry}
-use Rattle.link_model.specs.Facts.{Facts}
-use Rattle.link_model.specs.Packets.{good_pdu, pdu_of}
-use Rattle.link_model.specs.Setup.{Setup}
-use Rattle.link_model.specs.Step.{Step, DataGiven, EventEntered, PduFixed, PacketSent, PacketReceived, DataReported}
+use Rattle.journal_packets.specs.link_model.declared.events.ConnectionEvent.{ConnectionEvent}
+use Rattle.journal_packets.specs.link_model.Events.{applied_notes}
+use Rattle.journal_packets.specs.link_model.Setup.{Setup}
+use Rattle.journal_packets.specs.link_model.Controls.{goes_on, is_quiet_now}
+use Rattle.journal_packets.specs.link_model.End.{facts_after, facts_of, notes_after, notes_from, notes_of}
+use Rattle.journal_packets.specs.link_model.Entering.{began_notes, done_notes, event_notes, facts_entered, facts_entered_if}
+use Rattle.journal_packets.specs.link_model.Facts.{Facts, first_facts}
+use Rattle.journal_packets.specs.link_model.Packets.{good_pdu}
+use Rattle.journal_packets.specs.link_model.Step.{Step, EventEntered, PacketSent, PacketReceived}
+use Rattle.journal_packets.proofs.open_links.Anchors.{enters, one_more_entered, stays_in_place}
+use Rattle.controller_model.proofs.EndNotes.{received_each, sent_each}
+use Rattle.journal_packets.specs.plain_links.Events.{IsInEvent, channel_after, count_entry, entries_in}
+use Rattle.journal_packets.specs.plain_links.Idle.{IsIdle}
+use Rattle.journal_packets.specs.plain_links.Plain.{ArePlain, ArePlainFrom, IsPlain}
+use Rattle.journal_packets.specs.plain_links.Steps.{plain_entered}
+use Rattle.journal_packets.proofs.plain_links.Idle.{first_idle, step_idle}
+use Rattle.journal_packets.proofs.plain_links.InEvents.{past_in, step_in}
+use Rattle.journal_packets.proofs.plain_links.Steps.{entered_plain, entry_notes_plain}
 use Rattle.run_model.specs.Journal.{side_of}
 use Rattle.run_model.specs.Readers.{of_side}
-use Rattle.journal_links.specs.LinkLines.{AreLinesOf, line_of, link_named, where_named}
-use Rattle.journal_links.proofs.LinkLines.{fold_lines}
+use Rattle.journal_packets.specs.journal_links.LinkLines.{AreLinesOf, line_of, link_named, where_named}
+use Rattle.journal_packets.proofs.journal_links.LinkLines.{fold_lines}
 use Rattle.journal_packets.specs.Belonging.{is_side}
 
 -- ---- what is read of each event
@@ -99,6 +115,10 @@ abbrev pub count_note : ℕ → Note → ℕ
 count_note count (Enter handle event channel) = count + 1
 count_note count note = count
 
+abbrev pub channel_noted : Option ℕ → Note → Option ℕ
+channel_noted before (Enter handle event channel) = Some channel
+channel_noted before note = before
+
 -- the events among these notes are numbered from this number on
 abbrev pub AreInOrder : ℕ → List Note → Type 0
 AreInOrder count [] = ⊤
@@ -115,87 +135,150 @@ order_at count (x ∷ xs) ys handle event channel are = order_at (count_note cou
 
 -- ---- what an end notes
 
--- the channel of the last event that an end entered, of this number of events
-abbrev pub channel_by : Setup → ℕ → Option ℕ
-channel_by setup zero = None
-channel_by setup (suc count) = Some (channel_after setup (suc count))
+-- a note of no event
+abbrev IsNoEvent : Note → Type 0
+IsNoEvent (Enter handle event channel) = ⊥
+IsNoEvent note = ⊤
 
-abbrev pub channel_noted : Option ℕ → Note → Option ℕ
-channel_noted before (Enter handle event channel) = Some channel
-channel_noted before note = before
-
--- notes of no event
+-- such notes change neither the numbers nor the channel
 record EntersNone (notes : List Note) : Type 0 where
   order : (count : ℕ) → AreInOrder count notes
   count : (count : ℕ) → fold count_note count notes ≡ count
   channel : (before : Option ℕ) → fold channel_noted before notes ≡ before
 
-none_entered : EntersNone []
-none_entered = record { order = λ count. tt; count = λ count. refl; channel = λ before. refl }
+enters_none : (notes : List Note) → AllByRecursion IsNoEvent notes → EntersNone notes
+enters_none [] are = record { order = λ count. tt; count = λ count. refl; channel = λ before. refl }
+enters_none (Enter handle event channel ∷ notes) are = absurd are.0
+enters_none (Up packet ∷ notes) are =
+    let rest = enters_none notes are.1 in record { order = λ count. (tt, rest.order count); count = rest.count; channel = rest.channel }
+enters_none (note ∷ notes) are =
+    let rest = enters_none notes are.1 in record { order = λ count. (tt, rest.order count); count = rest.count; channel = rest.channel }
 
-sent_enters : (noted : Bool) (handle : ℕ) (facts : Facts) → EntersNone (sent_notes_if noted handle facts)
-sent_enters true handle facts = record { order = λ count. (tt, tt); count = λ count. refl; channel = λ before. refl }
-sent_enters false handle facts = none_entered
+-- only as it enters an event does an end note one
+quiet_step : (setup : Setup) (facts : Facts) (step : Step) → enters step ≡ false → AllByRecursion IsNoEvent (notes_after setup facts step)
+quiet_step setup facts (EventEntered slot) none = absurd cc
+quiet_step setup facts (PacketSent slot) none = sent_each IsNoEvent setup facts (λ number llid octets. tt)
+quiet_step setup facts (PacketReceived slot octets room) none =
+    received_each IsNoEvent setup slot room (good_pdu setup facts octets) facts
+    (record { took = λ number llid octets. tt; refused = λ kind code. tt; done = λ kind. tt })
+quiet_step setup facts step none = tt
 
-took_enters : (noted : Bool) (handle : ℕ) (pdu : Pdu) (facts : Facts) → EntersNone (took_notes_if noted handle pdu facts)
-took_enters true handle pdu facts = record { order = λ count. (tt, tt); count = λ count. refl; channel = λ before. refl }
-took_enters false handle pdu facts = none_entered
+-- ---- the numbers of its events
 
-found_enters : (handle : ℕ) (room : Bool) (found : Option (List ℕ)) (facts : Facts) → EntersNone (took_notes handle room found facts)
-found_enters handle room None facts = none_entered
-found_enters handle room (Some pdu) facts = took_enters _ handle (pdu_of pdu) facts
+-- the events among these notes are all that an end entered meanwhile, one after another
+pub record IsNumbered (entered next : ℕ) (notes : List Note) : Type 0 where
+  pub order : AreInOrder entered notes
+  pub count : fold count_note entered notes ≡ next
 
--- the notes of a step, where the end has entered this number of events
-pub record IsEntered (setup : Setup) (entries next : ℕ) (notes : List Note) : Type 0 where
-  pub order : AreInOrder entries notes
-  pub count : fold count_note entries notes ≡ next
-  pub channel : fold channel_noted (channel_by setup entries) notes ≡ channel_by setup next
+silent : (entered next : ℕ) (notes : List Note) → next ≡ entered → AllByRecursion IsNoEvent notes → IsNumbered entered next notes
+silent entered next notes same are = let none = enters_none notes are in record { order = none.order entered; count = none.count entered ∙ sym same }
 
-silent : (setup : Setup) (entries : ℕ) (notes : List Note) → EntersNone notes → IsEntered setup entries entries notes
-silent setup entries notes none = record { order = none.order entries; count = none.count entries; channel = none.channel (channel_by setup entries) }
+both_numbered : (entered next last : ℕ) (notes more : List Note) → IsNumbered entered next notes → IsNumbered next last more → IsNumbered entered last (notes ++ more)
+both_numbered entered next last notes more first rest = record {
+  order = order_append entered notes more first.order (subst (λ n. AreInOrder n more) (sym first.count) rest.order);
+  count = fold-append count_note entered notes more ∙ ap (λ n. fold count_note n more) first.count ∙ rest.count;
+}
+
+module _ (handle : ℕ) where
+  quiet_applied : (event : ℕ) (number : Option ℕ) → AllByRecursion IsNoEvent (applied_notes handle event number)
+  quiet_applied event None = tt
+  quiet_applied event (Some number) = (tt, tt)
+
+  quiet_done : (kind : Option Kind) → AllByRecursion IsNoEvent (done_notes handle kind)
+  quiet_done None = tt
+  quiet_done (Some kind) = (tt, tt)
+
+  quiet_began : (kind : Option Kind) → AllByRecursion IsNoEvent (began_notes handle kind)
+  quiet_began None = tt
+  quiet_began (Some kind) = (tt, tt)
+
+  event_numbered : (entered : ℕ) (event : ConnectionEvent) (entry : EndEntry) → event.number ≡ entered → IsNumbered entered (entered + 1) (event_notes handle event entry)
+  event_numbered entered event entry is =
+      both_numbered entered (entered + 1) (entered + 1) _ _
+      (both_numbered entered (entered + 1) (entered + 1) _ _
+      (both_numbered entered entered (entered + 1) _ _ (silent entered entered _ refl (quiet_applied event.number entry.applied))
+      (record { order = (is, tt); count = refl }))
+      (silent (entered + 1) (entered + 1) _ refl (quiet_done entry.done)))
+      (silent (entered + 1) (entered + 1) _ refl (quiet_began entry.began))
+
+none_of : (ends : Option ErrCode) → is_none ends ≡ true → ends ≡ None
+none_of None is = refl
+none_of (Some code) is = absurd cc
+
+step_numbered : (setup : Setup) (facts : Facts) (step : Step)
+    → IsNumbered facts.control.track.entered (facts_after setup facts step).control.track.entered (notes_after setup facts step)
+step_numbered setup facts (EventEntered slot) = by (goes_on facts) refl
+  where
+    entry : EndEntry
+    entry = entry_of slot (is_quiet_now facts) (held_of facts.control)
+
+    by : (goes : Bool) → goes_on facts ≡ goes
+        → IsNumbered facts.control.track.entered (facts_entered_if goes setup slot facts).control.track.entered
+        (if goes then event_notes setup.link.handle (facts_entered setup slot facts).event entry else [])
+    by true goes =
+        let before = facts.control.track in
+        let event = (facts_entered setup slot facts).event in
+        let after = enters_track facts.control slot (is_quiet_now facts) (none_of facts.control.ends goes) in
+        let more = one_more_entered before in
+        let number : event.number ≡ before.entered = ap (λ (t : TrackFacts). event_of t) after ∙ omega (arith, more) in
+        subst (λ n. IsNumbered before.entered n (event_notes setup.link.handle event entry)) (sym (ap (λ (t : TrackFacts). t.entered) after ∙ more))
+        (event_numbered setup.link.handle before.entered event entry number)
+    by false goes = silent facts.control.track.entered facts.control.track.entered [] refl tt
+step_numbered setup facts step =
+    silent facts.control.track.entered (facts_after setup facts step).control.track.entered (notes_after setup facts step)
+    (stays_in_place setup facts step refl).entered (quiet_step setup facts step refl)
+
+steps_numbered : (setup : Setup) (facts : Facts) (steps : List Step)
+    → IsNumbered facts.control.track.entered (fold (facts_after setup) facts steps).control.track.entered (notes_from setup facts steps)
+steps_numbered setup facts [] = silent facts.control.track.entered facts.control.track.entered [] refl tt
+steps_numbered setup facts (step ∷ steps) =
+    let next = facts_after setup facts step in
+    both_numbered facts.control.track.entered next.control.track.entered (fold (facts_after setup) next steps).control.track.entered
+    (notes_after setup facts step) (notes_from setup next steps) (step_numbered setup facts step) (steps_numbered setup next steps)
+
+pub end_numbered : (setup : Setup) (past : List Step) → IsNumbered 0 (facts_of setup past).control.track.entered (notes_of setup past)
+unfolding facts_of notes_of
+end_numbered setup past = steps_numbered setup (first_facts setup) past
+
+-- ---- the channels of the events of a plain link
+
+-- the channel of the last event that an end entered, of this number of events
+abbrev pub channel_by : Setup → ℕ → Option ℕ
+channel_by setup zero = None
+channel_by setup (suc count) = Some (channel_after setup (suc count))
 
 one_more : (n : ℕ) → suc n ≡ n + 1
 one_more n = omega arith
 
-entered_notes : (setup : Setup) (entries number channel : ℕ) (applied : Option ℕ) → number ≡ entries → channel ≡ channel_after setup (entries + 1)
-    → IsEntered setup entries (entries + 1) (applied_notes setup.link.handle number applied ++ Enter setup.link.handle (record { 0 = number }) channel ∷ [])
-entered_notes setup entries number channel None is on = record {
-  order = (is, tt);
-  count = refl;
-  channel = ap Some on ∙ subst (λ n. Some (channel_after setup n) ≡ channel_by setup n) (one_more entries) refl;
+step_channel : (setup : Setup) (entries : ℕ) (facts : Facts) (step : Step) → IsIdle setup facts → IsPlain setup facts step → IsInEvent setup entries facts
+    → fold channel_noted (channel_by setup entries) (notes_after setup facts step) ≡ channel_by setup (count_entry entries step)
+step_channel setup entries facts (EventEntered slot) idle plain at =
+    let event = (plain_entered setup slot facts).event in
+    let on : event.channel ≡ channel_after setup (entries + 1) =
+    ap (λ (f : Facts). f.event.channel) (sym (entered_plain setup facts idle slot)) ∙ (step_in setup entries facts (EventEntered slot) idle plain at).channel in
+    ap (fold channel_noted (channel_by setup entries)) (entry_notes_plain setup facts idle slot) ∙ ap Some on
+    ∙ subst (λ n. Some (channel_after setup n) ≡ channel_by setup n) (one_more entries) refl
+step_channel setup entries facts step idle plain at =
+    (enters_none (notes_after setup facts step) (quiet_step setup facts step refl)).channel (channel_by setup entries)
+
+steps_channel : (setup : Setup) (entries : ℕ) (facts : Facts) (steps : List Step) → IsIdle setup facts → ArePlainFrom setup facts steps → IsInEvent setup entries facts
+    → fold channel_noted (channel_by setup entries) (notes_from setup facts steps) ≡ channel_by setup (fold count_entry entries steps)
+steps_channel setup entries facts [] idle are at = refl
+steps_channel setup entries facts (step ∷ steps) idle are at =
+    let next = facts_after setup facts step in
+    let more = notes_from setup next steps in
+    fold-append channel_noted (channel_by setup entries) (notes_after setup facts step) more
+    ∙ ap (λ may. fold channel_noted may more) (step_channel setup entries facts step idle are.0 at)
+    ∙ steps_channel setup (count_entry entries step) next steps (step_idle setup facts step idle are.0) are.1 (step_in setup entries facts step idle are.0 at)
+
+-- all that the end of a plain link notes
+pub record IsEntered (setup : Setup) (entries : ℕ) (notes : List Note) : Type 0 where
+  pub count : fold count_note 0 notes ≡ entries
+  pub channel : fold channel_noted None notes ≡ channel_by setup entries
+
+pub past_entered : (setup : Setup) (past : List Step) → ArePlain setup past → IsEntered setup (entries_in past) (notes_of setup past)
+unfolding ArePlain facts_of notes_of
+past_entered setup past are = record {
+  count = (end_numbered setup past).count ∙ (past_in setup past are).entered_events;
+  channel = steps_channel setup 0 (first_facts setup) past (first_idle setup) are (past_in setup [] tt);
 }
-entered_notes setup entries number channel (Some applied) is on = record {
-  order = (tt, (is, tt));
-  count = refl;
-  channel = ap Some on ∙ subst (λ n. Some (channel_after setup n) ≡ channel_by setup n) (one_more entries) refl;
-}
-
-less_one : (n m : ℕ) → n ≡ m + 1 - 1 → n ≡ m
-less_one n m is = omega (arith, is)
-
-step_entered : (setup : Setup) (entries : ℕ) (facts : Facts) (step : Step) → IsInEvent setup entries facts
-    → IsEntered setup entries (count_entry entries step) (notes_after setup facts step)
-step_entered setup entries facts (EventEntered slot) at =
-    let next = step_in setup entries facts (EventEntered slot) at in
-    entered_notes setup entries (facts_entered setup slot facts).event.number (facts_entered setup slot facts).event.channel (next_number facts.parameters)
-    (less_one (facts_entered setup slot facts).event.number entries next.number) next.channel
-step_entered setup entries facts (DataGiven start body) at = silent setup entries [] none_entered
-step_entered setup entries facts PduFixed at = silent setup entries [] none_entered
-step_entered setup entries facts (PacketSent slot) at = silent setup entries _ (sent_enters _ setup.link.handle facts)
-step_entered setup entries facts (PacketReceived slot octets room) at =
-    silent setup entries _ (found_enters setup.link.handle room (good_pdu setup facts octets) facts)
-step_entered setup entries facts DataReported at = silent setup entries [] none_entered
-
-pub end_entered : (setup : Setup) (entries : ℕ) (facts : Facts) (steps : List Step) → IsInEvent setup entries facts
-    → IsEntered setup entries (fold count_entry entries steps) (notes_from setup facts steps)
-end_entered setup entries facts [] at = silent setup entries [] none_entered
-end_entered setup entries facts (step ∷ steps) at =
-    let first = step_entered setup entries facts step at in
-    let next = count_entry entries step in
-    let notes = notes_after setup facts step in
-    let more = notes_from setup (facts_after setup facts step) steps in
-    let rest = end_entered setup next (facts_after setup facts step) steps (step_in setup entries facts step at) in record {
-      order = order_append entries notes more first.order (subst (λ n. AreInOrder n more) (sym first.count) rest.order);
-      count = fold-append count_note entries notes more ∙ ap (λ n. fold count_note n more) first.count ∙ rest.count;
-      channel = fold-append channel_noted (channel_by setup entries) notes more ∙ ap (λ may. fold channel_noted may more) first.channel ∙ rest.channel;
-    }

@@ -10,7 +10,7 @@ use Rattle.ble_base.specs.declared.notes.Note.TheVariants.{Up, Opened, Enter as 
 use Rattle.ble_base.specs.declared.roles.Side.{Side}
 use Rattle.journal.specs.declared.entries.Entry.{Entry}
 use Rattle.journal.specs.declared.entries.Entry.TheVariants.{Enter}
-use Rattle.open_links.specs.OpenLinks.{OpenLink, link_at}
+use Rattle.journal_packets.specs.open_links.OpenLinks.{OpenLink, link_at}
 use Rattle.controller_model.specs.Facts.{Setup}
 use Rattle.controller_model.specs.Links.{note_shut}
 use Rattle.controller_model.specs.Side.{facts_of, notes_after, notes_of}
@@ -34,9 +34,9 @@ use Rattle.run_model.proofs.Numbers.{numbered_at}
 use Rattle.run_model.proofs.OfStations.{OfStations, run_of_stations}
 use Rattle.run_model.proofs.OpenedNotes.{is_opened, opens_under as opens, outside_open}
 use Rattle.run_model.proofs.Places.{each_at}
-use Rattle.journal_links.proofs.EnterLines.{turn_of}
-use Rattle.journal_links.proofs.LineNotes.{lines_are_notes, open_was_opened}
-use Rattle.journal_links.proofs.OfTwo.{two_apart}
+use Rattle.journal_packets.proofs.journal_links.EnterLines.{turn_of}
+use Rattle.journal_packets.proofs.journal_links.LineNotes.{lines_are_notes, open_was_opened}
+use Rattle.journal_packets.proofs.journal_links.OfTwo.{two_apart}
 use Rattle.journal_acks.specs.EventOrder.{entered_on}
 use Rattle.journal_acks.proofs.EntryLines.{count_read, end_in_order}
 use Rattle.journal_acks.proofs.EntryNotes.{AreInOrder, count_note, order_append, order_at}

@@ -209,6 +209,8 @@ opening_none handle = record {
     feeds = record { up = λ octets. refl; shut = λ other reason. refl };
     applied = λ other number event. refl;
     entered = λ other event channel. refl;
+    done = λ other kind. refl;
+    began = λ other kind. refl;
   };
   sent = λ other number llid octets. refl;
 }

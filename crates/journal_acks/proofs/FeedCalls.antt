@@ -19,7 +19,7 @@ use Rattle.run_model.proofs.Dues.{fed_called, fed_own}
 use Rattle.run_model.proofs.Parts.{call_adds, journal_event, notes_more}
 use Rattle.run_model.proofs.Places.{each_called, each_event}
 use Rattle.run_model.proofs.Walk.{Place, IsKept, IsStopped, IsWhole, ends_with, run_kept}
-use Rattle.run_laws.proofs.Hearings.{other_facts, own_facts}
+use Rattle.journal_packets.proofs.run_laws.Hearings.{other_facts, own_facts}
 use Rattle.journal_acks.proofs.Counting.{facts_event}
 
 -- the host of the station sent these octets, and since then its controller took the first ones and noted; this one is

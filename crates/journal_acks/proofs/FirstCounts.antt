@@ -7,7 +7,7 @@ use Rattle.ble_base.specs.declared.roles.Side.{Side}
 use Rattle.ble_base.specs.declared.notes.Note.{Note}
 use Rattle.ble_base.specs.declared.notes.Note.TheVariants.{Up, Sent, Took}
 use Rattle.journal.specs.declared.entries.Entry.{Entry}
-use Rattle.link_model.specs.Setup.{Setup as EndSetup}
+use Rattle.journal_packets.specs.link_model.Setup.{Setup as EndSetup}
 use Rattle.controller_model.specs.Step.{Step}
 use Rattle.controller_model.specs.Side.{notes_after}
 use Rattle.run_model.specs.History.{Event, Called, Noted, turns_begun}
@@ -16,8 +16,8 @@ use Rattle.run_model.specs.Links.{links_of}
 use Rattle.run_model.specs.Run.{Given, after_call, facts_at, setup_at}
 use Rattle.run_model.proofs.Calls.{turns_called, turns_more}
 use Rattle.run_model.proofs.Parts.{journal_event, journal_more}
-use Rattle.journal_links.proofs.LinksBegun.{number_stays}
-use Rattle.journal_links.specs.Begun.{LinkBegun, link_numbered}
+use Rattle.journal_packets.proofs.journal_links.LinksBegun.{number_stays}
+use Rattle.journal_packets.specs.journal_links.Begun.{LinkBegun, link_numbered}
 use Rattle.journal_packets.specs.Belonging.{is_side}
 use Rattle.journal_acks.specs.Carried.{sent_line_of}
 use Rattle.journal_acks.specs.Exchange.{Exchanged, after_taking, exchange_of, first_exchanged}

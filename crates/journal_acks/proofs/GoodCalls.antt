@@ -2,9 +2,10 @@
 use Rattle.std.proofs.Common.{◌≡◌, ℕ, suc, ◌+◌, ◌==◌, ◌⊎◌, inl, inr, Bool, true, false, Option, Some, None, List, [], ◌∷◌, ◌++◌, refl, sym, ap, subst, ◌∙◌}
 use Rattle.std.specs.Prelude.{All, if◌then◌else◌}
 use Rattle.std.proofs.lemmas.Bool.{eqb-true}
-use Rattle.link_model.specs.Step.{PacketReceived}
-use Rattle.open_links.specs.OpenLinks.{OpenLink, facts_in, link_after, link_at}
+use Rattle.journal_packets.specs.link_model.Step.{PacketReceived}
+use Rattle.journal_packets.specs.open_links.OpenLinks.{OpenLink, facts_in, link_after, link_at}
 use Rattle.controller_model.specs.declared.doing.Turn.{Turn}
+use Rattle.controller_model.proofs.Places.{link_receiving}
 use Rattle.controller_model.specs.Step.{Step, HostOctet}
 use Rattle.controller_model.specs.Facts.{Facts}
 use Rattle.controller_model.specs.Heard.{has_room}
@@ -17,15 +18,15 @@ use Rattle.run_model.proofs.Calls.{same_station, turns_called}
 use Rattle.run_model.proofs.LinkEnds.{received_by}
 use Rattle.run_model.proofs.Stations.{is_in, among, not_before}
 use Rattle.run_model.proofs.Walk.{Place, AtListening}
-use Rattle.run_laws.proofs.Hearings.{other_facts}
-use Rattle.run_laws.proofs.TurnPlaces.{Within, at_stage}
+use Rattle.journal_packets.proofs.run_laws.Hearings.{other_facts}
+use Rattle.journal_packets.proofs.run_laws.TurnPlaces.{Within, at_stage}
 use Rattle.journal_acks.proofs.CallNotes.{octet_noted}
 use Rattle.journal_acks.proofs.Counting.{AreKnown, facts_event, taking_if, nothing_taken}
 use Rattle.journal_acks.proofs.Exchanging.{OpensNone, number_at, number_called, number_other, number_quiet, opening_none}
 use Rattle.journal_acks.proofs.GoodLinks.{good_alike, good_of, good_room, good_sent, slot_of}
 use Rattle.journal_acks.proofs.HeardLines.{AreUnheard, feed_heard, heard_at, heard_called, unheard_called, unheard_event_at, unheard_now}
 use Rattle.journal_acks.proofs.KeptCounts.{AreCountedAt, own_at}
-use Rattle.journal_acks.proofs.LinkCalls.{HasPassed, IsNew, IsOpenedNow, Stays, Takes, new_good, passes_under, phase_quiet}
+use Rattle.journal_acks.proofs.LinkCalls.{HasPassed, IsNew, IsOpenedNow, Stays, Takes, new_good, passes_under, phase_quiet, receiving_good}
 use Rattle.journal_acks.proofs.LinkUses.{listens_under, sends_under}
 use Rattle.journal_acks.proofs.Standing.{PhasedBy, phased_at}
 use Rattle.journal_acks.proofs.UnderHandles.{octet_under}
@@ -208,10 +209,11 @@ module _ (given : Given) (Q : Place → List Event → Type 0) (known : AreKnown
   passed handle link at number (Takes base octets was some on same) =
       let sends = sends_under handle (facts_after (setup_at given station) facts (step_of received)).turn.doing in
       let room = has_room (setup_at given station) facts in
-      let taken = link_after (PacketReceived facts.turn.slot octets room) base in
+      let taken = link_receiving handle room octets facts base in
       let as_if = link_after (PacketReceived facts.turn.slot octets false) base in
       quiet_own given station (step_of received) history handle as_if link (packet_received station after) none_after number
-      (ap good_of same ∙ good_sent sends facts.turn.slot taken ∙ good_room facts.turn.slot octets room false base)
+      (ap good_of same ∙ good_sent sends facts.turn.slot taken ∙ ap slot_of (receiving_good handle room octets facts base)
+      ∙ good_room facts.turn.slot octets room false base)
       (has.good station handle base in_it was ∙ (λ i. good_of (taking_if (on i) (some i) facts.turn.slot base)))
 
   pub passes_own : (handle : ℕ) (link : OpenLink) → link_at handle (facts_at given station after).links ≡ Some link

@@ -2,10 +2,10 @@
 use Rattle.std.proofs.Common.{◌≡◌, ℕ, ◌+◌, ◌-◌, ◌<◌, ◌==◌, ◌&&◌, Bool, true, false, Some, None, List, [], ◌∷◌, ◌++◌, length, refl, sym, ap, subst, ◌∙◌, arith}
 use Rattle.std.specs.Prelude.{if◌then◌else◌}
 use Rattle.std.proofs.lemmas.Bool.{eqb-true, eq-eqb, false_from_ne_true}
-use Rattle.link_model.proofs.Received.{IsHeardWhole}
-use Rattle.link_model.specs.Packets.{verdict_of}
-use Rattle.link_model.specs.Step.{PacketSent}
-use Rattle.open_links.specs.OpenLinks.{OpenLink, facts_in, link_after, link_at}
+use Rattle.journal_packets.proofs.link_model.Hearing.{IsHeardWhole}
+use Rattle.journal_packets.specs.link_model.Packets.{verdict_of}
+use Rattle.journal_packets.specs.link_model.Step.{PacketSent}
+use Rattle.journal_packets.specs.open_links.OpenLinks.{OpenLink, facts_in, link_after, link_at}
 use Rattle.controller_model.specs.Facts.{Facts, Sends}
 use Rattle.radio_replay.specs.declared.fates.Fate.{Fate}
 use Rattle.run_model.specs.Feeding.{AreDistinct}
@@ -19,8 +19,8 @@ use Rattle.run_model.proofs.Fates.{turns_are}
 use Rattle.run_model.proofs.LinkEnds.{is_listener, received_event}
 use Rattle.run_model.proofs.Stations.{is_in, among}
 use Rattle.run_model.proofs.Walk.{Place, AtPackets}
-use Rattle.run_laws.proofs.Hearings.{wanted_is}
-use Rattle.run_laws.proofs.TurnPlaces.{Within, at_stage}
+use Rattle.journal_packets.proofs.run_laws.Hearings.{wanted_is}
+use Rattle.journal_packets.proofs.run_laws.TurnPlaces.{Within, at_stage}
 use Rattle.journal_packets.specs.Senders.{IsOfSendersLink}
 use Rattle.journal_acks.proofs.AirCounts.{heard_it, listening, one as same_link, one_number}
 use Rattle.journal_acks.proofs.Counting.{AreKnown, apart_numbers, facts_event, taking_if}

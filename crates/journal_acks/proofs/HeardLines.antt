@@ -8,7 +8,7 @@ use Rattle.ble_base.specs.declared.notes.Note.{Note}
 use Rattle.ble_base.specs.declared.notes.Note.TheVariants.{Up}
 use Rattle.journal.specs.declared.entries.Entry.{Entry}
 use Rattle.journal.specs.declared.entries.Entry.TheVariants.{Air}
-use Rattle.link_model.specs.Setup.{Setup as EndSetup}
+use Rattle.journal_packets.specs.link_model.Setup.{Setup as EndSetup}
 use Rattle.controller_model.specs.Step.{Step}
 use Rattle.controller_model.specs.Side.{notes_after}
 use Rattle.run_model.specs.History.{Event, TurnBegan, HostFed, Called, Noted, Transmitted, Hearing, is_good, turns_begun}
@@ -18,8 +18,8 @@ use Rattle.run_model.specs.Readers.{turns_of}
 use Rattle.run_model.specs.Run.{Given, after_call, facts_at, setup_at}
 use Rattle.run_model.proofs.Calls.{turns_called}
 use Rattle.run_model.proofs.Parts.{journal_event, journal_more}
-use Rattle.journal_links.specs.Begun.{LinkBegun, link_numbered}
-use Rattle.journal_links.proofs.LinksBegun.{number_stays}
+use Rattle.journal_packets.specs.journal_links.Begun.{LinkBegun, link_numbered}
+use Rattle.journal_packets.proofs.journal_links.LinksBegun.{number_stays}
 use Rattle.journal_packets.specs.Belonging.{is_side, link_of_packet}
 use Rattle.journal_acks.specs.Exchange.{is_number}
 use Rattle.journal_acks.specs.Shut.{heard_after, heard_from, is_of_link, last_heard}

@@ -1,23 +1,26 @@
 -- Each step of a run of a pair keeps what the counts of its journal are, end by end.
-use Rattle.std.proofs.Common.{◌≡◌, ℕ, suc, ◌+◌, ◌-◌, ◌<◌, ◌==◌, ◌⊎◌, inl, inr, Bool, true, false, not, Option, Some, None, List, [], ◌∷◌, ◌++◌, length, refl, sym, ap, subst, ◌∙◌, arith}
+use Rattle.std.proofs.Common.{◌≡◌, ℕ, suc, ◌+◌, ◌-◌, ◌<◌, ◌==◌, ◌⊎◌, inl, inr, Bool, true, false, not, Option, Some, None, List, [], ◌∷◌, ◌++◌, length, refl, sym, ap, subst, ◌∙◌, append_assoc, arith}
 use Rattle.std.specs.Prelude.{All, map, take, if◌then◌else◌}
 use Rattle.std.proofs.lemmas.Bool.{eqb-true, false_from_ne_true}
-use Rattle.std.proofs.lemmas.List.Elements.{All-nil}
+use Rattle.std.proofs.lemmas.List.Elements.{All-append, All-nil}
 use Rattle.ble_base.specs.Side.{other_side}
 use Rattle.ble_base.specs.declared.notes.Note.{Note}
 use Rattle.ble_base.specs.declared.roles.Side.{Side}
-use Rattle.link_model.proofs.Received.{IsHeardWhole}
-use Rattle.link_model.specs.Acknowledgement.{Acknowledgement}
-use Rattle.link_model.specs.Step.{PacketReceived, PacketSent}
-use Rattle.open_links.specs.OpenLinks.{OpenLink, link_after, link_at}
-use Rattle.open_links.proofs.Handles.{handle_is}
+use Rattle.journal_packets.proofs.link_model.Hearing.{IsHeardWhole}
+use Rattle.journal_packets.specs.link_model.Acknowledgement.{Acknowledgement}
+use Rattle.journal_packets.specs.link_model.Step.{PacketReceived, PacketSent}
+use Rattle.journal_packets.specs.open_links.OpenLinks.{OpenLink, link_after, link_at}
+use Rattle.journal_packets.proofs.open_links.Handles.{handle_is}
 use Rattle.controller_model.specs.declared.doing.Doing.TheVariants.{Rests}
 use Rattle.controller_model.specs.declared.doing.Turn.{Turn}
 use Rattle.controller_model.specs.Step.{Step, HostOctet, TurnBegins, TurnEnds}
 use Rattle.controller_model.specs.Facts.{Setup, Facts, Sends}
-use Rattle.controller_model.specs.Heard.{has_room, link_heard, link_received, notes_taken, replies_in, reply_if}
-use Rattle.controller_model.specs.Outcome.{notes_passed}
+use Rattle.controller_model.specs.Events.{notes_of_events}
+use Rattle.controller_model.specs.Heard.{events_received, has_room, link_heard, link_received, notes_taken, replies_in, reply_if}
+use Rattle.controller_model.specs.Outcome.{facts_passed, notes_passed}
 use Rattle.controller_model.specs.Packets.{notes_doing}
+use Rattle.controller_model.specs.Plain.{AllPlain}
+use Rattle.controller_model.proofs.Places.{link_receiving}
 use Rattle.controller_model.specs.Side.{facts_after, notes_after}
 use Rattle.radio_replay.specs.declared.fates.Fate.{Fate}
 use Rattle.run_model.specs.Due.{packet_in}
@@ -31,27 +34,28 @@ use Rattle.run_model.proofs.Calls.{same_station, turns_called}
 use Rattle.run_model.proofs.LinkEnds.{received_by, received_event}
 use Rattle.run_model.proofs.Stations.{is_in, among, in_more_other, in_more_same, not_before}
 use Rattle.run_model.proofs.Walk.{Place, NoTurn, AtFeeds, AtBegins, AfterPhases, AtPackets, AtListening, AtEnds, IsKept}
-use Rattle.run_laws.proofs.Agreed.{ack_of}
-use Rattle.run_laws.proofs.ByCalls.{Holds, holds_kept}
-use Rattle.run_laws.proofs.Hearings.{own_facts, use_sent_at, wanted_is}
-use Rattle.run_laws.proofs.Entering.{IsInTurn}
-use Rattle.run_laws.proofs.InAgreement.{AreStations, IsStation, OpenedBefore, differs_back, stations_kept}
-use Rattle.run_laws.proofs.LinkPasses.{is_on_link}
-use Rattle.run_laws.proofs.OpenSteps.{open_has}
-use Rattle.run_laws.proofs.SentPackets.{IsUseSent}
-use Rattle.run_laws.proofs.TurnPlaces.{Between, Within, at_stage}
-use Rattle.run_laws.proofs.TurnSteps.{octet_turn, phase_turn}
+use Rattle.journal_packets.specs.run_laws.Plainness.{IsPlainLink}
+use Rattle.journal_packets.proofs.run_laws.Agreed.{ack_of}
+use Rattle.journal_packets.proofs.run_laws.ByCalls.{Holds, holds_kept}
+use Rattle.journal_packets.proofs.run_laws.Hearings.{own_facts, use_sent_at, wanted_is}
+use Rattle.journal_packets.proofs.run_laws.Entering.{IsInTurn}
+use Rattle.journal_packets.proofs.run_laws.InAgreement.{AreStations, IsStation, OpenedBefore, differs_back, stations_kept}
+use Rattle.journal_packets.proofs.run_laws.LinkPasses.{is_on_link}
+use Rattle.journal_packets.proofs.run_laws.OpenSteps.{open_has}
+use Rattle.journal_packets.proofs.run_laws.SentPackets.{IsUseSent}
+use Rattle.journal_packets.proofs.run_laws.TurnPlaces.{Between, Within, at_stage}
+use Rattle.journal_packets.proofs.run_laws.TurnSteps.{octet_turn, phase_turn}
 use Rattle.journal_packets.specs.Senders.{IsOfSendersLink}
 use Rattle.journal_acks.specs.Counted.{IsCounted}
 use Rattle.journal_acks.specs.Exchange.{Exchanged, after_taking, with_taken}
 use Rattle.journal_acks.proofs.Acks.{link_sends}
 use Rattle.journal_acks.proofs.AirCounts.{advertises, any_sending, first_aired, packet_counted, packet_to_take}
-use Rattle.journal_acks.proofs.CallNotes.{HasNoData, TakesNone, all_more, begin_noted, doing_noted, end_noted, no_data, none_taken, octet_noted}
+use Rattle.journal_acks.proofs.CallNotes.{HasNoData, TakesNone, all_more, begin_noted, doing_noted, end_noted, events_noted, no_data, none_taken, octet_noted}
 use Rattle.journal_acks.proofs.Counting.{AreCountedSo, AreKnown, AreToTake, IsEndCounted, ahead_if, alike_counted, apart_numbers, counted_call, counted_event, counted_same, from_plain, from_sent, moved, none_to_take, plain, take_call, taking_if}
-use Rattle.journal_acks.proofs.DataCalls.{begin_call, on_link_notes, phase_call, unfound}
+use Rattle.journal_acks.proofs.DataCalls.{begin_call, on_link_facts, on_link_notes, phase_call, plain_heard, unfound}
 use Rattle.journal_acks.proofs.Exchanging.{OpensNone, exchange_at, exchange_called, exchange_took, feed_quiet, number_at, number_called, number_quiet, opening_none, turn_quiet}
 use Rattle.journal_acks.proofs.FirstCounts.{AreFirst, IsCallOf, IsFirst, OfNone, first_called, first_event, first_event_at, first_of}
-use Rattle.journal_acks.proofs.LinkCalls.{HasPassed, IsNew, IsOpenedNow, Stays, Takes, base_ack, begins_under, passes_under, phase_quiet}
+use Rattle.journal_acks.proofs.LinkCalls.{HasPassed, IsNew, IsOpenedNow, Stays, Takes, base_ack, begins_under, passes_under, phase_quiet, receiving_ack}
 use Rattle.journal_acks.proofs.LinkUses.{listens_under, sends_under}
 use Rattle.journal_acks.proofs.PhaseNotes.{IsOnLink, IsPhaseOf, IsPlainPhase, IsTakenSo, Noted, Unnoted, phase_of, same_but, taken_so}
 use Rattle.journal_acks.proofs.SentLines.{air_line, feed_line, turn_line}
@@ -318,6 +322,33 @@ module _ (given : Given) (Q : Place → List Event → Type 0) (known : AreKnown
       subst (λ b. IsEndCounted b received handle facts.turn link (exchange_at (number_at station handle history) history (side_of station)))
       (not_before given.stations done left station distinct are) (is.counted station handle link in_it at)
 
+  -- what it notes of a packet on a link, and what it notes after that it takes a PDU
+  abbrev room : Bool
+  room = has_room setup facts
+
+  abbrev rest_heard : ℕ → List ℕ → List Note
+  rest_heard other octets =
+      notes_of_events facts.view (events_received other facts.turn.slot room (link_at other facts.links) octets)
+      ++ notes_doing (reply_if (replies_in facts.turn.slot room (link_at other facts.links) octets) other) (link_received other room octets facts)
+
+  notes_rest : (other : ℕ) (octets : List ℕ)
+      → notes_passed (link_heard setup other octets facts) ≡ notes_taken facts.turn.slot room (link_at other facts.links) octets ++ rest_heard other octets
+  notes_rest other octets = append_assoc (notes_taken facts.turn.slot room (link_at other facts.links) octets) _ _
+
+  rest_takes : (other : ℕ) (octets : List ℕ) → All TakesNone (rest_heard other octets)
+  rest_takes other octets =
+      All-append TakesNone _ _ (events_noted TakesNone none_taken.starts.feeds facts.view (events_received other facts.turn.slot room (link_at other facts.links) octets))
+      (doing_noted TakesNone (λ one number llid body. refl) (reply_if (replies_in facts.turn.slot room (link_at other facts.links) octets) other)
+      (link_received other room octets facts))
+
+  -- the link is plain as it receives
+  plain_received : (other : ℕ) (octets : List ℕ) → next ≡ facts_passed (link_heard setup other octets facts) → (two : OpenLink) → link_at other facts.links ≡ Some two
+      → IsPlainLink (link_after (PacketReceived facts.turn.slot octets room) two)
+  plain_received other octets heard_is two found =
+      plain_heard setup facts other octets two found
+      (subst (λ (held : Facts). AllPlain held.links) (own_facts given station (step_of received) history ∙ heard_is)
+      (known.plain (AtListening phases (done ++ station ∷ []) left) after q station in_it))
+
   -- what is taken on another link
   other_taken : (number other : ℕ) (two : OpenLink) (octets : List ℕ) → link_at other facts.links ≡ Some two → (number_at station other history == number) ≡ false → (rest : List Note)
       → notes ≡ notes_taken facts.turn.slot (has_room setup facts) (Some two) octets ++ rest → All TakesNone rest → IsTakenSo facts.turn.slot octets (has_room setup facts) two
@@ -330,18 +361,16 @@ module _ (given : Given) (Q : Place → List Event → Type 0) (known : AreKnown
       ∙ ap (λ b. if b then after_taking (side_of station) (exchange_at number history) else exchange_at number history) (ap (λ n. number_at station n history == number) own ∙ apart)
 
   other_heard : (handle : ℕ) (link : OpenLink) → link_at handle facts.links ≡ Some link → (other : ℕ) (octets : List ℕ) → (other == handle) ≡ false
-      → notes ≡ notes_passed (link_heard setup other octets facts) → (found : Option OpenLink) → link_at other facts.links ≡ found
+      → next ≡ facts_passed (link_heard setup other octets facts) → notes ≡ notes_passed (link_heard setup other octets facts) → (found : Option OpenLink) → link_at other facts.links ≡ found
       → exchange_at (number_at station handle history) after ≡ exchange_at (number_at station handle history) history
-  other_heard handle link at other octets differs are_notes None absent =
+  other_heard handle link at other octets differs heard_is are_notes None absent =
       exchange_called given (number_at station handle history) station (step_of received) history
       (subst (All TakesNone) (sym (are_notes ∙ unfound setup facts other octets absent)) (All-nil TakesNone))
-  other_heard handle link at other octets differs are_notes (Some two) found =
-      let reply = reply_if (replies_in (link_at other facts.links) octets) other in
-      let after_it = link_received other (has_room setup facts) octets facts in
+  other_heard handle link at other octets differs heard_is are_notes (Some two) found =
       let apart = apart_numbers given Q known (AtListening phases done (station ∷ left)) history is.known station other handle two link in_it found at differs in
-      other_taken (number_at station handle history) other two octets found apart (notes_doing reply after_it)
-      (are_notes ∙ ap (λ may. notes_taken facts.turn.slot (has_room setup facts) may octets ++ notes_doing reply after_it) found)
-      (doing_noted TakesNone (λ one number llid body. refl) reply after_it) (taken_so facts.turn.slot octets (has_room setup facts) two)
+      other_taken (number_at station handle history) other two octets found apart (rest_heard other octets)
+      (are_notes ∙ notes_rest other octets ∙ ap (λ may. notes_taken facts.turn.slot room may octets ++ rest_heard other octets) found)
+      (rest_takes other octets) (taken_so facts.turn.slot octets room two (plain_received other octets heard_is two found))
 
   -- the counts of a link on which nothing was received stay
   unmoved : (handle : ℕ) (link : OpenLink) → link_at handle facts.links ≡ Some link → (listens_under handle facts.turn.doing ≡ true → received ≡ None)
@@ -351,12 +380,10 @@ module _ (given : Given) (Q : Place → List Event → Type 0) (known : AreKnown
   unmoved handle link at nothing (IsOnLink other octets some listens heard_is) =
       let differs : (other == handle) ≡ false = false_from_ne_true (other == handle) (λ same.
       let h : Some octets ≡ None = sym some ∙ nothing (listens handle ∙ same) in absurd cc) in
-      other_heard handle link at other octets differs (on_link_notes setup facts received other octets some (ap notes_passed heard_is)) (link_at other facts.links) refl
+      other_heard handle link at other octets differs (on_link_facts setup facts received other octets some (ap facts_passed heard_is))
+      (on_link_notes setup facts received other octets some (ap notes_passed heard_is)) (link_at other facts.links) refl
 
   -- what it takes, it takes as it is noted
-  abbrev room : Bool
-  room = has_room setup facts
-
   taken_by : (handle : ℕ) (base : OpenLink) (octets : List ℕ) → link_at handle facts.links ≡ Some base → received ≡ Some octets → listens_under handle facts.turn.doing ≡ true
       → (rest : List Note) → notes ≡ notes_taken facts.turn.slot room (Some base) octets ++ rest → All TakesNone rest → IsTakenSo facts.turn.slot octets room base
       → IsCounted (exchange_at (number_at station handle history) after (side_of station)) (ack_of (link_after (PacketReceived facts.turn.slot octets room) base))
@@ -389,13 +416,12 @@ module _ (given : Given) (Q : Place → List Event → Type 0) (known : AreKnown
       let same = eqb-true other handle (sym (listens handle) ∙ on) in
       let told : Some heard ≡ Some octets = sym some_too ∙ some in
       let equal : heard ≡ octets = cc in
-      let reply = reply_if (replies_in (link_at other facts.links) heard) other in
-      let after_it = link_received other room heard facts in
       let are_notes = on_link_notes setup facts received other heard some_too (ap notes_passed heard_is) in
-      taken_by handle base octets was some on (notes_doing reply after_it)
-      (are_notes ∙ (λ i. notes_taken facts.turn.slot room (link_at (same i) facts.links) (equal i) ++ notes_doing reply after_it)
-      ∙ ap (λ found. notes_taken facts.turn.slot room found octets ++ notes_doing reply after_it) was)
-      (doing_noted TakesNone (λ one number llid body. refl) reply after_it) (taken_so facts.turn.slot octets room base)
+      let now = on_link_facts setup facts received other heard some_too (ap facts_passed heard_is) in
+      let here : link_at other facts.links ≡ Some base = ap (λ n. link_at n facts.links) same ∙ was in
+      taken_by handle base octets was some on (rest_heard other octets)
+      (are_notes ∙ notes_rest other heard ∙ (λ i. notes_taken facts.turn.slot room (here i) (equal i) ++ rest_heard other (equal i)))
+      (rest_takes other octets) (taken_so facts.turn.slot octets room base (subst (λ xs. IsPlainLink (link_after (PacketReceived facts.turn.slot xs room) base)) equal (plain_received other heard now base here)))
 
   passed : (handle : ℕ) (link : OpenLink) → link_at handle (facts_at given station after).links ≡ Some link → number_at station handle after ≡ number_at station handle history
       → HasPassed facts room received handle next.turn.doing link
@@ -415,7 +441,9 @@ module _ (given : Given) (Q : Place → List Event → Type 0) (known : AreKnown
       (exchange_at (number_at station handle after) after (side_of station)) refl refl
       (ap (λ (f : Facts). f.turn) (own_facts given station (step_of received) history)) (ap (λ n. exchange_at n after (side_of station)) number)
       (from_sent sends (packet_received station after) handle next.turn link end refl (λ listens. none_after)
-      (subst (λ l. IsCounted (ahead_if sends end) (ack_of l)) (sym same) (sent_counted sends facts.turn.slot (link_after (PacketReceived facts.turn.slot octets room) base) end taken)))
+      (subst (λ l. IsCounted (ahead_if sends end) (ack_of l)) (sym same)
+      (sent_counted sends facts.turn.slot (link_receiving handle room octets facts base) end
+      (subst (IsCounted end) (sym (receiving_ack handle room octets facts base)) taken))))
 
   pub passes_own : (handle : ℕ) (link : OpenLink) → link_at handle (facts_at given station after).links ≡ Some link
       → IsEndCounted true (packet_received station after) handle (facts_at given station after).turn link (exchange_at (number_at station handle after) after (side_of station))

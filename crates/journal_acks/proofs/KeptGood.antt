@@ -1,8 +1,8 @@
 -- Each step of a run of a pair keeps when each open end received its last good packet, as its journal says.
 use Rattle.std.proofs.Common.{◌≡◌, ℕ, Bool, false, Some, None, List, [], ◌∷◌, ◌++◌, replicate, refl, sym, ap, ◌∙◌}
 use Rattle.std.specs.Prelude.{map, take}
-use Rattle.link_model.proofs.Received.{IsHeardWhole}
-use Rattle.open_links.specs.OpenLinks.{OpenLink, link_at}
+use Rattle.journal_packets.proofs.link_model.Hearing.{IsHeardWhole}
+use Rattle.journal_packets.specs.open_links.OpenLinks.{OpenLink, link_at}
 use Rattle.controller_model.specs.Step.{TurnBegins, TurnEnds}
 use Rattle.controller_model.specs.Side.{facts_after, facts_of}
 use Rattle.run_model.specs.Feeding.{AreDistinct}
@@ -13,7 +13,7 @@ use Rattle.run_model.specs.Run.{Given, after_call, after_feed, facts_at, octets_
 use Rattle.run_model.proofs.LinkEnds.{received_by, received_event}
 use Rattle.run_model.proofs.Stations.{among, not_before}
 use Rattle.run_model.proofs.Walk.{Place, NoTurn, AtBegins, IsKept}
-use Rattle.run_laws.proofs.OpenSteps.{none_open, open_has}
+use Rattle.journal_packets.proofs.run_laws.OpenSteps.{none_open, open_has}
 use Rattle.journal_packets.proofs.SoFar.{IsBelongingSoFar}
 use Rattle.journal_acks.proofs.CallNotes.{begin_noted, end_noted}
 use Rattle.journal_acks.proofs.Counting.{AreKnown}

@@ -5,25 +5,25 @@ use Rattle.std.proofs.lemmas.Bool.{eqb-true, eq-eqb, false_from_ne_true, ne_eqb}
 use Rattle.std.proofs.lemmas.List.{length_push}
 use Rattle.std.proofs.lemmas.List.Elements.{All-nil}
 use Rattle.ble_base.specs.declared.notes.Note.{Note}
-use Rattle.link_model.specs.Acknowledgement.{Acknowledgement, Pdu, empty_pdu, first_acknowledgement, is_acked, next_sent}
-use Rattle.link_model.specs.Data.{is_empty}
-use Rattle.link_model.specs.End.{sent_notes_if}
-use Rattle.link_model.specs.Facts.{Facts as EndFacts}
-use Rattle.link_model.specs.Step.{PacketReceived}
-use Rattle.link_model.proofs.Received.{IsHeardWhole}
-use Rattle.open_links.specs.OpenLinks.{OpenLink, facts_in, link_after, link_at}
-use Rattle.open_links.specs.Turns.{notes_entering}
-use Rattle.open_links.proofs.Handles.{handle_is}
+use Rattle.journal_packets.specs.link_model.Acknowledgement.{Acknowledgement, Pdu, empty_pdu, first_acknowledgement, is_acked, next_sent}
+use Rattle.journal_packets.specs.link_model.Data.{is_empty, numbered}
+use Rattle.journal_packets.specs.link_model.Setup.{Setup as EndSetup}
+use Rattle.journal_packets.specs.link_model.Controls.{pdu_fixed}
+use Rattle.journal_packets.specs.link_model.Sending.{sent_notes_if}
+use Rattle.journal_packets.specs.link_model.Facts.{Facts as EndFacts}
+use Rattle.journal_packets.proofs.link_model.Hearing.{IsHeardWhole}
+use Rattle.journal_packets.specs.open_links.OpenLinks.{OpenLink, facts_in, link_at}
+use Rattle.journal_packets.proofs.open_links.Handles.{handle_is}
 use Rattle.controller_model.specs.declared.doing.Doing.{Doing}
 use Rattle.controller_model.specs.declared.doing.Doing.TheVariants.{Rests}
 use Rattle.controller_model.specs.Step.{Step, HostOctet, TurnBegins, TurnEnds}
 use Rattle.controller_model.specs.Facts.{Setup, Facts}
-use Rattle.controller_model.specs.Heard.{has_room, link_heard, link_received, notes_taken, replies_in, reply_if}
-use Rattle.controller_model.specs.Links.{facts_ending, notes_ending}
+use Rattle.controller_model.specs.Heard.{has_room, link_heard, link_received, replies_in, reply_if}
 use Rattle.controller_model.specs.Outcome.{Outcome, notes_passed}
 use Rattle.controller_model.specs.Packets.{notes_doing}
 use Rattle.controller_model.specs.Radio.{outcome_begun}
 use Rattle.controller_model.specs.Side.{facts_after, notes_after}
+use Rattle.controller_model.proofs.Places.{link_receiving}
 use Rattle.run_model.specs.Feeding.{AreDistinct}
 use Rattle.run_model.specs.History.{Event, TurnBegan, HostFed, Transmitted, packet_received, steps_in, turns_begun}
 use Rattle.run_model.specs.Journal.{side_of}
@@ -32,23 +32,24 @@ use Rattle.run_model.specs.Run.{Given, after_call, after_feed, after_octets, fac
 use Rattle.run_model.proofs.Calls.{turns_called}
 use Rattle.run_model.proofs.Stations.{is_in, among, not_before}
 use Rattle.run_model.proofs.Walk.{Place, AtBegins, AtListening, IsKept}
-use Rattle.run_laws.proofs.Agreed.{ack_of, ack_sent, sent_ack}
-use Rattle.run_laws.proofs.ByCalls.{Holds}
-use Rattle.run_laws.proofs.Hearings.{other_facts, own_facts}
-use Rattle.run_laws.proofs.InAgreement.{AreStations, IsFresh, IsStation, differs_back}
-use Rattle.run_laws.proofs.OpenSteps.{open_has}
-use Rattle.run_laws.proofs.TurnPlaces.{Between, Within, at_stage}
-use Rattle.run_laws.proofs.TurnSteps.{phase_turn}
+use Rattle.journal_packets.specs.run_laws.Plainness.{IsPlainLink}
+use Rattle.journal_packets.proofs.run_laws.Agreed.{ack_of, ack_sent, sent_ack}
+use Rattle.journal_packets.proofs.run_laws.ByCalls.{Holds}
+use Rattle.journal_packets.proofs.run_laws.Hearings.{other_facts, own_facts}
+use Rattle.journal_packets.proofs.run_laws.InAgreement.{AreStations, IsFresh, IsStation, differs_back}
+use Rattle.journal_packets.proofs.run_laws.OpenSteps.{open_has}
+use Rattle.journal_packets.proofs.run_laws.TurnPlaces.{Between, Within, at_stage}
+use Rattle.journal_packets.proofs.run_laws.TurnSteps.{phase_turn}
 use Rattle.journal_packets.specs.Belonging.{is_side}
 use Rattle.journal_acks.specs.Carried.{SentLine, pdu_carried}
-use Rattle.journal_acks.proofs.CallNotes.{HasNoData, SendsNone, all_more, begin_noted, end_noted, no_data, octet_noted, start_noted}
+use Rattle.journal_acks.proofs.CallNotes.{HasNoData, SendsNone, all_more, begin_noted, end_noted, no_data, notes_starting, octet_noted, start_noted}
 use Rattle.journal_acks.proofs.Counting.{AreCountedSo, AreKnown, HaveOwnNumbers, apart_numbers, facts_event, plain}
 use Rattle.journal_acks.proofs.DataCalls.{on_link_notes, own_begun, received_at, unfound}
 use Rattle.journal_acks.proofs.Exchanging.{OpensNone, exchange_at, number_at, number_called, number_other, number_quiet, number_sent, opening_none}
 use Rattle.journal_acks.proofs.FirstCounts.{first_called, first_of}
 use Rattle.journal_acks.proofs.FixedPdus.{fixed_empty}
 use Rattle.journal_acks.proofs.KeptCounts.{AreCountedAt, before_call, call_is, counts_kept, own_at, phased, station_is, was_taking}
-use Rattle.journal_acks.proofs.LinkCalls.{HasBegun, HasPassed, IsNew, IsOpenedNow, Stays, Takes, base_ack, begins_under, begun_before, passes_under, phase_quiet, taken_noted}
+use Rattle.journal_acks.proofs.LinkCalls.{HasBegun, HasPassed, IsNew, IsOpenedNow, Stays, Takes, base_ack, begins_under, begun_before, passes_under, phase_quiet, received_noted, receiving_ack, receiving_setup, sent_plain, taking_opens, taking_sends}
 use Rattle.journal_acks.proofs.LinkUses.{listens_under, sends_under}
 use Rattle.journal_acks.proofs.PhaseNotes.{IsOnLink, IsPhaseOf, IsPlainPhase, HasSentSame, SendsFrom, SendsNothing, SendsOne, doing_notes, notes_when, phase_of, same_but, sends_from, sent_same}
 use Rattle.journal_acks.proofs.SentLines.{air_line, feed_line, line_called, line_other, line_sent, sent_line_at, turn_line}
@@ -67,7 +68,7 @@ first_lined = record { earlier = λ one is. absurd cc; last = λ count is. refl 
 -- ---- an end that sends
 
 abbrev pub line_next : Bool → EndFacts → ℕ → Option SentLine → Option SentLine
-line_next true facts acked line = Some (record { pdu = record { llid = facts.outgoing.fixed.llid; body = facts.outgoing.fixed.body }; acked = acked })
+line_next true facts acked line = Some (record { pdu = record { llid = (pdu_fixed facts).llid; body = (pdu_fixed facts).body }; acked = acked })
 line_next false facts acked line = line
 
 -- no line is of the PDU that comes next
@@ -79,20 +80,20 @@ unlined (Some one) count earlier =
 same_line : (one : SentLine) (acked : ℕ) (pdu : Pdu) → Some (record { pdu = pdu; acked = acked }) ≡ Some one → acked ≡ one.acked
 same_line one acked pdu is = cc
 
-sends_lined : (acked empty : Bool) (facts : EndFacts) (count : ℕ) (line : Option SentLine) → is_acked facts.acknowledgement ≡ acked → is_empty facts.outgoing.fixed ≡ empty
-    → (empty ≡ true → facts.outgoing.fixed ≡ empty_pdu) → count ≡ facts.acknowledgement.acked → IsLined line facts.acknowledgement
-    → IsLined (line_next (acked && not empty) facts count line) (next_sent acked facts.outgoing.fixed facts.acknowledgement)
+sends_lined : (acked empty : Bool) (facts : EndFacts) (count : ℕ) (line : Option SentLine) → is_acked facts.acknowledgement ≡ acked → is_empty (pdu_fixed facts) ≡ empty
+    → (empty ≡ true → pdu_fixed facts ≡ empty_pdu) → count ≡ facts.acknowledgement.acked → IsLined line facts.acknowledgement
+    → IsLined (line_next (acked && not empty) facts count line) (next_sent acked (pdu_fixed facts) facts.acknowledgement)
 sends_lined false empty facts count line is empty_is none same lined = record { earlier = lined.earlier; last = lined.last }
 sends_lined true false facts count line is empty_is none same lined =
     let ack = facts.acknowledgement in
     let all = eqb-true ack.acked (length ack.sent) is in
-    let more = length_push ack.sent facts.outgoing.fixed in record {
+    let more = length_push ack.sent (pdu_fixed facts) in record {
       earlier = λ one one_is. let low = same_line one count _ one_is in omega (arith, low, same, all, more);
-      last = λ next next_is. sym (ap (λ b. if b then facts.outgoing.fixed else empty_pdu) (eq-eqb count next (omega (arith, same, all, more, next_is))));
+      last = λ next next_is. sym (ap (λ b. if b then pdu_fixed facts else empty_pdu) (eq-eqb count next (omega (arith, same, all, more, next_is))));
     }
 sends_lined true true facts count line is empty_is none same lined =
     let ack = facts.acknowledgement in
-    let more = length_push ack.sent facts.outgoing.fixed in record {
+    let more = length_push ack.sent (pdu_fixed facts) in record {
       earlier = λ one one_is. let low = lined.earlier one one_is in omega (arith, low, more);
       last = λ next next_is. none refl ∙ sym (unlined line next (λ one one_is. let low = lined.earlier one one_is in omega (arith, low, more, next_is)));
     }
@@ -159,7 +160,7 @@ module _ (given : Given) where
 
   -- a call in which it may send one
   module _ (station : ℕ) (step : Step) (history : List Event) (handle : ℕ) (base : OpenLink) (earlier : List Note)
-      (none : All SendsNone earlier) (opens : All (OpensNone handle) earlier) (own : base.setup.link.handle ≡ handle)
+      (none : All SendsNone earlier) (opens : All (OpensNone handle) earlier) (own : base.setup.link.handle ≡ handle) (is_plain : IsPlainLink base)
       (lined : IsLined (sent_line_at (number_at station handle history) history (side_of station)) (ack_of base))
       (count : (exchange_at (number_at station handle history) history (side_of station)).acked ≡ (ack_of base).acked) where
     abbrev number : ℕ
@@ -171,7 +172,7 @@ module _ (given : Given) where
     abbrev acked : ℕ
     acked = (exchange_at number history (side_of station)).acked
 
-    line_of : (noted : Bool) → notes_after (setup_at given station) (facts_at given station history) step ≡ earlier ++ sent_notes_if noted base.setup.link.handle (facts_in base)
+    line_of : (noted : Bool) → notes_after (setup_at given station) (facts_at given station history) step ≡ earlier ++ sent_notes_if noted base.setup.link.handle (numbered (ack_of base).sent) (pdu_fixed (facts_in base))
         → sent_line_at number (after_call given station step history) (side_of station) ≡ line_next noted (facts_in base) acked line
     line_of true are =
         line_sent given number station step history base.setup.link.handle _ _ _ earlier are none (subst (λ h. All (OpensNone h) earlier) (sym own) opens)
@@ -184,9 +185,9 @@ module _ (given : Given) where
         → IsLined (sent_line_at number (after_call given station step history) (side_of station)) (ack_of after)
     sends_own true slot after is are =
         let facts = facts_in base in
-        let noted = is_acked facts.acknowledgement && not (is_empty facts.outgoing.fixed) in
+        let noted = is_acked facts.acknowledgement && not (is_empty (pdu_fixed facts)) in
         lined_ack (line_next noted facts acked line) _ (sent_ack facts) (ack_of after) (line_of noted are) (ap ack_of is ∙ ack_sent slot base)
-        (sends_lined (is_acked facts.acknowledgement) (is_empty facts.outgoing.fixed) facts acked line refl refl (fixed_empty base) count lined)
+        (sends_lined (is_acked facts.acknowledgement) (is_empty (pdu_fixed facts)) facts acked line refl refl (fixed_empty base is_plain) count lined)
     sends_own false slot after is are =
         lined_ack line _ (ack_of base) (ack_of after)
         (line_called given number station step history (side_of station) (subst (All SendsNone) (sym (are ∙ append-nil earlier)) none)) (ap ack_of is) lined
@@ -194,7 +195,7 @@ module _ (given : Given) where
   -- a call in which another link may send one
   module _ (station : ℕ) (step : Step) (history : List Event) (number : ℕ) (earlier : List Note) (none : All SendsNone earlier) (opens : (handle : ℕ) → All (OpensNone handle) earlier) where
     other_sent : (noted : Bool) (link : OpenLink) → (number_at station link.setup.link.handle history == number) ≡ false
-        → notes_after (setup_at given station) (facts_at given station history) step ≡ earlier ++ sent_notes_if noted link.setup.link.handle (facts_in link)
+        → notes_after (setup_at given station) (facts_at given station history) step ≡ earlier ++ sent_notes_if noted link.setup.link.handle (numbered (ack_of link).sent) (pdu_fixed (facts_in link))
         → sent_line_at number (after_call given station step history) (side_of station) ≡ sent_line_at number history (side_of station)
     other_sent true link apart are =
         line_sent given number station step history link.setup.link.handle _ _ _ earlier are none (opens link.setup.link.handle)
@@ -214,7 +215,7 @@ module _ (given : Given) where
             line_called given number station step history (side_of station)
             (subst (All SendsNone) (sym (are ∙ ap (λ xs. earlier ++ xs) nothing ∙ append-nil earlier)) none)
         by (SendsOne other link at on notes_are) =
-            other_sent (is_acked (facts_in link).acknowledgement && not (is_empty (facts_in link).outgoing.fixed)) link (apart other link on at) (are ∙ ap (λ xs. earlier ++ xs) notes_are)
+            other_sent (is_acked (facts_in link).acknowledgement && not (is_empty (pdu_fixed (facts_in link)))) link (apart other link on at) (are ∙ ap (λ xs. earlier ++ xs) notes_are)
 
   octet_lines : IsOfTwo given → (station octet : ℕ) (history : List Event) → is_in station given.stations ≡ true → AreLined given history
       → AreLined given (after_call given station (HostOctet octet) history)
@@ -252,7 +253,8 @@ rests_deaf handle doing received is listens = absurd (let h : true ≡ false = s
 module _ (given : Given) (station slot : ℕ) (on : Bool) (history : List Event) (is : is_in station given.stations ≡ true)
     (rests : (facts_at given station history).turn.doing ≡ Rests) (station_is : IsStation (setup_at given station) (facts_at given station history))
     (apart : HaveOwnNumbers given station history) (counted : AreCountedSo given history (λ one. true) (λ one. packet_received one history)) (lines : AreLined given history)
-    (handle : ℕ) (link : OpenLink) (at : link_at handle (facts_at given station (after_call given station (TurnBegins slot on) history)).links ≡ Some link) where
+    (handle : ℕ) (link : OpenLink) (at : link_at handle (facts_at given station (after_call given station (TurnBegins slot on) history)).links ≡ Some link)
+    (is_plain : IsPlainLink link) where
   abbrev setup_of : Setup
   setup_of = setup_at given station
 
@@ -266,7 +268,7 @@ module _ (given : Given) (station slot : ℕ) (on : Bool) (history : List Event)
   outcome = outcome_begun slot on facts_before
 
   abbrev start : List Note
-  start = notes_ending slot facts_before ++ notes_entering slot (facts_ending slot facts_before).links
+  start = notes_starting slot facts_before
 
   begun : HasBegun facts_before slot on handle (facts_after setup_of facts_before step).turn.doing link
   begun = begins_under setup_of facts_before slot on handle link (own_at given station step history handle link at)
@@ -285,6 +287,9 @@ module _ (given : Given) (station slot : ℕ) (on : Bool) (history : List Event)
       subst (IsLined (sent_line_at (number_at station handle history) history (side_of station))) (sym (base_ack facts_before slot on handle outcome.next link begun))
       (lines station handle begun.link is begun.was)
 
+  base_plain : IsPlainLink begun.base
+  base_plain = sent_plain (sends_under handle outcome.next) slot begun.base (subst IsPlainLink begun.is is_plain)
+
   -- it is to send on this link, or on another, or on none
   begins_by : (sends : Bool) → sends_under handle outcome.next ≡ sends
       → IsLined (sent_line_at (number_at station handle history) (after_call given station step history) (side_of station)) (ack_of link)
@@ -293,7 +298,7 @@ module _ (given : Given) (station slot : ℕ) (on : Bool) (history : List Event)
       let before = plain true (packet_received station history) handle facts_before.turn begun.link (exchange_at number history (side_of station)) (rests_none handle facts_before.turn.doing rests)
       (rests_deaf handle facts_before.turn.doing (packet_received station history) rests) (counted station handle begun.link is begun.was) in
       sends_own given station step history handle begun.base start start_none (start_noted (OpensNone handle) (opening_none handle).starts slot facts_before)
-      (own_handle handle begun.base begun.found) base_lined
+      (own_handle handle begun.base begun.found) base_plain base_lined
       (before.acked ∙ ap (λ (a : Acknowledgement). a.acked) (sym (base_ack facts_before slot on handle outcome.next link begun)))
       true slot link (begun.is ∙ ap (λ b. sent_if b slot begun.base) on_it)
       (ap (λ xs. start ++ xs) (doing_notes outcome.next outcome.facts handle begun.base (λ other two on_other at_other. sends_once other handle outcome.next on_other on_it) begun.found
@@ -357,6 +362,9 @@ module _ (given : Given) (Q : Place → List Event → Type 0) (known : AreKnown
       (holds.so_far.last.each station in_it).fresh at (opened ∙ sym slot) in
       lined_ack None _ first_acknowledgement (ack_of link) (first.lines (side_of station)) ack first_lined
 
+  abbrev room : Bool
+  room = has_room setup facts
+
   -- what another link is to send, where it received a packet
   other_line : (handle : ℕ) (link : OpenLink) → link_at handle facts.links ≡ Some link → (other : ℕ) (octets : List ℕ) → (other == handle) ≡ false
       → notes ≡ notes_passed (link_heard setup other octets facts) → (found : Option OpenLink) → link_at other facts.links ≡ found
@@ -365,19 +373,18 @@ module _ (given : Given) (Q : Place → List Event → Type 0) (known : AreKnown
       line_called given (number_at station handle history) station (step_of received) history (side_of station)
       (subst (All SendsNone) (sym (are_notes ∙ unfound setup facts other octets absent)) (All-nil SendsNone))
   other_line handle link at other octets differs are_notes (Some two) found =
-      let reply = reply_if (replies_in (link_at other facts.links) octets) other in
-      let after_it = link_received other (has_room setup facts) octets facts in
-      let taken = link_after (PacketReceived facts.turn.slot octets (has_room setup facts)) two in
-      let earlier = notes_taken facts.turn.slot (has_room setup facts) (link_at other facts.links) octets in
-      let own = handle_is 0 other facts.links two (station_is given Q known distinct phases done left station history are is q holds).own.handles found in
-      let now = received_at facts.turn.slot other octets (has_room setup facts) facts.links two found in
+      let reply = reply_if (replies_in facts.turn.slot room (link_at other facts.links) octets) other in
+      let after_it = link_received other room octets facts in
+      let taken = link_receiving other room octets facts two in
+      let own = ap (λ (end : EndSetup). end.link.handle) (receiving_setup other room octets facts two)
+      ∙ handle_is 0 other facts.links two (station_is given Q known distinct phases done left station history are is q holds).own.handles found in
+      let now = received_at other octets room facts two found in
       let apart = apart_numbers given Q known (AtListening phases done (station ∷ left)) history is.known station other handle two link in_it found at differs in
-      others_send given station (step_of received) history (number_at station handle history) earlier
-      (taken_noted SendsNone (λ one count llid body. refl) facts.turn.slot (has_room setup facts) (link_at other facts.links) octets)
-      (λ one. taken_noted (OpensNone one) (λ third count llid body. refl) facts.turn.slot (has_room setup facts) (link_at other facts.links) octets)
+      others_send given station (step_of received) history (number_at station handle history) (link_heard setup other octets facts).notes
+      (received_noted SendsNone taking_sends setup other octets facts) (λ one. received_noted (OpensNone one) (taking_opens one) setup other octets facts)
       reply after_it
       (λ third three on_third at_third.
-      let same = reply_under (replies_in (link_at other facts.links) octets) other third on_third in
+      let same = reply_under (replies_in facts.turn.slot room (link_at other facts.links) octets) other third on_third in
       let equal : Some taken ≡ Some three = sym now ∙ ap (λ n. link_at n after_it.links) (sym same) ∙ at_third in
       let one : taken ≡ three = cc in
       ap (λ (l : OpenLink). number_at station l.setup.link.handle history == number_at station handle history) (sym one)
@@ -395,49 +402,52 @@ module _ (given : Given) (Q : Place → List Event → Type 0) (known : AreKnown
       let h : Some octets ≡ None = sym some ∙ nothing (listens handle ∙ same) in absurd cc) in
       other_line handle link at other octets differs (on_link_notes setup facts received other octets some (ap notes_passed heard_is)) (link_at other facts.links) refl
 
-  abbrev room : Bool
-  room = has_room setup facts
-
-  takes : (handle : ℕ) (link base : OpenLink) (octets : List ℕ) → number_at station handle after ≡ number_at station handle history
+  takes : (handle : ℕ) (link base : OpenLink) (octets : List ℕ) → IsPlainLink link → number_at station handle after ≡ number_at station handle history
       → link_at handle facts.links ≡ Some base → received ≡ Some octets → listens_under handle facts.turn.doing ≡ true
-      → link ≡ sent_if (sends_under handle next.turn.doing) facts.turn.slot (link_after (PacketReceived facts.turn.slot octets room) base)
+      → link ≡ sent_if (sends_under handle next.turn.doing) facts.turn.slot (link_receiving handle room octets facts base)
       → IsPhaseOf setup facts received → IsLined (sent_line_at (number_at station handle after) after (side_of station)) (ack_of link)
-  takes handle link base octets number was some on same (IsPlainPhase none plain_too) = absurd (let h : Some octets ≡ None = sym some ∙ none handle on in absurd cc)
-  takes handle link base octets number was some on same (IsOnLink other heard some_too listens heard_is) =
+  takes handle link base octets is_plain number_is was some on same (IsPlainPhase none plain_too) = absurd (let h : Some octets ≡ None = sym some ∙ none handle on in absurd cc)
+  takes handle link base octets is_plain number_is was some on same (IsOnLink other heard some_too listens heard_is) =
       let equal = eqb-true other handle (sym (listens handle) ∙ on) in
       let told : Some heard ≡ Some octets = sym some_too ∙ some in
       let octets_are : heard ≡ octets = cc in
-      let reply = reply_if (replies_in (link_at other facts.links) heard) other in
+      let slot = facts.turn.slot in
+      let replies = replies_in slot room (link_at other facts.links) heard in
+      let reply = reply_if replies other in
       let after_it = link_received other room heard facts in
-      let taken = link_after (PacketReceived facts.turn.slot octets room) base in
+      let taken = link_receiving handle room octets facts base in
       let is_station = station_is given Q known distinct phases done left station history are is q holds in
-      let earlier = notes_taken facts.turn.slot room (link_at other facts.links) heard in
       let now : link_at handle after_it.links ≡ Some taken =
       ap (λ n. link_at handle (link_received n room heard facts).links) equal ∙ ap (λ xs. link_at handle (link_received handle room xs facts).links) octets_are
-      ∙ received_at facts.turn.slot handle octets room facts.links base was in
+      ∙ received_at handle octets room facts base was in
       let doing : next.turn.doing ≡ reply = ap (λ may. (facts_after setup facts (step_of may)).turn.doing) some_too ∙ ap (λ (o : Outcome). o.next) heard_is in
       let counts = was_taking received octets handle facts.turn base (exchange_at (number_at station handle history) history (side_of station)) on some
       (before_call given Q known distinct phases done left station history are is q holds handle base was) in
-      subst (λ n. IsLined (sent_line_at n after (side_of station)) (ack_of link)) (sym number)
-      (sends_own given station (step_of received) history handle taken earlier
-      (taken_noted SendsNone (λ one count llid body. refl) facts.turn.slot room (link_at other facts.links) heard)
-      (taken_noted (OpensNone handle) (λ one count llid body. refl) facts.turn.slot room (link_at other facts.links) heard)
-      (handle_is 0 handle facts.links base is_station.own.handles was)
-      (lined_same (sent_line_at (number_at station handle history) history (side_of station)) (ack_of base) (ack_of taken) (sent_same facts.turn.slot octets room base)
-      (lines station handle base in_it was))
-      (counts.acked ∙ (same_but facts.turn.slot octets false room base).acked)
-      (sends_under handle next.turn.doing) facts.turn.slot link same
+      let ack = receiving_ack handle room octets facts base in
+      subst (λ n. IsLined (sent_line_at n after (side_of station)) (ack_of link)) (sym number_is)
+      (sends_own given station (step_of received) history handle taken (link_heard setup other heard facts).notes
+      (received_noted SendsNone taking_sends setup other heard facts) (received_noted (OpensNone handle) (taking_opens handle) setup other heard facts)
+      (ap (λ (end : EndSetup). end.link.handle) (receiving_setup handle room octets facts base) ∙ handle_is 0 handle facts.links base is_station.own.handles was)
+      (sent_plain (sends_under handle next.turn.doing) slot taken (subst IsPlainLink same is_plain))
+      (lined_same (sent_line_at (number_at station handle history) history (side_of station)) (ack_of base) (ack_of taken)
+      (subst (λ a. HasSentSame a (ack_of base)) (sym ack) (sent_same slot octets room base)) (lines station handle base in_it was))
+      (counts.acked ∙ (same_but slot octets false room base).acked ∙ ap (λ (a : Acknowledgement). a.acked) (sym ack))
+      (sends_under handle next.turn.doing) slot link same
       (on_link_notes setup facts received other heard some_too (ap notes_passed heard_is)
-      ∙ ap (λ xs. earlier ++ xs) (doing_notes reply after_it handle taken (λ third three on_third at_third. reply_under (replies_in (link_at other facts.links) heard) other third on_third ∙ equal) now ∙ ap (λ d. notes_when (sends_under handle d) taken) (sym doing))))
+      ∙ ap (λ xs. (link_heard setup other heard facts).notes ++ xs)
+      (doing_notes reply after_it handle taken (λ third three on_third at_third. reply_under replies other third on_third ∙ equal) now
+      ∙ ap (λ d. notes_when (sends_under handle d) taken) (sym doing))))
 
   passed : (handle : ℕ) (link : OpenLink) → link_at handle (facts_at given station after).links ≡ Some link → number_at station handle after ≡ number_at station handle history
       → HasPassed facts room received handle next.turn.doing link
       → IsLined (sent_line_at (number_at station handle after) after (side_of station)) (ack_of link)
-  passed handle link at number (IsNew end made opened off) = fresh handle link at (ap (λ (l : OpenLink). l.setup.opened) made ∙ opened)
-  passed handle link at number (Stays was none nothing listened) =
-      subst (λ n. IsLined (sent_line_at n after (side_of station)) (ack_of link)) (sym number)
+  passed handle link at number_is (IsNew end made opened off) = fresh handle link at (ap (λ (l : OpenLink). l.setup.opened) made ∙ opened)
+  passed handle link at number_is (Stays was none nothing listened) =
+      subst (λ n. IsLined (sent_line_at n after (side_of station)) (ack_of link)) (sym number_is)
       (subst (λ line. IsLined line (ack_of link)) (sym (line_stays handle link was nothing (phase_of setup facts received))) (lines station handle link in_it was))
-  passed handle link at number (Takes base octets was some on same) = takes handle link base octets number was some on same (phase_of setup facts received)
+  passed handle link at number_is (Takes base octets was some on same) =
+      let is_plain = known.plain (AtListening phases (done ++ station ∷ []) left) after q station in_it handle link at in
+      takes handle link base octets is_plain number_is was some on same (phase_of setup facts received)
 
   passes_own : (handle : ℕ) (link : OpenLink) → link_at handle (facts_at given station after).links ≡ Some link
       → IsLined (sent_line_at (number_at station handle after) after (side_of station)) (ack_of link)
@@ -477,12 +487,14 @@ lines_kept whole given Q known are_two six distinct = let kept = counts_kept who
       let on = plan.radio_of station in
       let in_it = among given.stations done left station are in
       let phased = subst (λ b. PhasedBy given history station (if b then at_stage (Within 0) (turns_begun history) else at_stage Between (turns_begun history - 1)))
-      (not_before given.stations done left station distinct are) (phased_at given (AtBegins done (station ∷ left)) history has.counts.holds.hearing.stand station in_it) in record {
-        counts = kept.on_begin slot plan done left station history are due has.counts;
+      (not_before given.stations done left station distinct are) (phased_at given (AtBegins done (station ∷ left)) history has.counts.holds.hearing.stand station in_it) in
+      let next = kept.on_begin slot plan done left station history are due has.counts in record {
+        counts = next;
         lines = lines_call given are_two station (TurnBegins slot on) history in_it
-            (begin_own given station slot on history in_it phased.phase (has.counts.holds.so_far.last.each station in_it)
+            (λ handle link at. begin_own given station slot on history in_it phased.phase (has.counts.holds.so_far.last.each station in_it)
             (λ one other a b at at_other differs. apart_numbers given Q known (AtBegins done (station ∷ left)) history has.counts.known station one other a b in_it at at_other differs)
-            has.counts.counted has.lines) has.lines;
+            has.counts.counted has.lines handle link at
+            (known.plain (AtBegins (done ++ station ∷ []) left) (after_call given station (TurnBegins slot on) history) next.known station in_it handle link at)) has.lines;
       };
   on_begun = λ history has. record { counts = kept.on_begun history has.counts; lines = has.lines };
   on_phase = λ phases history few has. record { counts = kept.on_phase phases history few has.counts; lines = has.lines };

@@ -5,7 +5,7 @@ use Rattle.ble_base.specs.declared.notes.Note.TheVariants.{Opened}
 use Rattle.ble_base.specs.declared.roles.Role.{Role}
 use Rattle.ble_base.specs.declared.roles.Role.TheVariants.{Central, Peripheral}
 use Rattle.air_frame.specs.Packet.{access_octets}
-use Rattle.link_model.specs.Setup.{Setup as EndSetup}
+use Rattle.journal_packets.specs.link_model.Setup.{Setup as EndSetup}
 use Rattle.run_model.specs.Due.{Each}
 use Rattle.run_model.specs.History.{Event, Noted, Transmitted}
 use Rattle.run_model.specs.Journal.{journal_of, side_of}
@@ -17,19 +17,20 @@ use Rattle.run_model.proofs.Fronts.{front_at}
 use Rattle.run_model.proofs.LinkEnds.{AreTaken, IsUnderstood}
 use Rattle.run_model.proofs.Numbers.{opening_at}
 use Rattle.run_model.proofs.Places.{each_at}
-use Rattle.run_laws.specs.Access.{connects_sent}
-use Rattle.run_laws.proofs.ConnectInds.{TakenInOrder}
-use Rattle.run_laws.proofs.DistinctAccess.{AreApart}
-use Rattle.run_laws.proofs.OpenedOnce.{opened_once}
-use Rattle.run_laws.proofs.TwoEnds.{all_agree}
-use Rattle.run_laws.proofs.TwoStations.{are_two as of_both}
-use Rattle.journal_links.specs.Begun.{LinkBegun, links_begun, with_number}
-use Rattle.journal_links.specs.Opened.{central_side}
+use Rattle.journal_packets.specs.run_laws.Access.{connects_sent}
+use Rattle.journal_packets.proofs.run_laws.ConnectInds.{TakenInOrder}
+use Rattle.journal_packets.proofs.run_laws.DistinctAccess.{AreApart}
+use Rattle.journal_packets.proofs.run_laws.OpenedOnce.{opened_once}
+use Rattle.journal_packets.proofs.run_laws.PlainLinks.{links_plain}
+use Rattle.journal_packets.proofs.run_laws.TwoEnds.{all_agree}
+use Rattle.journal_packets.proofs.run_laws.TwoStations.{are_two as of_both}
+use Rattle.journal_packets.specs.journal_links.Begun.{LinkBegun, links_begun, with_number}
+use Rattle.journal_packets.specs.journal_links.Opened.{central_side}
 use Rattle.journal_packets.specs.Belonging.{first_number}
 use Rattle.journal_packets.proofs.AccessOrder.{AreNth, first_is, sent_ordered}
-use Rattle.journal_links.proofs.LineNotes.{lines_of_end}
-use Rattle.journal_links.proofs.LinkLines.{fresh}
-use Rattle.journal_links.proofs.OfTwo.{are_distinct, of_two_stations, other_of, two_apart}
+use Rattle.journal_packets.proofs.journal_links.LineNotes.{lines_of_end}
+use Rattle.journal_packets.proofs.journal_links.LinkLines.{fresh}
+use Rattle.journal_packets.proofs.journal_links.OfTwo.{are_distinct, of_two_stations, other_of, two_apart}
 use Rattle.journal_packets.proofs.SentLinks.{IsOfTwo, begun_are_sent, link_begun, links_sent, sent_at}
 use Rattle.journal_packets.proofs.SoFar.{IsBelongingSoFar, belonging_kept, sends_on_its_link}
 use Rattle.journal_acks.proofs.Counting.{AreKnown, IsBegun}
@@ -102,6 +103,9 @@ known_of understood taken nth apart given are_two six = record {
       let opening = opening_at understood taken given before (more ++ front.rest) station handle role own peer (are_distinct given are_two) six whole in
       fresh given station (two_apart given are_two station in_it) before opening.known opening.since (event ∷ (more ++ front.rest)) ((links_of before).last_of station) whole
       opening.is_at opening.number_is opening.unnoted;
+  plain = λ at history q station in_it.
+      let front = front_at given at history q.front in
+      links_plain given six (are_distinct given are_two) history front.rest front.at station in_it;
   agree = λ whole at history q one other in_it in_too differs.
       let front = front_at given at history q.front in
       all_agree whole understood taken apart given six (are_distinct given are_two) (of_both given 0 1 are_two) history front.rest front.at one other in_it in_too differs;

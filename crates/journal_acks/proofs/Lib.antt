@@ -5,6 +5,7 @@ pub mod Exchanging
 pub mod Acks
 pub mod LinkUses
 pub mod UnderHandles
+pub mod HeardSteps
 pub mod LinkPhases
 pub mod LinkCalls
 pub mod TwoStations
@@ -35,6 +36,14 @@ pub mod GoodCalls
 pub mod GoodPackets
 pub mod KeptGood
 pub mod DueLinks
-pub mod ShutLines
 pub mod FeedCalls
 pub mod ResetLines
+pub mod ShutLines
+-- what the crates above use of those below
+pub use Rattle.journal_packets.proofs.journal_links as journal_links
+pub use Rattle.journal_packets.proofs as journal_packets
+pub use Rattle.journal_packets.proofs.link_model as link_model
+pub use Rattle.journal_packets.proofs.open_links as open_links
+pub use Rattle.journal_packets.proofs.plain_links as plain_links
+pub use Rattle.journal_packets.proofs.run_laws as run_laws
+pub use Rattle.run_model.proofs as run_model

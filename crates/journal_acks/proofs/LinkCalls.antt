@@ -1,48 +1,56 @@
 -- What each call on a controller does to the link under one handle, and that it opens no other one there.
-use Rattle.std.proofs.Common.{◌≡◌, ℕ, ◌==◌, ◌⊎◌, inl, inr, Bool, true, false, Option, Some, None, List, [], refl, sym, ap, subst, ◌∙◌}
+use Rattle.std.proofs.Common.{◌≡◌, ℕ, ◌==◌, ◌⊎◌, inl, inr, Bool, true, false, Option, Some, None, List, [], ◌∷◌, refl, sym, ap, subst, ◌∙◌}
 use Rattle.std.specs.Prelude.{All}
 use Rattle.std.proofs.lemmas.Bool.{eqb-true, eq-eqb}
-use Rattle.std.proofs.lemmas.List.Elements.{All-append, All-cons, All-nil}
+use Rattle.std.proofs.lemmas.List.Elements.{All-append, All-cons, All-from_recursion, All-nil}
 use Rattle.ble_base.specs.declared.notes.Note.{Note}
-use Rattle.ble_base.specs.declared.notes.Note.TheVariants.{Took}
+use Rattle.ble_base.specs.declared.error_codes.ErrCode.{ErrCode}
+use Rattle.ble_base.specs.declared.notes.Note.TheVariants.{Done, Refused, Took}
+use Rattle.ble_base.specs.declared.procedure_kinds.Kind.{Kind}
 use Rattle.hci_evt.specs.declared.event.Event.{Event}
 use Rattle.host_view.specs.View.{View}
-use Rattle.link_model.specs.declared.setup.LinkSetup.{LinkSetup}
-use Rattle.link_model.specs.Acknowledgement.{Pdu}
-use Rattle.link_model.specs.End.{facts_of as end_facts, took_notes, took_notes_if}
-use Rattle.link_model.specs.Events.{entries_in}
-use Rattle.link_model.specs.Facts.{Facts as EndFacts, no_event}
-use Rattle.link_model.specs.Setup.{Setup as EndSetup}
-use Rattle.link_model.specs.Packets.{good_pdu, pdu_of}
-use Rattle.link_model.specs.Step.{EventEntered, PacketReceived, PduFixed}
+use Rattle.journal_packets.specs.link_model.declared.setup.LinkSetup.{LinkSetup}
+use Rattle.journal_packets.specs.link_model.End.{facts_of as end_facts}
+use Rattle.journal_packets.specs.plain_links.Events.{entries_in}
+use Rattle.journal_packets.specs.link_model.Facts.{Facts as EndFacts}
+use Rattle.journal_packets.specs.link_model.Events.{no_event}
+use Rattle.journal_packets.specs.link_model.Setup.{Setup as EndSetup}
+use Rattle.journal_packets.specs.link_model.Packets.{good_pdu}
+use Rattle.journal_packets.specs.link_model.Step.{Step as EndStep, EventEntered, PacketReceived, PacketSent, PduFixed, RequestAnswered}
+use Rattle.journal_packets.proofs.link_model.Agreeing.{others_leave}
 use Rattle.scan_init.specs.Reports.{scan_answer}
 use Rattle.slot_plan.specs.declared.Activity.{Activity}
 use Rattle.slot_plan.specs.declared.Activity.TheVariants.{Link, Advertise, Scan, Initiate}
 use Rattle.slot_plan.specs.Holding.{is_held_in, winner_of}
-use Rattle.open_links.specs.OpenLinks.{Links, OpenLink, facts_in, link_after, link_at, link_served, with_change, new_link}
-use Rattle.open_links.specs.Turns.{entered_if, is_anchor, link_entered, links_staying}
-use Rattle.open_links.proofs.Ends.{entered_setup}
+use Rattle.journal_packets.specs.open_links.OpenLinks.{Links, OpenLink, facts_in, link_after, link_at, link_served, with_change, new_link}
+use Rattle.journal_packets.specs.open_links.Turns.{due_in, entered_if, enters_in, link_entered, links_without}
+use Rattle.journal_packets.proofs.open_links.Unmoved.{entered_setup}
 use Rattle.controller_model.specs.declared.doing.Doing.{Doing}
 use Rattle.controller_model.specs.declared.doing.Doing.TheVariants.{Advertises, CentralSends, CentralListens, PeripheralListens, PeripheralSends}
 use Rattle.controller_model.specs.Step.{TurnBegins}
 use Rattle.controller_model.specs.Facts.{Setup, Facts}
 use Rattle.controller_model.specs.Events.{notes_of_events}
-use Rattle.controller_model.specs.Heard.{events_reported, has_room, heard, link_heard, link_taken, notes_taken, opens, replies_in, reply_if, scanner_heard, unheard}
+use Rattle.controller_model.specs.Heard.{events_received, events_reported, has_room, heard, link_heard, link_received, link_taken, notes_taken, opens, replies_in, reply_if, scanner_heard, unheard}
 use Rattle.controller_model.specs.Links.{events_opened, facts_ending}
 use Rattle.controller_model.specs.Outcome.{Outcome, facts_passed, notes_passed}
 use Rattle.controller_model.specs.Packets.{notes_doing}
 use Rattle.controller_model.specs.Radio.{facts_entering, outcome_begun, plan_in, radio_served, served, turn_begins, winner_served}
 use Rattle.controller_model.specs.Side.{facts_after, notes_after}
 use Rattle.controller_model.proofs.Always.{ending_is, links_won, opening_is, winning_is}
+use Rattle.controller_model.proofs.EndNotes.{received_each}
 use Rattle.controller_model.proofs.Phases.{EachOutcome, heard_is, unheard_is}
+use Rattle.controller_model.proofs.Places.{link_receiving, receiving_is, refusal, refused_if, refuses_at}
+use Rattle.journal_packets.specs.plain_links.Plain.{ArePlain}
+use Rattle.journal_packets.proofs.plain_links.Growing.{plain_front, plain_less}
 use Rattle.run_model.specs.Run.{step_of}
-use Rattle.run_laws.proofs.Agreed.{ack_fixed, ack_of, step_facts}
-use Rattle.run_laws.proofs.LinkPasses.{IsPassing, Leaves, Opens, Receives, is_on_link, phase_passes}
-use Rattle.run_laws.proofs.TurnSteps.{IsListening, begins_slot}
-use Rattle.journal_acks.proofs.CallNotes.{doing_noted, events_noted}
+use Rattle.journal_packets.specs.run_laws.Plainness.{IsPlainLink}
+use Rattle.journal_packets.proofs.run_laws.Agreed.{ack_answered, ack_fixed, ack_of, step_facts}
+use Rattle.journal_packets.proofs.run_laws.LinkPasses.{IsPassingOn, LeavesAll, OpensOne, ReceivesOn, is_on_link, phase_passes_on}
+use Rattle.journal_packets.proofs.run_laws.TurnSteps.{IsListening, begins_slot}
+use Rattle.journal_acks.proofs.CallNotes.{IsOfFeeds, SendsNone, doing_noted, events_noted}
 use Rattle.journal_acks.proofs.Exchanging.{OpensNone, opening_none}
 use Rattle.journal_acks.proofs.LinkUses.{listens_under, sends_under}
-use Rattle.journal_acks.proofs.UnderHandles.{IsOpenedIf, WasOpen, change_if, change_under, entered_under, fixes_under, fixing_under, opened_under, sending_under, sent_if, staying_under}
+use Rattle.journal_acks.proofs.UnderHandles.{IsOpenedIf, WasOpen, change_if, change_under, entered_under, entries_after, fixes_under, fixing_under, opened_under, sending_under, sent_if, staying_under}
 
 -- ---- a turn begins
 
@@ -94,7 +102,7 @@ fixed_if fixes link = change_if fixes (link_after PduFixed) link
 pub record HasBegun (facts : Facts) (slot : ℕ) (on : Bool) (handle : ℕ) (doing : Doing) (after : OpenLink) : Type 0 where
   pub link : OpenLink
   pub was : link_at handle facts.links ≡ Some link
-  pub stayed : link_at handle (links_staying slot facts.links) ≡ Some link
+  pub stayed : link_at handle (links_without (due_in slot) facts.links) ≡ Some link
   pub entered : OpenLink
   pub setup_is : entered.setup ≡ link.setup
   pub past_is : entered.past ≡ (link_entered slot link).past
@@ -115,14 +123,14 @@ begins_under setup facts slot on handle after is =
     let fixed = fixing_under handle before.next before.facts.links sent.link sent.was in
     let base = served_under on slot handle (winner_of (plan_in slot begun) slot) (facts_entering slot begun) fixed.link fixed.was in
     let entered = entered_under slot handle begun.links base.link base.was in
-    let here : link_at handle (links_staying slot facts.links) ≡ Some entered.link = ap (λ (ended : Facts). link_at handle ended.links) (sym (ending_is slot facts)) ∙ entered.was in
-    let stayed = staying_under slot handle facts.links entered.link here in
+    let here : link_at handle (links_without (due_in slot) facts.links) ≡ Some entered.link = ap (λ (ended : Facts). link_at handle ended.links) (sym (ending_is slot facts)) ∙ entered.was in
+    let stayed = staying_under (due_in slot) handle facts.links entered.link here in
     record {
       link = entered.link;
       was = stayed.was;
       stayed = here;
       entered = fixed.link;
-      setup_is = base.setup_is ∙ ap (λ (l : OpenLink). l.setup) entered.is ∙ entered_setup (is_anchor slot entered.link) slot entered.link;
+      setup_is = base.setup_is ∙ ap (λ (l : OpenLink). l.setup) entered.is ∙ entered_setup slot entered.link;
       past_is = base.past_is ∙ ap (λ (l : OpenLink). l.past) entered.is;
       fixes = fixes_under handle before.next;
       base = sent.link;
@@ -144,24 +152,106 @@ begun_before facts slot on handle base is =
     let fixed = fixing_under handle before.next before.facts.links base is in
     let got = served_under on slot handle (winner_of (plan_in slot begun) slot) (facts_entering slot begun) fixed.link fixed.was in
     let entered = entered_under slot handle begun.links got.link got.was in
-    let here : link_at handle (links_staying slot facts.links) ≡ Some entered.link = ap (λ (ended : Facts). link_at handle ended.links) (sym (ending_is slot facts)) ∙ entered.was in
-    record { link = entered.link; was = (staying_under slot handle facts.links entered.link here).was }
+    let here : link_at handle (links_without (due_in slot) facts.links) ≡ Some entered.link = ap (λ (ended : Facts). link_at handle ended.links) (sym (ending_is slot facts)) ∙ entered.was in
+    record { link = entered.link; was = (staying_under (due_in slot) handle facts.links entered.link here).was }
 
 fixed_ack : (fixes : Bool) (link : OpenLink) → ack_of (fixed_if fixes link) ≡ ack_of link
 fixed_ack true link = ack_fixed link
 fixed_ack false link = refl
 
-entered_ack : (anchor : Bool) (slot : ℕ) (link : OpenLink) → ack_of (entered_if anchor slot link) ≡ ack_of link
+entered_ack : (enters : Bool) (slot : ℕ) (link : OpenLink) → ack_of (entered_if enters slot link) ≡ ack_of link
 entered_ack false slot link = refl
-entered_ack true slot link = ap (λ (f : EndFacts). f.acknowledgement) (step_facts link (EventEntered slot))
+entered_ack true slot link =
+    ap (λ (f : EndFacts). f.acknowledgement) (step_facts link (EventEntered slot)) ∙ others_leave link.setup (facts_in link) (EventEntered slot) refl
 
 -- entering an event and fixing a PDU change no count
 pub base_ack : (facts : Facts) (slot : ℕ) (on : Bool) (handle : ℕ) (doing : Doing) (after : OpenLink) (begun : HasBegun facts slot on handle doing after)
     → ack_of begun.base ≡ ack_of begun.link
 base_ack facts slot on handle doing after begun =
     ap ack_of begun.base_is ∙ fixed_ack begun.fixes begun.entered
-    ∙ (λ i. ack_of (record { setup = (begun.setup_is ∙ sym (entered_setup (is_anchor slot begun.link) slot begun.link)) i; past = begun.past_is i; last_served = 0 }))
-    ∙ entered_ack (is_anchor slot begun.link) slot begun.link
+    ∙ (λ i. ack_of (record { setup = (begun.setup_is ∙ sym (entered_setup slot begun.link)) i; past = begun.past_is i; last_served = 0 }))
+    ∙ entered_ack (enters_in slot begun.link) slot begun.link
+
+-- ---- links that are plain
+
+pub sent_plain : (sends : Bool) (slot : ℕ) (link : OpenLink) → IsPlainLink (sent_if sends slot link) → IsPlainLink link
+sent_plain true slot link plain = plain_front link.setup link.past (PacketSent slot ∷ []) plain
+sent_plain false slot link plain = plain
+
+fixed_plain : (fixes : Bool) (link : OpenLink) → IsPlainLink (fixed_if fixes link) → IsPlainLink link
+fixed_plain true link plain = plain_front link.setup link.past (PduFixed ∷ []) plain
+fixed_plain false link plain = plain
+
+entered_plain : (enters : Bool) (slot : ℕ) (link : OpenLink) → IsPlainLink (entered_if enters slot link) → IsPlainLink link
+entered_plain true slot link plain = plain_front link.setup link.past (EventEntered slot ∷ []) plain
+entered_plain false slot link plain = plain
+
+-- a link that is plain once a turn has begun was plain before
+pub begun_plain : (facts : Facts) (slot : ℕ) (on : Bool) (handle : ℕ) (doing : Doing) (after : OpenLink) (begun : HasBegun facts slot on handle doing after)
+    → IsPlainLink after → IsPlainLink begun.link
+begun_plain facts slot on handle doing after begun plain =
+    let base = sent_plain (sends_under handle doing) slot begun.base (subst IsPlainLink begun.is plain) in
+    let fixed = fixed_plain begun.fixes begun.entered (subst IsPlainLink begun.base_is base) in
+    entered_plain (enters_in slot begun.link) slot begun.link
+    (subst (λ (end : EndSetup). ArePlain end (link_entered slot begun.link).past) (begun.setup_is ∙ sym (entered_setup slot begun.link))
+    (subst (λ (past : List EndStep). ArePlain begun.entered.setup past) begun.past_is fixed))
+
+-- ---- a link that receives a packet, and may refuse a request in it
+
+module _ (handle : ℕ) (room : Bool) (octets : List ℕ) (facts : Facts) (link : OpenLink) where
+  abbrev taken : OpenLink
+  taken = link_after (PacketReceived facts.turn.slot octets room) link
+
+  -- to refuse changes its procedures alone
+  pub receiving_setup : (link_receiving handle room octets facts link).setup ≡ link.setup
+  receiving_setup = by (refuses_at handle room octets facts)
+    where
+      by : (refuses : Bool) → (refused_if refuses taken).setup ≡ link.setup
+      by true = refl
+      by false = refl
+
+  pub receiving_ack : ack_of (link_receiving handle room octets facts link) ≡ ack_of taken
+  receiving_ack = by (refuses_at handle room octets facts)
+    where
+      by : (refuses : Bool) → ack_of (refused_if refuses taken) ≡ ack_of taken
+      by true = ack_answered refusal taken
+      by false = refl
+
+  pub receiving_entries : entries_in (link_receiving handle room octets facts link).past ≡ entries_in link.past
+  receiving_entries = by (refuses_at handle room octets facts)
+    where
+      by : (refuses : Bool) → entries_in (refused_if refuses taken).past ≡ entries_in link.past
+      by true = entries_after taken (RequestAnswered refusal) ∙ entries_after link (PacketReceived facts.turn.slot octets room)
+      by false = entries_after link (PacketReceived facts.turn.slot octets room)
+
+  pub receiving_event : (facts_in (link_receiving handle room octets facts link)).event ≡ (facts_in taken).event
+  receiving_event = by (refuses_at handle room octets facts)
+    where
+      by : (refuses : Bool) → (facts_in (refused_if refuses taken)).event ≡ (facts_in taken).event
+      by true = ap (λ (f : EndFacts). f.event) (step_facts taken (RequestAnswered refusal))
+      by false = refl
+
+  pub receiving_good : (facts_in (link_receiving handle room octets facts link)).last_good ≡ (facts_in taken).last_good
+  receiving_good = by (refuses_at handle room octets facts)
+    where
+      by : (refuses : Bool) → (facts_in (refused_if refuses taken)).last_good ≡ (facts_in taken).last_good
+      by true = ap (λ (f : EndFacts). f.last_good) (step_facts taken (RequestAnswered refusal))
+      by false = refl
+
+  -- a link that stays plain refuses nothing
+  pub receiving_plain : IsPlainLink (link_receiving handle room octets facts link) → link_receiving handle room octets facts link ≡ taken
+  receiving_plain = by (refuses_at handle room octets facts)
+    where
+      by : (refuses : Bool) → IsPlainLink (refused_if refuses taken) → refused_if refuses taken ≡ taken
+      by true plain = absurd (plain_less link.setup taken.past (RequestAnswered refusal) plain).1
+      by false plain = refl
+
+  -- and so it is where it answers the packet
+  pub takes_plain : (sends : Bool) (after : OpenLink) → after ≡ sent_if sends facts.turn.slot (link_receiving handle room octets facts link) → IsPlainLink after
+      → IsPlainLink taken
+  takes_plain sends after is plain =
+      let receiving = sent_plain sends facts.turn.slot (link_receiving handle room octets facts link) (subst IsPlainLink is plain) in
+      subst IsPlainLink (receiving_plain receiving) receiving
 
 -- ---- a phase passes
 
@@ -171,9 +261,9 @@ pub data HasPassed (facts : Facts) (room : Bool) (received : Option (List ℕ)) 
   -- nothing happened to it
   Stays : link_at handle facts.links ≡ Some after → sends_under handle doing ≡ false → (listens_under handle facts.turn.doing ≡ true → received ≡ None)
       → (listens_under handle doing ≡ true → sends_under handle facts.turn.doing ≡ true) → HasPassed facts room received handle doing after
-  -- it received a packet, and may answer that
+  -- it received a packet, may refuse a request in it, and may answer it
   Takes : (link : OpenLink) (octets : List ℕ) → link_at handle facts.links ≡ Some link → received ≡ Some octets → listens_under handle facts.turn.doing ≡ true
-      → after ≡ sent_if (sends_under handle doing) facts.turn.slot (link_after (PacketReceived facts.turn.slot octets room) link)
+      → after ≡ sent_if (sends_under handle doing) facts.turn.slot (link_receiving handle room octets facts link)
       → HasPassed facts room received handle doing after
 
 pub off_sends : (handle : ℕ) (doing : Doing) → is_on_link doing ≡ false → sends_under handle doing ≡ false
@@ -207,17 +297,17 @@ opened_passes facts after room received handle end link off none now true is = I
 opened_passes facts after room received handle end link off none now false is =
     Stays is (off_sends handle after.turn.doing none) (deaf handle facts.turn.doing received (off_listens handle facts.turn.doing off)) (hears_none handle after.turn.doing facts.turn.doing (off_listens handle after.turn.doing none))
 
-off_passes : (facts after : Facts) (room : Bool) (received : Option (List ℕ)) (handle : ℕ) (link : OpenLink) → is_on_link facts.turn.doing ≡ false → IsPassing facts received after
+off_passes : (facts after : Facts) (room : Bool) (received : Option (List ℕ)) (handle : ℕ) (link : OpenLink) → is_on_link facts.turn.doing ≡ false → IsPassingOn facts received after
     → link_at handle after.links ≡ Some link → HasPassed facts room received handle after.turn.doing link
-off_passes facts after room received handle link off (Leaves same on) is =
+off_passes facts after room received handle link off (LeavesAll same on) is =
     let none = off_after facts after received off on (is_on_link after.turn.doing) refl in
     Stays (ap (link_at handle) (sym same) ∙ is) (off_sends handle after.turn.doing none) (deaf handle facts.turn.doing received (off_listens handle facts.turn.doing off))
     (hears_none handle after.turn.doing facts.turn.doing (off_listens handle after.turn.doing none))
-off_passes facts after room received handle link off (Opens made made_is none) is =
+off_passes facts after room received handle link off (OpensOne made made_is none) is =
     let end : EndSetup = record { link = made; opened = facts.turn.slot } in
     opened_passes facts after room received handle end link off none refl (made.handle == handle)
     (opened_under end handle facts.links link (ap (link_at handle) (sym made_is) ∙ is) (made.handle == handle) refl)
-off_passes facts after room received handle link off (Receives other octets was wanted on roomy replies links_are) is = absurd (let h : true ≡ false = sym on ∙ off in absurd cc)
+off_passes facts after room received handle link off (ReceivesOn other octets was wanted listens on roomy refuses replies refused links_are) is = absurd (let h : true ≡ false = sym on ∙ off in absurd cc)
 
 reply_none : (replies : Bool) (handle other : ℕ) → (other == handle) ≡ false → sends_under handle (reply_if replies other) ≡ false
 reply_none true handle other differs = differs
@@ -228,32 +318,36 @@ reply_deaf true handle other = refl
 reply_deaf false handle other = refl
 
 -- it takes a packet on the link under some handle
-taken_by : (facts : Facts) (octets : List ℕ) (room : Bool) (handle other : ℕ) (after link : OpenLink) (replies : Bool) → listens_under handle facts.turn.doing ≡ (other == handle)
-    → WasOpen (sent_if (sends_under handle (reply_if replies other)) facts.turn.slot) (link_at handle (with_change other (link_after (PacketReceived facts.turn.slot octets room)) facts.links)) after
+taken_by : (facts : Facts) (octets : List ℕ) (room : Bool) (handle other : ℕ) (after : OpenLink) (replies : Bool) → listens_under handle facts.turn.doing ≡ (other == handle)
+    → WasOpen (sent_if (sends_under handle (reply_if replies other)) facts.turn.slot) (link_at handle (with_change other (link_receiving other room octets facts) facts.links)) after
     → (same : Bool) → (other == handle) ≡ same → HasPassed facts room (Some octets) handle (reply_if replies other) after
-taken_by facts octets room handle other after link replies listens sent true one =
-    let was = change_under other handle (link_after (PacketReceived facts.turn.slot octets room)) facts.links sent.link sent.was in
+taken_by facts octets room handle other after replies listens sent true one =
+    let change = link_receiving other room octets facts in
+    let was = change_under other handle change facts.links sent.link sent.was in
     Takes was.link octets was.was refl (listens ∙ one)
     (sent.is ∙ ap (sent_if (sends_under handle (reply_if replies other)) facts.turn.slot)
-    (was.is ∙ ap (λ (b : Bool). change_if b (link_after (PacketReceived facts.turn.slot octets room)) was.link) one))
-taken_by facts octets room handle other after link replies listens sent false differs =
+    (was.is ∙ ap (λ (b : Bool). change_if b change was.link) one ∙ ap (λ n. link_receiving n room octets facts was.link) (eqb-true other handle one)))
+taken_by facts octets room handle other after replies listens sent false differs =
     let none = reply_none replies handle other differs in
-    let was = change_under other handle (link_after (PacketReceived facts.turn.slot octets room)) facts.links sent.link sent.was in
+    let change = link_receiving other room octets facts in
+    let was = change_under other handle change facts.links sent.link sent.was in
     let same : after ≡ was.link = sent.is ∙ ap (λ (b : Bool). sent_if b facts.turn.slot sent.link) none
-    ∙ was.is ∙ ap (λ (b : Bool). change_if b (link_after (PacketReceived facts.turn.slot octets room)) was.link) differs in
+    ∙ was.is ∙ ap (λ (b : Bool). change_if b change was.link) differs in
     Stays (was.was ∙ ap Some (sym same)) none (deaf handle facts.turn.doing (Some octets) (listens ∙ differs)) (hears_none handle (reply_if replies other) facts.turn.doing (reply_deaf replies handle other))
 
 takes_on : (setup : Setup) (facts : Facts) (octets : List ℕ) (handle other : ℕ) (after : OpenLink) → listens_under handle facts.turn.doing ≡ (other == handle)
     → link_at handle (facts_passed (link_heard setup other octets facts)).links ≡ Some after
     → HasPassed facts (has_room setup facts) (Some octets) handle (facts_passed (link_heard setup other octets facts)).turn.doing after
 takes_on setup facts octets handle other after listens is =
-    let replies = replies_in (link_at other facts.links) octets in
     let room = has_room setup facts in
-    taken_by facts octets room handle other after after replies listens
-    (sending_under facts.turn.slot handle (reply_if replies other) (with_change other (link_after (PacketReceived facts.turn.slot octets room)) facts.links) after is) (other == handle) refl
+    let replies = replies_in facts.turn.slot room (link_at other facts.links) octets in
+    let sent = sending_under facts.turn.slot handle (reply_if replies other) (link_received other room octets facts).links after is in
+    taken_by facts octets room handle other after replies listens
+    (subst (λ (links : Links). WasOpen (sent_if (sends_under handle (reply_if replies other)) facts.turn.slot) (link_at handle links) after) (receiving_is other room octets facts) sent)
+    (other == handle) refl
 
 passes_by : (setup : Setup) (facts : Facts) (received : Option (List ℕ)) (handle : ℕ) (after : OpenLink) (doing : Doing) → facts.turn.doing ≡ doing
-    → IsPassing facts received (facts_after setup facts (step_of received)) → link_at handle (facts_after setup facts (step_of received)).links ≡ Some after
+    → IsPassingOn facts received (facts_after setup facts (step_of received)) → link_at handle (facts_after setup facts (step_of received)).links ≡ Some after
     → HasPassed facts (has_room setup facts) received handle (facts_after setup facts (step_of received)).turn.doing after
 passes_by setup facts None handle after (CentralSends other) doing passing is =
     let next = ap (λ (d : Doing). (unheard d facts)) doing in
@@ -295,7 +389,7 @@ passes_by setup facts received handle after other doing passing is = off_passes 
 pub passes_under : (setup : Setup) (facts : Facts) (received : Option (List ℕ)) (handle : ℕ) (after : OpenLink) → IsListening facts facts.turn.doing
     → link_at handle (facts_after setup facts (step_of received)).links ≡ Some after
     → HasPassed facts (has_room setup facts) received handle (facts_after setup facts (step_of received)).turn.doing after
-passes_under setup facts received handle after listens is = passes_by setup facts received handle after facts.turn.doing refl (phase_passes setup facts received listens) is
+passes_under setup facts received handle after listens is = passes_by setup facts received handle after facts.turn.doing refl (phase_passes_on setup facts received listens) is
 
 -- ---- what is noted of links that are opened
 
@@ -347,26 +441,52 @@ opens_quiet handle link facts true one = inr (λ after is.
 opens_quiet handle link facts false differs =
     inl (both_quiet handle (opens link facts) (All-cons (OpensNone handle) _ _ differs (events_quiet handle facts.view (events_opened facts.view link))))
 
--- what is noted of a PDU that is taken
-took_quiet : (P : Note → Type 0) (took : (handle number llid : ℕ) (octets : List ℕ) → P (Took handle number llid (record { items = octets })))
-    → (noted : Bool) (handle : ℕ) (pdu : Pdu) (facts : EndFacts) → All P (took_notes_if noted handle pdu facts)
-took_quiet P took true handle pdu facts = All-cons P _ [] (took handle _ _ _) (All-nil P)
-took_quiet P took false handle pdu facts = All-nil P
+-- ---- what is noted of a packet that a link receives
 
-took_by : (P : Note → Type 0) (took : (handle number llid : ℕ) (octets : List ℕ) → P (Took handle number llid (record { items = octets })))
-    → (handle : ℕ) (room : Bool) (found : Option (List ℕ)) (facts : EndFacts) → All P (took_notes handle room found facts)
-took_by P took handle room None facts = All-nil P
-took_by P took handle room (Some pdu) facts = took_quiet P took _ handle (pdu_of pdu) facts
+-- a fact of each note of it
+pub record IsOfTakes (P : Note → Type 0) : Type 0 where
+  pub feeds : IsOfFeeds P
+  pub took : (handle number llid : ℕ) (octets : List ℕ) → P (Took handle number llid (record { items = octets }))
+  pub refused : (handle : ℕ) (kind : Kind) (code : ErrCode) → P (Refused handle kind code)
+  pub done : (handle : ℕ) (kind : Kind) → P (Done handle kind)
 
-pub taken_noted : (P : Note → Type 0) (took : (handle number llid : ℕ) (octets : List ℕ) → P (Took handle number llid (record { items = octets })))
-    → (slot : ℕ) (room : Bool) (found : Option OpenLink) (octets : List ℕ) → All P (notes_taken slot room found octets)
-taken_noted P took slot room None octets = All-nil P
-taken_noted P took slot room (Some link) octets = took_by P took link.setup.link.handle room (good_pdu link.setup (facts_in link) octets) (facts_in link)
+module _ (P : Note → Type 0) (of : IsOfTakes P) where
+  pub taken_noted : (slot : ℕ) (room : Bool) (found : Option OpenLink) (octets : List ℕ) → All P (notes_taken slot room found octets)
+  taken_noted slot room None octets = All-nil P
+  taken_noted slot room (Some link) octets =
+      let handle = link.setup.link.handle in
+      All-from_recursion P _
+      (received_each P link.setup slot room (good_pdu link.setup (facts_in link) octets) (facts_in link)
+      (record { took = of.took handle; refused = of.refused handle; done = of.done handle }))
+
+  pub received_noted : (setup : Setup) (other : ℕ) (octets : List ℕ) (facts : Facts) → All P (link_heard setup other octets facts).notes
+  received_noted setup other octets facts =
+      let slot = facts.turn.slot in
+      let room = has_room setup facts in
+      let found = link_at other facts.links in
+      All-append P (notes_taken slot room found octets) _ (taken_noted slot room found octets)
+      (events_noted P of.feeds facts.view (events_received other slot room found octets))
+
+-- none says that a link is opened, or that a PDU is sent
+pub taking_opens : (handle : ℕ) → IsOfTakes (OpensNone handle)
+taking_opens handle = record {
+  feeds = (opening_none handle).starts.feeds;
+  took = λ other number llid octets. refl;
+  refused = λ other kind code. refl;
+  done = λ other kind. refl;
+}
+
+pub taking_sends : IsOfTakes SendsNone
+taking_sends = record {
+  feeds = record { up = λ octets. refl; shut = λ handle reason. refl };
+  took = λ handle number llid octets. refl;
+  refused = λ handle kind code. refl;
+  done = λ handle kind. refl;
+}
 
 pub received_quiet : (handle : ℕ) (setup : Setup) (other : ℕ) (octets : List ℕ) (facts : Facts) → All (OpensNone handle) (notes_passed (link_heard setup other octets facts))
 received_quiet handle setup other octets facts =
-    both_quiet handle (link_heard setup other octets facts)
-    (taken_noted (OpensNone handle) (λ one number llid body. refl) facts.turn.slot (has_room setup facts) (link_at other facts.links) octets)
+    both_quiet handle (link_heard setup other octets facts) (received_noted (OpensNone handle) (taking_opens handle) setup other octets facts)
 
 each_quiet : (handle : ℕ) (setup : Setup) (facts : Facts) → EachOutcome setup facts (IsQuiet handle facts)
 unfolding IsQuiet

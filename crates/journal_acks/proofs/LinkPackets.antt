@@ -7,13 +7,13 @@ use Rattle.journal.specs.declared.entries.Entry.{Entry}
 use Rattle.journal.specs.declared.entries.Mark.{Mark}
 use Rattle.ble_base.specs.declared.verdicts.Verdict.{Verdict}
 use Rattle.data_pdu.specs.Header.{octets_of}
-use Rattle.link_model.proofs.InEvents.{past_in}
-use Rattle.link_model.proofs.Payloads.{past_payload}
-use Rattle.link_model.proofs.Received.{IsHeardWhole}
-use Rattle.link_model.specs.Acknowledgement.{Acknowledgement, Pdu, bits_of as ack_bits}
-use Rattle.link_model.specs.Events.{channel_after as channel_of_event, entries_in}
-use Rattle.link_model.specs.Packets.{more_sent, packet_sent, pdu_sent}
-use Rattle.open_links.specs.OpenLinks.{OpenLink, facts_in}
+use Rattle.journal_packets.proofs.plain_links.InEvents.{past_in}
+use Rattle.journal_packets.proofs.link_model.Repeating.{past_payload}
+use Rattle.journal_packets.proofs.link_model.Hearing.{IsHeardWhole}
+use Rattle.journal_packets.specs.link_model.Acknowledgement.{Acknowledgement, Pdu, bits_of as ack_bits}
+use Rattle.journal_packets.specs.plain_links.Events.{channel_after as channel_of_event, entries_in}
+use Rattle.journal_packets.specs.link_model.Packets.{more_sent, packet_sent, pdu_sent}
+use Rattle.journal_packets.specs.open_links.OpenLinks.{OpenLink, facts_in}
 use Rattle.controller_model.specs.Facts.{Sends}
 use Rattle.controller_model.specs.Side.{facts_of}
 use Rattle.run_model.specs.Entries.{IsAired}
@@ -26,10 +26,11 @@ use Rattle.run_model.specs.Run.{Given, setup_at, use_at}
 use Rattle.run_model.proofs.LinkEnds.{AreTaken, IsUnderstood}
 use Rattle.run_model.proofs.Stations.{among}
 use Rattle.run_model.proofs.Walk.{Place, NoTurn, AtPackets}
-use Rattle.run_laws.proofs.Agreed.{ack_of, ack_sent}
-use Rattle.run_laws.proofs.DistinctAccess.{AreApart}
-use Rattle.run_laws.proofs.OpenSteps.{none_open, open_has}
-use Rattle.run_laws.proofs.TurnPlaces.{Within, turned}
+use Rattle.journal_packets.specs.run_laws.Plainness.{IsPlainLink}
+use Rattle.journal_packets.proofs.run_laws.Agreed.{ack_of, ack_sent}
+use Rattle.journal_packets.proofs.run_laws.DistinctAccess.{AreApart}
+use Rattle.journal_packets.proofs.run_laws.OpenSteps.{none_open, open_has}
+use Rattle.journal_packets.proofs.run_laws.TurnPlaces.{Within, turned}
 use Rattle.journal_packets.specs.Senders.{IsOfSendersLink}
 use Rattle.journal_packets.proofs.AccessOrder.{AreNth}
 use Rattle.journal_packets.proofs.SoFar.{IsBelongingSoFar}
@@ -45,21 +46,22 @@ use Rattle.journal_acks.proofs.Exchanging.{exchange_at, number_at}
 use Rattle.journal_acks.proofs.FixedPdus.{sent_out}
 use Rattle.journal_acks.proofs.KeptLines.{AreLined, AreLinedAt, lines_kept}
 use Rattle.journal_acks.proofs.Known.{known_of}
+use Rattle.journal_acks.proofs.LinkCalls.{sent_plain}
 use Rattle.journal_acks.proofs.RunCounts.{counts_first}
 use Rattle.journal_acks.proofs.Seen.{seen_packet}
 use Rattle.journal_acks.proofs.TwoStations.{IsOfTwo}
 
 -- ---- where a packet is to be sent
 
-on_its_channel : (link sender : OpenLink) (may : Option ℕ) (channel : ℕ) → sender.setup ≡ link.setup → entries_in sender.past ≡ entries_in link.past → HasEntered sender
+on_its_channel : (link sender : OpenLink) (may : Option ℕ) (channel : ℕ) → IsPlainLink link → sender.setup ≡ link.setup → entries_in sender.past ≡ entries_in link.past → HasEntered sender
     → channel ≡ (facts_in link).event.channel → may ≡ channel_by sender.setup (entries_in sender.past) → may ≡ Some channel
-on_its_channel link sender may channel setup entries entered on is = by (entries_in sender.past) refl
+on_its_channel link sender may channel plain setup entries entered on is = by (entries_in sender.past) refl
   where
     by : (count : ℕ) → entries_in sender.past ≡ count → may ≡ Some channel
     by zero none = absurd (omega (arith, none, entered))
     by (suc count) are =
         is ∙ ap (channel_by sender.setup) are ∙ (λ i. Some (channel_of_event (setup i) (sym are i)))
-        ∙ (λ i. Some (channel_of_event link.setup (entries i))) ∙ ap Some (sym (past_in link.setup link.past).channel ∙ sym on)
+        ∙ (λ i. Some (channel_of_event link.setup (entries i))) ∙ ap Some (sym (past_in link.setup link.past plain).channel ∙ sym on)
 
 -- the packet, by the counts and the lines of the journal
 packet_is : (link : OpenLink) (end : Exchanged) (pdu : Pdu) (channel access init : ℕ) → channel ≡ (facts_in link).event.channel → access ≡ link.setup.link.fields.access
@@ -99,6 +101,7 @@ module _ (whole : IsHeardWhole) (given : Given) (Q : Place → List Event → Ty
       sender_counted whole given Q known are_two six distinct phases done left station channel octets [] history are wanted has.known has.holds has.counted off in
       let on = sends_it whole given Q known are_two six distinct phases done left station channel octets [] history are wanted has.known has.holds has.counted off in
       let begun = known.begun place history has.known station from.handle sender in_it from.is_open in
+      let plain = known.plain place history has.known station in_it from.handle sender from.is_open in
       let entered = turned setup (AreEntered setup) (entered_kept setup) (past_of station history) (record { stage = Within phases; begun = turns_begun history }) (entered_first setup)
       (has.holds.hearing.stand station in_it) in
       let acked = counted.acked ∙ ap (λ (a : Acknowledgement). a.acked) (ack_sent from.slot from.link) in
@@ -110,9 +113,9 @@ module _ (whole : IsHeardWhole) (given : Given) (Q : Place → List Event → Ty
           belongs = from.belongs;
           link = begun.link;
           is_link = begun.is_link;
-          in_event = on_its_channel from.link sender (channel_at number station history) channel refl (entries_sent true from.slot from.link)
+          in_event = on_its_channel from.link sender (channel_at number station history) channel (sent_plain true from.slot from.link plain) refl (entries_sent true from.slot from.link)
               (entered.sends from.handle sender from.is_open on) from.channel_is
-              (channel_read (journal_of history) station number sender (known.lines place history has.known station from.handle sender in_it from.is_open));
+              (channel_read (journal_of history) station number sender plain (known.lines place history has.known station from.handle sender in_it from.is_open));
           md = more_sent (facts_in from.link);
           carries = from.packet ∙ packet_is from.link end (carried_of number (journal_of history) (side_of station)) channel begun.link.fields.access begun.link.fields.crc_init from.channel_is
               (ap (λ f. f.access) begun.fields) (ap (λ f. f.crc_init) begun.fields) acked

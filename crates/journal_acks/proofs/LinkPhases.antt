@@ -1,9 +1,9 @@
 -- What a controller does with its links, with the phase that it stands in.
 use Rattle.std.proofs.Common.{ℕ, refl}
 use Rattle.controller_model.specs.Facts.{Setup, Facts, first_facts}
-use Rattle.run_laws.proofs.LinkPasses.{phase_passes}
-use Rattle.run_laws.proofs.LinkPhases.{IsAtStage, begins_in, passes_in}
-use Rattle.run_laws.proofs.TurnPlaces.{Between, IsTurned, Stage}
+use Rattle.journal_packets.proofs.run_laws.LinkPasses.{phase_passes_on}
+use Rattle.journal_packets.proofs.run_laws.LinkPhases.{IsAtStage, begins_in, passes_in}
+use Rattle.journal_packets.proofs.run_laws.TurnPlaces.{Between, IsTurned, Stage}
 use Rattle.journal_acks.proofs.LinkUses.{IsUsing, using_first, using_kept}
 
 pub record IsPhased (setup : Setup) (stage : Stage) (begun : ℕ) (facts : Facts) : Type 0 where
@@ -17,7 +17,7 @@ phased_kept setup = record {
   begins = λ begun on facts is. record { uses = (using_kept setup).begins begun on facts is.uses; phase = begins_in setup begun on facts };
   passes = λ phases begun received facts is. record {
     uses = (using_kept setup).passes phases begun received facts is.uses;
-    phase = passes_in setup facts received phases facts.turn.doing refl is.phase (phase_passes setup facts received is.uses.in_turn.listens);
+    phase = passes_in setup facts received phases facts.turn.doing refl is.phase (phase_passes_on setup facts received is.uses.in_turn.listens);
   };
   ends = λ begun facts is. record { uses = (using_kept setup).ends begun facts is.uses; phase = refl };
 }

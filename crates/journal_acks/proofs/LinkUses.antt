@@ -3,10 +3,10 @@ use Rattle.std.proofs.Common.{◌≡◌, ℕ, ◌==◌, Bool, true, false, Optio
 use Rattle.std.specs.Prelude.{⊤}
 use Rattle.std.specs.Option.{option_map}
 use Rattle.std.proofs.lemmas.Bool.{eqb-true}
-use Rattle.link_model.specs.Packets.{packet_sent}
-use Rattle.link_model.specs.Step.{PacketSent}
-use Rattle.open_links.specs.OpenLinks.{Links, OpenLink, facts_in, link_after, link_at, with_change}
-use Rattle.open_links.proofs.Handles.{changed_is}
+use Rattle.journal_packets.specs.link_model.Packets.{packet_sent}
+use Rattle.journal_packets.specs.link_model.Step.{PacketSent}
+use Rattle.journal_packets.specs.open_links.OpenLinks.{Links, OpenLink, facts_in, link_after, link_at, with_change}
+use Rattle.journal_packets.proofs.open_links.Handles.{changed_is}
 use Rattle.controller_model.specs.declared.doing.Doing.{Doing}
 use Rattle.controller_model.specs.declared.doing.Doing.TheVariants.{Advertises, Scans, AwaitsResponse, CentralSends, CentralListens, PeripheralListens, PeripheralSends, Rests}
 use Rattle.controller_model.specs.Step.{HostOctet, TurnEnds}
@@ -15,8 +15,8 @@ use Rattle.controller_model.specs.Packets.{facts_doing, sends_on, use_for}
 use Rattle.controller_model.specs.Radio.{outcome_begun}
 use Rattle.controller_model.specs.Side.{facts_after, outcome_heard, outcome_unheard}
 use Rattle.run_model.specs.Run.{step_of}
-use Rattle.run_laws.proofs.TurnPlaces.{Between, IsTurned, Stage}
-use Rattle.run_laws.proofs.Entering.{IsInTurn, turn_first, turn_kept}
+use Rattle.journal_packets.proofs.run_laws.TurnPlaces.{Between, IsTurned, Stage}
+use Rattle.journal_packets.proofs.run_laws.Entering.{IsInTurn, turn_first, turn_kept}
 
 -- it sends, or listens, on the link under this handle
 abbrev pub sends_under : ℕ → Doing → Bool

@@ -8,22 +8,23 @@ use Rattle.ble_base.specs.declared.notes.Note.TheVariants.{Up as UpNote, Sent as
 use Rattle.ble_base.specs.declared.roles.Side.{Side}
 use Rattle.journal.specs.declared.entries.Entry.{Entry}
 use Rattle.journal.specs.declared.entries.Entry.TheVariants.{Sent}
-use Rattle.link_model.specs.Acknowledgement.{Pdu, is_acked}
-use Rattle.link_model.specs.Data.{is_empty}
-use Rattle.link_model.specs.End.{sent_notes, sent_notes_if}
-use Rattle.link_model.specs.Step.{PacketReceived, PacketSent}
-use Rattle.link_model.proofs.Received.{IsHeardWhole}
-use Rattle.open_links.specs.OpenLinks.{OpenLink, facts_in, link_after, link_at}
-use Rattle.open_links.specs.Turns.{notes_entering}
-use Rattle.open_links.proofs.Handles.{handle_is}
+use Rattle.journal_packets.specs.link_model.Acknowledgement.{Acknowledgement, Pdu, is_acked}
+use Rattle.journal_packets.specs.link_model.Data.{is_empty, numbered}
+use Rattle.journal_packets.specs.link_model.Setup.{Setup as EndSetup}
+use Rattle.journal_packets.specs.link_model.Controls.{pdu_fixed}
+use Rattle.journal_packets.specs.link_model.Sending.{sent_notes, sent_notes_if}
+use Rattle.journal_packets.specs.link_model.Step.{PacketSent}
+use Rattle.journal_packets.proofs.link_model.Hearing.{IsHeardWhole}
+use Rattle.journal_packets.specs.open_links.OpenLinks.{OpenLink, facts_in, link_after, link_at}
+use Rattle.journal_packets.proofs.open_links.Handles.{handle_is}
 use Rattle.controller_model.specs.Step.{Step, HostOctet, TurnBegins, TurnEnds}
 use Rattle.controller_model.specs.Facts.{Facts}
-use Rattle.controller_model.specs.Heard.{has_room, link_heard, link_received, notes_taken, replies_in, reply_if}
-use Rattle.controller_model.specs.Links.{facts_ending, notes_ending}
+use Rattle.controller_model.specs.Heard.{has_room, link_heard, link_received, replies_in, reply_if}
 use Rattle.controller_model.specs.Outcome.{notes_passed}
 use Rattle.controller_model.specs.Packets.{notes_doing, notes_sent}
 use Rattle.controller_model.specs.Radio.{outcome_begun}
 use Rattle.controller_model.specs.Side.{notes_after}
+use Rattle.controller_model.proofs.Places.{link_receiving}
 use Rattle.run_model.specs.Feeding.{AreDistinct}
 use Rattle.run_model.specs.History.{Event, Called, Noted, packet_received, turns_begun}
 use Rattle.run_model.specs.Journal.{journal_of, side_of}
@@ -35,15 +36,15 @@ use Rattle.run_model.proofs.NoteLines.{line_in_call, to_line}
 use Rattle.run_model.proofs.Places.{each_at}
 use Rattle.run_model.proofs.Stations.{among, is_in, not_before}
 use Rattle.run_model.proofs.Walk.{Place, AtBegins, AtListening}
-use Rattle.run_laws.proofs.Agreed.{ack_of}
-use Rattle.run_laws.proofs.ByCalls.{Holds}
-use Rattle.run_laws.proofs.DistinctAccess.{AreApart}
-use Rattle.run_laws.proofs.InAgreement.{AreStations}
-use Rattle.run_laws.proofs.TurnPlaces.{Between, Within, at_stage}
+use Rattle.journal_packets.proofs.run_laws.Agreed.{ack_of}
+use Rattle.journal_packets.proofs.run_laws.ByCalls.{Holds}
+use Rattle.journal_packets.proofs.run_laws.DistinctAccess.{AreApart}
+use Rattle.journal_packets.proofs.run_laws.InAgreement.{AreStations}
+use Rattle.journal_packets.proofs.run_laws.TurnPlaces.{Between, Within, at_stage}
 use Rattle.journal_packets.proofs.AccessOrder.{AreNth}
 use Rattle.journal_packets.proofs.SoFar.{IsBelongingSoFar}
 use Rattle.journal_acks.specs.Carried.{IsNewPdu}
-use Rattle.journal_acks.proofs.CallNotes.{HasNoData, IsOfStarts, all_more, end_noted, no_data, octet_noted, start_noted}
+use Rattle.journal_acks.proofs.CallNotes.{HasNoData, IsOfStarts, all_more, end_noted, no_data, notes_starting, octet_noted, start_noted}
 use Rattle.journal_acks.proofs.Counting.{AreKnown, plain}
 use Rattle.journal_acks.proofs.DataCalls.{on_link_notes, own_begun, received_at, sent_at, unfound}
 use Rattle.journal_acks.proofs.EachCall.{HaveCalls, OfCall, run_calls}
@@ -52,7 +53,7 @@ use Rattle.journal_acks.proofs.FirstCounts.{IsCallOf, IsOnly, OfLink, OfNone}
 use Rattle.journal_acks.proofs.KeptCounts.{AreCountedAt, before_call, begun_call, call_is, counts_kept, station_is, was_taking}
 use Rattle.journal_acks.proofs.KeptLines.{rests_deaf, rests_none}
 use Rattle.journal_acks.proofs.Known.{known_of}
-use Rattle.journal_acks.proofs.LinkCalls.{base_ack, begins_under, taken_noted}
+use Rattle.journal_acks.proofs.LinkCalls.{IsOfTakes, base_ack, begins_under, received_noted, receiving_ack, receiving_setup}
 use Rattle.journal_acks.proofs.LinkUses.{listens_under}
 use Rattle.journal_acks.proofs.PhaseNotes.{IsOnLink, IsPhaseOf, IsPlainPhase, SendsFrom, SendsNothing, SendsOne, phase_of, same_but, sends_from}
 use Rattle.journal_acks.proofs.RunCounts.{counts_first}
@@ -79,6 +80,16 @@ starts_new history station = record {
   feeds = record { up = λ octets. tt; shut = λ handle reason. tt };
   applied = λ handle number event. tt;
   entered = λ handle event channel. tt;
+  done = λ handle kind. tt;
+  began = λ handle kind. tt;
+}
+
+taking_new : (history : List Event) (station : ℕ) → IsOfTakes (IsNewNote history station)
+taking_new history station = record {
+  feeds = (starts_new history station).feeds;
+  took = λ handle number llid octets. tt;
+  refused = λ handle kind code. tt;
+  done = λ handle kind. tt;
 }
 
 both_hold : (one other : Bool) → (one && not other) ≡ true → (one ≡ true) × (other ≡ false)
@@ -90,13 +101,16 @@ both_hold false other both = absurd cc
 module _ (history : List Event) (station other : ℕ) (base : OpenLink) (own : base.setup.link.handle ≡ other)
     (acked : (exchange_at (number_at station other history) history (side_of station)).acked ≡ (ack_of base).acked)
     (sent : (exchange_at (number_at station other history) history (side_of station)).sent ≡ length (ack_of base).sent) where
-  new_if : (noted : Bool) → (is_acked (ack_of base) && not (is_empty (facts_in base).outgoing.fixed)) ≡ noted
-      → All (IsNewNote history station) (sent_notes_if noted base.setup.link.handle (facts_in base))
+  abbrev pdu : Pdu
+  pdu = pdu_fixed (facts_in base)
+
+  new_if : (noted : Bool) → (is_acked (ack_of base) && not (is_empty pdu)) ≡ noted
+      → All (IsNewNote history station) (sent_notes_if noted base.setup.link.handle (numbered (ack_of base).sent) pdu)
   new_if false is = All-nil (IsNewNote history station)
   new_if true is =
-      let holds = both_hold (is_acked (ack_of base)) (is_empty (facts_in base).outgoing.fixed) is in
+      let holds = both_hold (is_acked (ack_of base)) (is_empty pdu) is in
       All-cons (IsNewNote history station) _ []
-      (subst (λ n. IsNewAt (number_at station n history) history station (facts_in base).outgoing.fixed) (sym own) (record {
+      (subst (λ n. IsNewAt (number_at station n history) history station pdu) (sym own) (record {
         all_acked = acked ∙ eqb-true (ack_of base).acked (length (ack_of base).sent) holds.0 ∙ sym sent;
         not_empty = holds.1;
       })) (All-nil (IsNewNote history station))
@@ -143,7 +157,7 @@ begin_new : (given : Given) (Q : Place → List Event → Type 0) (distinct : Ar
 begin_new given Q distinct done left station slot on history are is =
     let setup = setup_at given station in
     let facts = facts_at given station history in
-    let start = notes_ending slot facts ++ notes_entering slot (facts_ending slot facts).links in
+    let start = notes_starting slot facts in
     All-append (IsNewNote history station) start _ (start_noted (IsNewNote history station) (starts_new history station) slot facts)
     (by (sends_from (outcome_begun slot on facts).next (outcome_begun slot on facts).facts))
   where
@@ -190,14 +204,17 @@ module _ (given : Given) (Q : Place → List Event → Type 0) (known : AreKnown
       → All (IsNewNote history station) (notes_doing (reply_if replies other) (link_received other room octets facts))
   reply_new other octets base false was some on = All-nil (IsNewNote history station)
   reply_new other octets base true was some on =
-      let taken = link_after (PacketReceived facts.turn.slot octets room) base in
+      let slot = facts.turn.slot in
+      let taken = link_receiving other room octets facts base in
       let end = exchange_at (number_at station other history) history (side_of station) in
       let counts = was_taking received octets other facts.turn base end on some (before_call given Q known distinct phases done left station history are is q holds other base was) in
-      let but = same_but facts.turn.slot octets false room base in
-      subst (All (IsNewNote history station)) (sym (ap (notes_sent facts.turn.slot) (received_at facts.turn.slot other octets room facts.links base was)))
+      let but = same_but slot octets false room base in
+      let same = receiving_ack other room octets facts base in
+      subst (All (IsNewNote history station)) (sym (ap (notes_sent slot) (received_at other octets room facts base was)))
       (new_sent history station other taken
-      (handle_is 0 other facts.links base (station_is given Q known distinct phases done left station history are is q holds).own.handles was)
-      (counts.acked ∙ but.acked) (counts.sent ∙ ap length but.sent))
+      (ap (λ (one : EndSetup). one.link.handle) (receiving_setup other room octets facts base)
+      ∙ handle_is 0 other facts.links base (station_is given Q known distinct phases done left station history are is q holds).own.handles was)
+      (counts.acked ∙ but.acked ∙ ap (λ (a : Acknowledgement). a.acked) (sym same)) (counts.sent ∙ ap length but.sent ∙ ap (λ (a : Acknowledgement). length a.sent) (sym same)))
 
   phase_new : AreNew given history station (step_of received)
   phase_new = by (phase_of (setup_at given station) facts received)
@@ -207,9 +224,10 @@ module _ (given : Given) (Q : Place → List Event → Type 0) (known : AreKnown
           → All (IsNewNote history station) (notes_passed (link_heard (setup_at given station) other octets (facts_at given station history)))
       found_new other octets some on None absent = subst (All (IsNewNote history station)) (sym (unfound (setup_at given station) facts other octets absent)) (All-nil (IsNewNote history station))
       found_new other octets some on (Some base) was =
-          All-append (IsNewNote history station) (notes_taken facts.turn.slot room (link_at other facts.links) octets) _
-          (taken_noted (IsNewNote history station) (λ handle count llid body. tt) facts.turn.slot room (link_at other facts.links) octets)
-          (reply_new other octets base (replies_in (link_at other facts.links) octets) was some on)
+          let setup = setup_at given station in
+          All-append (IsNewNote history station) (link_heard setup other octets facts).notes _
+          (received_noted (IsNewNote history station) (taking_new history station) setup other octets facts)
+          (reply_new other octets base (replies_in facts.turn.slot room (link_at other facts.links) octets) was some on)
 
       by : IsPhaseOf (setup_at given station) (facts_at given station history) (packet_received station history) → AreNew given history station (step_of (packet_received station history))
       by (IsPlainPhase none plain_too) = all_more HasNoData (IsNewNote history station) (old_note history station) _ plain_too

@@ -6,6 +6,7 @@ use Rattle.std.proofs.lemmas.List.Elements.{All-append, All-cons, All-nil}
 use Rattle.ble_base.specs.declared.addresses.Address.{Address}
 use Rattle.ble_base.specs.declared.notes.Note.{Note}
 use Rattle.ble_base.specs.declared.notes.Note.TheVariants.{Took}
+use Rattle.ble_base.specs.declared.roles.Role.{Role}
 use Rattle.adv_pdu.specs.declared.pdu.AdvPdu.{AdvPdu}
 use Rattle.adv_pdu.specs.declared.pdu.ConnectFields.{ConnectFields}
 use Rattle.advertise.specs.declared.answers.AdvAnswer.{AdvAnswer}
@@ -13,16 +14,27 @@ use Rattle.advertise.specs.declared.answers.AdvAnswer.TheVariants.{Ignore, Respo
 use Rattle.advertise.specs.Advertising.{AdvertiserFacts}
 use Rattle.advertise.specs.Answers.{advertiser_answer}
 use Rattle.data_pdu.specs.Header.{header_in}
-use Rattle.link_model.specs.Acknowledgement.{Acknowledgement, received_by}
-use Rattle.link_model.specs.Data.{is_data, is_empty}
-use Rattle.link_model.specs.End.{facts_received, has_acknowledged, has_new_pdu, is_accepted, notes_after as end_notes, sent_notes, took_notes, took_notes_if}
-use Rattle.link_model.specs.Facts.{Facts as EndFacts}
-use Rattle.link_model.specs.Packets.{good_pdu, pdu_of}
-use Rattle.link_model.specs.Step.{PacketReceived, PacketSent}
-use Rattle.link_model.specs.declared.setup.LinkSetup.{LinkSetup}
+use Rattle.journal_packets.specs.link_model.Acknowledgement.{Acknowledgement, received_by}
+use Rattle.journal_packets.specs.link_model.Data.{is_data, is_empty}
+use Rattle.journal_packets.specs.link_model.Receiving.{facts_received, has_acknowledged, has_new_pdu, took_notes_if}
+use Rattle.journal_packets.proofs.link_model.Acknowledging.{ack_heard}
+use Rattle.journal_packets.specs.link_model.Data.{is_accepted}
+use Rattle.journal_packets.specs.link_model.End.{notes_after as end_notes}
+use Rattle.journal_packets.specs.link_model.Sending.{sent_notes}
+use Rattle.journal_packets.specs.link_model.Facts.{Facts as EndFacts}
+use Rattle.journal_packets.specs.link_model.Packets.{good_pdu}
+use Rattle.journal_packets.specs.link_model.Verdicts.{pdu_of}
+use Rattle.journal_packets.specs.link_model.Step.{PacketReceived, PacketSent}
+use Rattle.journal_packets.specs.link_model.declared.setup.LinkSetup.{LinkSetup}
+use Rattle.journal_packets.specs.plain_links.Idle.{IsIdle}
+use Rattle.journal_packets.specs.plain_links.Plain.{IsNoControl}
+use Rattle.journal_packets.specs.plain_links.Steps.{plain_received, plain_took}
+use Rattle.journal_packets.proofs.plain_links.Growing.{plain_less}
+use Rattle.journal_packets.proofs.plain_links.Idle.{past_idle}
+use Rattle.journal_packets.proofs.plain_links.Steps.{received_notes_plain, received_plain}
 use Rattle.scan_init.specs.Initiating.{InitiatorFacts}
 use Rattle.scan_init.specs.Reports.{ScannerFacts, does_ask, scan_answer}
-use Rattle.open_links.specs.OpenLinks.{OpenLink, facts_in, free_from, link_after, link_at}
+use Rattle.journal_packets.specs.open_links.OpenLinks.{OpenLink, facts_in, free_from, link_after, link_at}
 use Rattle.controller_model.specs.declared.doing.Doing.{Doing}
 use Rattle.controller_model.specs.declared.doing.Doing.TheVariants.{Advertises, AwaitsRequest, Scans, Requests, AwaitsResponse, Initiates, Connects, CentralSends, CentralListens, PeripheralListens, PeripheralSends}
 use Rattle.controller_model.specs.Facts.{Setup, Facts}
@@ -33,7 +45,8 @@ use Rattle.controller_model.specs.Outcome.{Outcome, notes_passed}
 use Rattle.controller_model.specs.Packets.{notes_doing, notes_sent, pdu_heard}
 use Rattle.controller_model.specs.Side.{notes_after}
 use Rattle.run_model.specs.Run.{step_of}
-use Rattle.run_laws.proofs.Agreed.{ack_of, step_facts}
+use Rattle.journal_packets.specs.run_laws.Plainness.{IsPlainLink}
+use Rattle.journal_packets.proofs.run_laws.Agreed.{ack_of, step_facts}
 use Rattle.journal_acks.proofs.Acks.{empty_is_no_data}
 use Rattle.journal_acks.proofs.CallNotes.{HasNoData, events_noted, no_data}
 use Rattle.journal_acks.proofs.LinkUses.{listens_under, sends_under}
@@ -52,42 +65,52 @@ pub data IsTakenSo (slot : ℕ) (octets : List ℕ) (room : Bool) (link : OpenLi
       → IsTakenSo slot octets room link
 
 received_ack : (slot : ℕ) (octets : List ℕ) (room : Bool) (link : OpenLink) (found : Option (List ℕ)) → good_pdu link.setup (facts_in link) octets ≡ found
-    → ack_of (link_after (PacketReceived slot octets room) link) ≡ (facts_received slot room found (facts_in link)).acknowledgement
+    → ack_of (link_after (PacketReceived slot octets room) link) ≡ (facts_received link.setup.link.role slot room found (facts_in link)).acknowledgement
 received_ack slot octets room link found is =
     ap (λ (f : EndFacts). f.acknowledgement) (step_facts link (PacketReceived slot octets room))
-    ∙ ap (λ may. (facts_received slot room may (facts_in link)).acknowledgement) is
+    ∙ ap (λ may. (facts_received link.setup.link.role slot room may (facts_in link)).acknowledgement) is
 
 -- all but what is accepted is the same with room and without
 pub record IsSameBut (one other : Acknowledgement) : Type 0 where
   pub sent : one.sent ≡ other.sent
   pub acked : one.acked ≡ other.acked
 
-received_same : (slot : ℕ) (room other : Bool) (found : Option (List ℕ)) (facts : EndFacts)
-    → IsSameBut (facts_received slot room found facts).acknowledgement (facts_received slot other found facts).acknowledgement
-received_same slot room other None facts = record { sent = refl; acked = refl }
-received_same slot room other (Some pdu) facts = record { sent = refl; acked = refl }
+received_same : (role : Role) (slot : ℕ) (room other : Bool) (found : Option (List ℕ)) (facts : EndFacts)
+    → IsSameBut (facts_received role slot room found facts).acknowledgement (facts_received role slot other found facts).acknowledgement
+received_same role slot room other None facts = record { sent = refl; acked = refl }
+received_same role slot room other (Some octets) facts =
+    let one = ack_heard role slot room (header_in octets) (pdu_of octets) facts in
+    let two = ack_heard role slot other (header_in octets) (pdu_of octets) facts in record {
+      sent = ap (λ (a : Acknowledgement). a.sent) one ∙ ap (λ (a : Acknowledgement). a.sent) (sym two);
+      acked = ap (λ (a : Acknowledgement). a.acked) one ∙ ap (λ (a : Acknowledgement). a.acked) (sym two);
+    }
 
 pub same_but : (slot : ℕ) (octets : List ℕ) (room other : Bool) (link : OpenLink)
     → IsSameBut (ack_of (link_after (PacketReceived slot octets room) link)) (ack_of (link_after (PacketReceived slot octets other) link))
 same_but slot octets room other link =
+    let role = link.setup.link.role in
     let found = good_pdu link.setup (facts_in link) octets in
     subst (λ a. IsSameBut a (ack_of (link_after (PacketReceived slot octets other) link))) (sym (received_ack slot octets room link found refl))
-    (subst (λ a. IsSameBut (facts_received slot room found (facts_in link)).acknowledgement a) (sym (received_ack slot octets other link found refl))
-    (received_same slot room other found (facts_in link)))
+    (subst (λ a. IsSameBut (facts_received role slot room found (facts_in link)).acknowledgement a) (sym (received_ack slot octets other link found refl))
+    (received_same role slot room other found (facts_in link)))
 
 -- what it sent is the same as before
 pub record HasSentSame (one other : Acknowledgement) : Type 0 where
   pub sent : one.sent ≡ other.sent
   pub last : one.last ≡ other.last
 
-received_sent : (slot : ℕ) (room : Bool) (found : Option (List ℕ)) (facts : EndFacts) → HasSentSame (facts_received slot room found facts).acknowledgement facts.acknowledgement
-received_sent slot room None facts = record { sent = refl; last = refl }
-received_sent slot room (Some pdu) facts = record { sent = refl; last = refl }
+received_sent : (role : Role) (slot : ℕ) (room : Bool) (found : Option (List ℕ)) (facts : EndFacts)
+    → HasSentSame (facts_received role slot room found facts).acknowledgement facts.acknowledgement
+received_sent role slot room None facts = record { sent = refl; last = refl }
+received_sent role slot room (Some octets) facts =
+    let heard = ack_heard role slot room (header_in octets) (pdu_of octets) facts in
+    record { sent = ap (λ (a : Acknowledgement). a.sent) heard; last = ap (λ (a : Acknowledgement). a.last) heard }
 
 pub sent_same : (slot : ℕ) (octets : List ℕ) (room : Bool) (link : OpenLink) → HasSentSame (ack_of (link_after (PacketReceived slot octets room) link)) (ack_of link)
 sent_same slot octets room link =
     let found = good_pdu link.setup (facts_in link) octets in
-    subst (λ a. HasSentSame a (ack_of link)) (sym (received_ack slot octets room link found refl)) (received_sent slot room found (facts_in link))
+    subst (λ a. HasSentSame a (ack_of link)) (sym (received_ack slot octets room link found refl))
+    (received_sent link.setup.link.role slot room found (facts_in link))
 
 noted_room : (room fresh full empty : Bool) → ((fresh && (room || not full)) && not empty) ≡ true → (fresh && (room || not full)) ≡ (fresh && true)
 noted_room true fresh full empty is = refl
@@ -103,36 +126,53 @@ quiet_room true true true true none is = absurd (let h : true ≡ false = none r
 quiet_room true true true false none is = absurd cc
 quiet_room true false full empty none is = refl
 
-pub taken_so : (slot : ℕ) (octets : List ℕ) (room : Bool) (link : OpenLink) → IsTakenSo slot octets room link
-taken_so slot octets room link = by (good_pdu link.setup (facts_in link) octets) refl
-  where
-    same_by : (other : Bool) (pdu : List ℕ) → good_pdu link.setup (facts_in link) octets ≡ Some pdu
-        → is_accepted room (has_new_pdu (facts_in link) (header_in pdu)) (pdu_of pdu) ≡ is_accepted other (has_new_pdu (facts_in link) (header_in pdu)) (pdu_of pdu)
-        → ack_of (link_after (PacketReceived slot octets room) link) ≡ ack_of (link_after (PacketReceived slot octets other) link)
-    same_by other pdu is accepted =
-        let facts = facts_in link in
-        received_ack slot octets room link (Some pdu) is
-        ∙ ap (λ b. received_by (has_acknowledged facts (header_in pdu)) b (pdu_of pdu) facts.acknowledgement) accepted
-        ∙ sym (received_ack slot octets other link (Some pdu) is)
+-- a plain link that receives a packet and stays plain
+module _ (slot : ℕ) (octets : List ℕ) (room : Bool) (link : OpenLink) (plain : IsPlainLink (link_after (PacketReceived slot octets room) link)) where
+  idle : IsIdle link.setup (facts_in link)
+  idle = past_idle link.setup link.past (plain_less link.setup link.past (PacketReceived slot octets room) plain).0
 
-    noted_by : (pdu : List ℕ) → good_pdu link.setup (facts_in link) octets ≡ Some pdu → (noted : Bool)
-        → (is_accepted room (has_new_pdu (facts_in link) (header_in pdu)) (pdu_of pdu) && not (is_empty (pdu_of pdu))) ≡ noted → IsTakenSo slot octets room link
-    noted_by pdu is true noted =
-        let fresh = has_new_pdu (facts_in link) (header_in pdu) in
-        Noted _ _ _ (ap (λ may. took_notes link.setup.link.handle room may (facts_in link)) is
-        ∙ ap (λ b. took_notes_if b link.setup.link.handle (pdu_of pdu) (facts_in link)) noted)
-        (same_by true pdu is (noted_room room fresh (is_data (pdu_of pdu)) (is_empty (pdu_of pdu)) noted))
-    noted_by pdu is false noted =
-        let fresh = has_new_pdu (facts_in link) (header_in pdu) in
-        Unnoted (ap (λ may. took_notes link.setup.link.handle room may (facts_in link)) is
-        ∙ ap (λ b. took_notes_if b link.setup.link.handle (pdu_of pdu) (facts_in link)) noted)
-        (same_by false pdu is (quiet_room room fresh (is_data (pdu_of pdu)) (is_empty (pdu_of pdu)) (empty_is_no_data (pdu_of pdu)) noted))
+  no_control : IsNoControl (good_pdu link.setup (facts_in link) octets)
+  no_control = (plain_less link.setup link.past (PacketReceived slot octets room) plain).1
 
-    by : (found : Option (List ℕ)) → good_pdu link.setup (facts_in link) octets ≡ found → IsTakenSo slot octets room link
-    by None is =
-        Unnoted (ap (λ may. took_notes link.setup.link.handle room may (facts_in link)) is)
-        (received_ack slot octets room link None is ∙ sym (received_ack slot octets false link None is))
-    by (Some pdu) is = noted_by pdu is _ refl
+  -- it notes at most that it takes a PDU
+  notes_are : (found : Option (List ℕ)) → good_pdu link.setup (facts_in link) octets ≡ found
+      → notes_taken slot room (Some link) octets ≡ plain_took link.setup.link.handle room found (facts_in link)
+  notes_are found is =
+      received_notes_plain link.setup (facts_in link) idle slot room (good_pdu link.setup (facts_in link) octets) no_control
+      ∙ ap (λ may. plain_took link.setup.link.handle room may (facts_in link)) is
+
+  ack_is : (other : Bool) (pdu : List ℕ) → good_pdu link.setup (facts_in link) octets ≡ Some pdu
+      → ack_of (link_after (PacketReceived slot octets other) link) ≡ (plain_received slot other (Some pdu) (facts_in link)).acknowledgement
+  ack_is other pdu is =
+      received_ack slot octets other link (Some pdu) is
+      ∙ ap (λ (f : EndFacts). f.acknowledgement) (received_plain link.setup (facts_in link) idle slot other (Some pdu) (subst IsNoControl is no_control))
+
+  pub taken_so : IsTakenSo slot octets room link
+  taken_so = by (good_pdu link.setup (facts_in link) octets) refl
+    where
+      same_by : (other : Bool) (pdu : List ℕ) → good_pdu link.setup (facts_in link) octets ≡ Some pdu
+          → is_accepted room (has_new_pdu (facts_in link) (header_in pdu)) (pdu_of pdu) ≡ is_accepted other (has_new_pdu (facts_in link) (header_in pdu)) (pdu_of pdu)
+          → ack_of (link_after (PacketReceived slot octets room) link) ≡ ack_of (link_after (PacketReceived slot octets other) link)
+      same_by other pdu is accepted =
+          let facts = facts_in link in
+          ack_is room pdu is
+          ∙ ap (λ b. received_by (has_acknowledged facts (header_in pdu)) b (pdu_of pdu) facts.acknowledgement) accepted
+          ∙ sym (ack_is other pdu is)
+
+      noted_by : (pdu : List ℕ) → good_pdu link.setup (facts_in link) octets ≡ Some pdu → (noted : Bool)
+          → (is_accepted room (has_new_pdu (facts_in link) (header_in pdu)) (pdu_of pdu) && not (is_empty (pdu_of pdu))) ≡ noted → IsTakenSo slot octets room link
+      noted_by pdu is true noted =
+          let fresh = has_new_pdu (facts_in link) (header_in pdu) in
+          Noted _ _ _ (notes_are (Some pdu) is ∙ ap (λ b. took_notes_if b link.setup.link.handle (pdu_of pdu) (facts_in link)) noted)
+          (same_by true pdu is (noted_room room fresh (is_data (pdu_of pdu)) (is_empty (pdu_of pdu)) noted))
+      noted_by pdu is false noted =
+          let fresh = has_new_pdu (facts_in link) (header_in pdu) in
+          Unnoted (notes_are (Some pdu) is ∙ ap (λ b. took_notes_if b link.setup.link.handle (pdu_of pdu) (facts_in link)) noted)
+          (same_by false pdu is (quiet_room room fresh (is_data (pdu_of pdu)) (is_empty (pdu_of pdu)) (empty_is_no_data (pdu_of pdu)) noted))
+
+      by : (found : Option (List ℕ)) → good_pdu link.setup (facts_in link) octets ≡ found → IsTakenSo slot octets room link
+      by None is = Unnoted (notes_are None is) (received_ack slot octets room link None is ∙ sym (received_ack slot octets false link None is))
+      by (Some pdu) is = noted_by pdu is _ refl
 
 -- ---- what is noted as a link is to send
 

@@ -1,5 +1,5 @@
--- Each line of a link that is shut with 00 comes of a Reset.
-use Rattle.std.proofs.Common.{◌≡◌, ℕ, ◌⊎◌, inl, inr, List, [], ◌∷◌, ◌++◌, refl, sym, ap, subst, ◌∙◌, append_assoc, arith, ◌==◌, true, append-nil}
+-- A line of a link that is shut as a step completes a Reset has the octets of the Reset before it.
+use Rattle.std.proofs.Common.{◌≡◌, ℕ, ◌⊎◌, inl, inr, List, [], ◌∷◌, ◌++◌, refl, sym, ap, subst, ◌∙◌, append_assoc, ◌==◌, true, append-nil}
 use Rattle.std.specs.Prelude.{flat_map, map, if◌then◌else◌}
 use Rattle.std.proofs.lemmas.Grind.{flat_map-append}
 use Rattle.ble_base.specs.declared.error_codes.ErrCode.{ErrCode}
@@ -7,13 +7,11 @@ use Rattle.ble_base.specs.declared.notes.Note.{Note}
 use Rattle.ble_base.specs.declared.roles.Side.{Side}
 use Rattle.hci_cmd.specs.declared.command.Command.TheVariants.{Reset}
 use Rattle.journal.specs.declared.entries.Entry.{Entry}
-use Rattle.journal.specs.declared.entries.Entry.TheVariants.{Fed, Shut}
+use Rattle.journal.specs.declared.entries.Entry.TheVariants.{Fed}
 use Rattle.controller_model.specs.Host.{commands_accepted_after}
-use Rattle.controller_model.specs.Shutting.{IsOverdue, IsShut, not_established, overdue, reset, timed_out}
 use Rattle.controller_model.specs.Side.{result_of}
 use Rattle.controller_model.specs.Step.{Step, HostOctet, TurnBegins, PacketHeard, NothingHeard, TurnEnds}
 use Rattle.controller_model.proofs.Resets.{resets}
-use Rattle.open_links.specs.OpenLinks.{OpenLink}
 use Rattle.run_model.specs.Due.{Each}
 use Rattle.run_model.specs.History.{Event, TurnBegan, HostFed, Called, Noted, Transmitted, fed_to, octets_in, past_of}
 use Rattle.run_model.specs.Journal.{entries_of, journal_from, journal_of, side_of}
@@ -22,7 +20,6 @@ use Rattle.run_model.specs.NoteLines.{IsLineInCall, shut_line}
 use Rattle.run_model.specs.Readers.{IsOfStations, fed_in, fed_to_side, of_side}
 use Rattle.run_model.specs.Run.{Given, facts_at, history_of, run_of, setup_at}
 use Rattle.run_model.proofs.Journals.{each_front, two, note_fed}
-use Rattle.run_model.proofs.NoteLines.{line_in_call}
 use Rattle.run_model.proofs.OfStations.{OfStations, run_of_stations}
 use Rattle.run_model.proofs.Parts.{journal_more, notes_noted, notes_more}
 use Rattle.run_model.proofs.Places.{each_at}
@@ -30,7 +27,6 @@ use Rattle.run_model.proofs.Stations.{is_in}
 use Rattle.journal_acks.specs.Shut.{CompletesReset}
 use Rattle.journal_acks.proofs.FeedCalls.{IsFedNow, OfFeed, run_feeds}
 use Rattle.journal_acks.proofs.TwoStations.{IsOfTwo}
-use Rattle.journal_acks.proofs.ShutLines.{shut_in}
 
 -- ---- what a side was fed, of two
 
@@ -110,20 +106,10 @@ module _ (given : Given) (are_two : IsOfTwo given) where
   by_step base after station NothingHeard earlier at accepted = absurd cc
   by_step base after station TurnEnds earlier at accepted = absurd cc
 
-  not_zero : (slot : ℕ) (link : OpenLink) (reason : ℕ) (X : Type 0) → IsOverdue slot link reason → reason ≡ 0x00 → X
-  not_zero slot link reason X (not_established none passed code) is = absurd (let h : 0x3E ≡ 0x00 = sym code ∙ is in omega (arith, h))
-  not_zero slot link reason X (timed_out good some passed code) is = absurd (let h : 0x08 ≡ 0x00 = sym code ∙ is in omega (arith, h))
-
-  by_reason : (front : List Entry) (side : Side) (number : ℕ) (reason : ErrCode) (call : IsLineInCall given front (shut_line side number reason))
-      → IsShut (facts_at given call.station call.base) call.step call.handle reason.0 → reason.0 ≡ 0x00 → CompletesReset front side
-  by_reason front side number reason call (overdue slot on link begins is_open due) is = not_zero slot link reason.0 _ due is
-  by_reason front side number reason call (reset link accepted is_open code) is =
+  -- a line in the call that completes it
+  pub reset_completed : (front : List Entry) (side : Side) (number : ℕ) (reason : ErrCode) (call : IsLineInCall given front (shut_line side number reason))
+      → commands_accepted_after (facts_at given call.station call.base) call.step ≡ Reset ∷ [] → CompletesReset front side
+  reset_completed front side number reason call accepted =
       subst (λ xs. CompletesReset xs side) (sym (call.front_is ∙ ap journal_of call.before_is))
       (subst (CompletesReset (journal_of (call.base ++ Called call.station call.step ∷ map (Noted call.station) call.earlier))) call.side_is
       (by_step call.base call.after call.station call.step call.earlier call.called accepted))
-
-  pub reset_completed : (front rest : List Entry) (side : Side) (number : ℕ) (reason : ErrCode) → journal_of (history_of (run_of given)) ≡ front ++ Shut side number reason ∷ rest
-      → reason.0 ≡ 0x00 → CompletesReset front side
-  reset_completed front rest side number reason is =
-      let call = line_in_call given front rest (Shut side number reason) (shut_line side number reason) refl is in
-      by_reason front side number reason call (shut_in given front side number reason call)

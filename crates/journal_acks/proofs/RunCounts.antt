@@ -1,7 +1,7 @@
 -- Each end of a link counts as the journal says, before each turn of a run and at its end.
 use Rattle.std.proofs.Common.{◌≡◌, ℕ, true, Some, None, Bool, List, [], ◌∷◌, ◌++◌, replicate, ap}
-use Rattle.link_model.proofs.Received.{IsHeardWhole}
-use Rattle.open_links.specs.OpenLinks.{OpenLink, link_at}
+use Rattle.journal_packets.proofs.link_model.Hearing.{IsHeardWhole}
+use Rattle.journal_packets.specs.open_links.OpenLinks.{OpenLink, link_at}
 use Rattle.controller_model.specs.Side.{facts_of}
 use Rattle.run_model.specs.Feeding.{AreDistinct}
 use Rattle.run_model.specs.History.{Event, TurnBegan, packet_received}
@@ -11,12 +11,12 @@ use Rattle.run_model.specs.Run.{Given, GoesOn, facts_at, history_of, run_of, set
 use Rattle.run_model.proofs.LinkEnds.{AreTaken, IsUnderstood}
 use Rattle.run_model.proofs.Stations.{is_in}
 use Rattle.run_model.proofs.Walk.{Place, NoTurn, IsKept}
-use Rattle.run_laws.proofs.Agreed.{ack_of}
-use Rattle.run_laws.proofs.ByCalls.{all_facts, first_hears}
-use Rattle.run_laws.proofs.DistinctAccess.{AreApart}
-use Rattle.run_laws.proofs.InAgreement.{AreStations, first_station}
-use Rattle.run_laws.proofs.OpenSteps.{none_open, open_has}
-use Rattle.run_laws.proofs.TurnPlaces.{stands_first}
+use Rattle.journal_packets.proofs.run_laws.Agreed.{ack_of}
+use Rattle.journal_packets.proofs.run_laws.ByCalls.{all_facts, first_hears}
+use Rattle.journal_packets.proofs.run_laws.DistinctAccess.{AreApart}
+use Rattle.journal_packets.proofs.run_laws.InAgreement.{AreStations, first_station}
+use Rattle.journal_packets.proofs.run_laws.OpenSteps.{none_open, open_has}
+use Rattle.journal_packets.proofs.run_laws.TurnPlaces.{stands_first}
 use Rattle.journal_packets.proofs.AccessOrder.{AreNth}
 use Rattle.journal_packets.proofs.SoFar.{IsBelongingSoFar, belonging_first}
 use Rattle.journal_acks.specs.Counted.{IsCounted}

@@ -1,16 +1,21 @@
 -- Each line of a link that is shut has its reason by the lines before it.
-use Rattle.std.proofs.Common.{◌≡◌, ℕ, ◌+◌, ◌-◌, ◌*◌, ◌≤◌, inl, inr, Bool, false, Option, Some, None, List, ◌∷◌, ◌++◌, length, refl, sym, ap, subst, ◌∙◌, arith}
+use Rattle.std.proofs.Common.{◌≡◌, ℕ, ◌+◌, ◌-◌, ◌*◌, ◌≤◌, inl, inr, Bool, true, false, Option, Some, None, List, ◌∷◌, ◌++◌, length, refl, sym, ap, subst, ◌∙◌, arith}
 use Rattle.std.specs.Prelude.{⊤, map, if◌then◌else◌}
 use Rattle.ble_base.specs.declared.notes.Note.{Note}
 use Rattle.ble_base.specs.declared.error_codes.ErrCode.{ErrCode}
 use Rattle.ble_base.specs.declared.roles.Side.{Side}
 use Rattle.journal.specs.declared.entries.Entry.{Entry}
 use Rattle.journal.specs.declared.entries.Entry.TheVariants.{Shut}
-use Rattle.link_model.proofs.Received.{IsHeardWhole}
-use Rattle.open_links.specs.OpenLinks.{OpenLink, link_at}
-use Rattle.controller_model.specs.Shutting.{IsOverdue, IsShut, not_established, overdue, reset, timed_out}
+use Rattle.journal_packets.proofs.link_model.Hearing.{IsHeardWhole}
+use Rattle.journal_packets.specs.link_model.declared.state.Leaving.{Leaving}
+use Rattle.journal_packets.specs.open_links.Data.{links_reported}
+use Rattle.journal_packets.specs.open_links.OpenLinks.{OpenLink, facts_in, link_at}
+use Rattle.controller_model.specs.Shutting.{IsLeaving, IsOverdue, IsShut, acknowledged, ended_by_peer, failed, leaving, overdue, reset}
+use Rattle.controller_model.specs.Data.{facts_handed}
 use Rattle.controller_model.specs.Step.{Step, HostOctet, TurnBegins, PacketHeard, NothingHeard, TurnEnds}
 use Rattle.controller_model.proofs.Shuts.{shuts_with_reason}
+use Rattle.journal_packets.specs.plain_links.Idle.{IsIdle}
+use Rattle.journal_packets.proofs.plain_links.Idle.{past_idle}
 use Rattle.run_model.specs.Due.{IsCallDue, IsDue}
 use Rattle.run_model.specs.Feeding.{AreDistinct}
 use Rattle.run_model.specs.History.{Event, Called, Noted, packet_received, past_of, turns_begun}
@@ -25,19 +30,23 @@ use Rattle.run_model.proofs.Dues.{run_due}
 use Rattle.run_model.proofs.Fates.{turns_are}
 use Rattle.run_model.proofs.LinkEnds.{AreTaken, IsUnderstood}
 use Rattle.run_model.proofs.NoteLines.{is_contained, line_in_call, number_then, to_line}
+use Rattle.run_model.proofs.OfStations.{OfStations, run_of_stations}
 use Rattle.run_model.proofs.Parts.{journal_more}
 use Rattle.run_model.proofs.Places.{each_at}
-use Rattle.run_model.proofs.Stations.{among, not_before}
+use Rattle.run_model.proofs.Stations.{among, is_in, not_before}
 use Rattle.run_model.proofs.Walk.{Place, AtBegins}
-use Rattle.run_laws.proofs.DistinctAccess.{AreApart}
-use Rattle.run_laws.proofs.TurnPlaces.{Between, Standing, Within, at_stage, stands_at, turned}
-use Rattle.journal_links.specs.Begun.{link_numbered}
-use Rattle.journal_links.proofs.LinksBegun.{number_stays}
+use Rattle.journal_packets.specs.run_laws.Plainness.{IsPlainLink}
+use Rattle.journal_packets.proofs.run_laws.DistinctAccess.{AreApart}
+use Rattle.journal_packets.proofs.run_laws.OpenSteps.{open_has, reports}
+use Rattle.journal_packets.proofs.run_laws.PlainLinks.{each_plain, plain_hosts}
+use Rattle.journal_packets.proofs.run_laws.TurnPlaces.{Between, Standing, Within, at_stage, stands_at, turned}
+use Rattle.journal_packets.specs.journal_links.Begun.{link_numbered}
+use Rattle.journal_packets.proofs.journal_links.LinksBegun.{number_stays}
 use Rattle.journal_packets.proofs.AccessOrder.{AreNth}
 use Rattle.journal_packets.proofs.SoFar.{IsBelongingSoFar}
-use Rattle.journal_acks.specs.Shut.{CompletesReset, IsShutWithReason, last_heard}
+use Rattle.journal_acks.specs.Shut.{IsShutWithReason, last_heard}
 use Rattle.journal_acks.proofs.Counting.{AreKnown, IsBegun}
-use Rattle.journal_acks.proofs.DueLinks.{AreLater, end_of, ends_by, ends_now, later_first, later_kept}
+use Rattle.journal_acks.proofs.DueLinks.{AreLater, IsPlainlyOverdue, NotEstablished, TimedOut, end_of, ends_by, ends_now, later_first, later_kept, plainly_overdue}
 use Rattle.journal_acks.proofs.EachCall.{HaveCalls, OfCall, run_calls}
 use Rattle.journal_acks.proofs.Exchanging.{number_at}
 use Rattle.journal_acks.proofs.GoodCalls.{AreGoodAt, plain}
@@ -45,6 +54,7 @@ use Rattle.journal_acks.proofs.GoodLinks.{good_of, slot_of}
 use Rattle.journal_acks.proofs.HeardLines.{heard_at, heard_in_call}
 use Rattle.journal_acks.proofs.KeptGood.{good_first, good_kept}
 use Rattle.journal_acks.proofs.Known.{known_of}
+use Rattle.journal_acks.proofs.ResetLines.{reset_completed}
 use Rattle.journal_acks.proofs.TwoStations.{IsOfTwo}
 
 -- ---- its call
@@ -62,6 +72,7 @@ shut_in given front side number reason call =
 record IsTold (given : Given) (history : List Event) (station handle : ℕ) (link : OpenLink) : Type 0 where
   begun : IsBegun history (number_at station handle history) station link.setup
   heard : heard_at (number_at station handle history) (side_of station) history ≡ good_of link
+  plain : IsPlainLink link
   -- it does not end before this turn
   later : turns_begun history - 1 ≤ end_of link
 
@@ -95,11 +106,13 @@ unfolding AreTold
 have_told taken given Q known distinct = record {
   feeds = λ station octet history. tt;
   begins = λ plan slot done left station history are has next. λ handle link at.
-      let in_it = among given.stations done left station are in record {
+      let in_it = among given.stations done left station are in
+      let is_plain = known.plain (AtBegins done (station ∷ left)) history has.is.known station in_it handle link at in record {
         begun = known.begun (AtBegins done (station ∷ left)) history has.is.known station handle link in_it at;
         heard = plain (packet_received station history) handle (facts_at given station history).turn link _ (λ listens. has.is.holds.hearing.hears station in_it)
             (has.good station handle link in_it at);
-        later = (later_between taken given Q distinct done left station history are has).later handle link at;
+        plain = is_plain;
+        later = (later_between taken given Q distinct done left station history are has).later handle link at is_plain;
       };
   passes = λ phases done left station history are has next. any_passes given history station (packet_received station history);
   ends = λ station history. tt;
@@ -141,11 +154,11 @@ module _ (given : Given) (station handle slot reason : ℕ) (on : Bool) (base : 
   heard_now : last_heard number (side_of station) front ≡ good_of link
   heard_now = heard_in_call number (side_of station) station (TurnBegins slot on) base earlier ∙ told.heard
 
-  ends_at_once : IsOverdue slot link reason → slot ≡ end_of link
+  ends_at_once : IsPlainlyOverdue slot link reason → slot ≡ end_of link
   ends_at_once due = ends_now slot link reason (from_now (turns_begun base) slot (end_of link) told.later now) due
 
-  overdue_reason : IsOverdue slot link reason → IsShutWithReason front (side_of station) number reason
-  overdue_reason (not_established none passed code) = record {
+  overdue_by : IsPlainlyOverdue slot link reason → IsShutWithReason front (side_of station) number reason
+  overdue_by (NotEstablished none passed code) = record {
     one_of = inr (inl code);
     reset = λ is. absurd (let h : 0x3E ≡ 0x00 = sym code ∙ is in omega (arith, h));
     not_established = λ is. record {
@@ -154,11 +167,11 @@ module _ (given : Given) (station handle slot reason : ℕ) (on : Bool) (base : 
       none_heard = heard_now ∙ ap slot_of none;
       in_turn = exact_by 6 link.setup.opened slot link.setup.link.fields.interval told.begun.link.slot told.begun.link.fields.interval (length (turns_of front)) told.begun.slot
           (ap (λ f. f.interval) told.begun.fields) turns_now
-          (ends_at_once (not_established none passed code) ∙ ap (λ may. ends_by link.setup.opened link.setup.link.fields (slot_of may)) none);
+          (ends_at_once (NotEstablished none passed code) ∙ ap (λ may. ends_by link.setup.opened link.setup.link.fields (slot_of may)) none);
     };
     timed_out = λ is. absurd (let h : 0x3E ≡ 0x08 = sym code ∙ is in omega (arith, h));
   }
-  overdue_reason (timed_out good some passed code) = record {
+  overdue_by (TimedOut good some passed code) = record {
     one_of = inr (inr code);
     reset = λ is. absurd (let h : 0x08 ≡ 0x00 = sym code ∙ is in omega (arith, h));
     not_established = λ is. absurd (let h : 0x3E ≡ 0x08 = sym is ∙ code in omega (arith, h));
@@ -169,15 +182,31 @@ module _ (given : Given) (station handle slot reason : ℕ) (on : Bool) (base : 
       heard = heard_now ∙ ap slot_of some;
       in_turn = exact_by 8 good.slot slot link.setup.link.fields.timeout good.slot told.begun.link.fields.timeout (length (turns_of front)) refl
           (ap (λ f. f.timeout) told.begun.fields) turns_now
-          (ends_at_once (timed_out good some passed code) ∙ ap (λ may. ends_by link.setup.opened link.setup.link.fields (slot_of may)) some);
+          (ends_at_once (TimedOut good some passed code) ∙ ap (λ may. ends_by link.setup.opened link.setup.link.fields (slot_of may)) some);
     };
   }
+
+  overdue_reason : IsOverdue slot link reason → IsShutWithReason front (side_of station) number reason
+  overdue_reason due = overdue_by (plainly_overdue slot link reason told.plain due)
+
+-- no plain link ends as a turn ends
+not_leaving : (link : OpenLink) (reason : ℕ) (X : Type 0) → IsPlainLink link → IsLeaving link reason → X
+not_leaving link reason X plain leaves = by leaves
+  where
+    idle : IsIdle link.setup (facts_in link)
+    idle = past_idle link.setup link.past plain
+
+    by : IsLeaving link reason → X
+    by (acknowledged is same) = absurd (let h : true ≡ false = sym is ∙ ap (λ (l : Leaving). l.acknowledged) idle.leaving in absurd cc)
+    by (failed code going ends same) = absurd (let h : Some code ≡ None = sym ends ∙ idle.ends in absurd cc)
+    by (ended_by_peer code going goes answered ended same) =
+        absurd (let h : true ≡ false = sym answered ∙ ap (λ (l : Leaving). l.answered) idle.leaving in absurd cc)
 
 -- ---- a line
 
 module _ (whole : IsHeardWhole) (understood : IsUnderstood) (taken : AreTaken) (nth : AreNth) (apart : AreApart) (given : Given) (are_two : IsOfTwo given) (six : HaveAddresses given)
     (distinct : AreDistinct given.stations) (front rest : List Entry) (side : Side) (number : ℕ) (reason : ErrCode)
-    (is : journal_of (history_of (run_of given)) ≡ front ++ Shut side number reason ∷ rest) (resets : reason.0 ≡ 0x00 → CompletesReset front side) where
+    (is : journal_of (history_of (run_of given)) ≡ front ++ Shut side number reason ∷ rest) where
   abbrev line : LinkLine
   line = shut_line side number reason
 
@@ -202,6 +231,16 @@ module _ (whole : IsHeardWhole) (understood : IsUnderstood) (taken : AreTaken) (
       (subst (λ n. IsSo n (journal_of call.before) (side_of call.station)) (number_then given front line call outside ∙ sym call.number_is)
       (subst (λ xs. IsSo (number_at call.station call.handle call.base) (journal_of xs) (side_of call.station)) (sym call.before_is) so))
 
+  in_it : is_in call.station given.stations ≡ true
+  in_it = each_at (OfStations given) (history_of (run_of given)) call.base call.after (Called call.station call.step) (run_of_stations given) call.called
+
+  -- the links are plain before the call, also once their data was reported
+  reported_plain : (handle : ℕ) (link : OpenLink) → link_at handle (facts_handed (facts_at given call.station call.base)).links ≡ Some link → IsPlainLink link
+  reported_plain handle link is_open =
+      let links = (facts_at given call.station call.base).links in
+      let before = each_plain given six distinct call.base (Called call.station call.step ∷ call.after) call.called call.station in_it in
+      open_has IsPlainLink 0 handle (links_reported links) link (reports IsPlainLink plain_hosts links before) is_open
+
   reason_of : IsShut (facts_at given call.station call.base) call.step call.handle reason.0 → IsSo number front side
   reason_of (overdue slot on link begins is_open due) =
       let due_then = subst (IsCallDue given call.base call.station) begins
@@ -210,9 +249,10 @@ module _ (whole : IsHeardWhole) (understood : IsUnderstood) (taken : AreTaken) (
       at_line (ap ends_phase begins)
       (subst (λ step. IsSo (number_at call.station call.handle call.base) (journal_of (call.base ++ Called call.station step ∷ map (Noted call.station) call.earlier)) (side_of call.station)) (sym begins)
       (overdue_reason given call.station call.handle slot reason.0 on call.base call.earlier link told due_then.slot_is due))
+  reason_of (leaving link ends is_open leaves) = not_leaving link reason.0 (IsSo number front side) (reported_plain call.handle link is_open) leaves
   reason_of (reset link completed is_open code) = record {
     one_of = inl code;
-    reset = resets;
+    reset = λ is. reset_completed given are_two front side number reason call completed;
     not_established = λ is. absurd (let h : 0x00 ≡ 0x3E = sym code ∙ is in omega (arith, h));
     timed_out = λ is. absurd (let h : 0x00 ≡ 0x08 = sym code ∙ is in omega (arith, h));
   }

@@ -3,8 +3,8 @@ use Rattle.std.proofs.Common.{◌≡◌, ℕ, ◌<◌, ◌==◌, ◌⊎◌, inl,
 use Rattle.std.proofs.lemmas.Bool.{eqb-true, eqb-false, false_from_ne_true}
 use Rattle.ble_base.specs.declared.roles.Role.{Role}
 use Rattle.ble_base.specs.declared.roles.Role.TheVariants.{Central, Peripheral}
-use Rattle.link_model.specs.Packets.{packet_sent}
-use Rattle.open_links.specs.OpenLinks.{Links, OpenLink, facts_in, link_at}
+use Rattle.journal_packets.specs.link_model.Packets.{packet_sent}
+use Rattle.journal_packets.specs.open_links.OpenLinks.{Links, OpenLink, facts_in, link_at}
 use Rattle.controller_model.specs.declared.doing.Doing.{Doing}
 use Rattle.controller_model.specs.declared.doing.Doing.TheVariants.{Advertises, CentralSends, CentralListens, PeripheralListens, PeripheralSends}
 use Rattle.controller_model.specs.Facts.{Setup, Facts, Sends, Listens}
@@ -18,14 +18,14 @@ use Rattle.run_model.specs.Links.{is_advertising}
 use Rattle.run_model.specs.Run.{Given, facts_at, setup_at}
 use Rattle.run_model.proofs.Stations.{is_in}
 use Rattle.run_model.proofs.Walk.{Place}
-use Rattle.run_laws.proofs.Agreed.{ack_of}
-use Rattle.run_laws.proofs.ConnectInds.{no_advertising}
-use Rattle.run_laws.proofs.InAgreement.{IsFresh, IsStation, OpenedBefore}
-use Rattle.run_laws.proofs.LinkPasses.{is_on_link}
-use Rattle.run_laws.proofs.LinkPhases.{HasRole, IsInPhase}
-use Rattle.run_laws.proofs.OpenSteps.{open_has}
-use Rattle.run_laws.proofs.TurnPlaces.{AllStand, Standing, stands_at, turned}
-use Rattle.run_laws.proofs.TurnSteps.{IsListening}
+use Rattle.journal_packets.proofs.run_laws.Agreed.{ack_of}
+use Rattle.journal_packets.proofs.run_laws.ConnectInds.{no_advertising}
+use Rattle.journal_packets.proofs.run_laws.InAgreement.{IsFresh, IsStation, OpenedBefore}
+use Rattle.journal_packets.proofs.run_laws.LinkPasses.{is_on_link}
+use Rattle.journal_packets.proofs.run_laws.LinkPhases.{HasRole, IsInPhase}
+use Rattle.journal_packets.proofs.run_laws.OpenSteps.{open_has}
+use Rattle.journal_packets.proofs.run_laws.TurnPlaces.{AllStand, Standing, stands_at, turned}
+use Rattle.journal_packets.proofs.run_laws.TurnSteps.{IsListening}
 use Rattle.journal_acks.specs.Counted.{IsCounted}
 use Rattle.journal_acks.specs.Exchange.{Exchanged, first_exchanged}
 use Rattle.journal_acks.proofs.Acks.{first_counted}

@@ -11,14 +11,16 @@ use Rattle.air_frame.specs.Hearing.{heard_in}
 use Rattle.air_frame.specs.Packet.{IsPdu, access_octets, is_packet, pdu_in}
 use Rattle.air_frame.specs.declared.Heard.TheVariants.{NotOurs, Broken, Whole}
 use Rattle.data_pdu.specs.Header.{counts_as_empty, octets_of}
-use Rattle.link_model.specs.Data.{is_empty}
+use Rattle.journal_packets.specs.link_model.Data.{is_empty}
 use Rattle.journal.specs.declared.entries.Entry.TheVariants.{Air}
-use Rattle.link_model.specs.Facts.{Facts as EndFacts}
-use Rattle.link_model.specs.Packets.{header_sent, packet_sent, payload_sent, pdu_sent, verdict_by as verdict_by_end, verdict_of as verdict_of_end}
-use Rattle.link_model.specs.Setup.{Setup as EndSetup}
-use Rattle.link_model.proofs.Payloads.{IsInForm}
-use Rattle.link_model.proofs.Received.{IsHeardWhole, header_read}
-use Rattle.open_links.specs.OpenLinks.{OpenLink, facts_in, link_at}
+use Rattle.journal_packets.specs.link_model.Facts.{Facts as EndFacts}
+use Rattle.journal_packets.specs.link_model.Packets.{header_sent, packet_sent, payload_sent, pdu_sent, verdict_of as verdict_of_end}
+use Rattle.journal_packets.specs.link_model.Verdicts.{verdict_by as verdict_by_end}
+use Rattle.journal_packets.specs.link_model.Setup.{Setup as EndSetup}
+use Rattle.journal_packets.proofs.plain_links.Payloads.{IsInForm}
+use Rattle.journal_packets.proofs.link_model.Hearing.{IsHeardWhole}
+use Rattle.journal_packets.proofs.link_model.Received.{header_read}
+use Rattle.journal_packets.specs.open_links.OpenLinks.{OpenLink, facts_in, link_at}
 use Rattle.controller_model.specs.declared.doing.Doing.{Doing}
 use Rattle.controller_model.specs.declared.doing.Doing.TheVariants.{Advertises, AwaitsRequest, Scans, AwaitsResponse, Initiates, CentralListens, PeripheralListens}
 use Rattle.controller_model.specs.Facts.{Facts, Use, Sends, Listens, Idle}
@@ -34,8 +36,8 @@ use Rattle.run_model.specs.Run.{Given, fate_at, hearing_at, hearings_from, heari
 use Rattle.run_model.proofs.Journals.{two}
 use Rattle.run_model.proofs.Parts.{journal_event}
 use Rattle.run_model.proofs.Stations.{is_in}
-use Rattle.run_laws.proofs.TurnSteps.{IsListening as IsListeningFor}
-use Rattle.journal_links.specs.Begun.{LinkBegun, link_numbered}
+use Rattle.journal_packets.proofs.run_laws.TurnSteps.{IsListening as IsListeningFor}
+use Rattle.journal_packets.specs.journal_links.Begun.{LinkBegun, link_numbered}
 use Rattle.journal_packets.specs.Belonging.{is_side, link_of_packet}
 use Rattle.journal_acks.specs.Exchange.{Exchanged, after_packet, carries_empty, exchange_of, is_empty_in, is_number}
 use Rattle.journal_acks.proofs.Exchanging.{exchange_at, exchange_more}
@@ -255,5 +257,5 @@ sent_empty whole setup facts link channel octets form fields on packet =
     let pdu = octets_of (header_sent facts) ++ payload_sent facts in
     (λ i. is_empty_in (heard_in (on i) ((fields i).access) ((fields i).crc_init) (packet i)))
     ∙ ap is_empty_in (whole facts.event.channel setup.link.fields.access setup.link.fields.crc_init pdu (sent_in_form facts form))
-    ∙ ap counts_as_empty (header_read facts form)
+    ∙ ap counts_as_empty (header_read facts form.low)
     ∙ ap (λ (payload : List ℕ). (pdu_sent facts).llid == 0 || length payload == 0) form.opened

@@ -14,27 +14,31 @@ use Rattle.hci_cmd.specs.declared.command.CmdRead.{CmdRead}
 use Rattle.hci_cmd.specs.declared.command.CmdRead.TheVariants.{Known, UnknownOpcode, BadLength}
 use Rattle.hci_cmd.specs.Command.{command_of}
 use Rattle.host_view.specs.Unbuilt.{status_of}
-use Rattle.link_model.specs.Setup.{Setup as EndSetup}
-use Rattle.link_model.specs.Events.{count_entry, entries_in}
-use Rattle.link_model.specs.Facts.{Facts as EndFacts}
-use Rattle.link_model.specs.Step.{Step as EndStep, DataGiven, DataReported, PduFixed, PacketSent}
-use Rattle.open_links.specs.declared.offers.Offer.{Offer}
-use Rattle.open_links.specs.declared.offers.Offer.TheVariants.{NoLink, Empty, Overflow, Kept}
-use Rattle.open_links.specs.Data.{complete_in, link_reported, links_given}
-use Rattle.open_links.specs.OpenLinks.{Links, OpenLink, facts_in, link_after, link_at, link_from, new_link, with_change, with_change_from, with_link, without_links}
-use Rattle.open_links.specs.Turns.{link_entered, links_entered, links_staying, place_staying, reason_in, staying_by}
-use Rattle.open_links.proofs.Ends.{stays_where_not_due}
-use Rattle.open_links.proofs.Handles.{changed_is, other_stays}
+use Rattle.journal_packets.specs.link_model.Setup.{Setup as EndSetup}
+use Rattle.journal_packets.specs.plain_links.Events.{count_entry, entries_in}
+use Rattle.journal_packets.specs.link_model.Facts.{Facts as EndFacts}
+use Rattle.journal_packets.specs.link_model.Step.{Step as EndStep, DataGiven, DataReported, PduFixed, PacketSent}
+use Rattle.journal_packets.specs.open_links.declared.offers.Offer.{Offer}
+use Rattle.journal_packets.specs.open_links.declared.offers.Offer.TheVariants.{NoLink, Empty, Overflow, Kept}
+use Rattle.journal_packets.specs.open_links.Data.{complete_in, link_reported, links_given, links_reported}
+use Rattle.journal_packets.specs.open_links.OpenLinks.{Links, OpenLink, facts_in, link_after, link_at, link_from, new_link, with_change, with_change_from, with_link, without_links}
+use Rattle.journal_packets.specs.open_links.Turns.{ending_in, link_entered, links_without, place_without, staying_by}
+use Rattle.journal_packets.proofs.open_links.Ends.{stays_where_not_due}
+use Rattle.journal_packets.proofs.open_links.Handles.{changed_is, other_stays}
 use Rattle.controller_model.specs.declared.doing.Doing.{Doing}
 use Rattle.controller_model.specs.declared.doing.Doing.TheVariants.{Advertises, CentralSends, PeripheralListens, PeripheralSends}
 use Rattle.controller_model.specs.Step.{HostOctet, TurnEnds}
 use Rattle.controller_model.specs.Facts.{Setup, Facts}
 use Rattle.controller_model.specs.Commands.{facts_commanded, facts_known, links_after}
-use Rattle.controller_model.specs.Data.{facts_offered, offer_of}
+use Rattle.controller_model.specs.Entering.{all_entered}
+use Rattle.controller_model.specs.Data.{facts_handed, facts_offered, offer_of}
 use Rattle.controller_model.specs.Packets.{links_sending}
 use Rattle.controller_model.specs.Radio.{links_fixing}
 use Rattle.controller_model.specs.Side.{facts_after, facts_fed, result_of}
-use Rattle.run_laws.proofs.Agreed.{ack_given, ack_of, ack_reported, step_facts}
+use Rattle.controller_model.proofs.Always.{leaving_is}
+use Rattle.journal_packets.proofs.plain_links.Growing.{plain_front}
+use Rattle.journal_packets.specs.run_laws.Plainness.{IsPlainLink}
+use Rattle.journal_packets.proofs.run_laws.Agreed.{ack_given, ack_of, ack_reported, step_facts}
 use Rattle.journal_acks.proofs.LinkUses.{sends_under}
 
 -- a place that is open after a change of it was open before
@@ -110,27 +114,28 @@ map_under change none first handle (place ∷ links) = at (first == handle) (map
     at true rest = refl
     at false rest = rest
 
-pub entered_under : (slot handle : ℕ) (links : Links) (after : OpenLink) → link_at handle (links_entered slot links) ≡ Some after
+pub entered_under : (slot handle : ℕ) (links : Links) (after : OpenLink) → link_at handle (all_entered slot links) ≡ Some after
     → WasOpen (link_entered slot) (link_at handle links) after
 entered_under slot handle links after is =
     was_open (link_entered slot) (link_at handle links) after (sym (map_under (option_map (link_entered slot)) refl 0 handle links) ∙ is)
 
-pub record HasStayed (slot : ℕ) (place : Option OpenLink) (after : OpenLink) : Type 0 where
+-- a link has no such reason to end
+pub record HasStayed (reason : OpenLink → Option ℕ) (place : Option OpenLink) (after : OpenLink) : Type 0 where
   pub was : place ≡ Some after
-  pub stays : reason_in slot after ≡ None
+  pub stays : reason after ≡ None
 
-staying : (slot : ℕ) (place : Option OpenLink) (after : OpenLink) → place_staying slot place ≡ Some after → HasStayed slot place after
-staying slot None after is = absurd cc
-staying slot (Some link) after is = by (reason_in slot link) refl is
+staying : (reason : OpenLink → Option ℕ) (place : Option OpenLink) (after : OpenLink) → place_without reason place ≡ Some after → HasStayed reason place after
+staying reason None after is = absurd cc
+staying reason (Some link) after is = by (reason link) refl is
   where
-    by : (reason : Option ℕ) → reason_in slot link ≡ reason → staying_by reason link ≡ Some after → HasStayed slot (Some link) after
+    by : (code : Option ℕ) → reason link ≡ code → staying_by code link ≡ Some after → HasStayed reason (Some link) after
     by None none same =
-        let equal : link ≡ after = cc in record { was = same; stays = subst (λ (l : OpenLink). reason_in slot l ≡ None) equal none }
-    by (Some reason) some same = absurd cc
+        let equal : link ≡ after = cc in record { was = same; stays = subst (λ (l : OpenLink). reason l ≡ None) equal none }
+    by (Some code) some same = absurd cc
 
-pub staying_under : (slot handle : ℕ) (links : Links) (after : OpenLink) → link_at handle (links_staying slot links) ≡ Some after
-    → HasStayed slot (link_at handle links) after
-staying_under slot handle links after is = staying slot (link_at handle links) after (sym (stays_where_not_due slot 0 handle links) ∙ is)
+pub staying_under : (reason : OpenLink → Option ℕ) (handle : ℕ) (links : Links) (after : OpenLink) → link_at handle (links_without reason links) ≡ Some after
+    → HasStayed reason (link_at handle links) after
+staying_under reason handle links after is = staying reason (link_at handle links) after (sym (stays_where_not_due reason 0 handle links) ∙ is)
 
 -- ---- a link that is opened
 
@@ -181,7 +186,7 @@ fixing_under handle doing links after is = nothing_fixed (link_at handle links) 
 
 -- ---- what the host gives, and what is reported to it
 
--- the link that was there before has sent, accepted and entered the same, and is in the same event
+-- the link that was there before has sent, accepted and entered the same, is in the same event, and was plain if it is
 pub record WasAlike (place : Option OpenLink) (after : OpenLink) : Type 0 where
   pub link : OpenLink
   pub was : place ≡ Some link
@@ -190,9 +195,10 @@ pub record WasAlike (place : Option OpenLink) (after : OpenLink) : Type 0 where
   pub entries : entries_in after.past ≡ entries_in link.past
   pub event : (facts_in after).event ≡ (facts_in link).event
   pub good : (facts_in after).last_good ≡ (facts_in link).last_good
+  pub plain : IsPlainLink after → IsPlainLink link
 
 alike_same : (place : Option OpenLink) (after : OpenLink) → place ≡ Some after → WasAlike place after
-alike_same place after is = record { link = after; was = is; setup = refl; ack = refl; entries = refl; event = refl; good = refl }
+alike_same place after is = record { link = after; was = is; setup = refl; ack = refl; entries = refl; event = refl; good = refl; plain = λ is_plain. is_plain }
 
 pub entries_after : (link : OpenLink) (step : EndStep) → entries_in (link_after step link).past ≡ count_entry (entries_in link.past) step
 entries_after link step = fold-append count_entry 0 link.past (step ∷ [])
@@ -206,6 +212,7 @@ given_alike place start body link is = record {
   entries = entries_after link (DataGiven start body);
   event = ap (λ (f : EndFacts). f.event) (step_facts link (DataGiven start body));
   good = ap (λ (f : EndFacts). f.last_good) (step_facts link (DataGiven start body));
+  plain = λ is_plain. plain_front link.setup link.past (DataGiven start body ∷ []) is_plain;
 }
 
 reported_alike : (place : Option OpenLink) (link : OpenLink) → place ≡ Some link → WasAlike place (link_after DataReported link)
@@ -217,6 +224,7 @@ reported_alike place link is = record {
   entries = entries_after link DataReported;
   event = ap (λ (f : EndFacts). f.event) (step_facts link DataReported);
   good = ap (λ (f : EndFacts). f.last_good) (step_facts link DataReported);
+  plain = λ is_plain. plain_front link.setup link.past (DataReported ∷ []) is_plain;
 }
 
 alike_is : (place : Option OpenLink) (one after : OpenLink) → after ≡ one → WasAlike place one → WasAlike place after
@@ -273,7 +281,11 @@ octet_under setup facts octet handle after is = fed_under setup facts (result_of
 
 pub end_under : (setup : Setup) (facts : Facts) (handle : ℕ) (after : OpenLink)
     → link_at handle (facts_after setup facts TurnEnds).links ≡ Some after → WasAlike (link_at handle facts.links) after
-end_under setup facts handle after is = found (was_open link_reported (link_at handle facts.links) after (sym (map_under (option_map link_reported) refl 0 handle facts.links) ∙ is))
+end_under setup facts handle after is =
+    let now : link_at handle (links_without ending_in (links_reported facts.links)) ≡ Some after =
+    ap (λ (left : Facts). link_at handle left.links) (sym (leaving_is (facts_handed facts))) ∙ is in
+    let stayed = staying_under ending_in handle (links_reported facts.links) after now in
+    found (was_open link_reported (link_at handle facts.links) after (sym (map_under (option_map link_reported) refl 0 handle facts.links) ∙ stayed.was))
   where
     by : (reports : Bool) (link : OpenLink) → link_at handle facts.links ≡ Some link → after ≡ (if reports then link_after DataReported link else link)
         → WasAlike (link_at handle facts.links) after

@@ -4,12 +4,12 @@ use Rattle.ble_base.specs.declared.roles.Side.{Side}
 use Rattle.ack_bit.specs.AckBits.{AckBits, header_of, is_odd}
 use Rattle.air_frame.specs.Packet.{on_air}
 use Rattle.data_pdu.specs.Header.{octets_of}
-use Rattle.link_model.specs.Acknowledgement.{Pdu, empty_pdu}
-use Rattle.link_model.specs.Data.{is_empty}
-use Rattle.link_model.specs.Payload.{payload_of}
+use Rattle.journal_packets.specs.link_model.Acknowledgement.{Pdu, empty_pdu}
+use Rattle.journal_packets.specs.link_model.Data.{is_empty}
+use Rattle.journal_packets.specs.link_model.Payload.{payload_of}
 use Rattle.journal.specs.declared.entries.Entry.{Entry}
 use Rattle.journal.specs.declared.entries.Entry.TheVariants.{Enter, Sent}
-use Rattle.journal_links.specs.Begun.{LinkBegun, link_numbered}
+use Rattle.journal_packets.specs.journal_links.Begun.{LinkBegun, link_numbered}
 use Rattle.journal_packets.specs.Belonging.{is_side, link_of_packet}
 use Rattle.journal_acks.specs.Exchange.{Exchanged, exchange_of}
 

@@ -11,7 +11,7 @@ use Rattle.journal.specs.declared.entries.Entry.{Entry}
 use Rattle.journal.specs.declared.entries.Entry.TheVariants.{Air, Took}
 use Rattle.run_model.specs.History.{is_good}
 use Rattle.run_model.specs.Links.{is_advertising}
-use Rattle.journal_links.specs.Begun.{LinkBegun, link_numbered}
+use Rattle.journal_packets.specs.journal_links.Begun.{LinkBegun, link_numbered}
 use Rattle.journal_packets.specs.Belonging.{is_side, link_of_packet}
 
 -- what one end of a link has sent and accepted

@@ -6,7 +6,7 @@ use Rattle.ble_base.specs.declared.verdicts.Verdict.TheVariants.{Good}
 use Rattle.journal.specs.declared.entries.Entry.{Entry}
 use Rattle.journal.specs.declared.entries.Entry.TheVariants.{Air, Enter, Fed, Sent, Took}
 use Rattle.journal.specs.declared.entries.Mark.TheVariants.{Pass as Passed}
-use Rattle.link_model.specs.Acknowledgement.{Pdu}
+use Rattle.journal_packets.specs.link_model.Acknowledgement.{Pdu}
 use Rattle.run_model.specs.Rows.{first_reply, one_connection_journal, turn_entry}
 
 -- a packet of a host on its first link, with one octet, which starts a message

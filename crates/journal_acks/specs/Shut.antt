@@ -12,7 +12,7 @@ use Rattle.run_model.specs.History.{is_good}
 use Rattle.run_model.specs.Links.{is_advertising}
 use Rattle.run_model.specs.Order.{AreNotes}
 use Rattle.run_model.specs.Readers.{fed_to_side, turns_of}
-use Rattle.journal_links.specs.Begun.{LinkBegun, link_numbered}
+use Rattle.journal_packets.specs.journal_links.Begun.{LinkBegun, link_numbered}
 use Rattle.journal_packets.specs.Belonging.{is_side, link_of_packet}
 use Rattle.journal_acks.specs.Exchange.{is_number}
 

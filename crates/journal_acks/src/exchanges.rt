@@ -2,7 +2,7 @@
 //! rests on: the contract is the law.
 ghost use Rattle.std.specs.Prelude.{◌≡◌, ◌++◌, ◌∷◌, ℕ, Bool, List, Some, length};
 ghost use Rattle.std.specs.List.{Contains};
-ghost use Rattle.open_links.specs.OpenLinks.{OpenLink, facts_in, link_at};
+ghost use Rattle.journal_packets.specs.open_links.OpenLinks.{OpenLink, facts_in, link_at};
 ghost use Rattle.radio_replay.specs.Script.{Script};
 ghost use Rattle.run_model.specs.History.{Event, TurnBegan};
 ghost use Rattle.run_model.specs.Journal.{journal_of, side_of};

@@ -1,5 +1,5 @@
 //! Worked examples, which the definitions compute.
-ghost use Rattle.link_model.specs.Acknowledgement.{empty_pdu};
+ghost use Rattle.journal_packets.specs.link_model.Acknowledgement.{empty_pdu};
 ghost use Rattle.std.specs.Prelude.{◌≡◌, ◌++◌, [], ◌∷◌, Some, false};
 ghost use Rattle.air_frame.specs.Packet.{on_air};
 ghost use Rattle.ble_base.specs.declared.roles.Side.TheVariants.{A, B};

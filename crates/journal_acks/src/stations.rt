@@ -7,7 +7,7 @@ ghost use Rattle.ble_base.specs.declared.verdicts.Verdict.{Verdict};
 ghost use Rattle.journal.specs.declared.entries.Entry.{Entry};
 ghost use Rattle.journal.specs.declared.entries.Entry.TheVariants.{Air, Enter, Sent};
 ghost use Rattle.journal.specs.declared.entries.Mark.{Mark};
-ghost use Rattle.open_links.specs.OpenLinks.{OpenLink, facts_in, link_at};
+ghost use Rattle.journal_packets.specs.open_links.OpenLinks.{OpenLink, facts_in, link_at};
 ghost use Rattle.run_model.specs.History.{Event, TurnBegan};
 ghost use Rattle.run_model.specs.Journal.{journal_of, side_of};
 ghost use Rattle.run_model.specs.LinkEnds.{HaveAddresses};

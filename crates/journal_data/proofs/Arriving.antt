@@ -12,12 +12,13 @@ use Rattle.ack_bit.specs.Nonempty.{nonempty}
 use Rattle.ack_bit.proofs.Nonempties.{reliable_nonempty}
 use Rattle.acl_banks.specs.History.{HostData, octets_of, whole_packets}
 use Rattle.acl_banks.specs.Packets.{Marked, marked_octets}
-use Rattle.link_model.specs.Acknowledgement.{Acknowledgement, Pdu, end_of}
-use Rattle.link_model.specs.Data.{data_in, data_of, is_empty}
-use Rattle.link_model.specs.Delivery.{IsInOrder, acked_data}
-use Rattle.link_model.specs.Facts.{Facts as EndFacts}
-use Rattle.link_model.specs.Pair.{AreInAgreement}
-use Rattle.link_model.proofs.Taking.{delivered}
+use Rattle.journal_acks.specs.link_model.Acknowledgement.{Acknowledgement, Pdu, end_of}
+use Rattle.journal_acks.specs.link_model.Data.{data_in, data_of, is_empty}
+use Rattle.journal_acks.specs.link_model.Delivery.{IsInOrder}
+use Rattle.journal_acks.specs.link_model.Data.{acked_data}
+use Rattle.journal_acks.specs.link_model.Facts.{Facts as EndFacts}
+use Rattle.journal_acks.specs.link_model.OneLink.{AreInAgreement}
+use Rattle.journal_acks.proofs.link_model.Taking.{delivered}
 use Rattle.journal_data.specs.Lines.{Lines, PduLine, accepted_on, credited_on, data_on, empties_on, pdus_on, received_on}
 use Rattle.journal_data.specs.Delivered.{ArrivesInOrder}
 

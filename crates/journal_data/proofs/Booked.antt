@@ -14,7 +14,7 @@ use Rattle.ble_base.specs.declared.notes.Note.TheVariants.{Up, Sent, Took}
 use Rattle.host_view.specs.Noted.{acl_handle, is_acl_data, two_octets}
 use Rattle.controller_model.specs.Notes.{is_event}
 use Rattle.controller_model.specs.Since.{data_up, starts_message}
-use Rattle.run_model.specs.Journal.{entry_of}
+use Rattle.journal_acks.specs.run_model.Journal.{entry_of}
 use Rattle.journal_acks.specs.Exchange.{is_number}
 use Rattle.journal_data.specs.HostLines.{OpenUnder, link_under}
 use Rattle.journal_data.specs.Lines.{Credited, Lines, PduLine, Received, credit_up, credited_in, credited_on, data_received, line_after, pdus_on, received_in, received_on}

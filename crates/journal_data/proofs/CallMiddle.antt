@@ -9,10 +9,10 @@ use Rattle.controller_model.specs.Notes.{is_event}
 use Rattle.controller_model.specs.Side.{notes_after}
 use Rattle.controller_model.specs.Step.{Step}
 use Rattle.controller_model.proofs.Always.{IsInTurn}
-use Rattle.run_model.specs.History.{Event, Called, Noted}
-use Rattle.run_model.specs.Journal.{entry_of}
-use Rattle.run_model.specs.Run.{Given, setup_at, facts_at, after_call}
-use Rattle.run_model.proofs.Calls.{with_notes}
+use Rattle.journal_acks.specs.run_model.History.{Event, Called, Noted}
+use Rattle.journal_acks.specs.run_model.Journal.{entry_of}
+use Rattle.journal_acks.specs.run_model.Run.{Given, setup_at, facts_at, after_call}
+use Rattle.journal_acks.proofs.run_model.Calls.{with_notes}
 use Rattle.journal_acks.proofs.CallNotes.{is_taking}
 use Rattle.journal_data.specs.HostLines.{Submitted, link_under}
 use Rattle.journal_data.specs.Lines.{Lines, Received, data_received, line_after, pdus_on, received_on, submitted_on}

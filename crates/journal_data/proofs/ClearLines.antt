@@ -17,9 +17,9 @@ use Rattle.journal.specs.declared.entries.Entry.{Entry}
 use Rattle.journal.specs.declared.entries.Entry.TheVariants.{Air, Fed, Up, Opened, Shut, Sent, Took}
 use Rattle.controller_model.specs.Notes.{is_event, is_opening}
 use Rattle.controller_model.specs.Since.{starts_message}
-use Rattle.run_model.proofs.OpenedNotes.{is_opened}
-use Rattle.journal_links.specs.LinkLines.{link_named, where_named, lines_of as link_lines}
-use Rattle.journal_packets.specs.Belonging.{is_side}
+use Rattle.journal_acks.proofs.run_model.OpenedNotes.{is_opened}
+use Rattle.journal_acks.specs.journal_links.LinkLines.{link_named, where_named, lines_of as link_lines}
+use Rattle.journal_acks.specs.journal_packets.Belonging.{is_side}
 use Rattle.journal_acks.specs.Exchange.{is_number}
 use Rattle.journal_acks.proofs.EntryNotes.{unnamed}
 use Rattle.journal_data.specs.HostLines.{OpenUnder, Submitted, buffers_of, is_dropped, is_reset, kept_of, kept_one, link_under, packets_framed}
@@ -212,6 +212,6 @@ pub record OpensFirst (notes : List Note) : Type 0 where
 
 pub opened_is_first : (handle : ℕ) (before after : ℕ → Bool) (notes : List Note) → IsNotedAs before after notes → is_opened handle notes ≡ true → OpensFirst notes
 opened_is_first handle before after notes (stays none shut same) opened = absurd (let h : true ≡ false = sym opened ∙ none_opened handle notes none in absurd cc)
-opened_is_first handle before after notes (shuts none reports opens once) opened = absurd (let h : true ≡ false = sym opened ∙ none_opened handle notes none in absurd cc)
+opened_is_first handle before after notes (shuts none opens once) opened = absurd (let h : true ≡ false = sym opened ∙ none_opened handle notes none in absurd cc)
 opened_is_first handle before after notes (opens_first other role own peer rest is none shut reports free now opens) opened =
     record { handle = other; role = role; own = own; peer = peer; rest = rest; is = is }

@@ -1,26 +1,26 @@
 -- In a run, where hosts send only between turns, what a host is credited is what was reported and its packets of no octet.
 use Rattle.std.proofs.Common.{◌≡◌, ℕ, suc, ◌+◌, ◌<◌, ◌≤◌, Bool, true, false, Option, Some, None, List, [], ◌∷◌, ◌++◌, refl, ap, sym, subst, ◌∙◌, arith}
 use Rattle.std.specs.Prelude.{◌&&◌}
-use Rattle.std.specs.List.{sum_by}
+use Rattle.std.specs.List.{sum_by, AllByRecursion}
 use Rattle.std.proofs.Math.Nat.{mod-eq_of_lt}
 use Rattle.std.proofs.lemmas.Bool.{eq-eqb}
-use Rattle.std.proofs.lemmas.List.Sums.{sum_by-append}
+use Rattle.std.proofs.lemmas.List.Sums.{sum_by-append, sum_by-cons}
 use Rattle.ble_base.specs.declared.notes.Note.{Note}
 use Rattle.ble_base.specs.declared.notes.Note.TheVariants.{Up}
-use Rattle.data_pdu.specs.Header.{header_in}
 use Rattle.hci_evt.specs.Event.{written}
 use Rattle.hci_evt.specs.declared.event.Event.TheVariants.{CompletedPackets}
 use Rattle.host_view.specs.Noted.{two_octets}
 use Rattle.wire_fields.specs.Field.{little_endian}
-use Rattle.link_model.specs.Acknowledgement.{Pdu, is_acked}
-use Rattle.link_model.specs.Data.{Data, data_acked_if, data_given, data_sent_if, is_data}
-use Rattle.link_model.specs.End.{facts_after as end_after, facts_of as end_facts, facts_received, has_acknowledged, notes_after as end_notes, sent_notes_if, took_notes, took_notes_if}
-use Rattle.link_model.specs.Facts.{Facts as EndFacts}
-use Rattle.link_model.specs.Packets.{good_pdu, pdu_of}
-use Rattle.link_model.specs.Setup.{Setup as EndSetup}
-use Rattle.link_model.specs.Step.{Step as EndStep, DataGiven, EventEntered, PduFixed, PacketSent, PacketReceived, DataReported}
-use Rattle.link_model.proofs.Pasts.{grows}
-use Rattle.open_links.specs.OpenLinks.{OpenLink, facts_in, link_at}
+use Rattle.journal_acks.specs.link_model.Data.{Data, data_acked_if, data_given, data_sent_if}
+use Rattle.journal_acks.specs.link_model.End.{facts_after as end_after, facts_of as end_facts, notes_after as end_notes}
+use Rattle.journal_acks.specs.link_model.Receiving.{received_notes}
+use Rattle.journal_acks.specs.link_model.Sending.{sent_notes}
+use Rattle.journal_acks.specs.link_model.Facts.{Facts as EndFacts}
+use Rattle.journal_acks.specs.link_model.Packets.{good_pdu}
+use Rattle.journal_acks.specs.link_model.Setup.{Setup as EndSetup}
+use Rattle.journal_acks.specs.link_model.Step.{Step as EndStep, DataGiven, EventEntered, PduFixed, PacketSent, PacketReceived, DataReported, ProcedureAsked, RequestAnswered, Disconnected}
+use Rattle.journal_acks.proofs.link_model.Pasts.{grows}
+use Rattle.journal_acks.specs.open_links.OpenLinks.{OpenLink, facts_in, link_at}
 use Rattle.controller_model.specs.Between.{is_between_turns}
 use Rattle.controller_model.specs.Data.{note_received}
 use Rattle.controller_model.specs.Facts.{Setup}
@@ -30,13 +30,15 @@ use Rattle.controller_model.specs.Step.{Step, HostOctet, TurnBegins, PacketHeard
 use Rattle.controller_model.proofs.Books.{Fact, IsKeptInBook, IsSilent}
 use Rattle.controller_model.proofs.BooksAlways.{book_of}
 use Rattle.controller_model.proofs.OtherNotes.{event_handle_is, two_octets_hold}
-use Rattle.run_model.specs.Feeding.{HasNoted}
-use Rattle.run_model.specs.History.{Event, HostFed, noted_by, past_of, steps_in}
-use Rattle.run_model.specs.Run.{Given, after_call, after_feed, after_octets, facts_at, setup_at, step_of}
-use Rattle.run_model.proofs.Calls.{flat_nothing, past_own}
-use Rattle.run_laws.proofs.OpenSteps.{open_has}
+use Rattle.journal_acks.specs.run_model.Feeding.{HasNoted}
+use Rattle.journal_acks.specs.run_model.History.{Event, HostFed, noted_by, past_of, steps_in}
+use Rattle.journal_acks.specs.run_model.Run.{Given, after_call, after_feed, after_octets, facts_at, setup_at, step_of}
+use Rattle.journal_acks.proofs.run_model.Calls.{flat_nothing, past_own}
+use Rattle.journal_acks.proofs.run_laws.OpenSteps.{open_has}
 use Rattle.journal_data.proofs.Booked.{count_if, count_up}
 use Rattle.journal_data.proofs.FewComplete.{HadFew, IsFedBetween, IsFew, MayFeed, between_more, fed_more, few_always, had_front, had_last}
+use Rattle.journal_data.proofs.DataSteps.{IsKeptByEnd, IsOwnStep, end_keeps}
+use Rattle.controller_model.proofs.EndNotes.{sent_each, received_each}
 
 -- ---- the count of a note
 
@@ -57,30 +59,30 @@ count_completed handle count below few =
     ap (λ (test : Bool). count_if test (octets_completed handle count)) (eq-eqb _ handle (event_handle_is handle count below))
     ∙ count_octets handle count few
 
-none_sent : (handle : ℕ) (noted : Bool) (other : ℕ) (facts : EndFacts) → sum_by (count_up handle) (sent_notes_if noted other facts) ≡ 0
-none_sent handle true other facts = refl
-none_sent handle false other facts = refl
+none_each : (handle : ℕ) (notes : List Note) → AllByRecursion (λ note. count_up handle note ≡ 0) notes → sum_by (count_up handle) notes ≡ 0
+none_each handle [] none = refl
+none_each handle (note ∷ notes) none =
+    let both = sum_by-cons (count_up handle) note notes in
+    let one = none.0 in
+    let rest = none_each handle notes none.1 in
+    omega (arith, both, one, rest)
 
-none_took_if : (handle : ℕ) (noted : Bool) (other : ℕ) (pdu : Pdu) (facts : EndFacts) → sum_by (count_up handle) (took_notes_if noted other pdu facts) ≡ 0
-none_took_if handle true other pdu facts = refl
-none_took_if handle false other pdu facts = refl
+none_sent : (handle : ℕ) (setup : EndSetup) (facts : EndFacts) → sum_by (count_up handle) (sent_notes setup facts) ≡ 0
+none_sent handle setup facts =
+    none_each handle (sent_notes setup facts) (sent_each (λ note. count_up handle note ≡ 0) setup facts (λ number llid octets. refl))
 
-none_took : (handle other : ℕ) (room : Bool) (found : Option (List ℕ)) (facts : EndFacts) → sum_by (count_up handle) (took_notes other room found facts) ≡ 0
-none_took handle other room None facts = refl
-none_took handle other room (Some pdu) facts = none_took_if handle _ other (pdu_of pdu) facts
+none_took : (handle : ℕ) (setup : EndSetup) (slot : ℕ) (room : Bool) (found : Option (List ℕ)) (facts : EndFacts)
+    → sum_by (count_up handle) (received_notes setup slot room found facts) ≡ 0
+none_took handle setup slot room found facts =
+    none_each handle (received_notes setup slot room found facts)
+    (received_each (λ note. count_up handle note ≡ 0) setup slot room found facts
+    (record { took = λ number llid octets. refl; refused = λ kind code. refl; done = λ kind. refl }))
 
 -- ---- what an end counts as reported
 
 reported_given : (handle : ℕ) (start : Bool) (octets : List ℕ) (outgoing : Data) → (data_given handle start octets outgoing).reported ≡ outgoing.reported
 reported_given handle start [] outgoing = refl
 reported_given handle start (octet ∷ octets) outgoing = refl
-
-reported_silent : (setup : EndSetup) (facts : EndFacts) (step : EndStep) → IsSilent step
-    → (end_after setup facts step).outgoing.reported ≡ facts.outgoing.reported
-reported_silent setup facts (DataGiven start body) is = reported_given setup.link.handle start body facts.outgoing
-reported_silent setup facts (EventEntered slot) is = refl
-reported_silent setup facts PduFixed is = refl
-reported_silent setup facts step is = absurd is
 
 reported_sent : (is_new : Bool) (outgoing : Data) → (data_sent_if is_new outgoing).reported ≡ outgoing.reported
 reported_sent true outgoing = refl
@@ -90,11 +92,29 @@ reported_acked : (acked : Bool) (outgoing : Data) → (data_acked_if acked outgo
 reported_acked true outgoing = refl
 reported_acked false outgoing = refl
 
-reported_received : (slot : ℕ) (room : Bool) (found : Option (List ℕ)) (facts : EndFacts)
-    → (facts_received slot room found facts).outgoing.reported ≡ facts.outgoing.reported
-reported_received slot room None facts = refl
-reported_received slot room (Some pdu) facts =
-    reported_acked (has_acknowledged facts (header_in pdu) && is_data facts.acknowledgement.last) facts.outgoing
+reported_kept : (reported : ℕ) → IsKeptByEnd (λ outgoing. outgoing.reported ≡ reported)
+reported_kept reported = record {
+  sending = record {
+    fixed = λ limit pdu more outgoing same. same;
+    sent = λ is_new outgoing same. reported_sent is_new outgoing ∙ same;
+  };
+  acked = λ acked outgoing same. reported_acked acked outgoing ∙ same;
+}
+
+reported_own : (setup : EndSetup) (facts : EndFacts) (step : EndStep) → IsOwnStep step
+    → (end_after setup facts step).outgoing.reported ≡ facts.outgoing.reported
+reported_own setup facts step own =
+    end_keeps (λ outgoing. outgoing.reported ≡ facts.outgoing.reported) (reported_kept facts.outgoing.reported) setup facts step own refl
+
+reported_silent : (setup : EndSetup) (facts : EndFacts) (step : EndStep) → IsSilent step
+    → (end_after setup facts step).outgoing.reported ≡ facts.outgoing.reported
+reported_silent setup facts (DataGiven start body) is = reported_given setup.link.handle start body facts.outgoing
+reported_silent setup facts (ProcedureAsked ask) is = reported_own setup facts (ProcedureAsked ask) tt
+reported_silent setup facts (RequestAnswered answer) is = refl
+reported_silent setup facts (Disconnected reason slot) is = refl
+reported_silent setup facts (EventEntered slot) is = reported_own setup facts (EventEntered slot) tt
+reported_silent setup facts PduFixed is = reported_own setup facts PduFixed tt
+reported_silent setup facts step is = absurd is
 
 -- ---- the book
 
@@ -152,14 +172,14 @@ module _ (many handle most : ℕ) (few_links : many ≤ 4096) (few : most ≤ 65
     sent = λ setup past waiting since count slot same counted had.
         let facts = end_facts setup past in
         let more = end_notes setup facts (PacketSent slot) in
-        reported_as setup past (PacketSent slot) (since ++ more) count (reported_sent (is_acked facts.acknowledgement) facts.outgoing)
-        (plain since more _ (none_sent handle _ setup.link.handle facts) (counted (had_front most setup past (PacketSent slot) had)));
+        reported_as setup past (PacketSent slot) (since ++ more) count (reported_own setup facts (PacketSent slot) tt)
+        (plain since more _ (none_sent handle setup facts) (counted (had_front most setup past (PacketSent slot) had)));
     received = λ setup past waiting since count slot octets room same counted had.
         let facts = end_facts setup past in
         let more = end_notes setup facts (PacketReceived slot octets room) in
         reported_as setup past (PacketReceived slot octets room) (since ++ more) count
-        (reported_received slot room (good_pdu setup facts octets) facts)
-        (plain since more _ (none_took handle setup.link.handle room (good_pdu setup facts octets) facts)
+        (reported_own setup facts (PacketReceived slot octets room) tt)
+        (plain since more _ (none_took handle setup slot room (good_pdu setup facts octets) facts)
         (counted (had_front most setup past (PacketReceived slot octets room) had)));
     handed = λ setup past piece waiting since count below same counted had. one_plain since (note_received piece) _ refl (counted had);
     reported = λ setup past waiting since count complete below is counted had.

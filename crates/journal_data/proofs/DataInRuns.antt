@@ -2,17 +2,17 @@
 use Rattle.std.proofs.Common.{◌≡◌, ℕ, ◌-◌, ◌≤◌, ◌==◌, Bool, true, false, List, [], ◌∷◌, ◌++◌, refl, sym, ap, subst, ◌∙◌, append-nil, append_assoc}
 use Rattle.std.specs.Prelude.{map, take}
 use Rattle.std.proofs.lemmas.Bool.{eqb-true}
-use Rattle.link_model.proofs.Received.{IsHeardWhole}
+use Rattle.journal_acks.proofs.link_model.Hearing.{IsHeardWhole}
 use Rattle.controller_model.proofs.Always.{IsInTurn}
 use Rattle.controller_model.specs.Side.{notes_after}
 use Rattle.controller_model.specs.Step.{Step, TurnBegins, TurnEnds}
-use Rattle.run_model.specs.Feeding.{AreDistinct}
-use Rattle.run_model.specs.History.{Event, TurnBegan, Called, HostFed, Noted, Transmitted, packet_received, past_of, turns_begun}
-use Rattle.run_model.specs.LinkEnds.{HaveAddresses}
-use Rattle.run_model.specs.Run.{Given, after_call, after_feed, facts_at, hearings_of, octets_left, setup_at, step_of}
-use Rattle.run_model.proofs.Stations.{is_in, among}
-use Rattle.run_model.proofs.Walk.{AtFeeds, Place, IsKept}
-use Rattle.run_laws.proofs.TurnPlaces.{Between, at_stage}
+use Rattle.journal_acks.specs.run_model.Feeding.{AreDistinct}
+use Rattle.journal_acks.specs.run_model.History.{Event, TurnBegan, Called, HostFed, Noted, Transmitted, packet_received, past_of, turns_begun}
+use Rattle.journal_acks.specs.run_model.LinkEnds.{HaveAddresses}
+use Rattle.journal_acks.specs.run_model.Run.{Given, after_call, after_feed, facts_at, hearings_of, octets_left, setup_at, step_of}
+use Rattle.journal_acks.proofs.run_model.Stations.{is_in, among}
+use Rattle.journal_acks.proofs.run_model.Walk.{AtFeeds, Place, IsKept}
+use Rattle.journal_acks.proofs.run_laws.TurnPlaces.{Between, at_stage}
 use Rattle.journal_acks.proofs.Counting.{AreKnown, HaveOwnNumbers}
 use Rattle.journal_acks.proofs.TwoStations.{IsOfTwo, other_is, other_of}
 use Rattle.journal_data.specs.Delivered.{ArrivesInOrder}

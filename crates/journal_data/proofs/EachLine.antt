@@ -8,12 +8,12 @@ use Rattle.ble_base.specs.declared.notes.Note.{Note}
 use Rattle.ble_base.specs.declared.notes.Note.TheVariants.{Up, Opened, Shut, Sent, Took}
 use Rattle.journal.specs.declared.entries.Entry.TheVariants.{Fed}
 use Rattle.controller_model.specs.Step.{Step}
-use Rattle.run_model.specs.History.{Event, TurnBegan, HostFed, Called, Noted, Transmitted, Hearing}
-use Rattle.run_model.specs.Journal.{air_entries, entries_of, entry_of, journal_of, side_of}
-use Rattle.run_model.specs.Links.{links_of}
-use Rattle.run_model.proofs.Calls.{with_notes}
-use Rattle.run_model.proofs.Parts.{journal_event}
-use Rattle.journal_packets.specs.Belonging.{is_side}
+use Rattle.journal_acks.specs.run_model.History.{Event, TurnBegan, HostFed, Called, Noted, Transmitted, Hearing}
+use Rattle.journal_acks.specs.run_model.Journal.{air_entries, entries_of, entry_of, journal_of, side_of}
+use Rattle.journal_acks.specs.run_model.Links.{links_of}
+use Rattle.journal_acks.proofs.run_model.Calls.{with_notes}
+use Rattle.journal_acks.proofs.run_model.Parts.{journal_event}
+use Rattle.journal_acks.specs.journal_packets.Belonging.{is_side}
 use Rattle.journal_acks.proofs.TwoStations.{side_same}
 use Rattle.journal_data.specs.Lines.{Lines, line_after, lines_after, lines_of, no_lines}
 

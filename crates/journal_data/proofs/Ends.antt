@@ -5,12 +5,13 @@ use Rattle.std.specs.Prelude.{not}
 use Rattle.std.specs.List.{filter}
 use Rattle.acl_banks.specs.History.{HostData}
 use Rattle.journal_data.specs.HostLines.{has_octets}
-use Rattle.link_model.proofs.Sending.{past_counted, past_in_order}
-use Rattle.open_links.specs.OpenLinks.{OpenLink, facts_in, link_at}
+use Rattle.journal_acks.proofs.link_model.Counts.{past_counted}
+use Rattle.journal_acks.proofs.link_model.Sending.{past_in_order}
+use Rattle.journal_acks.specs.open_links.OpenLinks.{OpenLink, facts_in, link_at}
 use Rattle.controller_model.specs.Since.{data_waiting}
-use Rattle.run_model.specs.Feeding.{HasNoted}
-use Rattle.run_model.specs.History.{Event}
-use Rattle.run_model.specs.Run.{Given, facts_at, setup_at}
+use Rattle.journal_acks.specs.run_model.Feeding.{HasNoted}
+use Rattle.journal_acks.specs.run_model.History.{Event}
+use Rattle.journal_acks.specs.run_model.Run.{Given, facts_at, setup_at}
 use Rattle.journal_acks.proofs.Exchanging.{number_at}
 use Rattle.journal_data.specs.Lines.{Lines, empties_on, submitted_on}
 use Rattle.journal_data.proofs.Credits.{AreFew, credited}

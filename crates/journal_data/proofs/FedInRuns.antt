@@ -3,7 +3,7 @@ use Rattle.std.proofs.Common.{◌≡◌, ℕ, suc, ◌+◌, ◌==◌, Bool, true
 use Rattle.std.specs.Prelude.{fold}
 use Rattle.controller_model.specs.Between.{between_after, is_between_turns}
 use Rattle.controller_model.specs.Step.{Step, HostOctet, TurnBegins, PacketHeard, NothingHeard, TurnEnds}
-use Rattle.run_laws.proofs.TurnPlaces.{Between, Stage, Standing, Within, at_stage, standing}
+use Rattle.journal_acks.proofs.run_laws.TurnPlaces.{Between, Stage, Standing, Within, at_stage, standing}
 use Rattle.journal_data.proofs.FewComplete.{FedFrom, MayFeed}
 
 abbrev pub is_between : Stage → Bool

@@ -1,19 +1,19 @@
 -- A feed keeps that the data of both sides arrives in order.
 use Rattle.std.proofs.Common.{◌≡◌, ℕ, ◌≤◌, true, Option, Some, List, [], ◌∷◌, ◌++◌, refl, sym, ap, subst, ◌∙◌}
 use Rattle.std.specs.Option.{option_map}
-use Rattle.link_model.specs.Acknowledgement.{Acknowledgement}
-use Rattle.open_links.specs.OpenLinks.{OpenLink, link_at}
+use Rattle.journal_acks.specs.link_model.Acknowledgement.{Acknowledgement}
+use Rattle.journal_acks.specs.open_links.OpenLinks.{OpenLink, link_at}
 use Rattle.controller_model.proofs.BetweenTurns.{none_complete}
 use Rattle.controller_model.specs.Between.{is_between_turns}
 use Rattle.controller_model.specs.Facts.{Facts}
 use Rattle.controller_model.specs.Side.{facts_of}
 use Rattle.controller_model.specs.Step.{HostOctet}
-use Rattle.run_model.specs.History.{Event, HostFed, past_of}
-use Rattle.run_model.specs.Run.{Given, after_call, after_feed, after_octets, facts_at, setup_at}
-use Rattle.run_model.proofs.Calls.{flat_nothing}
-use Rattle.run_model.specs.History.{steps_in}
-use Rattle.run_laws.proofs.Agreed.{ack_of}
-use Rattle.run_laws.proofs.Hearings.{own_facts}
+use Rattle.journal_acks.specs.run_model.History.{Event, HostFed, past_of}
+use Rattle.journal_acks.specs.run_model.Run.{Given, after_call, after_feed, after_octets, facts_at, setup_at}
+use Rattle.journal_acks.proofs.run_model.Calls.{flat_nothing}
+use Rattle.journal_acks.specs.run_model.History.{steps_in}
+use Rattle.journal_acks.proofs.run_laws.Agreed.{ack_of}
+use Rattle.journal_acks.proofs.run_laws.Hearings.{own_facts}
 use Rattle.journal_acks.proofs.Counting.{HaveOwnNumbers}
 use Rattle.journal_acks.proofs.Exchanging.{number_at}
 use Rattle.journal_acks.proofs.UnderHandles.{octet_under}

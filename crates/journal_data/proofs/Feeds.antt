@@ -17,10 +17,10 @@ use Rattle.hci_evt.specs.Event.{written}
 use Rattle.hci_evt.specs.declared.event.Event.TheVariants.{BufferOverflow, CompletedPackets, HardwareError}
 use Rattle.host_view.specs.Noted.{acl_handle, is_acl_data, two_octets}
 use Rattle.wire_fields.specs.Field.{little_endian}
-use Rattle.open_links.specs.declared.offers.Offer.{Offer}
-use Rattle.open_links.specs.declared.offers.Offer.TheVariants.{NoLink, Empty, Overflow, Kept}
-use Rattle.open_links.specs.Data.{offer_by}
-use Rattle.open_links.specs.OpenLinks.{OpenLink, link_at}
+use Rattle.journal_acks.specs.open_links.declared.offers.Offer.{Offer}
+use Rattle.journal_acks.specs.open_links.declared.offers.Offer.TheVariants.{NoLink, Empty, Overflow, Kept}
+use Rattle.journal_acks.specs.open_links.Data.{offer_by}
+use Rattle.journal_acks.specs.open_links.OpenLinks.{OpenLink, link_at}
 use Rattle.controller_model.specs.Data.{facts_offered, notes_offered, offer_of}
 use Rattle.controller_model.specs.Facts.{Setup, Facts}
 use Rattle.controller_model.specs.Notes.{is_event}
@@ -29,14 +29,14 @@ use Rattle.controller_model.specs.Since.{count_fed, empties_of, note_completed}
 use Rattle.controller_model.specs.Step.{Step, HostOctet}
 use Rattle.controller_model.proofs.Handles.{own_handles}
 use Rattle.controller_model.proofs.OtherNotes.{AreOther, IsOther, command_other, event_handle_is, events_other}
-use Rattle.run_model.specs.History.{Event, TurnBegan, HostFed, Called, Noted, Transmitted, past_of}
-use Rattle.run_model.specs.Journal.{entry_of, side_of}
-use Rattle.run_model.specs.Links.{Links, links_of}
-use Rattle.run_model.proofs.Calls.{with_notes}
-use Rattle.run_model.specs.Run.{Given, after_call, after_feed, after_octets, facts_at, setup_at}
-use Rattle.run_model.proofs.LinksKnown.{links_event}
-use Rattle.run_laws.proofs.Hearings.{own_facts}
-use Rattle.run_laws.proofs.TurnPlaces.{event_past}
+use Rattle.journal_acks.specs.run_model.History.{Event, TurnBegan, HostFed, Called, Noted, Transmitted, past_of}
+use Rattle.journal_acks.specs.run_model.Journal.{entry_of, side_of}
+use Rattle.journal_acks.specs.run_model.Links.{Links, links_of}
+use Rattle.journal_acks.proofs.run_model.Calls.{with_notes}
+use Rattle.journal_acks.specs.run_model.Run.{Given, after_call, after_feed, after_octets, facts_at, setup_at}
+use Rattle.journal_acks.proofs.run_model.LinksKnown.{links_event}
+use Rattle.journal_acks.proofs.run_laws.Hearings.{own_facts}
+use Rattle.journal_acks.proofs.run_laws.TurnPlaces.{event_past}
 use Rattle.journal_data.specs.HostLines.{OpenUnder, Submitted, kept_of, link_under, packets_framed}
 use Rattle.journal_data.specs.Lines.{Credited, Lines, Received, credit_up, credited_in, credited_on, data_received, empties_on, line_after, pdus_on, submitted_on}
 use Rattle.journal_data.proofs.Booked.{counts_more, counts_on}

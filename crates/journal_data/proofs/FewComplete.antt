@@ -5,28 +5,25 @@ use Rattle.std.specs.Prelude.{◌&&◌, fold, is_some, nat_lt, ⊤}
 use Rattle.std.specs.List.{find}
 use Rattle.std.proofs.lemmas.List.Sums.{fold-append, sum_by-cons}
 use Rattle.acl_banks.specs.Packets.{DataPacket, packet_after_acked, packet_after_went, with_first, without_first}
-use Rattle.data_pdu.specs.Header.{header_in}
-use Rattle.link_model.specs.Acknowledgement.{is_acked}
-use Rattle.link_model.specs.Data.{Data, data_acked_if, data_completed, data_given, data_sent_if, is_completed, is_data, is_out, is_unsent}
-use Rattle.link_model.specs.End.{facts_after as end_after, facts_of as end_facts, facts_received, has_acknowledged}
-use Rattle.link_model.specs.Facts.{Facts as EndFacts, first_facts as first_end}
-use Rattle.link_model.specs.Packets.{good_pdu}
-use Rattle.link_model.specs.Setup.{Setup as EndSetup}
-use Rattle.link_model.specs.Step.{Step as EndStep, DataGiven, EventEntered, PduFixed, PacketSent, PacketReceived, DataReported}
-use Rattle.link_model.specs.declared.setup.LinkSetup.{LinkSetup}
-use Rattle.link_model.proofs.Pasts.{grows}
+use Rattle.journal_acks.specs.link_model.Data.{Data, data_acked_if, data_completed, data_given, data_sent_if, is_completed, is_data, is_out, is_unsent}
+use Rattle.journal_acks.specs.link_model.End.{facts_after as end_after, facts_of as end_facts}
+use Rattle.journal_acks.specs.link_model.Facts.{Facts as EndFacts, first_facts as first_end}
+use Rattle.journal_acks.specs.link_model.Setup.{Setup as EndSetup}
+use Rattle.journal_acks.specs.link_model.Step.{Step as EndStep, DataGiven, EventEntered, PduFixed, PacketSent, PacketReceived, DataReported, RequestAnswered}
+use Rattle.journal_acks.specs.link_model.declared.setup.LinkSetup.{LinkSetup}
+use Rattle.journal_acks.proofs.link_model.Pasts.{grows}
 use Rattle.scan_init.specs.Reports.{does_ask, scan_answer}
 use Rattle.slot_plan.specs.declared.Activity.{Activity}
 use Rattle.slot_plan.specs.declared.Activity.TheVariants.{Link, Advertise, Scan, Initiate}
-use Rattle.open_links.specs.Data.{buffers_in, buffers_taken, complete_in, links_reported}
-use Rattle.open_links.specs.OpenLinks.{Links, OpenLink, facts_in, link_after, link_at, link_from, link_served, new_link, with_change}
-use Rattle.open_links.specs.Turns.{entered_if, is_anchor, links_entered, links_staying, reason_in, staying_by}
-use Rattle.open_links.proofs.Handles.{here, later}
+use Rattle.journal_acks.specs.open_links.Data.{buffers_in, buffers_taken, complete_in, links_reported}
+use Rattle.journal_acks.specs.open_links.OpenLinks.{Links, OpenLink, facts_in, link_after, link_at, link_from, link_served, new_link, with_change}
+use Rattle.journal_acks.specs.open_links.Turns.{entered_if, links_without, staying_by, enters_in}
+use Rattle.journal_acks.proofs.open_links.Handles.{here, later}
 use Rattle.controller_model.specs.declared.doing.Doing.{Doing}
 use Rattle.controller_model.specs.declared.doing.Doing.TheVariants.{Advertises, CentralSends, PeripheralListens, PeripheralSends}
 use Rattle.controller_model.specs.Between.{between_after, is_between_turns}
 use Rattle.controller_model.specs.Facts.{Setup, Facts}
-use Rattle.controller_model.specs.Heard.{asks_if, has_room, link_taken, opens, replies_in, reply_if}
+use Rattle.controller_model.specs.Heard.{asks_if, has_room, link_taken, opens, replies_in, reply_if, link_received, links_refusing}
 use Rattle.controller_model.specs.Outcome.{facts_passed}
 use Rattle.controller_model.specs.Packets.{links_sending}
 use Rattle.controller_model.specs.Radio.{links_fixing}
@@ -36,7 +33,10 @@ use Rattle.controller_model.proofs.Always.{IsInTurn, IsKeptInTurns, links_won, o
 use Rattle.controller_model.proofs.BetweenTurns.{none_complete}
 use Rattle.controller_model.proofs.Buffers.{fits_buffers}
 use Rattle.controller_model.proofs.Pasts.{facts_more}
-use Rattle.run_laws.proofs.OpenSteps.{AtOpen, EachOpen, IsKeptByHosts, changed, enter_open, none_open, octet_open, open_more, opened}
+use Rattle.journal_acks.proofs.run_laws.OpenSteps.{AtOpen, EachOpen, IsKeptByHosts, changed, enter_open, none_open, octet_open, open_more, opened}
+use Rattle.controller_model.specs.Entering.{all_entered}
+use Rattle.journal_data.proofs.DataSteps.{IsKeptByEnd, IsOwnStep, end_keeps}
+use Rattle.controller_model.proofs.Places.{refusal, refuses_at}
 
 -- ---- one end
 
@@ -44,7 +44,7 @@ use Rattle.run_laws.proofs.OpenSteps.{AtOpen, EachOpen, IsKeptByHosts, changed, 
 abbrev load_in : Data → ℕ
 load_in outgoing = outgoing.complete + length outgoing.packets
 
-abbrev pub load_of : EndFacts → ℕ
+abbrev load_of : EndFacts → ℕ
 load_of facts = load_in facts.outgoing
 
 length-with : {A : Type 0} (test : A → Bool) (change : A → A) (xs : List A) → length (with_first test change xs) ≡ length xs
@@ -81,11 +81,6 @@ acked_load : (acked : Bool) (outgoing : Data) → load_in (data_acked_if acked o
 acked_load true outgoing = completed_load (is_completed (find is_out outgoing.packets)) outgoing refl
 acked_load false outgoing = omega arith
 
-received_load : (slot : ℕ) (room : Bool) (found : Option (List ℕ)) (facts : EndFacts) → load_of (facts_received slot room found facts) ≤ load_of facts
-received_load slot room None facts = omega arith
-received_load slot room (Some pdu) facts =
-    acked_load (has_acknowledged facts (header_in pdu) && is_data facts.acknowledgement.last) facts.outgoing
-
 sent_as : (is_piece : Bool) (outgoing : Data)
     → length (cond is_piece (with_first is_unsent (packet_after_went (length outgoing.fixed.body)) outgoing.packets) outgoing.packets) ≡ length outgoing.packets
 sent_as true outgoing = length-with is_unsent (packet_after_went (length outgoing.fixed.body)) outgoing.packets
@@ -95,18 +90,14 @@ sent_load : (is_new : Bool) (outgoing : Data) → load_in (data_sent_if is_new o
 sent_load true outgoing = let same = sent_as (is_data outgoing.fixed) outgoing in omega (arith, same)
 sent_load false outgoing = omega arith
 
--- all steps but the one in which its host gives it a packet
-abbrev pub GivesNone : EndStep → Type 0
-GivesNone (DataGiven start body) = ⊥
-GivesNone step = ⊤
-
-pub load_stays : (setup : EndSetup) (facts : EndFacts) (step : EndStep) → GivesNone step → load_of (end_after setup facts step) ≤ load_of facts
-load_stays setup facts (DataGiven start body) none = absurd none
-load_stays setup facts (EventEntered slot) none = omega arith
-load_stays setup facts PduFixed none = omega arith
-load_stays setup facts (PacketSent slot) none = sent_load (is_acked facts.acknowledgement) facts.outgoing
-load_stays setup facts (PacketReceived slot octets room) none = received_load slot room (good_pdu setup facts octets) facts
-load_stays setup facts DataReported none = omega arith
+load_kept : (most : ℕ) → IsKeptByEnd (λ outgoing. load_in outgoing ≤ most)
+load_kept most = record {
+  sending = record {
+    fixed = λ limit pdu more outgoing few. few;
+    sent = λ is_new outgoing few. let less = sent_load is_new outgoing in omega (arith, less, few);
+  };
+  acked = λ acked outgoing few. let less = acked_load acked outgoing in omega (arith, less, few);
+}
 
 pub given_complete : (handle : ℕ) (start : Bool) (body : List ℕ) (outgoing : Data) → (data_given handle start body outgoing).complete ≡ outgoing.complete
 given_complete handle start [] outgoing = refl
@@ -161,12 +152,19 @@ HasHadFew most link = HadFew most link.setup link.past
 abbrev pub IsFew : ℕ → OpenLink → Type 0
 IsFew most link = HasLoad most link × HadFew most link.setup link.past
 
-few_after : (most : ℕ) (step : EndStep) (link : OpenLink) → GivesNone step → IsFew most link → IsFew most (link_after step link)
-few_after most step link none few =
-    let less = load_stays link.setup (facts_in link) step none in (
-      subst (λ (facts : EndFacts). load_of facts ≤ most) (sym (grows link.setup link.past step)) (omega (arith, less, few.0)),
-      had_more most link.setup link.past step few.1 (omega (arith, less, few.0)),
-    )
+few_by : (most : ℕ) (step : EndStep) (link : OpenLink) → load_of (end_after link.setup (facts_in link) step) ≤ most → IsFew most link
+    → IsFew most (link_after step link)
+few_by most step link less few = (
+  subst (λ (facts : EndFacts). load_of facts ≤ most) (sym (grows link.setup link.past step)) less,
+  had_more most link.setup link.past step few.1 (omega (arith, less)),
+)
+
+few_after : (most : ℕ) (step : EndStep) (link : OpenLink) → IsOwnStep step → IsFew most link → IsFew most (link_after step link)
+few_after most step link own few =
+    few_by most step link (end_keeps (λ outgoing. load_in outgoing ≤ most) (load_kept most) link.setup (facts_in link) step own few.0) few
+
+few_reported : (most : ℕ) (link : OpenLink) → IsFew most link → IsFew most (link_after DataReported link)
+few_reported most link few = few_by most DataReported link (let less = few.0 in omega (arith, less)) few
 
 few_new : (most : ℕ) (setup : EndSetup) → IsFew most (new_link setup)
 unfolding end_facts
@@ -187,25 +185,25 @@ module _ (most : ℕ) where
   abbrev AreFewAt : Links → Type 0
   AreFewAt links = EachOpen (IsFew most) links
 
-  stepped : (step : EndStep) (handle : ℕ) (links : Links) → GivesNone step → AreFewAt links → AreFewAt (with_change handle (link_after step) links)
-  stepped step handle links none each = changed (IsFew most) handle (link_after step) links (λ link few. few_after most step link none few) each
+  stepped : (step : EndStep) (handle : ℕ) (links : Links) → IsOwnStep step → AreFewAt links → AreFewAt (with_change handle (link_after step) links)
+  stepped step handle links own each = changed (IsFew most) handle (link_after step) links (λ link few. few_after most step link own few) each
 
-  stays : (slot : ℕ) (links : Links) → AreFewAt links → AreFewAt (links_staying slot links)
-  stays slot [] each = tt
-  stays slot (None ∷ links) each = (tt, stays slot links each.1)
-  stays slot (Some link ∷ links) each = (by (reason_in slot link), stays slot links each.1)
+  stays : (reason : OpenLink → Option ℕ) (links : Links) → AreFewAt links → AreFewAt (links_without reason links)
+  stays reason [] each = tt
+  stays reason (None ∷ links) each = (tt, stays reason links each.1)
+  stays reason (Some link ∷ links) each = (by (reason link), stays reason links each.1)
     where
-      by : (reason : Option ℕ) → AtOpen (IsFew most) (staying_by reason link)
+      by : (code : Option ℕ) → AtOpen (IsFew most) (staying_by code link)
       by None = each.0
-      by (Some reason) = tt
+      by (Some code) = tt
 
-  entered : (anchor : Bool) (slot : ℕ) (link : OpenLink) → IsFew most link → IsFew most (entered_if anchor slot link)
+  entered : (enters : Bool) (slot : ℕ) (link : OpenLink) → IsFew most link → IsFew most (entered_if enters slot link)
   entered true slot link few = few_after most (EventEntered slot) link tt few
   entered false slot link few = few
 
-  enters : (slot : ℕ) (links : Links) → AreFewAt links → AreFewAt (links_entered slot links)
+  enters : (slot : ℕ) (links : Links) → AreFewAt links → AreFewAt (all_entered slot links)
   enters slot links each =
-      enter_open (IsFew most) (IsFew most) slot links (λ link few. entered (is_anchor slot link) slot link few) each
+      enter_open (IsFew most) (IsFew most) slot links (λ link few. entered (enters_in slot link) slot link few) each
 
   wins : (slot : ℕ) (activity : Activity) (links : Links) → AreFewAt links → AreFewAt (links_won slot activity links)
   wins slot (Link handle) links each = changed (IsFew most) handle (link_served slot) links (λ link few. few) each
@@ -231,8 +229,12 @@ module _ (most : ℕ) where
   reports (Some link ∷ links) each = (by (nat_lt 0 (complete_in link)), reports links each.1)
     where
       by : (complete : Bool) → IsFew most (cond complete (link_after DataReported link) link)
-      by true = few_after most DataReported link tt each.0
+      by true = few_reported most link each.0
       by false = each.0
+
+  refuses : (test : Bool) (handle : ℕ) (links : Links) → AreFewAt links → AreFewAt (links_refusing test handle links)
+  refuses true handle links each = stepped (RequestAnswered refusal) handle links tt each
+  refuses false handle links each = each
 
   opens_few : (link : LinkSetup) (facts : Facts) → AreFewAt facts.links → AreFewAt (facts_passed (opens link facts)).links
   opens_few link facts each =
@@ -243,7 +245,7 @@ module _ (most : ℕ) where
   few_kept setup = record {
     starts = record {
       weakens = λ facts each. each;
-      ends = λ slot facts each. stays slot facts.links each;
+      ends = λ reason facts each. stays reason facts.links each;
       begins = λ slot facts each. each;
       enters = λ slot facts each. enters slot facts.links each;
       wins = λ slot activity facts each. wins slot activity facts.links each;
@@ -265,9 +267,12 @@ module _ (most : ℕ) where
           sends facts.turn.slot (asks_if (false && does_ask (scan_answer on.params facts.view.accepted on.recent pdu)) channel pdu) facts.links each;
       connects = λ channel octets pdu on access handle doing is_on hears answers next free in_range. each;
       received = λ handle octets.
-          let step = PacketReceived facts.turn.slot octets (has_room setup facts) in
-          sends facts.turn.slot (reply_if (replies_in (link_at handle facts.links) octets) handle)
-          (with_change handle (link_after step) facts.links) (stepped step handle facts.links tt each);
+          let room = has_room setup facts in
+          let step = PacketReceived facts.turn.slot octets room in
+          sends facts.turn.slot (reply_if (replies_in facts.turn.slot room (link_at handle facts.links) octets) handle)
+          (link_received handle room octets facts).links
+          (refuses (refuses_at handle room octets facts) handle (with_change handle (link_after step) facts.links)
+          (stepped step handle facts.links tt each));
     };
   }
 

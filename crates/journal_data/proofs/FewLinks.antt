@@ -1,8 +1,8 @@
 -- The handles of a pair of stations fit into packets of data.
 use Rattle.std.proofs.Common.{ℕ, zero, suc, ◌≤◌, arith, List}
 use Rattle.radio_replay.specs.Script.{Script}
-use Rattle.run_model.specs.Pair.{given_of}
-use Rattle.run_model.specs.Run.{Given, setup_at}
+use Rattle.journal_acks.specs.run_model.Pair.{given_of}
+use Rattle.journal_acks.specs.run_model.Run.{Given, setup_at}
 
 -- a connection handle has 12 bits (Core 5.2, volume 4 part E, section 5.4.2)
 pub record HaveFewLinks (given : Given) : Type 0 where

@@ -4,8 +4,8 @@ use Rattle.std.specs.Prelude.{map}
 use Rattle.std.specs.List.{AllByRecursion}
 use Rattle.controller_model.specs.Side.{notes_after}
 use Rattle.controller_model.specs.Step.{HostOctet}
-use Rattle.run_model.specs.History.{Event, Called, HostFed, Noted}
-use Rattle.run_model.specs.Run.{Given, after_feed, after_octets, facts_at, setup_at}
+use Rattle.journal_acks.specs.run_model.History.{Event, Called, HostFed, Noted}
+use Rattle.journal_acks.specs.run_model.Run.{Given, after_feed, after_octets, facts_at, setup_at}
 use Rattle.journal_data.proofs.EachLine.{IsElsewhere, IsOutside, call_outside, lines_at, outside_lines}
 
 -- ---- the front of two lists

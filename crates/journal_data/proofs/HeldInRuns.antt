@@ -9,31 +9,31 @@ use Rattle.ble_base.specs.declared.notes.Note.TheVariants.{Up as UpNote, Opened 
 use Rattle.host_view.specs.Noted.{is_acl_data}
 use Rattle.journal.specs.declared.entries.Entry.{Entry}
 use Rattle.journal.specs.declared.entries.Entry.TheVariants.{Turn, Fed, Air, Up, Enter, Opened, Shut, Sent, Took}
-use Rattle.link_model.proofs.Received.{IsHeardWhole}
+use Rattle.journal_acks.proofs.link_model.Hearing.{IsHeardWhole}
 use Rattle.controller_model.specs.Notes.{is_event}
 use Rattle.controller_model.specs.Side.{notes_after}
 use Rattle.controller_model.specs.Step.{Step, HostOctet, TurnBegins, TurnEnds}
 use Rattle.radio_replay.specs.Script.{Script}
-use Rattle.run_model.specs.Due.{Each}
-use Rattle.run_model.specs.Feeding.{AreDistinct}
-use Rattle.run_model.specs.History.{Event, TurnBegan, HostFed, Called, Noted, Transmitted, packet_received, past_of, turns_begun}
-use Rattle.run_model.specs.Journal.{entries_of, entry_of, journal_of, mark_of, radio_in, side_of}
-use Rattle.run_model.specs.LinkEnds.{HaveAddresses}
-use Rattle.run_model.specs.Links.{links_of}
-use Rattle.run_model.specs.Pair.{given_of}
-use Rattle.run_model.specs.Run.{Given, after_call, after_feed, after_octets, facts_at, hearings_of, history_of, octets_left, run_of, setup_at, step_of}
-use Rattle.run_model.specs.OnAir.{ends_phase}
-use Rattle.run_model.proofs.EntryEvents.{is_of_event}
-use Rattle.run_model.proofs.LinkEnds.{AreTaken, IsUnderstood, pair_addresses}
-use Rattle.run_model.proofs.OpenedNotes.{is_opened, outside_open}
-use Rattle.run_model.proofs.Ordered.{pair_distinct}
-use Rattle.run_model.proofs.Places.{each_append, each_at, each_event}
-use Rattle.run_model.proofs.Stations.{is_in, among, not_before}
-use Rattle.run_model.proofs.Walk.{NoTurn, AtFeeds, AtBegins, AtListening, AtEnds, Place, IsKept, IsStopped, IsWhole, ends_with, run_kept}
-use Rattle.run_laws.proofs.DistinctAccess.{AreApart}
-use Rattle.run_laws.proofs.TurnPlaces.{Within, at_stage, standing}
-use Rattle.journal_packets.proofs.AccessOrder.{AreNth}
-use Rattle.journal_packets.proofs.SoFar.{IsBelongingSoFar}
+use Rattle.journal_acks.specs.run_model.Due.{Each}
+use Rattle.journal_acks.specs.run_model.Feeding.{AreDistinct}
+use Rattle.journal_acks.specs.run_model.History.{Event, TurnBegan, HostFed, Called, Noted, Transmitted, packet_received, past_of, turns_begun}
+use Rattle.journal_acks.specs.run_model.Journal.{entries_of, entry_of, journal_of, mark_of, radio_in, side_of}
+use Rattle.journal_acks.specs.run_model.LinkEnds.{HaveAddresses}
+use Rattle.journal_acks.specs.run_model.Links.{links_of}
+use Rattle.journal_acks.specs.run_model.Pair.{given_of}
+use Rattle.journal_acks.specs.run_model.Run.{Given, after_call, after_feed, after_octets, facts_at, hearings_of, history_of, octets_left, run_of, setup_at, step_of}
+use Rattle.journal_acks.specs.run_model.OnAir.{ends_phase}
+use Rattle.journal_acks.proofs.run_model.EntryEvents.{is_of_event}
+use Rattle.journal_acks.proofs.run_model.LinkEnds.{AreTaken, IsUnderstood, pair_addresses}
+use Rattle.journal_acks.proofs.run_model.OpenedNotes.{is_opened, outside_open}
+use Rattle.journal_acks.proofs.run_model.Ordered.{pair_distinct}
+use Rattle.journal_acks.proofs.run_model.Places.{each_append, each_at, each_event}
+use Rattle.journal_acks.proofs.run_model.Stations.{is_in, among, not_before}
+use Rattle.journal_acks.proofs.run_model.Walk.{NoTurn, AtFeeds, AtBegins, AtListening, AtEnds, Place, IsKept, IsStopped, IsWhole, ends_with, run_kept}
+use Rattle.journal_acks.proofs.run_laws.DistinctAccess.{AreApart}
+use Rattle.journal_acks.proofs.run_laws.TurnPlaces.{Within, at_stage, standing}
+use Rattle.journal_acks.proofs.journal_packets.AccessOrder.{AreNth}
+use Rattle.journal_acks.proofs.journal_packets.SoFar.{IsBelongingSoFar}
 use Rattle.journal_acks.proofs.Counting.{AreKnown, HaveOwnNumbers}
 use Rattle.journal_acks.proofs.Exchanging.{number_at}
 use Rattle.journal_acks.proofs.Known.{known_of}
@@ -46,7 +46,8 @@ use Rattle.journal_data.proofs.HeldNotes.{IsHeld, IsHeldNote, call_held}
 use Rattle.journal_data.proofs.KeptData.{IsDataAt, data_kept, own_numbers}
 use Rattle.journal_data.proofs.LeastHandles.{OpenLeast, least_standing, pass_opens}
 use Rattle.journal_data.proofs.Law.{eight_of, first_data}
-use Rattle.journal_data.proofs.StationLines.{IsStationBooked, call_booked, event_booked, event_own, octet_own, octet_unused}
+use Rattle.journal_data.proofs.StationLines.{IsStationBooked, call_booked, event_booked, event_own, octet_own, octet_unused, octet_stays, AllStay}
+use Rattle.controller_model.proofs.NoProcedures.{plain_stays}
 
 -- ---- each step
 
@@ -60,12 +61,12 @@ module _ (whole : IsHeardWhole) (given : Given) (Q : Place → List Event → Ty
   P place history = AreHeldSoFar given Q place history
 
   one_more : (station : ℕ) (step : Step) (history : List Event) → HaveOwnNumbers given station history → HaveOwnNumbers given station (after_call given station step history)
-      → IsStationBooked given station history
+      → AllStay (facts_at given station history) step → IsStationBooked given station history
       → OpenLeast (facts_at given station history).links (notes_after (setup_at given station) (facts_at given station history) step)
       → Each IsHeld [] history → Each IsHeld [] (after_call given station step history)
-  one_more station step history own own_after booked least each =
+  one_more station step history own own_after stay booked least each =
       each_append IsHeld [] history (Called station step ∷ map (Noted station) (notes_after (setup_at given station) (facts_at given station history) step)) each
-      (call_held given station step history (few_links.links station) own own_after booked.links least)
+      (call_held given station step history (few_links.links station) own own_after stay booked.links least)
 
   -- a call that ends no phase opens none
   none_least : (station : ℕ) (step : Step) (history : List Event) → ends_phase step ≡ false
@@ -94,7 +95,9 @@ module _ (whole : IsHeardWhole) (given : Given) (Q : Place → List Event → Ty
       → Each IsHeld [] (after_call given station step history)
   turn_more station step history before place in_it has next least =
       one_more station step history (own_numbers given Q known before history station in_it has.is.counted.known)
-      (own_numbers given Q known place (after_call given station step history) station in_it next.counted.known) (has.is.are.well station in_it).booked least has.each
+      (own_numbers given Q known place (after_call given station step history) station in_it next.counted.known)
+      (λ handle ends. plain_stays (facts_at given station history).links (known.plain before history has.is.counted.known station in_it) handle)
+      (has.is.are.well station in_it).booked least has.each
 
   octets_more : (station : ℕ) (octets : List ℕ) (history : List Event) → HaveOwnNumbers given station history → IsStationBooked given station history
       → Each IsHeld [] history → Each IsHeld [] (after_octets given station octets history)
@@ -102,8 +105,9 @@ module _ (whole : IsHeardWhole) (given : Given) (Q : Place → List Event → Ty
   octets_more station (octet ∷ octets) history own booked each =
       let own_next = octet_own given station octet history own in
       octets_more station octets (after_call given station (HostOctet octet) history) own_next
-      (call_booked given station (HostOctet octet) history (few_links.links station) own own_next (octet_unused given station octet history) booked)
-      (one_more station (HostOctet octet) history own own_next booked (none_least station (HostOctet octet) history refl) each)
+      (call_booked given station (HostOctet octet) history (few_links.links station) own own_next (octet_unused given station octet history)
+      (octet_stays given station octet history) booked)
+      (one_more station (HostOctet octet) history own own_next (octet_stays given station octet history) booked (none_least station (HostOctet octet) history refl) each)
 
   feed_more : (station : ℕ) (octets : List ℕ) (history : List Event) → HaveOwnNumbers given station history → IsStationBooked given station history
       → Each IsHeld [] history → Each IsHeld [] (after_feed given station octets history)

@@ -5,8 +5,8 @@ use Rattle.std.specs.List.{AllByRecursion, find, sum_by}
 use Rattle.std.specs.Option.{option_map}
 use Rattle.std.proofs.lemmas.Bool.{eq-eqb, eqb-true}
 use Rattle.std.proofs.lemmas.List.Sums.{sum_by-append, sum_by-cons, sum_by_push}
-use Rattle.open_links.specs.OpenLinks.{Links, OpenLink, link_at, link_from}
-use Rattle.open_links.proofs.Handles.{here, later}
+use Rattle.journal_acks.specs.open_links.OpenLinks.{Links, OpenLink, link_at, link_from}
+use Rattle.journal_acks.proofs.open_links.Handles.{here, later}
 use Rattle.journal_data.specs.HostLines.{OpenUnder, link_under}
 use Rattle.journal_data.proofs.HostPackets.{AreUnder}
 use Rattle.journal_data.proofs.Openness.{is_open}

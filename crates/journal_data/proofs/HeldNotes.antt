@@ -10,21 +10,21 @@ use Rattle.ble_base.specs.declared.notes.Note.{Note}
 use Rattle.ble_base.specs.declared.notes.Note.TheVariants.{Up, Opened, Shut, Sent, Took, Enter}
 use Rattle.ble_base.specs.declared.roles.Role.{Role}
 use Rattle.host_view.specs.Noted.{acl_handle, is_acl_data, two_octets}
-use Rattle.open_links.specs.OpenLinks.{IsLeastFree}
+use Rattle.journal_acks.specs.open_links.OpenLinks.{IsLeastFree}
 use Rattle.controller_model.specs.Since.{is_data_note}
 use Rattle.controller_model.specs.Facts.{Facts}
 use Rattle.controller_model.specs.Notes.{HasHandleBelow, is_opening, is_event}
 use Rattle.controller_model.specs.Side.{facts_after, notes_after}
 use Rattle.controller_model.specs.Step.{Step}
 use Rattle.controller_model.proofs.OpenNotes.{open_after, open_before}
-use Rattle.run_model.specs.Due.{Each}
-use Rattle.run_model.specs.History.{Event, TurnBegan, HostFed, Called, Noted, Transmitted, past_of}
-use Rattle.run_model.specs.Journal.{side_of}
-use Rattle.run_model.specs.Links.{Links, links_of}
-use Rattle.run_model.specs.Run.{Given, after_call, facts_at, setup_at}
-use Rattle.run_model.proofs.CallNotes.{map_push}
-use Rattle.run_model.proofs.LinksKnown.{links_event}
-use Rattle.run_laws.proofs.Hearings.{own_facts}
+use Rattle.journal_acks.specs.run_model.Due.{Each}
+use Rattle.journal_acks.specs.run_model.History.{Event, TurnBegan, HostFed, Called, Noted, Transmitted, past_of}
+use Rattle.journal_acks.specs.run_model.Journal.{side_of}
+use Rattle.journal_acks.specs.run_model.Links.{Links, links_of}
+use Rattle.journal_acks.specs.run_model.Run.{Given, after_call, facts_at, setup_at}
+use Rattle.journal_acks.proofs.run_model.CallNotes.{map_push}
+use Rattle.journal_acks.proofs.run_model.LinksKnown.{links_event}
+use Rattle.journal_acks.proofs.run_laws.Hearings.{own_facts}
 use Rattle.journal_acks.proofs.Counting.{HaveOwnNumbers}
 use Rattle.journal_acks.proofs.Exchanging.{number_at}
 use Rattle.journal_data.specs.Held.{IsNextOpened, is_open_link, IsOfOneLink, IsDataOfLink}
@@ -38,7 +38,7 @@ use Rattle.journal_data.proofs.LeastHandles.{OpenLeast}
 use Rattle.journal_data.proofs.NotedLines.{AreApart, IsOfBase, note_links, number_opened, numbers_noted, numbers_quiet, one_on, still_open, swapped, with_noted, completed_data, received_data}
 use Rattle.journal_data.proofs.Openness.{AreNot, IsNotedAs, stays, shuts, opens_first, is_open, is_shutting, note_open, past_noted}
 use Rattle.journal_data.proofs.OpenLines.{IsOfStaying, middle, of_staying, open_mid, opened_mid, parts, shut_mid}
-use Rattle.journal_data.proofs.StationLines.{called_then, each_in, names_few, of_after, of_before, own_apart}
+use Rattle.journal_data.proofs.StationLines.{called_then, each_in, names_few, of_after, of_before, own_apart, AllStay}
 
 -- ---- notes that open no link
 
@@ -114,6 +114,7 @@ none_any link (one ∷ links) none = by (one.link == link) refl (none_any link l
 
 module _ (given : Given) (station : ℕ) (step : Step) (history : List Event) (few : (setup_at given station).links ≤ 4096) (own : HaveOwnNumbers given station history)
     (own_after : HaveOwnNumbers given station (after_call given station step history))
+    (stay : AllStay (facts_at given station history) step)
     (held : AreHeld (setup_at given station).links station history (is_open (facts_at given station history).links))
     (least : OpenLeast (facts_at given station history).links (notes_after (setup_at given station) (facts_at given station history) step)) where
   abbrev many : ℕ
@@ -232,7 +233,7 @@ module _ (given : Given) (station : ℕ) (step : Step) (history : List Event) (f
     opening_held (note ∷ earlier) later are =
         let same = parts first note rest (earlier ++ later) are in
         let of = of_rest rest shut
-        (subst (AllByRecursion (λ note. is_shutting note ≡ false → IsOfBase after_open note)) is (of_after (setup_at given station) (past_of station history) step few)).1 in
+        (subst (AllByRecursion (λ note. is_shutting note ≡ false → IsOfBase after_open note)) is (of_after (setup_at given station) (past_of station history) step few stay)).1 in
         subst (λ (one : Note). AreHeldAfter (one ∷ earlier)) same.heads
         (subst (λ (all : List Event). AreHeld many station all (λ other. fold (note_open other) (note_open other (before_open other) first) earlier))
         (one_on station called first earlier)
@@ -246,7 +247,7 @@ module _ (given : Given) (station : ℕ) (step : Step) (history : List Event) (f
       by : IsNotedAs (is_open (facts_at given station history).links) (is_open (facts_after (setup_at given station) (facts_at given station history) step).links)
           (notes_after (setup_at given station) (facts_at given station history) step) → AreHeldAfter earlier
       by (stays none shut same) = plain_held none earlier later are
-      by (shuts none reports opens once) = plain_held none earlier later are
+      by (shuts none opens once) = plain_held none earlier later are
       by (opens_first handle role first_own peer rest is none shut reports free now opens) =
           opening_held handle role first_own peer rest is none shut free now opens earlier later (sym is ∙ are)
 
@@ -272,7 +273,7 @@ module _ (given : Given) (station : ℕ) (step : Step) (history : List Event) (f
   then_of : (earlier later : List Note) (note : Note) → notes ≡ earlier ++ note ∷ later → is_shutting note ≡ false → IsOfBase after_open note
   then_of earlier later note are =
       middle (λ one. is_shutting one ≡ false → IsOfBase after_open one) earlier note later
-      (subst (AllByRecursion (λ one. is_shutting one ≡ false → IsOfBase after_open one)) are (of_after (setup_at given station) (past_of station history) step few))
+      (subst (AllByRecursion (λ one. is_shutting one ≡ false → IsOfBase after_open one)) are (of_after (setup_at given station) (past_of station history) step few stay))
 
   note_is : (earlier later : List Note) (note : Note) → notes ≡ earlier ++ note ∷ later → IsHeldNote station (with_noted station called earlier) note
   note_is earlier later (Sent handle counted llid body) are =
@@ -307,7 +308,7 @@ module _ (given : Given) (station : ℕ) (step : Step) (history : List Event) (f
       let its_length = middle HasItsLength earlier note later (subst (AllByRecursion HasItsLength) are (step_lengths setup past step)) in
       let under = λ (handle : ℕ) (of : is_data_note handle note ≡ true).
       ap (λ (place : Option ℕ). is_some place)
-      (stays_under earlier (note ∷ later) are handle (open_before setup past step note handle few inside of) (open_after setup past step note handle few inside of)) in (
+      (stays_under earlier (note ∷ later) are handle (open_before setup past step note handle few inside of) (open_after setup past step note handle few inside of (stay handle))) in (
         (λ acl. record { is_open = under (acl_handle packet.items) (received_data packet acl); whole = its_length acl }),
         (λ event. record { one_handle = one event; is_open = under (two_octets 4 packet.items) (completed_data packet event) }),
       )

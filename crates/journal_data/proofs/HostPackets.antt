@@ -21,14 +21,14 @@ use Rattle.h4_frames.specs.declared.packet.HostPacket.TheVariants.{Command, Acl}
 use Rattle.h4_frames.proofs.Feeding.{frames_step}
 use Rattle.h4_frames.proofs.Growing.{frames_more as frames_grown}
 use Rattle.h4_frames.proofs.Steps.{fed_of, found_fed}
-use Rattle.link_model.specs.Facts.{Facts as EndFacts}
-use Rattle.link_model.specs.Step.{DataGiven}
-use Rattle.link_model.proofs.Pasts.{grows}
-use Rattle.open_links.specs.declared.offers.Offer.{Offer}
-use Rattle.open_links.specs.declared.offers.Offer.TheVariants.{NoLink, Empty, Overflow, Kept}
-use Rattle.open_links.specs.Data.{buffers_in, buffers_taken, links_offered, offer_by}
-use Rattle.open_links.specs.OpenLinks.{Links, OpenLink, facts_in, link_after, link_at, link_from, with_change_from, without_links}
-use Rattle.open_links.proofs.Handles.{changed_is, other_stays}
+use Rattle.journal_acks.specs.link_model.Facts.{Facts as EndFacts}
+use Rattle.journal_acks.specs.link_model.Step.{DataGiven}
+use Rattle.journal_acks.proofs.link_model.Pasts.{grows}
+use Rattle.journal_acks.specs.open_links.declared.offers.Offer.{Offer}
+use Rattle.journal_acks.specs.open_links.declared.offers.Offer.TheVariants.{NoLink, Empty, Overflow, Kept}
+use Rattle.journal_acks.specs.open_links.Data.{buffers_in, buffers_taken, links_offered, offer_by}
+use Rattle.journal_acks.specs.open_links.OpenLinks.{Links, OpenLink, facts_in, link_after, link_at, link_from, with_change_from, without_links}
+use Rattle.journal_acks.proofs.open_links.Handles.{changed_is, other_stays}
 use Rattle.hci_cmd.specs.declared.command.Command.{Command as HciCommand}
 use Rattle.hci_cmd.specs.declared.command.Command.TheVariants.{Reset}
 use Rattle.hci_cmd.specs.declared.command.CmdRead.{CmdRead}

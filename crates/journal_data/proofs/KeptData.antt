@@ -3,27 +3,27 @@ use Rattle.std.proofs.Common.{◌≡◌, ℕ, suc, ◌-◌, ◌==◌, ◌⊎◌,
 use Rattle.std.specs.Prelude.{map, take, if◌then◌else◌}
 use Rattle.std.proofs.lemmas.Bool.{eqb-true}
 use Rattle.ble_base.specs.declared.notes.Note.TheVariants.{Opened}
-use Rattle.link_model.proofs.Received.{IsHeardWhole}
+use Rattle.journal_acks.proofs.link_model.Hearing.{IsHeardWhole}
 use Rattle.controller_model.specs.Between.{is_between_turns}
 use Rattle.controller_model.specs.Side.{notes_after}
 use Rattle.controller_model.specs.Step.{Step, TurnBegins, TurnEnds}
 use Rattle.controller_model.proofs.Always.{IsInTurn}
-use Rattle.run_model.specs.Feeding.{AreDistinct}
-use Rattle.run_model.specs.History.{Event, TurnBegan, Called, Noted, Transmitted, packet_received, past_of, turns_begun}
-use Rattle.run_model.specs.Journal.{journal_of, side_of}
-use Rattle.run_model.specs.LinkEnds.{HaveAddresses}
-use Rattle.run_model.specs.Links.{links_of}
-use Rattle.run_model.specs.Run.{Given, after_call, after_feed, facts_at, hearings_of, octets_left, setup_at, step_of}
-use Rattle.run_model.proofs.Journals.{two}
-use Rattle.run_model.proofs.LinksKnown.{last_by_call}
-use Rattle.run_model.proofs.OpenedNotes.{is_opened}
-use Rattle.run_model.proofs.Parts.{journal_event}
-use Rattle.run_model.proofs.Stations.{is_in, among, not_before}
-use Rattle.run_model.proofs.Walk.{Place, AtFeeds, AtBegins, AtListening, AtEnds, IsKept}
-use Rattle.run_laws.proofs.InAgreement.{differs_back}
-use Rattle.run_laws.proofs.TurnPlaces.{Between, Within, at_stage}
-use Rattle.journal_links.specs.LinkLines.{lines_of}
-use Rattle.journal_packets.specs.Belonging.{is_side}
+use Rattle.journal_acks.specs.run_model.Feeding.{AreDistinct}
+use Rattle.journal_acks.specs.run_model.History.{Event, TurnBegan, Called, Noted, Transmitted, packet_received, past_of, turns_begun}
+use Rattle.journal_acks.specs.run_model.Journal.{journal_of, side_of}
+use Rattle.journal_acks.specs.run_model.LinkEnds.{HaveAddresses}
+use Rattle.journal_acks.specs.run_model.Links.{links_of}
+use Rattle.journal_acks.specs.run_model.Run.{Given, after_call, after_feed, facts_at, hearings_of, octets_left, setup_at, step_of}
+use Rattle.journal_acks.proofs.run_model.Journals.{two}
+use Rattle.journal_acks.proofs.run_model.LinksKnown.{last_by_call}
+use Rattle.journal_acks.proofs.run_model.OpenedNotes.{is_opened}
+use Rattle.journal_acks.proofs.run_model.Parts.{journal_event}
+use Rattle.journal_acks.proofs.run_model.Stations.{is_in, among, not_before}
+use Rattle.journal_acks.proofs.run_model.Walk.{Place, AtFeeds, AtBegins, AtListening, AtEnds, IsKept}
+use Rattle.journal_acks.proofs.run_laws.InAgreement.{differs_back}
+use Rattle.journal_acks.proofs.run_laws.TurnPlaces.{Between, Within, at_stage}
+use Rattle.journal_acks.specs.journal_links.LinkLines.{lines_of}
+use Rattle.journal_acks.specs.journal_packets.Belonging.{is_side}
 use Rattle.journal_acks.proofs.Counting.{AreKnown, HaveOwnNumbers, apart_numbers}
 use Rattle.journal_acks.proofs.KeptCounts.{AreCountedAt, counts_kept}
 use Rattle.journal_acks.proofs.Standing.{PhasedBy, phased_at}
@@ -42,6 +42,7 @@ use Rattle.journal_data.proofs.Openness.{past_noted}
 use Rattle.journal_data.proofs.FewLinks.{HaveFewLinks}
 use Rattle.journal_data.proofs.SameView.{SeesSame, same_end, same_well, sees_other_call, sees_other_feed, sees_packet, sees_turn}
 use Rattle.journal_data.proofs.Sides.{AreArriving}
+use Rattle.controller_model.proofs.NoProcedures.{plain_stays}
 
 abbrev IsArriving : Given → ℕ → ℕ → List Event → Type 0
 IsArriving given station other history =
@@ -173,6 +174,7 @@ module _ (whole : IsHeardWhole) (given : Given) (Q : Place → List Event → Ty
         moved = moved;
         few = few (are.well station is).few;
         in_turn = in_turn;
+        stay = λ handle ends. plain_stays (facts_at given station history).links (known.plain before history was.known station is) handle;
       } in
       own_all given are_two station history after is (λ one differs. sees_other_call given one station step history differs) (record {
         well = well_after given few_links.links eight station step history made;

@@ -4,20 +4,20 @@ use Rattle.std.specs.Prelude.{◌||◌, filter, fold}
 use Rattle.std.proofs.lemmas.Bool.{eq-eqb, eqb-true}
 use Rattle.ble_base.specs.declared.notes.Note.{Note}
 use Rattle.ble_base.specs.declared.notes.Note.TheVariants.{Opened}
-use Rattle.open_links.specs.OpenLinks.{OpenLink, facts_in, link_at}
+use Rattle.journal_acks.specs.open_links.OpenLinks.{OpenLink, facts_in, link_at}
 use Rattle.controller_model.specs.Facts.{Setup, Facts}
 use Rattle.controller_model.specs.Side.{notes_after}
 use Rattle.controller_model.specs.Since.{count_given, count_since, empties_of}
 use Rattle.controller_model.specs.Step.{Step, HostOctet, TurnBegins, PacketHeard, NothingHeard, TurnEnds}
 use Rattle.controller_model.proofs.Always.{IsInTurn}
-use Rattle.run_model.specs.History.{Event, past_of}
-use Rattle.run_model.specs.Links.{links_of}
-use Rattle.run_model.specs.Run.{Given, after_call, facts_at, setup_at}
-use Rattle.run_model.proofs.Calls.{past_own}
-use Rattle.run_model.proofs.LinksKnown.{link_by_own}
-use Rattle.run_model.proofs.OpenedNotes.{is_opened}
+use Rattle.journal_acks.specs.run_model.History.{Event, past_of}
+use Rattle.journal_acks.specs.run_model.Links.{links_of}
+use Rattle.journal_acks.specs.run_model.Run.{Given, after_call, facts_at, setup_at}
+use Rattle.journal_acks.proofs.run_model.Calls.{past_own}
+use Rattle.journal_acks.proofs.run_model.LinksKnown.{link_by_own}
+use Rattle.journal_acks.proofs.run_model.OpenedNotes.{is_opened}
 use Rattle.journal_acks.proofs.Exchanging.{number_at}
-use Rattle.run_laws.proofs.Hearings.{own_facts}
+use Rattle.journal_acks.proofs.run_laws.Hearings.{own_facts}
 use Rattle.journal_data.specs.HostLines.{has_octets}
 use Rattle.journal_data.specs.Lines.{data_on, empties_on, submitted_on}
 use Rattle.journal_data.proofs.EachLine.{lines_at}

@@ -4,23 +4,23 @@ use Rattle.ble_base.specs.Side.{other_side}
 use Rattle.ble_base.specs.declared.roles.Side.{Side}
 use Rattle.ble_base.specs.declared.roles.Side.TheVariants.{A, B}
 use Rattle.journal.specs.declared.entries.Entry.{Entry}
-use Rattle.link_model.proofs.Received.{IsHeardWhole}
-use Rattle.open_links.specs.OpenLinks.{OpenLink, link_at}
+use Rattle.journal_acks.proofs.link_model.Hearing.{IsHeardWhole}
+use Rattle.journal_acks.specs.open_links.OpenLinks.{OpenLink, link_at}
 use Rattle.controller_model.specs.Side.{facts_of, notes_of}
 use Rattle.radio_replay.specs.Script.{Script}
-use Rattle.run_model.specs.Feeding.{AreDistinct, HasNoted}
-use Rattle.run_model.specs.Journal.{journal_of, side_of}
-use Rattle.run_model.specs.LinkEnds.{HaveAddresses}
-use Rattle.run_model.specs.Pair.{given_of}
-use Rattle.run_model.specs.Run.{Given, facts_at, history_of, run_of, setup_at}
-use Rattle.run_model.proofs.EntryEvents.{is_of_event}
-use Rattle.run_model.proofs.LinkEnds.{AreTaken, IsUnderstood, pair_addresses}
-use Rattle.run_model.proofs.Ordered.{pair_distinct}
-use Rattle.run_model.proofs.Stations.{is_in}
-use Rattle.run_model.proofs.Walk.{NoTurn, IsStopped, IsWhole, ends_with, run_kept}
-use Rattle.run_laws.proofs.DistinctAccess.{AreApart}
-use Rattle.journal_packets.proofs.AccessOrder.{AreNth}
-use Rattle.journal_packets.proofs.SoFar.{IsBelongingSoFar}
+use Rattle.journal_acks.specs.run_model.Feeding.{AreDistinct, HasNoted}
+use Rattle.journal_acks.specs.run_model.Journal.{journal_of, side_of}
+use Rattle.journal_acks.specs.run_model.LinkEnds.{HaveAddresses}
+use Rattle.journal_acks.specs.run_model.Pair.{given_of}
+use Rattle.journal_acks.specs.run_model.Run.{Given, facts_at, history_of, run_of, setup_at}
+use Rattle.journal_acks.proofs.run_model.EntryEvents.{is_of_event}
+use Rattle.journal_acks.proofs.run_model.LinkEnds.{AreTaken, IsUnderstood, pair_addresses}
+use Rattle.journal_acks.proofs.run_model.Ordered.{pair_distinct}
+use Rattle.journal_acks.proofs.run_model.Stations.{is_in}
+use Rattle.journal_acks.proofs.run_model.Walk.{NoTurn, IsStopped, IsWhole, ends_with, run_kept}
+use Rattle.journal_acks.proofs.run_laws.DistinctAccess.{AreApart}
+use Rattle.journal_acks.proofs.journal_packets.AccessOrder.{AreNth}
+use Rattle.journal_acks.proofs.journal_packets.SoFar.{IsBelongingSoFar}
 use Rattle.journal_acks.proofs.Known.{known_of}
 use Rattle.journal_acks.proofs.RunCounts.{counts_first}
 use Rattle.journal_acks.proofs.TwoStations.{IsOfTwo, other_of}

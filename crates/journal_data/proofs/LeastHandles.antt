@@ -6,9 +6,9 @@ use Rattle.ble_base.specs.declared.addresses.Address.{Address}
 use Rattle.ble_base.specs.declared.notes.Note.{Note}
 use Rattle.ble_base.specs.declared.notes.Note.TheVariants.{Opened}
 use Rattle.ble_base.specs.declared.roles.Role.{Role}
-use Rattle.link_model.specs.declared.setup.LinkSetup.{LinkSetup}
-use Rattle.open_links.specs.OpenLinks.{IsFreeHandle, IsLeastFree, Links, link_at}
-use Rattle.open_links.proofs.Handles.{free_is}
+use Rattle.journal_acks.specs.link_model.declared.setup.LinkSetup.{LinkSetup}
+use Rattle.journal_acks.specs.open_links.OpenLinks.{IsFreeHandle, IsLeastFree, Links, link_at}
+use Rattle.journal_acks.proofs.open_links.Handles.{free_is}
 use Rattle.scan_init.specs.Reports.{does_ask, scan_answer}
 use Rattle.controller_model.specs.declared.doing.Doing.{Doing}
 use Rattle.controller_model.specs.declared.doing.Doing.TheVariants.{Advertises, Connects}
@@ -21,9 +21,9 @@ use Rattle.controller_model.specs.Step.{Step}
 use Rattle.controller_model.specs.Notes.{is_opening}
 use Rattle.controller_model.proofs.Always.{MayBegin, left_doing, opening_passes}
 use Rattle.controller_model.proofs.Phases.{EachOutcome, heard_is, unheard_is}
-use Rattle.run_model.specs.Run.{step_of}
-use Rattle.run_laws.proofs.TurnPlaces.{Between, Stage, Standing, Within, IsTurned, standing, turned}
-use Rattle.journal_data.proofs.Openness.{AreNot, AreQuiet, answered_quiet, both_quiet, doing_quiet, none_open, took_quiet}
+use Rattle.journal_acks.specs.run_model.Run.{step_of}
+use Rattle.journal_acks.proofs.run_laws.TurnPlaces.{Between, Stage, Standing, Within, IsTurned, standing, turned}
+use Rattle.journal_data.proofs.Openness.{AreNot, AreQuiet, answered_quiet, both_quiet, doing_quiet, none_open, heard_quiet}
 
 -- ---- the handle of a link that is to be opened
 
@@ -66,14 +66,16 @@ phase_least setup facts = record {
   answered = λ channel octets pdu on doing is_on hears.
       asks_least (false && does_ask (scan_answer on.params facts.view.accepted on.recent pdu)) channel pdu (with_scanner (scanner_after on facts.view.accepted pdu) facts);
   connects = λ channel octets pdu on access handle doing is_on hears answers next free in_range. subst (IsFreeHandle 0 facts.links) free (free_is 0 facts.links);
-  received = λ handle octets. reply_least (replies_in (link_at handle facts.links) octets) handle (link_received handle (has_room setup facts) octets facts);
+  received = λ handle octets.
+      let room = has_room setup facts in
+      reply_least (replies_in facts.turn.slot room (link_at handle facts.links) octets) handle (link_received handle room octets facts);
 }
 
 least_turned : (setup : Setup) → IsTurned setup IsLeastAt
 least_turned setup = record {
   feeds = λ begun octet facts is. tt;
   begins = λ begun on facts is.
-      left_doing (λ held. ⊤) (λ slot held none. tt) (λ slot held none. tt) (λ slot held none. tt) (λ slot activity held none. tt) (λ doing held none. tt)
+      left_doing (λ held. ⊤) (λ reason held none. tt) (λ slot held none. tt) (λ slot held none. tt) (λ slot activity held none. tt) (λ doing held none. tt)
       (λ doing held. IsLeastNext (facts_doing doing held)) (λ doing held may none. begin_least doing held may) begun on facts tt;
   passes = λ phases begun received facts is. by facts received;
   ends = λ begun facts is. tt;
@@ -129,8 +131,7 @@ phase_opens setup facts least = let nothing = quiet_least facts.links [] tt in r
       (answered_quiet facts.view (scan_answer on.params facts.view.accepted on.recent pdu) pdu);
   connects = λ channel octets pdu on access handle doing is_on hears answers next free in_range. nothing;
   received = λ handle octets.
-      passed_least facts (link_heard setup handle octets facts)
-      (took_quiet facts.turn.slot (has_room setup facts) (link_at handle facts.links) octets);
+      passed_least facts (link_heard setup handle octets facts) (heard_quiet handle octets setup facts);
 }
 
 pub pass_opens : (setup : Setup) (facts : Facts) (received : Option (List ℕ)) → IsLeastNext facts → OpenLeast facts.links (notes_after setup facts (step_of received))

@@ -9,6 +9,7 @@ pub mod Middle
 mod HostPackets
 pub mod Submitting
 mod Feeds
+pub mod DataSteps
 pub mod SameGiven
 mod KeptSubmitted
 pub mod Tied
@@ -40,3 +41,13 @@ pub mod CallMiddle
 mod DataInRuns
 pub mod Law
 pub mod HeldInRuns
+-- what the crates above use of those below
+pub use Rattle.controller_model.proofs as controller_model
+pub use Rattle.journal_acks.proofs as journal_acks
+pub use Rattle.journal_acks.proofs.journal_links as journal_links
+pub use Rattle.journal_acks.proofs.journal_packets as journal_packets
+pub use Rattle.journal_acks.proofs.link_model as link_model
+pub use Rattle.journal_acks.proofs.open_links as open_links
+pub use Rattle.journal_acks.proofs.plain_links as plain_links
+pub use Rattle.journal_acks.proofs.run_laws as run_laws
+pub use Rattle.journal_acks.proofs.run_model as run_model

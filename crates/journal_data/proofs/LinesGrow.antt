@@ -8,10 +8,10 @@ use Rattle.journal.specs.declared.entries.Entry.{Entry}
 use Rattle.journal.specs.declared.entries.Entry.TheVariants.{Fed as FedEntry, Up as UpEntry, Opened as OpenedEntry, Shut as ShutEntry, Sent as SentEntry, Took as TookEntry}
 use Rattle.controller_model.specs.Step.{Step}
 use Rattle.controller_model.specs.Side.{notes_after}
-use Rattle.run_model.specs.History.{Event, Called, Noted}
-use Rattle.run_model.specs.Journal.{entries_of, side_of}
-use Rattle.run_model.specs.Links.{links_of}
-use Rattle.run_model.specs.Run.{Given, setup_at, facts_at, after_call}
+use Rattle.journal_acks.specs.run_model.History.{Event, Called, Noted}
+use Rattle.journal_acks.specs.run_model.Journal.{entries_of, side_of}
+use Rattle.journal_acks.specs.run_model.Links.{links_of}
+use Rattle.journal_acks.specs.run_model.Run.{Given, setup_at, facts_at, after_call}
 use Rattle.journal_data.specs.Lines.{Credited, Lines, PduLine, Received, credited_on, is_of_side, line_after, lines_after, pdus_on, received_on}
 use Rattle.journal_data.proofs.Booked.{counts_more, counts_on, octets_more, octets_on}
 use Rattle.journal_data.proofs.EachLine.{event_lines, lines_at}

@@ -6,7 +6,7 @@ use Rattle.std.proofs.lemmas.List.Concat.{flat_map-append}
 use Rattle.std.proofs.lemmas.List.Elements.{filter-append}
 use Rattle.std.proofs.lemmas.List.{length-append}
 use Rattle.acl_banks.specs.History.{HostData, octets_of, whole_packets}
-use Rattle.link_model.specs.Data.{data_in}
+use Rattle.journal_acks.specs.link_model.Data.{data_in}
 use Rattle.journal_data.specs.HostLines.{has_octets}
 use Rattle.journal_data.specs.Lines.{Lines, PduLine, accepted_on, credited_on, data_on, empties_on, pdus_on, received_on, submitted_on}
 use Rattle.journal_data.specs.Delivered.{ArrivesInOrder}

@@ -1,20 +1,20 @@
 -- A station takes a packet on a link only where the other station has the other end of that link open.
 use Rattle.std.proofs.Common.{◌≡◌, ℕ, ◌==◌, ◌⊎◌, inl, inr, Bool, true, false, not, Some, None, List, [], ◌∷◌, ◌++◌, refl, sym, ap, subst, ◌∙◌, if◌then◌else◌}
 use Rattle.std.proofs.lemmas.Bool.{eqb-true}
-use Rattle.link_model.proofs.Received.{IsHeardWhole}
-use Rattle.open_links.specs.OpenLinks.{OpenLink, link_at}
+use Rattle.journal_acks.proofs.link_model.Hearing.{IsHeardWhole}
+use Rattle.journal_acks.specs.open_links.OpenLinks.{OpenLink, link_at}
 use Rattle.controller_model.specs.Facts.{Facts, Sends}
 use Rattle.radio_replay.specs.declared.fates.Fate.{Fate}
-use Rattle.run_model.specs.Feeding.{AreDistinct}
-use Rattle.run_model.specs.History.{Event, Hearing, Transmitted, has_received, packet_received}
-use Rattle.run_model.specs.LinkEnds.{HaveAddresses}
-use Rattle.run_model.specs.Run.{Given, facts_at, hearings_of, unseen_in, use_at}
-use Rattle.run_model.proofs.LinkEnds.{received_event}
-use Rattle.run_model.proofs.Stations.{is_in, among}
-use Rattle.run_model.proofs.Walk.{Place, AtPackets}
-use Rattle.run_laws.proofs.ByCalls.{Holds}
-use Rattle.run_laws.proofs.InAgreement.{AreStations}
-use Rattle.run_model.proofs.Journals.{two}
+use Rattle.journal_acks.specs.run_model.Feeding.{AreDistinct}
+use Rattle.journal_acks.specs.run_model.History.{Event, Hearing, Transmitted, has_received, packet_received}
+use Rattle.journal_acks.specs.run_model.LinkEnds.{HaveAddresses}
+use Rattle.journal_acks.specs.run_model.Run.{Given, facts_at, hearings_of, unseen_in, use_at}
+use Rattle.journal_acks.proofs.run_model.LinkEnds.{received_event}
+use Rattle.journal_acks.proofs.run_model.Stations.{is_in, among}
+use Rattle.journal_acks.proofs.run_model.Walk.{Place, AtPackets}
+use Rattle.journal_acks.proofs.run_laws.ByCalls.{Holds}
+use Rattle.journal_acks.proofs.run_laws.InAgreement.{AreStations}
+use Rattle.journal_acks.proofs.run_model.Journals.{two}
 use Rattle.journal_acks.proofs.AirCounts.{packet_far}
 use Rattle.journal_acks.proofs.Counting.{AreCountedSo, AreKnown, facts_event}
 use Rattle.journal_acks.proofs.Exchanging.{number_at, number_sent}

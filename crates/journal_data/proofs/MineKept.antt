@@ -2,32 +2,31 @@
 use Rattle.std.proofs.Common.{arith, ◌≡◌, ℕ, ◌==◌, Bool, true, false, Option, Some, None, List, cond, refl, sym, ap, ◌∙◌}
 use Rattle.std.specs.Prelude.{is_some}
 use Rattle.ble_base.specs.declared.notes.Note.{Note}
-use Rattle.link_model.specs.Setup.{Setup as EndSetup}
-use Rattle.link_model.specs.Step.{PacketReceived}
-use Rattle.link_model.specs.declared.setup.LinkSetup.{LinkSetup}
-use Rattle.open_links.specs.OpenLinks.{Links, OpenLink, link_after, link_at, new_link, with_link}
+use Rattle.journal_acks.specs.link_model.Setup.{Setup as EndSetup}
+use Rattle.journal_acks.specs.link_model.declared.setup.LinkSetup.{LinkSetup}
+use Rattle.journal_acks.specs.open_links.OpenLinks.{Links, OpenLink, link_at, new_link, with_link}
 use Rattle.controller_model.specs.Facts.{Facts, Setup}
 use Rattle.controller_model.specs.Heard.{has_room, link_heard, link_taken, opens as opening, scanner_heard}
 use Rattle.controller_model.specs.Outcome.{Outcome, facts_passed}
 use Rattle.controller_model.specs.Side.{facts_after, notes_after}
 use Rattle.controller_model.proofs.Always.{opening_is}
-use Rattle.controller_model.proofs.OpenPlaces.{changed_opens, opens, sent_opens}
+use Rattle.controller_model.proofs.OpenPlaces.{opens, sent_opens, received_opens}
 use Rattle.controller_model.proofs.Phases.{EachOutcome, heard_is, unheard_is}
-use Rattle.run_model.specs.History.{Event, packet_received, past_of}
-use Rattle.run_model.specs.Links.{links_of}
-use Rattle.run_model.specs.Run.{Given, after_call, facts_at, setup_at, step_of}
-use Rattle.run_model.proofs.LinkEnds.{received_by}
-use Rattle.run_model.proofs.Stations.{is_in}
-use Rattle.run_laws.proofs.Hearings.{other_facts, own_facts}
+use Rattle.journal_acks.specs.run_model.History.{Event, packet_received, past_of}
+use Rattle.journal_acks.specs.run_model.Links.{links_of}
+use Rattle.journal_acks.specs.run_model.Run.{Given, after_call, facts_at, setup_at, step_of}
+use Rattle.journal_acks.proofs.run_model.LinkEnds.{received_by}
+use Rattle.journal_acks.proofs.run_model.Stations.{is_in}
+use Rattle.journal_acks.proofs.run_laws.Hearings.{other_facts, own_facts}
 use Rattle.journal_acks.proofs.Exchanging.{number_at, number_other}
 use Rattle.journal_acks.proofs.LinkUses.{listens_under}
 use Rattle.journal_acks.proofs.TwoStations.{IsOfTwo, other_is, other_of}
 use Rattle.journal_data.proofs.Mine.{AreMine, HasFarEnd, IsTaking, none_mine, other_back}
 use Rattle.journal_data.proofs.Openness.{is_open, opens_where_free, same_open}
 use Rattle.journal_data.proofs.NotedLines.{below_from, is_link}
-use Rattle.open_links.proofs.Handles.{opened_at, other_stays}
+use Rattle.journal_acks.proofs.open_links.Handles.{opened_at, other_stays}
 use Rattle.std.proofs.lemmas.Bool.{eqb-false, eqb-true}
-use Rattle.run_model.proofs.LinksKnown.{link_by_own}
+use Rattle.journal_acks.proofs.run_model.LinksKnown.{link_by_own}
 
 -- ---- nothing is received
 
@@ -77,8 +76,7 @@ module _ (handle : ℕ) where
     answered = λ channel octets pdu on doing is_on hears. same_stays facts (scanner_heard (Some on) false channel pdu facts) refl;
     connects = λ channel octets pdu on access under doing is_on hears answers next free in_range linked. linked;
     received = λ under octets.
-        same_stays facts (link_heard setup under octets facts)
-        (changed_opens (link_after (PacketReceived facts.turn.slot octets (has_room setup facts))) under facts.links);
+        same_stays facts (link_heard setup under octets facts) (received_opens under (has_room setup facts) octets facts);
   }
 
   pub phase_open : (setup : Setup) (facts : Facts) (received : Option (List ℕ)) → is_some (link_at handle facts.links) ≡ true

@@ -1,22 +1,23 @@
 -- What each call in a turn does to the link of its station.
 use Rattle.std.proofs.Common.{◌≡◌, ℕ, ◌≤◌, ◌==◌, Bool, true, false, Some, List, [], ◌∷◌, ◌++◌, length, take, refl, sym, ap, subst, ◌∙◌, if◌then◌else◌}
 use Rattle.std.proofs.lemmas.List.{take-append-le}
-use Rattle.link_model.specs.Acknowledgement.{Acknowledgement, Pdu}
-use Rattle.link_model.proofs.Sending.{past_counted}
-use Rattle.open_links.specs.OpenLinks.{OpenLink, facts_in, link_at}
+use Rattle.journal_acks.specs.link_model.Acknowledgement.{Acknowledgement, Pdu}
+use Rattle.journal_acks.proofs.link_model.Counts.{past_counted}
+use Rattle.journal_acks.specs.open_links.OpenLinks.{OpenLink, facts_in, link_at}
 use Rattle.controller_model.specs.Facts.{Facts}
 use Rattle.controller_model.specs.Heard.{has_room}
 use Rattle.controller_model.specs.Side.{facts_after}
 use Rattle.controller_model.specs.Step.{TurnBegins, TurnEnds}
-use Rattle.run_model.specs.History.{Event, packet_received}
-use Rattle.run_model.specs.Run.{Given, after_call, facts_at, setup_at, step_of}
-use Rattle.run_laws.proofs.Agreed.{ack_of, ack_sent, first_ack}
-use Rattle.run_laws.proofs.TurnSteps.{IsListening}
+use Rattle.journal_acks.specs.run_model.History.{Event, packet_received}
+use Rattle.journal_acks.specs.run_model.Run.{Given, after_call, facts_at, setup_at, step_of}
+use Rattle.journal_acks.proofs.run_laws.Agreed.{ack_of, ack_sent, first_ack}
+use Rattle.journal_acks.proofs.run_laws.TurnSteps.{IsListening}
 use Rattle.journal_acks.proofs.KeptCounts.{own_at}
 use Rattle.journal_acks.proofs.LinkCalls.{HasPassed, IsNew, Stays, Takes, base_ack, begins_under, passes_under}
 use Rattle.journal_acks.proofs.LinkUses.{sends_under}
 use Rattle.journal_acks.proofs.UnderHandles.{end_under, sent_if}
 use Rattle.journal_data.proofs.OneCall.{HasMoved, Kept, New, Took}
+use Rattle.journal_acks.specs.link_model.Controls.{pdu_fixed}
 
 -- sending takes nothing, and acknowledges nothing
 record IsSentOn (before after : Acknowledgement) : Type 0 where
@@ -34,7 +35,7 @@ sent_on true slot base =
     let ack = ack_of base in
     subst (IsSentOn ack) (sym (ack_sent slot base)) (record {
       accepted = refl;
-      acked = sent_more (ack.acked == length ack.sent) ack (facts_in base).outgoing.fixed (past_counted base.setup base.past).0;
+      acked = sent_more (ack.acked == length ack.sent) ack (pdu_fixed (facts_in base)) (past_counted base.setup base.past).0;
     })
 
 -- ---- as a turn begins

@@ -15,15 +15,15 @@ use Rattle.ble_base.specs.declared.roles.Side.{Side}
 use Rattle.ble_base.specs.declared.notes.Note.{Note}
 use Rattle.ble_base.specs.declared.notes.Note.TheVariants.{Up, Opened, Shut, Sent, Took}
 use Rattle.host_view.specs.Noted.{acl_handle, is_acl_data, two_octets}
-use Rattle.open_links.specs.OpenLinks.{Links as OpenLinks, OpenLink, link_from}
+use Rattle.journal_acks.specs.open_links.OpenLinks.{Links as OpenLinks, OpenLink, link_from}
 use Rattle.controller_model.specs.Notes.{is_event, is_opening}
 use Rattle.controller_model.specs.Since.{is_data_note, note_since, since_opened, starts_message}
-use Rattle.run_model.specs.History.{Event, Noted, noted_by}
-use Rattle.run_model.specs.Journal.{entry_of, side_of}
-use Rattle.run_model.specs.Links.{Links, links_after, links_of}
-use Rattle.run_model.proofs.Calls.{same_station}
-use Rattle.run_model.proofs.LinksKnown.{links_event}
-use Rattle.journal_links.proofs.LineNotes.{note_added}
+use Rattle.journal_acks.specs.run_model.History.{Event, Noted, noted_by}
+use Rattle.journal_acks.specs.run_model.Journal.{entry_of, side_of}
+use Rattle.journal_acks.specs.run_model.Links.{Links, links_after, links_of}
+use Rattle.journal_acks.proofs.run_model.Calls.{same_station}
+use Rattle.journal_acks.proofs.run_model.LinksKnown.{links_event}
+use Rattle.journal_acks.proofs.journal_links.LineNotes.{note_added}
 use Rattle.journal_acks.specs.Exchange.{is_number}
 use Rattle.journal_acks.proofs.Exchanging.{number_at}
 use Rattle.journal_data.specs.HostLines.{link_under}

@@ -2,11 +2,11 @@
 use Rattle.std.proofs.Common.{◌≡◌, ℕ, List, [], ◌∷◌, ◌++◌, refl, sym, ap, ◌∙◌}
 use Rattle.controller_model.specs.Side.{notes_of}
 use Rattle.controller_model.specs.Step.{HostOctet}
-use Rattle.run_model.specs.Feeding.{HasNoted}
-use Rattle.run_model.specs.History.{Event, HostFed, notes_in, steps_in}
-use Rattle.run_model.specs.Run.{Given, after_call, after_feed, after_octets, setup_at}
-use Rattle.run_model.proofs.Calls.{flat_nothing}
-use Rattle.run_model.proofs.Notes.{noted_own}
+use Rattle.journal_acks.specs.run_model.Feeding.{HasNoted}
+use Rattle.journal_acks.specs.run_model.History.{Event, HostFed, notes_in, steps_in}
+use Rattle.journal_acks.specs.run_model.Run.{Given, after_call, after_feed, after_octets, setup_at}
+use Rattle.journal_acks.proofs.run_model.Calls.{flat_nothing}
+use Rattle.journal_acks.proofs.run_model.Notes.{noted_own}
 
 pub noted_event : (given : Given) (station : ℕ) (history : List Event) (event : Event) → notes_in station event ≡ [] → steps_in station event ≡ []
     → HasNoted given station history → HasNoted given station (history ++ event ∷ [])

@@ -5,27 +5,27 @@ use Rattle.std.specs.Option.{option_map}
 use Rattle.std.proofs.lemmas.Bool.{eqb-true, false_from_ne_true}
 use Rattle.ble_base.specs.declared.notes.Note.{Note}
 use Rattle.ack_bit.specs.Nonempty.{nonempty}
-use Rattle.link_model.specs.Acknowledgement.{Acknowledgement, Pdu, first_acknowledgement}
-use Rattle.link_model.specs.Data.{data_of, is_empty}
-use Rattle.link_model.specs.Pair.{AreInAgreement}
-use Rattle.open_links.specs.OpenLinks.{OpenLink, facts_in, link_at}
+use Rattle.journal_acks.specs.link_model.Acknowledgement.{Acknowledgement, Pdu, first_acknowledgement}
+use Rattle.journal_acks.specs.link_model.Data.{data_of, is_empty}
+use Rattle.journal_acks.specs.link_model.OneLink.{AreInAgreement}
+use Rattle.journal_acks.specs.open_links.OpenLinks.{OpenLink, facts_in, link_at}
 use Rattle.controller_model.specs.Facts.{Facts, Setup}
 use Rattle.controller_model.specs.Side.{notes_after}
 use Rattle.controller_model.specs.Since.{data_waiting}
 use Rattle.controller_model.specs.Step.{Step}
 use Rattle.controller_model.proofs.Always.{IsInTurn}
-use Rattle.run_model.proofs.LinksKnown.{link_by_other, link_by_own}
-use Rattle.run_model.proofs.Notes.{noted_own}
-use Rattle.run_model.proofs.OpenedNotes.{is_opened}
-use Rattle.run_model.specs.History.{Event, past_of}
-use Rattle.run_model.specs.Journal.{side_of}
-use Rattle.run_model.specs.Links.{links_of}
-use Rattle.run_model.specs.Run.{Given, after_call, facts_at, setup_at}
-use Rattle.run_laws.proofs.Agreed.{Agree, ack_of, exchange}
-use Rattle.run_laws.proofs.Hearings.{other_facts}
-use Rattle.run_laws.proofs.InAgreement.{AllAgree, WithAll}
-use Rattle.run_laws.proofs.OpenSteps.{open_has}
-use Rattle.journal_packets.specs.Belonging.{is_side}
+use Rattle.journal_acks.proofs.run_model.LinksKnown.{link_by_other, link_by_own}
+use Rattle.journal_acks.proofs.run_model.Notes.{noted_own}
+use Rattle.journal_acks.proofs.run_model.OpenedNotes.{is_opened}
+use Rattle.journal_acks.specs.run_model.History.{Event, past_of}
+use Rattle.journal_acks.specs.run_model.Journal.{side_of}
+use Rattle.journal_acks.specs.run_model.Links.{links_of}
+use Rattle.journal_acks.specs.run_model.Run.{Given, after_call, facts_at, setup_at}
+use Rattle.journal_acks.proofs.run_laws.Agreed.{Agree, ack_of, exchange}
+use Rattle.journal_acks.proofs.run_laws.Hearings.{other_facts}
+use Rattle.journal_acks.proofs.run_laws.InAgreement.{AllAgree, WithAll}
+use Rattle.journal_acks.proofs.run_laws.OpenSteps.{open_has}
+use Rattle.journal_acks.specs.journal_packets.Belonging.{is_side}
 use Rattle.journal_acks.proofs.Counting.{HaveOwnNumbers, IsBegun, one_begun}
 use Rattle.journal_acks.proofs.Exchanging.{number_at}
 use Rattle.journal_acks.proofs.TwoStations.{other_of}
@@ -40,7 +40,7 @@ use Rattle.journal_data.proofs.Openness.{opens_where_free}
 use Rattle.journal_data.proofs.Sides.{AreArriving, End, IsBusy, IsFound, IsSound, call_arrives}
 use Rattle.journal_data.proofs.LinesGrow.{call_grows}
 use Rattle.journal_data.proofs.NotedLines.{IsSameOn}
-use Rattle.journal_data.proofs.StationLines.{IsNoneOf, UnusedWhereOpened, call_booked, call_same_on}
+use Rattle.journal_data.proofs.StationLines.{IsNoneOf, UnusedWhereOpened, call_booked, call_same_on, AllStay}
 use Rattle.journal_data.proofs.KeptSubmitted.{turn_submitted}
 use Rattle.journal_data.proofs.Submitting.{call_submits, turn_fed}
 
@@ -78,6 +78,8 @@ pub record IsCallMade (given : Given) (station : ℕ) (step : Step) (history : L
   pub moved : EachAt given station (after_call given station step history) (HasMoved given station history)
   pub few : AreFew given station (after_call given station step history)
   pub in_turn : IsInTurn step
+  -- no link ends as a turn ends
+  pub stay : AllStay (facts_at given station history) step
 
 no_front : {X : Type 0} (front rest : List X) → front ++ rest ≡ [] → front ≡ []
 no_front [] rest is = refl
@@ -143,7 +145,7 @@ module _ (given : Given) (few : (station : ℕ) → (setup_at given station).lin
   pub well_after : IsWell given station then_on
   well_after = record {
     noted = noted_own given station step history made.well.noted;
-    booked = call_booked given station step history (few station) made.own made.own_after unused made.well.booked;
+    booked = call_booked given station step history (few station) made.own made.own_after unused made.stay made.well.booked;
     submitted = turn_submitted given station step history made.in_turn (λ handle opened. (made.clear handle opened).submitted) made.well.submitted;
     fed = turn_fed given station step history made.in_turn made.well.fed;
     few = made.few;
@@ -154,7 +156,7 @@ module _ (given : Given) (few : (station : ℕ) → (setup_at given station).lin
 
   -- what the lines say of links that are not open then is the same
   others_same : (number : ℕ) → IsNoneOf given station number then_on → IsSameOn number before_lines after_lines
-  others_same number none = call_same_on given station step history (few station) made.own made.own_after unused made.well.booked number none
+  others_same number none = call_same_on given station step history (few station) made.own made.own_after unused made.stay made.well.booked number none
 
   sound_after : (handle : ℕ) (link : OpenLink) → place_after handle ≡ Some link → IsSound (end_of station handle then_on given link) after_lines
   sound_after handle link at = sound given station handle then_on link (few station) (eight station) well_after at

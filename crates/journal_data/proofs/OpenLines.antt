@@ -9,7 +9,7 @@ use Rattle.ble_base.specs.declared.addresses.Address.{Address}
 use Rattle.ble_base.specs.declared.notes.Note.{Note}
 use Rattle.ble_base.specs.declared.notes.Note.TheVariants.{Up, Opened, Shut, Enter}
 use Rattle.ble_base.specs.declared.roles.Role.{Role}
-use Rattle.open_links.specs.OpenLinks.{OpenLink}
+use Rattle.journal_acks.specs.open_links.OpenLinks.{OpenLink}
 use Rattle.controller_model.specs.Entering.{begins_turn}
 use Rattle.controller_model.specs.Facts.{Setup}
 use Rattle.controller_model.specs.Notes.{is_opening}
@@ -80,7 +80,7 @@ module _ (before after : ℕ → Bool) (notes : List Note) where
   open_mid (stays none shut same) earlier later handle are on then =
       open_still handle (before handle) earlier (front_all _ earlier later (subst (AreNot is_opening) are none))
       (front_all _ earlier later (subst (AreNot is_shutting) are shut)) ∙ on
-  open_mid (shuts none reports opens once) earlier later handle are on then =
+  open_mid (shuts none opens once) earlier later handle are on then =
       was_open handle (fold (note_open handle) (before handle) earlier) later (all_back _ earlier later (subst (AreNot is_opening) are none))
       (sym (fold-append (note_open handle) (before handle) earlier later) ∙ ap (fold (note_open handle) (before handle)) (sym are) ∙ opens handle ∙ then)
   open_mid (opens_first other role own peer rest is none shut reports free now opens) earlier later handle are on then =
@@ -102,7 +102,7 @@ module _ (before after : ℕ → Bool) (notes : List Note) where
   shut_mid (stays none shut same) earlier later handle reason are on =
       absurd (let h : true ≡ false =
       middle (λ note. is_shutting note ≡ false) earlier (Shut handle (record { 0 = reason })) later (subst (AreNot is_shutting) are shut) in absurd cc)
-  shut_mid (shuts none reports opens once) earlier later handle reason are on =
+  shut_mid (shuts none opens once) earlier later handle reason are on =
       kept_open handle (before handle) earlier (none_before handle reason earlier later (subst (IsShutOnce handle) are (once handle))) on
   shut_mid (opens_first other role own peer rest is none shut reports free now opens) earlier later handle reason are on =
       by handle reason rest shut earlier (sym is ∙ are)
@@ -130,7 +130,7 @@ module _ (before after : ℕ → Bool) (notes : List Note) where
   opened_mid (stays none shut same) earlier later handle role own peer are =
       absurd (let h : true ≡ false =
       middle (λ note. is_opening note ≡ false) earlier (Opened handle role own peer) later (subst (AreNot is_opening) are none) in absurd cc)
-  opened_mid (shuts none reports opens once) earlier later handle role own peer are =
+  opened_mid (shuts none opens once) earlier later handle role own peer are =
       absurd (let h : true ≡ false =
       middle (λ note. is_opening note ≡ false) earlier (Opened handle role own peer) later (subst (AreNot is_opening) are none) in absurd cc)
   opened_mid (opens_first other its_role its_own its_peer rest is none shut reports free now opens) earlier later handle role own peer are =

@@ -25,48 +25,48 @@ use Rattle.host_view.specs.Noted.{is_acl_data}
 use Rattle.host_view.specs.View.{View}
 use Rattle.host_view.specs.Unbuilt.{status_of}
 use Rattle.adv_pdu.specs.declared.pdu.AdvPdu.{AdvPdu}
-use Rattle.instants.specs.Track.{next_number}
-use Rattle.link_model.specs.declared.setup.LinkSetup.{LinkSetup}
-use Rattle.link_model.specs.Acknowledgement.{Pdu}
-use Rattle.link_model.specs.Facts.{Facts as EndFacts}
-use Rattle.link_model.specs.Packets.{good_pdu, pdu_of}
-use Rattle.link_model.specs.Setup.{Setup as EndSetup}
-use Rattle.link_model.specs.Step.{DataGiven, PacketReceived}
-use Rattle.link_model.specs.End.{applied_notes, sent_notes_if, took_notes, took_notes_if}
+use Rattle.journal_acks.specs.link_model.declared.setup.LinkSetup.{LinkSetup}
+use Rattle.journal_acks.specs.link_model.Packets.{good_pdu}
+use Rattle.journal_acks.specs.link_model.Setup.{Setup as EndSetup}
+use Rattle.journal_acks.specs.link_model.Step.{DataGiven}
 use Rattle.scan_init.specs.declared.reports.ReportKind.{ReportKind}
 use Rattle.scan_init.specs.declared.scanner.ScanAnswer.{ScanAnswer}
 use Rattle.scan_init.specs.Reports.{kind_of, scan_answer}
-use Rattle.open_links.specs.declared.ended.LinkEnded.{LinkEnded}
-use Rattle.open_links.specs.declared.offers.Offer.{Offer}
-use Rattle.open_links.specs.declared.offers.Offer.TheVariants.{NoLink, Empty, Overflow, Kept}
-use Rattle.open_links.specs.Data.{completed_from, link_reported}
-use Rattle.open_links.specs.OpenLinks.{Links, OpenLink, facts_in, handles_from, link_after, link_at, link_from, new_link, without_links}
-use Rattle.open_links.specs.Turns.{end_by, ends_from, is_anchor, link_entered, links_staying, notes_entering, notes_if, place_staying, reason_in, staying_by}
-use Rattle.open_links.proofs.Ends.{stays_where_not_due}
+use Rattle.journal_acks.specs.open_links.declared.ended.LinkEnded.{LinkEnded}
+use Rattle.journal_acks.specs.open_links.declared.offers.Offer.{Offer}
+use Rattle.journal_acks.specs.open_links.declared.offers.Offer.TheVariants.{NoLink, Empty, Overflow, Kept}
+use Rattle.journal_acks.specs.open_links.Data.{completed_from, link_reported, links_reported}
+use Rattle.journal_acks.specs.open_links.OpenLinks.{Links, OpenLink, facts_in, handles_from, link_after, link_at, link_from, new_link, without_links}
+use Rattle.journal_acks.specs.open_links.Ended.{end_by}
+use Rattle.journal_acks.specs.open_links.Turns.{due_in, ends_by, enters_in, link_entered, links_without, notes_entering, notes_if, place_without, staying_by, ending_in}
+use Rattle.journal_acks.proofs.open_links.Ends.{stays_where_not_due}
 use Rattle.controller_model.specs.declared.doing.Doing.{Doing}
 use Rattle.controller_model.specs.declared.doing.Doing.TheVariants.{Advertises, CentralSends, PeripheralSends}
 use Rattle.controller_model.specs.Step.{Step, HostOctet, TurnBegins, PacketHeard, NothingHeard, TurnEnds}
 use Rattle.controller_model.specs.Facts.{Setup, Facts}
 use Rattle.controller_model.specs.Answers.{AreOneAnswer, HasNoAnswer, IsAnswerTo, answer_to}
 use Rattle.controller_model.specs.Commands.{events_caused, facts_commanded, facts_known, links_after, notes_before, notes_commanded, notes_known}
-use Rattle.controller_model.specs.Data.{event_completed, facts_offered, note_received, notes_offered, offer_of}
+use Rattle.controller_model.specs.Data.{event_completed, facts_offered, note_received, notes_offered, offer_of, facts_handed, notes_handed}
 use Rattle.controller_model.specs.Events.{notes_of_events, passes}
-use Rattle.controller_model.specs.Heard.{events_reported, has_room, link_heard, link_taken, notes_taken, opens as opening, report_event, report_events, scanner_heard}
-use Rattle.controller_model.specs.Links.{connection_complete, connection_failed, ends_in, events_opened, facts_ending, note_shut, notes_ended, notes_ending, wants_enhanced}
+use Rattle.controller_model.specs.Heard.{events_reported, has_room, link_heard, link_taken, notes_taken, opens as opening, report_event, report_events, scanner_heard, events_received}
+use Rattle.controller_model.specs.Links.{connection_complete, connection_failed, ends_for, events_opened, facts_ending, note_shut, notes_ended, notes_ending, wants_enhanced, notes_leaving}
 use Rattle.controller_model.specs.Notes.{is_event, is_opening}
 use Rattle.controller_model.specs.Outcome.{Outcome, facts_passed, notes_passed}
 use Rattle.controller_model.specs.Packets.{notes_doing, notes_sent}
 use Rattle.controller_model.specs.Radio.{fixing, outcome_begun}
 use Rattle.controller_model.specs.Side.{facts_after, facts_fed, facts_of, notes_after, notes_fed, result_of}
-use Rattle.controller_model.proofs.Always.{IsInTurn, ending_is, facts_before_doing, opening_is, served_is, winner_before_doing}
+use Rattle.controller_model.proofs.Always.{IsInTurn, ending_is, facts_before_doing, opening_is, served_is, winner_before_doing, leaving_is}
 use Rattle.controller_model.proofs.AnsweredOnce.{answered_once}
 use Rattle.controller_model.proofs.Handles.{HaveOwnHandles, IsNew, free_is_new, own_handles}
-use Rattle.controller_model.proofs.OpenPlaces.{changed_opens, fixed_opens, mapped_opens, opens, sent_opens, won_opens}
+use Rattle.controller_model.proofs.OpenPlaces.{changed_opens, fixed_opens, mapped_opens, opens, sent_opens, won_opens, received_opens}
 use Rattle.controller_model.proofs.Phases.{EachOutcome, heard_is, unheard_is}
 use Rattle.journal_acks.proofs.UnderHandles.{map_under}
-use Rattle.open_links.proofs.Handles.{opened_at, other_stays}
-use Rattle.run_model.proofs.OpenedNotes.{is_opened, opened_was_free}
+use Rattle.journal_acks.proofs.open_links.Handles.{opened_at, other_stays}
+use Rattle.journal_acks.proofs.run_model.OpenedNotes.{is_opened, opened_was_free}
 use Rattle.journal_acks.proofs.CallNotes.{is_taking}
+use Rattle.controller_model.proofs.EndNotes.{sent_each, received_each, entered_each}
+use Rattle.controller_model.proofs.ProcedureEvents.{AreOfProcedures, IsOfProcedure, entering_events, reception_events}
+use Rattle.controller_model.specs.Entering.{events_entering, notes_all_entering}
 
 -- ---- what a note says
 
@@ -103,8 +103,8 @@ IsShutOnce handle (note ∷ notes) = (is_shut_of handle note ≡ true → AreNot
 pub data IsNotedAs (before after : ℕ → Bool) (notes : List Note) : Type 0 where
   -- none is opened or shut
   stays : AreNot is_opening notes → AreNot is_shutting notes → ((handle : ℕ) → after handle ≡ before handle) → IsNotedAs before after notes
-  -- none is opened, none is shut twice, and nothing is reported
-  shuts : AreNot is_opening notes → AreNot is_report notes → ((handle : ℕ) → fold (note_open handle) (before handle) notes ≡ after handle)
+  -- none is opened, and none is shut twice
+  shuts : AreNot is_opening notes → ((handle : ℕ) → fold (note_open handle) (before handle) notes ≡ after handle)
       → ((handle : ℕ) → IsShutOnce handle notes) → IsNotedAs before after notes
   -- one is opened first, under a free handle, and then none is opened or shut, and nothing is reported
   opens_first : (handle : ℕ) (role : Role) (own peer : Address) (rest : List Note) → notes ≡ Opened handle role own peer ∷ rest
@@ -187,7 +187,7 @@ once_before handle (x ∷ xs) ys none once =
 
 -- ---- events
 
-abbrev IsOtherEvent : Event → Type 0
+abbrev pub IsOtherEvent : Event → Type 0
 IsOtherEvent (CompletedPackets handle count) = ⊥
 IsOtherEvent event = ⊤
 
@@ -207,6 +207,15 @@ events_quiet view [] are = tt
 events_quiet view (event ∷ events) are =
     quiet_if (passes view (mask_bit_of event)) event (filter (λ event. passes view (mask_bit_of event)) events) are.0 (events_quiet view events are.1)
 
+-- those that control procedures cause
+procedure_other : (event : Event) → IsOfProcedure event → IsOtherEvent event
+procedure_other (CompletedPackets handle count) is = absurd is
+procedure_other event is = tt
+
+pub procedures_other : (events : List Event) → AreOfProcedures events → AllByRecursion IsOtherEvent events
+procedures_other [] are = tt
+procedures_other (event ∷ events) are = (procedure_other event are.0, procedures_other events are.1)
+
 packets_not : (kind : Note → Bool) → ((octets : List ℕ) → kind (Up (record { items = octets })) ≡ false) → (events : List Event)
     → AreNot kind (map (λ event. Up (record { items = written event })) events)
 packets_not kind up [] = tt
@@ -218,13 +227,10 @@ events_not kind up view events = packets_not kind up (filter (λ event. passes v
 
 -- ---- data
 
-sent_if : (noted : Bool) (handle : ℕ) (facts : EndFacts) → AreQuiet (sent_notes_if noted handle facts)
-sent_if true handle facts = (record { no_opening = refl; no_shutting = refl; no_report = refl }, tt)
-sent_if false handle facts = tt
-
 sent_quiet : (slot : ℕ) (found : Option OpenLink) → AreQuiet (notes_sent slot found)
 sent_quiet slot None = tt
-sent_quiet slot (Some link) = sent_if _ link.setup.link.handle (facts_in link)
+sent_quiet slot (Some link) =
+    sent_each IsQuiet link.setup (facts_in link) (λ number llid octets. record { no_opening = refl; no_shutting = refl; no_report = refl })
 
 pub doing_quiet : (doing : Doing) (facts : Facts) → AreQuiet (notes_doing doing facts)
 doing_quiet (CentralSends handle) facts = sent_quiet facts.turn.slot (link_at handle facts.links)
@@ -232,17 +238,24 @@ doing_quiet (PeripheralSends handle) facts = sent_quiet facts.turn.slot (link_at
 doing_quiet (Advertises channel) facts = tt
 doing_quiet other facts = tt
 
-took_if : (noted : Bool) (handle : ℕ) (pdu : Pdu) (facts : EndFacts) → AreQuiet (took_notes_if noted handle pdu facts)
-took_if true handle pdu facts = (record { no_opening = refl; no_shutting = refl; no_report = refl }, tt)
-took_if false handle pdu facts = tt
-
-took_by : (handle : ℕ) (room : Bool) (found : Option (List ℕ)) (facts : EndFacts) → AreQuiet (took_notes handle room found facts)
-took_by handle room None facts = tt
-took_by handle room (Some pdu) facts = took_if _ handle (pdu_of pdu) facts
-
-pub took_quiet : (slot : ℕ) (room : Bool) (found : Option OpenLink) (octets : List ℕ) → AreQuiet (notes_taken slot room found octets)
+took_quiet : (slot : ℕ) (room : Bool) (found : Option OpenLink) (octets : List ℕ) → AreQuiet (notes_taken slot room found octets)
 took_quiet slot room None octets = tt
-took_quiet slot room (Some link) octets = took_by link.setup.link.handle room (good_pdu link.setup (facts_in link) octets) (facts_in link)
+took_quiet slot room (Some link) octets =
+    received_each IsQuiet link.setup slot room (good_pdu link.setup (facts_in link) octets) (facts_in link) (record {
+      took = λ number llid octets. record { no_opening = refl; no_shutting = refl; no_report = refl };
+      refused = λ kind code. record { no_opening = refl; no_shutting = refl; no_report = refl };
+      done = λ kind. record { no_opening = refl; no_shutting = refl; no_report = refl };
+    })
+
+-- all that is noted as a link receives
+pub heard_quiet : (handle : ℕ) (octets : List ℕ) (setup : Setup) (facts : Facts) → AreQuiet (link_heard setup handle octets facts).notes
+heard_quiet handle octets setup facts =
+    let slot = facts.turn.slot in
+    let room = has_room setup facts in
+    let place = link_at handle facts.links in
+    let events = events_received handle slot room place octets in
+    both_quiet (notes_taken slot room place octets) (notes_of_events facts.view events) (took_quiet slot room place octets)
+    (events_quiet facts.view events (procedures_other events (reception_events handle slot room place octets)))
 
 pieces_not : (kind : Note → Bool) → ((octets : List ℕ) → kind (Up (record { items = octets })) ≡ false) → (pieces : List (ℕ × Piece))
     → AreNot kind (map note_received pieces)
@@ -289,7 +302,7 @@ answer_is opcode (CommandComplete number answered fields) is = tt
 answer_is opcode (CommandStatus status number answered) is = tt
 answer_is opcode other is = absurd is
 
-answers_are : (opcode : ℕ) (events : List Event) (none : Type 0) → AreOneAnswer opcode events none → AllByRecursion IsOtherEvent events
+pub answers_are : (opcode : ℕ) (events : List Event) (none : Type 0) → AreOneAnswer opcode events none → AllByRecursion IsOtherEvent events
 answers_are opcode [] none are = tt
 answers_are opcode (event ∷ []) none are = (answer_is opcode event are, tt)
 answers_are opcode (event ∷ other ∷ events) none are = absurd are
@@ -361,8 +374,6 @@ accepted_as setup facts opcode Reset =
     shuts
     (both_not is_opening (shut ++ answer) caused
     (both_not is_opening shut answer (shuts_not is_opening (λ handle. refl) handles) (none_open answer answers)) (none_open caused causes))
-    (both_not is_report (shut ++ answer) caused
-    (both_not is_report shut answer (shuts_not is_report (λ handle. refl) handles) (none_report answer answers)) (none_report caused causes))
     (λ handle. fold_quiet handle (is_open facts.links handle) (shut ++ answer) caused causes ∙ fold_quiet handle (is_open facts.links handle) shut answer answers
     ∙ all_shut 0 handle facts.links ∙ sym (reset_open handle facts.links))
     (λ handle. once_more handle (shut ++ answer) caused (once_more handle shut answer (reset_once handle 0 facts.links) (none_shut answer answers)) (none_shut caused causes))
@@ -407,16 +418,15 @@ fed_as setup facts More = stays tt tt (λ handle. refl)
 -- ---- a turn begins
 
 -- the links that end
-ends_not : (kind : Note → Bool) → ((one : LinkEnded) → kind (note_shut one.handle one.reason.0) ≡ false)
-    → ((note : Note) → IsQuiet note → kind note ≡ false) → (view : View) (ended : List LinkEnded) → AreNot kind (flat_map (notes_ended view) ended)
-ends_not kind shut quiet view [] = tt
-ends_not kind shut quiet view (one ∷ ended) =
-    both_not kind (notes_ended view one) (flat_map (notes_ended view) ended)
-    (shut one, all_of IsQuiet _ quiet _ (events_quiet view (DisconnectionComplete 0 one.handle one.reason.0 ∷ []) (tt, tt)))
-    (ends_not kind shut quiet view ended)
-
 ended_event : (view : View) (handle reason : ℕ) → AreQuiet (notes_of_events view (DisconnectionComplete 0 handle reason ∷ []))
 ended_event view handle reason = events_quiet view (DisconnectionComplete 0 handle reason ∷ []) (tt, tt)
+
+ends_not : (kind : Note → Bool) (view : View) → ((one : LinkEnded) → kind (note_shut one.handle one.reason.0) ≡ false)
+    → ((handle reason : ℕ) → AreNot kind (notes_of_events view (DisconnectionComplete 0 handle reason ∷ [])))
+    → (ended : List LinkEnded) → AreNot kind (flat_map (notes_ended view) ended)
+ends_not kind view shut event [] = tt
+ends_not kind view shut event (one ∷ ended) =
+    both_not kind (notes_ended view one) (flat_map (notes_ended view) ended) (shut one, event one.handle one.reason.0) (ends_not kind view shut event ended)
 
 one_end : (handle : ℕ) (linked : Bool) (view : View) (first reason : ℕ) (others : List LinkEnded)
     → fold (note_open handle) linked (flat_map (notes_ended view) (end_by first (Some reason) ++ others))
@@ -435,46 +445,46 @@ later_end handle linked view first (Some reason) others later =
     one_end handle linked view first reason others
     ∙ ap (λ (b : Bool). fold (note_open handle) (cond b false linked) (flat_map (notes_ended view) others)) (not_before handle first later)
 
-later_ends : (handle : ℕ) (linked : Bool) (view : View) (slot first : ℕ) (links : Links) → handle < first
-    → fold (note_open handle) linked (flat_map (notes_ended view) (ends_from slot first links)) ≡ linked
-later_ends handle linked view slot first [] later = refl
-later_ends handle linked view slot first (None ∷ links) later = later_ends handle linked view slot (first + 1) links (omega (arith, later))
-later_ends handle linked view slot first (Some link ∷ links) later =
-    later_end handle linked view first (reason_in slot link) (ends_from slot (first + 1) links) later
-    ∙ later_ends handle linked view slot (first + 1) links (omega (arith, later))
+later_ends : (handle : ℕ) (linked : Bool) (view : View) (reason : OpenLink → Option ℕ) (first : ℕ) (links : Links) → handle < first
+    → fold (note_open handle) linked (flat_map (notes_ended view) (ends_by reason first links)) ≡ linked
+later_ends handle linked view reason first [] later = refl
+later_ends handle linked view reason first (None ∷ links) later = later_ends handle linked view reason (first + 1) links (omega (arith, later))
+later_ends handle linked view reason first (Some link ∷ links) later =
+    later_end handle linked view first (reason link) (ends_by reason (first + 1) links) later
+    ∙ later_ends handle linked view reason (first + 1) links (omega (arith, later))
 
-ends_open : (view : View) (slot first handle : ℕ) (links : Links)
-    → fold (note_open handle) (is_some (link_from first handle links)) (flat_map (notes_ended view) (ends_from slot first links))
-    ≡ is_some (link_from first handle (links_staying slot links))
-ends_open view slot first handle [] = refl
-ends_open view slot first handle (None ∷ links) = by (first == handle) refl (ends_open view slot (first + 1) handle links)
+ends_open : (view : View) (reason : OpenLink → Option ℕ) (first handle : ℕ) (links : Links)
+    → fold (note_open handle) (is_some (link_from first handle links)) (flat_map (notes_ended view) (ends_by reason first links))
+    ≡ is_some (link_from first handle (links_without reason links))
+ends_open view reason first handle [] = refl
+ends_open view reason first handle (None ∷ links) = by (first == handle) refl (ends_open view reason (first + 1) handle links)
   where
     by : (own : Bool) → (first == handle) ≡ own
-        → fold (note_open handle) (is_some (link_from (first + 1) handle links)) (flat_map (notes_ended view) (ends_from slot (first + 1) links))
-        ≡ is_some (link_from (first + 1) handle (links_staying slot links))
-        → fold (note_open handle) (is_some (if own then None else link_from (first + 1) handle links)) (flat_map (notes_ended view) (ends_from slot (first + 1) links))
-        ≡ is_some (if own then None else link_from (first + 1) handle (links_staying slot links))
-    by true is rest = let equal = eqb-true first handle is in later_ends handle false view slot (first + 1) links (omega (arith, equal))
+        → fold (note_open handle) (is_some (link_from (first + 1) handle links)) (flat_map (notes_ended view) (ends_by reason (first + 1) links))
+        ≡ is_some (link_from (first + 1) handle (links_without reason links))
+        → fold (note_open handle) (is_some (if own then None else link_from (first + 1) handle links)) (flat_map (notes_ended view) (ends_by reason (first + 1) links))
+        ≡ is_some (if own then None else link_from (first + 1) handle (links_without reason links))
+    by true is rest = let equal = eqb-true first handle is in later_ends handle false view reason (first + 1) links (omega (arith, equal))
     by false is rest = rest
-ends_open view slot first handle (Some link ∷ links) = by (first == handle) (reason_in slot link) refl (ends_open view slot (first + 1) handle links)
+ends_open view reason first handle (Some link ∷ links) = by (first == handle) (reason link) refl (ends_open view reason (first + 1) handle links)
   where
-    by : (own : Bool) (reason : Option ℕ) → (first == handle) ≡ own
-        → fold (note_open handle) (is_some (link_from (first + 1) handle links)) (flat_map (notes_ended view) (ends_from slot (first + 1) links))
-        ≡ is_some (link_from (first + 1) handle (links_staying slot links))
+    by : (own : Bool) (code : Option ℕ) → (first == handle) ≡ own
+        → fold (note_open handle) (is_some (link_from (first + 1) handle links)) (flat_map (notes_ended view) (ends_by reason (first + 1) links))
+        ≡ is_some (link_from (first + 1) handle (links_without reason links))
         → fold (note_open handle) (is_some (if own then Some link else link_from (first + 1) handle links))
-        (flat_map (notes_ended view) (end_by first reason ++ ends_from slot (first + 1) links))
-        ≡ is_some (if own then staying_by reason link else link_from (first + 1) handle (links_staying slot links))
-    by true None is rest = let equal = eqb-true first handle is in later_ends handle true view slot (first + 1) links (omega (arith, equal))
-    by true (Some reason) is rest =
+        (flat_map (notes_ended view) (end_by first code ++ ends_by reason (first + 1) links))
+        ≡ is_some (if own then staying_by code link else link_from (first + 1) handle (links_without reason links))
+    by true None is rest = let equal = eqb-true first handle is in later_ends handle true view reason (first + 1) links (omega (arith, equal))
+    by true (Some code) is rest =
         let equal = eqb-true first handle is in
-        one_end handle true view first reason (ends_from slot (first + 1) links)
-        ∙ ap (λ (b : Bool). fold (note_open handle) (cond b false true) (flat_map (notes_ended view) (ends_from slot (first + 1) links))) is
-        ∙ later_ends handle false view slot (first + 1) links (omega (arith, equal))
+        one_end handle true view first code (ends_by reason (first + 1) links)
+        ∙ ap (λ (b : Bool). fold (note_open handle) (cond b false true) (flat_map (notes_ended view) (ends_by reason (first + 1) links))) is
+        ∙ later_ends handle false view reason (first + 1) links (omega (arith, equal))
     by false None is rest = rest
-    by false (Some reason) is rest =
-        one_end handle _ view first reason (ends_from slot (first + 1) links)
+    by false (Some code) is rest =
+        one_end handle _ view first code (ends_by reason (first + 1) links)
         ∙ ap (λ (b : Bool). fold (note_open handle) (cond b false (is_some (link_from (first + 1) handle links)))
-        (flat_map (notes_ended view) (ends_from slot (first + 1) links))) is ∙ rest
+        (flat_map (notes_ended view) (ends_by reason (first + 1) links))) is ∙ rest
 
 end_later : (handle : ℕ) (view : View) (first : ℕ) (reason : Option ℕ) (others : List LinkEnded) → handle < first
     → AreNot (is_shut_of handle) (flat_map (notes_ended view) others) → AreNot (is_shut_of handle) (flat_map (notes_ended view) (end_by first reason ++ others))
@@ -485,13 +495,13 @@ end_later handle view first (Some reason) others later rest =
       both_not (is_shut_of handle) event (flat_map (notes_ended view) others) (none_of handle event (none_shut event (ended_event view first reason))) rest,
     )
 
-ends_later : (handle : ℕ) (view : View) (slot first : ℕ) (links : Links) → handle < first
-    → AreNot (is_shut_of handle) (flat_map (notes_ended view) (ends_from slot first links))
-ends_later handle view slot first [] later = tt
-ends_later handle view slot first (None ∷ links) later = ends_later handle view slot (first + 1) links (omega (arith, later))
-ends_later handle view slot first (Some link ∷ links) later =
-    end_later handle view first (reason_in slot link) (ends_from slot (first + 1) links) later
-    (ends_later handle view slot (first + 1) links (omega (arith, later)))
+ends_later : (handle : ℕ) (view : View) (reason : OpenLink → Option ℕ) (first : ℕ) (links : Links) → handle < first
+    → AreNot (is_shut_of handle) (flat_map (notes_ended view) (ends_by reason first links))
+ends_later handle view reason first [] later = tt
+ends_later handle view reason first (None ∷ links) later = ends_later handle view reason (first + 1) links (omega (arith, later))
+ends_later handle view reason first (Some link ∷ links) later =
+    end_later handle view first (reason link) (ends_by reason (first + 1) links) later
+    (ends_later handle view reason (first + 1) links (omega (arith, later)))
 
 end_once : (handle : ℕ) (view : View) (first : ℕ) (reason : Option ℕ) (others : List LinkEnded)
     → (first ≡ handle → AreNot (is_shut_of handle) (flat_map (notes_ended view) others)) → IsShutOnce handle (flat_map (notes_ended view) others)
@@ -504,37 +514,43 @@ end_once handle view first (Some reason) others none once =
       once_before handle event (flat_map (notes_ended view) others) quiet once,
     )
 
-ends_once : (handle : ℕ) (view : View) (slot first : ℕ) (links : Links) → IsShutOnce handle (flat_map (notes_ended view) (ends_from slot first links))
-ends_once handle view slot first [] = tt
-ends_once handle view slot first (None ∷ links) = ends_once handle view slot (first + 1) links
-ends_once handle view slot first (Some link ∷ links) =
-    end_once handle view first (reason_in slot link) (ends_from slot (first + 1) links)
-    (λ same. ends_later handle view slot (first + 1) links (omega (arith, same))) (ends_once handle view slot (first + 1) links)
+ends_once : (handle : ℕ) (view : View) (reason : OpenLink → Option ℕ) (first : ℕ) (links : Links) → IsShutOnce handle (flat_map (notes_ended view) (ends_by reason first links))
+ends_once handle view reason first [] = tt
+ends_once handle view reason first (None ∷ links) = ends_once handle view reason (first + 1) links
+ends_once handle view reason first (Some link ∷ links) =
+    end_once handle view first (reason link) (ends_by reason (first + 1) links)
+    (λ same. ends_later handle view reason (first + 1) links (omega (arith, same))) (ends_once handle view reason (first + 1) links)
 
 -- the links that enter an event
-applied_quiet : (handle event : ℕ) (number : Option ℕ) → AreQuiet (applied_notes handle event number)
-applied_quiet handle event None = tt
-applied_quiet handle event (Some number) = (record { no_opening = refl; no_shutting = refl; no_report = refl }, tt)
-
-entry_quiet : (anchor : Bool) (slot : ℕ) (link : OpenLink) → AreQuiet (notes_if anchor slot link)
+entry_quiet : (enters : Bool) (slot : ℕ) (link : OpenLink) → AreQuiet (notes_if enters slot link)
 entry_quiet false slot link = tt
 entry_quiet true slot link =
-    both_quiet (applied_notes link.setup.link.handle _ (next_number (facts_in link).parameters)) _
-    (applied_quiet link.setup.link.handle _ (next_number (facts_in link).parameters))
-    (record { no_opening = refl; no_shutting = refl; no_report = refl }, tt)
+    entered_each IsQuiet link.setup slot (facts_in link) (record {
+      applied = λ number. record { no_opening = refl; no_shutting = refl; no_report = refl };
+      enter = record { no_opening = refl; no_shutting = refl; no_report = refl };
+      done = λ kind. record { no_opening = refl; no_shutting = refl; no_report = refl };
+      began = λ kind. record { no_opening = refl; no_shutting = refl; no_report = refl };
+    })
 
-entering_quiet : (slot : ℕ) (links : Links) → AreQuiet (notes_entering slot links)
-entering_quiet slot [] = tt
-entering_quiet slot (None ∷ links) = entering_quiet slot links
-entering_quiet slot (Some link ∷ links) =
-    both_quiet (notes_if (is_anchor slot link) slot link) (notes_entering slot links) (entry_quiet (is_anchor slot link) slot link)
-    (entering_quiet slot links)
+place_quiet : (slot : ℕ) (place : Option OpenLink) → AreQuiet (notes_entering slot place)
+place_quiet slot None = tt
+place_quiet slot (Some link) = entry_quiet (enters_in slot link) slot link
+
+entering_quiet : (view : View) (slot handle : ℕ) (links : Links) → AreQuiet (notes_all_entering view slot handle links)
+entering_quiet view slot handle [] = tt
+entering_quiet view slot handle (place ∷ links) =
+    let notes = notes_entering slot place in
+    let events = events_entering slot handle place in
+    let told = notes_of_events view events in
+    both_quiet (notes ++ told) (notes_all_entering view slot (handle + 1) links)
+    (both_quiet notes told (place_quiet slot place) (events_quiet view events (procedures_other events (entering_events slot handle place))))
+    (entering_quiet view slot (handle + 1) links)
 
 -- which are open then
 begun_opens : (slot : ℕ) (on : Bool) (facts : Facts)
-    → opens (facts_passed (outcome_begun slot on facts)).links ≡ opens (links_staying slot facts.links)
+    → opens (facts_passed (outcome_begun slot on facts)).links ≡ opens (links_without (due_in slot) facts.links)
 begun_opens slot on facts =
-    let stay = opens (links_staying slot facts.links) in
+    let stay = opens (links_without (due_in slot) facts.links) in
     served_is (λ (held : Facts). opens held.links ≡ stay) (λ slot activity held is. won_opens slot activity held.links ∙ is)
     (λ outcome. opens (facts_passed (fixing outcome)).links ≡ stay)
     (λ doing held may is. sent_opens held.turn.slot doing _ ∙ fixed_opens doing held.links ∙ is)
@@ -545,36 +561,35 @@ pub begun_reports : (facts : Facts) (setup : Setup) (slot : ℕ) (on : Bool) →
 begun_reports facts setup slot on =
     let outcome = outcome_begun slot on facts in
     let ends = notes_ending slot facts in
-    let enters = notes_entering slot (facts_ending slot facts).links in
+    let enters = notes_all_entering (facts_ending slot facts).view slot 0 (facts_ending slot facts).links in
     let sends = notes_doing outcome.next outcome.facts in
     both_not is_report (ends ++ enters) sends
-    (both_not is_report ends enters (ends_not is_report (λ one. refl) (λ note is. is.no_report) facts.view (ends_in slot facts))
-    (none_report enters (entering_quiet slot (facts_ending slot facts).links))) (none_report sends (doing_quiet outcome.next outcome.facts))
+    (both_not is_report ends enters (ends_not is_report facts.view (λ one. refl) (λ handle reason. none_report _ (ended_event facts.view handle reason)) (ends_for (due_in slot) facts))
+    (none_report enters (entering_quiet (facts_ending slot facts).view slot 0 (facts_ending slot facts).links))) (none_report sends (doing_quiet outcome.next outcome.facts))
 
 begun_as : (setup : Setup) (facts : Facts) (slot : ℕ) (on : Bool)
     → IsNotedAs (is_open facts.links) (is_open (facts_after setup facts (TurnBegins slot on)).links) (notes_after setup facts (TurnBegins slot on))
 begun_as setup facts slot on =
     let outcome = outcome_begun slot on facts in
     let ends = notes_ending slot facts in
-    let enters = notes_entering slot (facts_ending slot facts).links in
+    let enters = notes_all_entering (facts_ending slot facts).view slot 0 (facts_ending slot facts).links in
     let sends = notes_doing outcome.next outcome.facts in
-    let entered = entering_quiet slot (facts_ending slot facts).links in
+    let entered = entering_quiet (facts_ending slot facts).view slot 0 (facts_ending slot facts).links in
     let sent = doing_quiet outcome.next outcome.facts in
     shuts
     (both_not is_opening (ends ++ enters) sends
-    (both_not is_opening ends enters (ends_not is_opening (λ one. refl) (λ note is. is.no_opening) facts.view (ends_in slot facts))
+    (both_not is_opening ends enters (ends_not is_opening facts.view (λ one. refl) (λ handle reason. none_open _ (ended_event facts.view handle reason)) (ends_for (due_in slot) facts))
     (none_open enters entered)) (none_open sends sent))
-    (begun_reports facts setup slot on)
     (λ handle. fold_quiet handle (is_open facts.links handle) (ends ++ enters) sends sent ∙ fold_quiet handle (is_open facts.links handle) ends enters entered
-    ∙ ends_open facts.view slot 0 handle facts.links ∙ sym (same_open (links_staying slot facts.links) _ (begun_opens slot on facts) handle))
-    (λ handle. once_more handle (ends ++ enters) sends (once_more handle ends enters (ends_once handle facts.view slot 0 facts.links) (none_shut enters entered)) (none_shut sends sent))
+    ∙ ends_open facts.view (due_in slot) 0 handle facts.links ∙ sym (same_open (links_without (due_in slot) facts.links) _ (begun_opens slot on facts) handle))
+    (λ handle. once_more handle (ends ++ enters) sends (once_more handle ends enters (ends_once handle facts.view (due_in slot) 0 facts.links) (none_shut enters entered)) (none_shut sends sent))
 
 -- a link that does not end is open after it
 pub staying_open : (setup : Setup) (facts : Facts) (slot : ℕ) (on : Bool) (handle : ℕ) (link : OpenLink) → link_at handle facts.links ≡ Some link
-    → reason_in slot link ≡ None → is_open (facts_after setup facts (TurnBegins slot on)).links handle ≡ true
+    → due_in slot link ≡ None → is_open (facts_after setup facts (TurnBegins slot on)).links handle ≡ true
 staying_open setup facts slot on handle link at not_due =
-    same_open (links_staying slot facts.links) _ (begun_opens slot on facts) handle
-    ∙ ap (λ (place : Option OpenLink). is_some place) (stays_where_not_due slot 0 handle facts.links ∙ ap (place_staying slot) at
+    same_open (links_without (due_in slot) facts.links) _ (begun_opens slot on facts) handle
+    ∙ ap (λ (place : Option OpenLink). is_some place) (stays_where_not_due (due_in slot) 0 handle facts.links ∙ ap (place_without (due_in slot)) at
     ∙ ap (λ (reason : Option ℕ). staying_by reason link) not_due)
 
 -- ---- a phase
@@ -636,22 +651,44 @@ phase_as setup facts own = let nothing = stays tt tt (λ handle. refl) in record
   connects = λ channel octets pdu on access handle doing is_on hears answers next free in_range. nothing;
   received = λ handle octets.
       let room = has_room setup facts in
-      passed_as facts (link_heard setup handle octets facts) (took_quiet facts.turn.slot room (link_at handle facts.links) octets)
-      (changed_opens (link_after (PacketReceived facts.turn.slot octets room)) handle facts.links);
+      passed_as facts (link_heard setup handle octets facts) (heard_quiet handle octets setup facts) (received_opens handle room octets facts);
 }
 
 -- ---- each step
 
+-- what the host receives as a turn ends
+handed_not : (kind : Note → Bool) → ((octets : List ℕ) → kind (Up (record { items = octets })) ≡ false) → (facts : Facts) → AreNot kind (notes_handed facts)
+handed_not kind up facts =
+    let events = map event_completed (completed_from 0 facts.links) in
+    both_not kind (map note_received facts.received) (notes_of_events facts.view events) (pieces_not kind up facts.received) (events_not kind up facts.view events)
+
+-- and the links that end then
+leaving_not : (kind : Note → Bool) → ((octets : List ℕ) → kind (Up (record { items = octets })) ≡ false)
+    → ((handle reason : ℕ) → kind (note_shut handle reason) ≡ false) → (facts : Facts) → AreNot kind (notes_leaving (facts_handed facts))
+leaving_not kind up shut facts =
+    ends_not kind facts.view (λ one. shut one.handle one.reason.0)
+    (λ handle reason. events_not kind up facts.view (DisconnectionComplete 0 handle reason ∷ [])) (ends_for ending_in (facts_handed facts))
+
+pub leaving_reports : (facts : Facts) → AreNot is_report (notes_leaving (facts_handed facts))
+leaving_reports facts =
+    ends_not is_report facts.view (λ one. refl) (λ handle reason. none_report _ (ended_event facts.view handle reason)) (ends_for ending_in (facts_handed facts))
+
 ended_as : (facts : Facts) (setup : Setup)
     → IsNotedAs (is_open facts.links) (is_open (facts_after setup facts TurnEnds).links) (notes_after setup facts TurnEnds)
 ended_as facts setup =
-    let events = map event_completed (completed_from 0 facts.links) in
-    stays
-    (both_not is_opening (map note_received facts.received) (notes_of_events facts.view events)
-    (pieces_not is_opening (λ octets. refl) facts.received) (events_not is_opening (λ octets. refl) facts.view events))
-    (both_not is_shutting (map note_received facts.received) (notes_of_events facts.view events)
-    (pieces_not is_shutting (λ octets. refl) facts.received) (events_not is_shutting (λ octets. refl) facts.view events))
-    (same_open facts.links _ (mapped_opens link_reported facts.links))
+    let handed = notes_handed facts in
+    let leaving = notes_leaving (facts_handed facts) in
+    let reported = links_reported facts.links in
+    let none = handed_not is_shutting (λ octets. refl) facts in
+    shuts
+    (both_not is_opening handed leaving (handed_not is_opening (λ octets. refl) facts) (leaving_not is_opening (λ octets. refl) (λ handle reason. refl) facts))
+    (λ handle. fold-append (note_open handle) (is_open facts.links handle) handed leaving
+    ∙ ap (λ (linked : Bool). fold (note_open handle) linked leaving)
+    (open_still handle (is_open facts.links handle) handed (handed_not is_opening (λ octets. refl) facts) none
+    ∙ sym (same_open facts.links reported (mapped_opens link_reported facts.links) handle))
+    ∙ ends_open facts.view ending_in 0 handle reported
+    ∙ sym (ap (λ (held : Facts). is_open held.links handle) (leaving_is (facts_handed facts))))
+    (λ handle. once_before handle handed leaving (none_of handle handed none) (ends_once handle facts.view ending_in 0 reported))
 
 pub step_noted : (setup : Setup) (facts : Facts) (step : Step) → HaveOwnHandles setup facts
     → IsNotedAs (is_open facts.links) (is_open (facts_after setup facts step).links) (notes_after setup facts step)
@@ -703,8 +740,7 @@ phase_reports setup facts = record {
       (answered_quiet facts.view (scan_answer on.params facts.view.accepted on.recent pdu) pdu);
   connects = λ channel octets pdu on access handle doing is_on hears answers next free in_range. tt;
   received = λ handle octets.
-      passed_reports (link_heard setup handle octets facts)
-      (took_quiet facts.turn.slot (has_room setup facts) (link_at handle facts.links) octets);
+      passed_reports (link_heard setup handle octets facts) (heard_quiet handle octets setup facts);
 }
 
 pub turn_kinds : (setup : Setup) (facts : Facts) (step : Step) → IsInTurn step
@@ -714,9 +750,8 @@ turn_kinds setup facts (TurnBegins slot on) turn = inr (begun_reports facts setu
 turn_kinds setup facts (PacketHeard octets) turn = inr (heard_is setup facts NoReport (phase_reports setup facts) facts.turn.doing octets refl)
 turn_kinds setup facts NothingHeard turn = inr (unheard_is setup facts NoReport (phase_reports setup facts) facts.turn.doing refl)
 turn_kinds setup facts TurnEnds turn =
-    let events = map event_completed (completed_from 0 facts.links) in
-    inl (both_not is_taking (map note_received facts.received) (notes_of_events facts.view events)
-    (pieces_not is_taking (λ octets. refl) facts.received) (events_not is_taking (λ octets. refl) facts.view events))
+    inl (both_not is_taking (notes_handed facts) (notes_leaving (facts_handed facts)) (handed_not is_taking (λ octets. refl) facts)
+    (leaving_not is_taking (λ octets. refl) (λ handle reason. refl) facts))
 
 -- of a past
 pub past_noted : (setup : Setup) (past : List Step) (step : Step)

@@ -13,24 +13,27 @@ use Rattle.air_frame.proofs.Forms.{form-fits}
 use Rattle.hci_cmd.specs.declared.command.Command.{Command}
 use Rattle.hci_cmd.specs.declared.command.Command.TheVariants.{Reset}
 use Rattle.host_view.specs.Noted.{two_octets}
-use Rattle.link_model.specs.Acknowledgement.{Pdu}
-use Rattle.link_model.specs.Facts.{Facts as EndFacts}
-use Rattle.link_model.specs.Kept.{kept_from, kept_if}
-use Rattle.link_model.specs.Packets.{good_in, good_pdu, has_room_for, pdu_by, pdu_of}
-use Rattle.link_model.specs.Setup.{Setup as EndSetup}
-use Rattle.open_links.specs.declared.ended.LinkEnded.{LinkEnded}
-use Rattle.open_links.specs.Data.{received_past, received_without}
-use Rattle.open_links.specs.OpenLinks.{OpenLink, facts_in, link_at}
+use Rattle.journal_acks.specs.link_model.Acknowledgement.{Pdu}
+use Rattle.journal_acks.specs.link_model.Facts.{Facts as EndFacts}
+use Rattle.journal_acks.specs.link_model.Kept.{kept_from}
+use Rattle.journal_acks.specs.link_model.Pieces.{kept_if}
+use Rattle.journal_acks.specs.link_model.Verdicts.{good_in, has_room_for, pdu_by, pdu_of}
+use Rattle.journal_acks.specs.link_model.Packets.{good_pdu}
+use Rattle.journal_acks.specs.link_model.Setup.{Setup as EndSetup}
+use Rattle.journal_acks.specs.open_links.declared.ended.LinkEnded.{LinkEnded}
+use Rattle.journal_acks.specs.open_links.Data.{received_past}
+use Rattle.journal_acks.specs.open_links.Ended.{received_without}
+use Rattle.journal_acks.specs.open_links.OpenLinks.{OpenLink, facts_in, link_at}
 use Rattle.wire_fields.specs.Field.{little_endian}
 use Rattle.controller_model.specs.Commands.{received_after}
 use Rattle.controller_model.specs.Data.{acl_packet}
 use Rattle.controller_model.specs.Facts.{Facts, Setup, first_facts}
 use Rattle.controller_model.specs.Heard.{has_room, link_taken, piece_taken}
-use Rattle.controller_model.specs.Links.{ends_in}
 use Rattle.controller_model.specs.Side.{facts_of}
 use Rattle.controller_model.specs.Step.{Step}
 use Rattle.controller_model.proofs.Always.{IsKept, always, opening_passes, received_shut}
 use Rattle.controller_model.proofs.OtherNotes.{two_octets_hold}
+use Rattle.controller_model.specs.Links.{ends_for}
 
 abbrev pub AreShort : List (ℕ × Piece) → Type 0
 AreShort received = AllByRecursion (λ (piece : ℕ × Piece). length piece.1.body.items ≤ 255) received
@@ -88,16 +91,16 @@ piece_short : (keeps : Bool) (handle : ℕ) (pdu : Pdu) → length pdu.body ≤ 
 piece_short true handle pdu short = (short, tt)
 piece_short false handle pdu short = tt
 
-found_short : (handle : ℕ) (room : Bool) (found : Option (List ℕ)) (facts : EndFacts) → IfSome found (λ pdu. length pdu ≤ 257)
-    → AreShort (kept_from handle room found facts)
-found_short handle room None facts short = tt
-found_short handle room (Some pdu) facts short =
-    piece_short _ handle (pdu_of pdu) (let less = length-drop 2 pdu in omega (arith, less, short))
+found_short : (setup : EndSetup) (slot : ℕ) (room : Bool) (found : Option (List ℕ)) (facts : EndFacts) → IfSome found (λ pdu. length pdu ≤ 257)
+    → AreShort (kept_from setup slot room found facts)
+found_short setup slot room None facts short = tt
+found_short setup slot room (Some pdu) facts short =
+    piece_short _ setup.link.handle (pdu_of pdu) (let less = length-drop 2 pdu in omega (arith, less, short))
 
-taken_short : (room : Bool) (octets : List ℕ) (place : Option OpenLink) → AreShort (piece_taken room place octets)
-taken_short room octets None = tt
-taken_short room octets (Some link) =
-    found_short link.setup.link.handle room (good_pdu link.setup (facts_in link) octets) (facts_in link) (good_short link.setup (facts_in link) octets)
+taken_short : (slot : ℕ) (room : Bool) (octets : List ℕ) (place : Option OpenLink) → AreShort (piece_taken slot room place octets)
+taken_short slot room octets None = tt
+taken_short slot room octets (Some link) =
+    found_short link.setup slot room (good_pdu link.setup (facts_in link) octets) (facts_in link) (good_short link.setup (facts_in link) octets)
 
 -- ---- at any time
 
@@ -112,7 +115,7 @@ short_kept setup = record {
   turns = record {
     starts = record {
       weakens = λ facts are. are;
-      ends = λ slot facts are. shut_short facts.received (ends_in slot facts) are;
+      ends = λ reason facts are. shut_short facts.received (ends_for reason facts) are;
       begins = λ slot facts are. are;
       enters = λ slot facts are. are;
       wins = λ slot activity facts are. are;
@@ -135,8 +138,10 @@ short_kept setup = record {
       answered = λ channel octets pdu on doing is_on hears. are;
       connects = λ channel octets pdu on access handle doing is_on hears answers next free in_range. are;
       received = λ handle octets.
-          both_short facts.received (piece_taken (has_room setup facts) (link_at handle facts.links) octets) are
-          (taken_short (has_room setup facts) octets (link_at handle facts.links));
+          let slot = facts.turn.slot in
+          let room = has_room setup facts in
+          both_short facts.received (piece_taken slot room (link_at handle facts.links) octets) are
+          (taken_short slot room octets (link_at handle facts.links));
     };
   };
 }

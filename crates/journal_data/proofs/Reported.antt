@@ -22,17 +22,17 @@ use Rattle.hci_evt.specs.declared.event.Event.TheVariants.{BufferOverflow, Compl
 use Rattle.host_view.specs.Noted.{is_acl_data, two_octets}
 use Rattle.host_view.specs.Unbuilt.{status_of}
 use Rattle.host_view.specs.View.{View}
-use Rattle.open_links.specs.Data.{completed_from}
-use Rattle.open_links.specs.declared.offers.Offer.{Offer}
-use Rattle.open_links.specs.declared.offers.Offer.TheVariants.{NoLink, Empty, Overflow, Kept}
-use Rattle.open_links.specs.OpenLinks.{handles_from}
+use Rattle.journal_acks.specs.open_links.Data.{completed_from}
+use Rattle.journal_acks.specs.open_links.declared.offers.Offer.{Offer}
+use Rattle.journal_acks.specs.open_links.declared.offers.Offer.TheVariants.{NoLink, Empty, Overflow, Kept}
+use Rattle.journal_acks.specs.open_links.OpenLinks.{handles_from}
 use Rattle.wire_fields.specs.Field.{little_endian}
 use Rattle.controller_model.specs.Answers.{answer_to}
 use Rattle.controller_model.specs.Commands.{events_caused, notes_commanded, notes_known}
-use Rattle.controller_model.specs.Data.{notes_offered, offer_of, event_completed, note_received}
+use Rattle.controller_model.specs.Data.{notes_offered, offer_of, event_completed, note_received, facts_handed, notes_handed}
 use Rattle.controller_model.specs.Events.{notes_of_events, passes}
 use Rattle.controller_model.specs.Facts.{Facts, Setup}
-use Rattle.controller_model.specs.Links.{note_shut, notes_reset}
+use Rattle.controller_model.specs.Links.{note_shut, notes_reset, notes_leaving}
 use Rattle.controller_model.specs.Notes.{is_event}
 use Rattle.controller_model.specs.Side.{facts_of, notes_after, notes_fed, result_of}
 use Rattle.controller_model.specs.Step.{Step, HostOctet, TurnBegins, PacketHeard, NothingHeard, TurnEnds}
@@ -42,7 +42,7 @@ use Rattle.controller_model.proofs.Handles.{own_handles}
 use Rattle.controller_model.proofs.TurnNotes.{EachNote, turn_noted}
 use Rattle.journal_data.specs.Held.{IsOfOneHandle}
 use Rattle.journal_data.proofs.PieceLengths.{AreShort, all_short, packet_length}
-use Rattle.journal_data.proofs.Openness.{AreNot, NoReport, begun_reports, is_report, phase_reports}
+use Rattle.journal_data.proofs.Openness.{AreNot, NoReport, begun_reports, is_report, phase_reports, all_append, leaving_reports}
 
 -- a Number Of Completed Packets event is of one handle
 abbrev pub NamesOneHandle : Note → Type 0
@@ -127,6 +127,10 @@ each_one most = record {
   opened = λ link below. tt;
   shut = λ handle reason below. tt;
   entered = λ handle event channel below. tt;
+  applied = λ handle number event below. tt;
+  began = λ handle kind below. tt;
+  refused = λ handle kind code below. tt;
+  done = λ handle kind below. tt;
   sent = λ handle number llid octets below. tt;
   took = λ handle number llid octets below. tt;
 }
@@ -172,5 +176,7 @@ step_lengths setup past NothingHeard =
 step_lengths setup past TurnEnds =
     let facts = facts_of setup past in
     let events = map event_completed (completed_from 0 facts.links) in
-    both HasItsLength event_length (λ handle. tt) (map note_received facts.received) (notes_of_events facts.view events)
-    (of_pieces facts.received (all_short setup past)) (of_events HasItsLength event_length (λ handle. tt) facts.view events)
+    all_append HasItsLength (notes_handed facts) (notes_leaving (facts_handed facts))
+    (all_append HasItsLength (map note_received facts.received) (notes_of_events facts.view events)
+    (of_pieces facts.received (all_short setup past)) (of_events HasItsLength event_length (λ handle. tt) facts.view events))
+    (no_length (notes_leaving (facts_handed facts)) (leaving_reports facts))

@@ -4,20 +4,18 @@ use Rattle.std.specs.Prelude.{◌&&◌, nat_lt, ⊤}
 use Rattle.ble_base.specs.declared.notes.Note.{Note}
 use Rattle.std.specs.Option.{option_map}
 use Rattle.acl_banks.specs.History.{HostData}
-use Rattle.link_model.specs.Data.{Data, data_acked_if, data_sent_if}
-use Rattle.link_model.specs.Facts.{Facts as EndFacts}
-use Rattle.link_model.specs.End.{facts_received}
-use Rattle.link_model.specs.Packets.{good_pdu}
-use Rattle.link_model.specs.Setup.{Setup as EndSetup}
-use Rattle.link_model.specs.Step.{Step as EndStep, EventEntered, PduFixed, PacketSent, PacketReceived, DataReported}
-use Rattle.link_model.specs.declared.setup.LinkSetup.{LinkSetup}
-use Rattle.link_model.proofs.Pasts.{grows}
+use Rattle.journal_acks.specs.link_model.Data.{Data, data_acked_if, data_sent_if}
+use Rattle.journal_acks.specs.link_model.Facts.{Facts as EndFacts}
+use Rattle.journal_acks.specs.link_model.Setup.{Setup as EndSetup}
+use Rattle.journal_acks.specs.link_model.Step.{Step as EndStep, EventEntered, PduFixed, PacketSent, PacketReceived, DataReported, RequestAnswered}
+use Rattle.journal_acks.specs.link_model.declared.setup.LinkSetup.{LinkSetup}
+use Rattle.journal_acks.proofs.link_model.Pasts.{grows}
 use Rattle.scan_init.specs.Reports.{does_ask, scan_answer}
 use Rattle.slot_plan.specs.declared.Activity.{Activity}
 use Rattle.slot_plan.specs.declared.Activity.TheVariants.{Link, Advertise, Scan, Initiate}
-use Rattle.open_links.specs.Data.{complete_in, link_reported}
-use Rattle.open_links.specs.OpenLinks.{Links, OpenLink, facts_in, link_after, link_at, link_served, new_link, with_change, with_link}
-use Rattle.open_links.specs.Turns.{entered_if, is_anchor, link_entered, place_staying, reason_in, staying_by}
+use Rattle.journal_acks.specs.open_links.Data.{complete_in, link_reported, links_reported}
+use Rattle.journal_acks.specs.open_links.OpenLinks.{Links, OpenLink, facts_in, link_after, link_at, link_served, new_link, with_change, with_link}
+use Rattle.journal_acks.specs.open_links.Turns.{entered_if, link_entered, place_without, staying_by, enters_in, ending_in}
 use Rattle.controller_model.specs.declared.doing.Doing.{Doing}
 use Rattle.controller_model.specs.declared.doing.Doing.TheVariants.{Advertises, CentralSends, PeripheralListens, PeripheralSends}
 use Rattle.controller_model.specs.Facts.{Setup, Facts}
@@ -29,13 +27,17 @@ use Rattle.controller_model.specs.Packets.{facts_doing, links_sending}
 use Rattle.controller_model.specs.Radio.{links_fixing}
 use Rattle.controller_model.specs.Side.{facts_after, facts_of, notes_after}
 use Rattle.controller_model.specs.Step.{Step, HostOctet, TurnBegins, PacketHeard, NothingHeard, TurnEnds}
-use Rattle.controller_model.proofs.Always.{IsInTurn, IsKeptAtStarts, links_won, opening_passes, start_keeps}
+use Rattle.controller_model.proofs.Always.{IsInTurn, IsKeptAtStarts, links_won, opening_passes, start_keeps, leaving_is}
 use Rattle.controller_model.proofs.Handles.{own_handles}
 use Rattle.controller_model.proofs.Phases.{EachOutcome, heard_is, unheard_is}
-use Rattle.run_model.proofs.OpenedNotes.{is_opened, opened_was_free}
-use Rattle.open_links.proofs.Handles.{changed_is, other_stays}
+use Rattle.journal_acks.proofs.run_model.OpenedNotes.{is_opened, opened_was_free}
+use Rattle.journal_acks.proofs.open_links.Handles.{changed_is, other_stays}
 use Rattle.journal_acks.proofs.UnderHandles.{IsOpenedIf, map_under, opened_under}
 use Rattle.std.proofs.lemmas.Bool.{eq-eqb, eqb-false, eqb-true}
+use Rattle.journal_data.proofs.DataSteps.{IsKeptByEnd, IsOwnStep, link_keeps}
+use Rattle.controller_model.proofs.Places.{link_receiving, receiving_is, refusal, refused_if, refuses_at}
+use Rattle.controller_model.specs.Data.{facts_handed}
+use Rattle.journal_acks.specs.link_model.End.{facts_of as end_facts}
 
 -- ---- one link
 
@@ -54,30 +56,26 @@ acked_same : (acked : Bool) (outgoing : Data) → (data_acked_if acked outgoing)
 acked_same true outgoing = refl
 acked_same false outgoing = refl
 
-received_same : (slot : ℕ) (room : Bool) (found : Option (List ℕ)) (facts : EndFacts)
-    → (facts_received slot room found facts).outgoing.given ≡ facts.outgoing.given
-received_same slot room None facts = refl
-received_same slot room (Some pdu) facts = acked_same _ facts.outgoing
+given_kept : (given : List HostData) → IsKeptByEnd (λ outgoing. outgoing.given ≡ given)
+given_kept given = record {
+  sending = record {
+    fixed = λ limit pdu more outgoing same. same;
+    sent = λ is_new outgoing same. sent_same is_new outgoing ∙ same;
+  };
+  acked = λ acked outgoing same. acked_same acked outgoing ∙ same;
+}
 
-after_entered : (slot : ℕ) (link : OpenLink) → given_in (link_after (EventEntered slot) link) ≡ given_in link
-after_entered slot link = after_step link (EventEntered slot) _ (grows link.setup link.past (EventEntered slot)) refl
-
-after_fixed : (link : OpenLink) → given_in (link_after PduFixed link) ≡ given_in link
-after_fixed link = after_step link PduFixed _ (grows link.setup link.past PduFixed) refl
+pub own_same : (step : EndStep) (link : OpenLink) → IsOwnStep step → given_in (link_after step link) ≡ given_in link
+own_same step link own = link_keeps (λ outgoing. outgoing.given ≡ given_in link) (given_kept (given_in link)) step link own refl
 
 pub after_sent : (slot : ℕ) (link : OpenLink) → given_in (link_after (PacketSent slot) link) ≡ given_in link
-after_sent slot link = after_step link (PacketSent slot) _ (grows link.setup link.past (PacketSent slot)) (sent_same _ (facts_in link).outgoing)
-
-after_received : (slot : ℕ) (octets : List ℕ) (room : Bool) (link : OpenLink) → given_in (link_after (PacketReceived slot octets room) link) ≡ given_in link
-after_received slot octets room link =
-    after_step link (PacketReceived slot octets room) _ (grows link.setup link.past (PacketReceived slot octets room))
-    (received_same slot room (good_pdu link.setup (facts_in link) octets) (facts_in link))
+after_sent slot link = own_same (PacketSent slot) link tt
 
 after_reported : (link : OpenLink) → given_in (link_after DataReported link) ≡ given_in link
 after_reported link = after_step link DataReported _ (grows link.setup link.past DataReported) refl
 
 new_none : (end : EndSetup) → given_in (new_link end) ≡ []
-unfolding Rattle.link_model.specs.End.facts_of
+unfolding end_facts
 new_none end = refl
 
 -- ---- one place
@@ -130,19 +128,19 @@ each_stays : (under : ℕ) (change : Option OpenLink → Option OpenLink) → ch
 each_stays under change none keeps links =
     subst (Stays (link_at under links)) (sym (map_under change none 0 under links)) (keeps (link_at under links))
 
-place_stays : (slot : ℕ) (place : Option OpenLink) → Stays place (place_staying slot place)
-place_stays slot None = tt
-place_stays slot (Some link) = by (reason_in slot link)
+place_stays : (reason : OpenLink → Option ℕ) (place : Option OpenLink) → Stays place (place_without reason place)
+place_stays reason None = tt
+place_stays reason (Some link) = by (reason link)
   where
-    by : (reason : Option ℕ) → Stays (Some link) (staying_by reason link)
+    by : (code : Option ℕ) → Stays (Some link) (staying_by code link)
     by None = stays_same (Some link)
-    by (Some reason) = tt
+    by (Some code) = tt
 
 entered_same : (slot : ℕ) (link : OpenLink) → given_in (link_entered slot link) ≡ given_in link
-entered_same slot link = by (is_anchor slot link)
+entered_same slot link = by (enters_in slot link)
   where
-    by : (anchor : Bool) → given_in (entered_if anchor slot link) ≡ given_in link
-    by true = after_entered slot link
+    by : (enters : Bool) → given_in (entered_if enters slot link) ≡ given_in link
+    by true = own_same (EventEntered slot) link tt
     by false = refl
 
 reported_same : (link : OpenLink) → given_in (link_reported link) ≡ given_in link
@@ -159,8 +157,8 @@ won_stays under slot Scan links = stays_same (link_at under links)
 won_stays under slot Initiate links = stays_same (link_at under links)
 
 fixing_stays : (under : ℕ) (doing : Doing) (links : Links) → Stays (link_at under links) (link_at under (links_fixing doing links))
-fixing_stays under (CentralSends handle) links = under_stays under handle (link_after PduFixed) after_fixed links
-fixing_stays under (PeripheralListens handle) links = under_stays under handle (link_after PduFixed) after_fixed links
+fixing_stays under (CentralSends handle) links = under_stays under handle (link_after PduFixed) (λ link. own_same PduFixed link tt) links
+fixing_stays under (PeripheralListens handle) links = under_stays under handle (link_after PduFixed) (λ link. own_same PduFixed link tt) links
 fixing_stays under (Advertises channel) links = stays_same (link_at under links)
 fixing_stays under other links = stays_same (link_at under links)
 
@@ -181,7 +179,7 @@ sends_on under before doing facts stays = stays_then before (link_at under facts
 kept_starts : (under : ℕ) (before : Option OpenLink) → IsKeptAtStarts (StaysIn under before) (StaysIn under before)
 kept_starts under before = record {
   weakens = λ facts stays. stays;
-  ends = λ slot facts stays. stays_then before (link_at under facts.links) _ stays (each_stays under (place_staying slot) refl (place_stays slot) facts.links);
+  ends = λ reason facts stays. stays_then before (link_at under facts.links) _ stays (each_stays under (place_without reason) refl (place_stays reason) facts.links);
   begins = λ slot facts stays. stays;
   enters = λ slot facts stays. stays_then before (link_at under facts.links) _ stays
       (each_stays under (option_map (link_entered slot)) refl (changed_stays (link_entered slot) (entered_same slot)) facts.links);
@@ -230,6 +228,18 @@ opens_goes under link facts = by (opened_at under (record { link = link; opened 
       ap (λ b. b || is_opened under (notes_of_events facts.view (events_opened facts.view link) ++ [])) new.1,
     )
 
+-- a link receives, and may refuse a request at once
+receiving_same : (refuses : Bool) (step : EndStep) (link : OpenLink) → IsOwnStep step → given_in (refused_if refuses (link_after step link)) ≡ given_in link
+receiving_same true step link own = own_same (RequestAnswered refusal) (link_after step link) tt ∙ own_same step link own
+receiving_same false step link own = own_same step link own
+
+receives_stays : (under handle : ℕ) (room : Bool) (octets : List ℕ) (facts : Facts)
+    → Stays (link_at under facts.links) (link_at under (link_received handle room octets facts).links)
+receives_stays under handle room octets facts =
+    subst (λ (links : Links). Stays (link_at under facts.links) (link_at under links)) (sym (receiving_is handle room octets facts))
+    (under_stays under handle (link_receiving handle room octets facts)
+    (λ link. receiving_same (refuses_at handle room octets facts) (PacketReceived facts.turn.slot octets room) link tt) facts.links)
+
 each_goes : (under : ℕ) (setup : Setup) (facts : Facts) → EachOutcome setup facts (Passes under (link_at under facts.links))
 each_goes under setup facts = let same = stays_same (link_at under facts.links) in record {
   rests = inl same;
@@ -247,10 +257,9 @@ each_goes under setup facts = let same = stays_same (link_at under facts.links) 
       (with_scanner (scanner_after on facts.view.accepted pdu) facts) same);
   connects = λ channel octets pdu on access handle doing is_on hears answers next free in_range. inl same;
   received = λ handle octets.
-      inl (sends_on under (link_at under facts.links) (reply_if (replies_in (link_at handle facts.links) octets) handle)
-      (link_received handle (has_room setup facts) octets facts)
-      (under_stays under handle (link_after (PacketReceived facts.turn.slot octets (has_room setup facts)))
-      (after_received facts.turn.slot octets (has_room setup facts)) facts.links));
+      let room = has_room setup facts in
+      inl (sends_on under (link_at under facts.links) (reply_if (replies_in facts.turn.slot room (link_at handle facts.links) octets) handle)
+      (link_received handle room octets facts) (receives_stays under handle room octets facts));
 }
 
 step_goes : (under : ℕ) (setup : Setup) (facts : Facts) (step : Step) → IsInTurn step
@@ -262,7 +271,13 @@ step_goes under setup facts (TurnBegins slot on) turn =
 step_goes under setup facts (PacketHeard octets) turn =
     heard_is setup facts (Passes under (link_at under facts.links)) (each_goes under setup facts) facts.turn.doing octets refl
 step_goes under setup facts NothingHeard turn = unheard_is setup facts (Passes under (link_at under facts.links)) (each_goes under setup facts) facts.turn.doing refl
-step_goes under setup facts TurnEnds turn = inl (each_stays under (option_map link_reported) refl (changed_stays link_reported reported_same) facts.links)
+step_goes under setup facts TurnEnds turn =
+    let before = link_at under facts.links in
+    let handed = links_reported facts.links in
+    inl (subst (StaysIn under before) (sym (leaving_is (facts_handed facts)))
+    (stays_then before (link_at under handed) _
+    (each_stays under (option_map link_reported) refl (changed_stays link_reported reported_same) facts.links)
+    (each_stays under (place_without ending_in) refl (place_stays ending_in) handed)))
 
 -- ---- a call of a turn
 

@@ -2,17 +2,17 @@
 use Rattle.std.proofs.Common.{Some, ◌≡◌, ℕ, Bool, false, List, [], ◌∷◌, ◌++◌, refl, sym, ap, subst, ◌∙◌, append-nil}
 use Rattle.std.specs.Option.{option_map}
 use mathlib.Core.Path.{fun_ext}
-use Rattle.open_links.specs.OpenLinks.{OpenLink, facts_in, link_at}
+use Rattle.journal_acks.specs.open_links.OpenLinks.{OpenLink, facts_in, link_at}
 use Rattle.controller_model.specs.Facts.{Facts}
 use Rattle.controller_model.specs.Side.{facts_of, notes_after, notes_of}
 use Rattle.controller_model.specs.Since.{data_waiting, empties_of}
 use Rattle.controller_model.specs.Step.{Step, HostOctet}
-use Rattle.run_model.specs.History.{Event, TurnBegan, HostFed, Transmitted, Hearing, noted_by, notes_in, past_of, steps_in}
-use Rattle.run_model.specs.Journal.{side_of}
-use Rattle.run_model.specs.Run.{Given, after_call, after_feed, after_octets, facts_at, setup_at}
-use Rattle.run_model.proofs.Calls.{flat_nothing, noted_called, past_other}
-use Rattle.run_model.proofs.LinksKnown.{link_by_other}
-use Rattle.journal_packets.specs.Belonging.{is_side}
+use Rattle.journal_acks.specs.run_model.History.{Event, TurnBegan, HostFed, Transmitted, Hearing, noted_by, notes_in, past_of, steps_in}
+use Rattle.journal_acks.specs.run_model.Journal.{side_of}
+use Rattle.journal_acks.specs.run_model.Run.{Given, after_call, after_feed, after_octets, facts_at, setup_at}
+use Rattle.journal_acks.proofs.run_model.Calls.{flat_nothing, noted_called, past_other}
+use Rattle.journal_acks.proofs.run_model.LinksKnown.{link_by_other}
+use Rattle.journal_acks.specs.journal_packets.Belonging.{is_side}
 use Rattle.journal_data.specs.Lines.{Lines, data_on, empties_on}
 use Rattle.journal_data.proofs.EachLine.{air_lines, fed_other, lines_at, turn_lines, other_lines}
 use Rattle.journal_data.proofs.Ends.{IsWell, end_at}

@@ -5,11 +5,11 @@ use Rattle.std.specs.List.{filter, flat_map}
 use Rattle.std.proofs.lemmas.Bool.{eqb-true, eqb-false}
 use Rattle.acl_banks.specs.Packets.{Marked}
 use Rattle.ack_bit.specs.Nonempty.{nonempty}
-use Rattle.link_model.specs.Acknowledgement.{Acknowledgement}
-use Rattle.link_model.specs.Data.{data_in, data_of, is_empty}
-use Rattle.link_model.specs.Delivery.{IsInOrder}
-use Rattle.link_model.specs.Facts.{Facts as EndFacts}
-use Rattle.link_model.specs.Pair.{AreInAgreement}
+use Rattle.journal_acks.specs.link_model.Acknowledgement.{Acknowledgement}
+use Rattle.journal_acks.specs.link_model.Data.{data_in, data_of, is_empty}
+use Rattle.journal_acks.specs.link_model.Delivery.{IsInOrder}
+use Rattle.journal_acks.specs.link_model.Facts.{Facts as EndFacts}
+use Rattle.journal_acks.specs.link_model.OneLink.{AreInAgreement}
 use Rattle.journal_data.specs.Lines.{Lines, PduLine, accepted_on, data_on, pdus_on, submitted_on}
 use Rattle.journal_data.specs.HostLines.{has_octets}
 use Rattle.journal_data.specs.Delivered.{ArrivesInOrder}

@@ -10,27 +10,27 @@ use Rattle.ble_base.specs.declared.roles.Role.{Role}
 use Rattle.ble_base.specs.declared.notes.Note.{Note}
 use Rattle.ble_base.specs.declared.notes.Note.TheVariants.{Up, Opened, Shut, Sent, Took}
 use Rattle.journal.specs.declared.entries.Entry.TheVariants.{Fed as FedEntry}
-use Rattle.open_links.specs.OpenLinks.{OpenLink, link_at, link_from}
+use Rattle.journal_acks.specs.open_links.OpenLinks.{OpenLink, link_at, link_from}
 use Rattle.controller_model.specs.Step.{Step, HostOctet}
 use Rattle.controller_model.specs.Facts.{Setup, Facts}
 use Rattle.controller_model.specs.Notes.{HasHandleBelow, is_opening}
-use Rattle.controller_model.specs.Shutting.{IsShut, overdue, reset}
+use Rattle.controller_model.specs.Shutting.{IsShut, overdue, reset, StaysIn, leaving}
 use Rattle.controller_model.specs.Side.{facts_after, facts_of, notes_after}
 use Rattle.controller_model.specs.Since.{since_opened}
 use Rattle.controller_model.proofs.NotedLinks.{step_names_links}
 use Rattle.controller_model.proofs.OpenNotes.{open_after, open_before}
 use Rattle.controller_model.proofs.Shuts.{shuts_with_reason}
-use Rattle.run_model.specs.History.{Event, TurnBegan, HostFed, Called, Noted, Transmitted, Hearing, noted_by, notes_in, past_of, steps_in}
-use Rattle.run_model.specs.Journal.{journal_of, side_of}
-use Rattle.run_model.specs.Links.{Links, begins_link, links_after, links_of, with_link}
-use Rattle.run_model.specs.Run.{Given, setup_at, facts_at, after_call, after_octets, after_feed}
-use Rattle.run_model.proofs.Calls.{flat_nothing, with_notes}
-use Rattle.run_model.proofs.LinksKnown.{link_by_own, links_event}
-use Rattle.run_model.proofs.Notes.{no_steps, no_notes}
-use Rattle.run_model.proofs.OpenedNotes.{is_opened, outside_open}
-use Rattle.run_model.proofs.Walk.{is_outside}
-use Rattle.run_laws.proofs.Hearings.{own_facts}
-use Rattle.journal_packets.specs.Belonging.{is_side}
+use Rattle.journal_acks.specs.run_model.History.{Event, TurnBegan, HostFed, Called, Noted, Transmitted, Hearing, noted_by, notes_in, past_of, steps_in}
+use Rattle.journal_acks.specs.run_model.Journal.{journal_of, side_of}
+use Rattle.journal_acks.specs.run_model.Links.{Links, begins_link, links_after, links_of, with_link}
+use Rattle.journal_acks.specs.run_model.Run.{Given, setup_at, facts_at, after_call, after_octets, after_feed}
+use Rattle.journal_acks.proofs.run_model.Calls.{flat_nothing, with_notes}
+use Rattle.journal_acks.proofs.run_model.LinksKnown.{link_by_own, links_event}
+use Rattle.journal_acks.proofs.run_model.Notes.{no_steps, no_notes}
+use Rattle.journal_acks.proofs.run_model.OpenedNotes.{is_opened, outside_open}
+use Rattle.journal_acks.proofs.run_model.Walk.{is_outside}
+use Rattle.journal_acks.proofs.run_laws.Hearings.{own_facts}
+use Rattle.journal_acks.specs.journal_packets.Belonging.{is_side}
 use Rattle.journal_acks.proofs.Counting.{HaveOwnNumbers}
 use Rattle.journal_acks.proofs.Exchanging.{number_at}
 use Rattle.journal_acks.proofs.TwoStations.{side_same}
@@ -40,8 +40,10 @@ use Rattle.journal_data.specs.Lines.{Lines, line_after, lines_of, pdus_on}
 use Rattle.journal_data.proofs.Booked.{IsBook, counts_on, octets_on}
 use Rattle.journal_data.proofs.EachLine.{event_lines, call_lines, lines_at, note_lines, numbers_at, air_lines, turn_lines}
 use Rattle.journal_data.proofs.HeldLinks.{HoldsLinks, holds_none}
-use Rattle.journal_data.proofs.Openness.{AreNot, IsNotedAs, stays, shuts, opens_first, is_open, is_shutting, note_open, open_still, past_noted, all_of}
+use Rattle.journal_data.proofs.Openness.{AreNot, IsNotedAs, stays, shuts, opens_first, is_open, is_shutting, note_open, open_still, past_noted, all_of, same_open}
 use Rattle.journal_data.proofs.NotedLines.{IsUnused, IsSameOn, same_itself, same_then, IsLink, is_link, AreApart, IsOfBase, IsNotOf, sent_data, took_data, IsBookedSo, booked_along, booked_where, opening_kept, with_noted, one_on, numbers_quiet, notes_kept}
+use Rattle.controller_model.proofs.OpenPlaces.{mapped_opens}
+use Rattle.journal_acks.specs.open_links.Data.{link_reported}
 
 -- ---- what the lines of a station are to say
 
@@ -56,6 +58,10 @@ pub record IsStationBooked (given : Given) (station : ℕ) (history : List Event
 pub each_in : (P : Note → Type 0) (notes : List Note) → ((note : Note) → Contains notes note → P note) → AllByRecursion P notes
 each_in P notes is = all_of (Contains notes) P is notes (recursion_from_All (Contains notes) notes (All-contains_itself notes))
 
+-- no link of the station ends as a turn ends
+abbrev pub AllStay : Facts → Step → Type 0
+AllStay facts step = (handle : ℕ) → StaysIn facts step handle
+
 module _ (setup : Setup) (past : List Step) (step : Step) (few : setup.links ≤ 4096) where
   abbrev notes_then : List Note
   notes_then = notes_after setup (facts_of setup past) step
@@ -66,6 +72,8 @@ module _ (setup : Setup) (past : List Step) (step : Step) (few : setup.links ≤
     where
       was_shut : (handle reason : ℕ) → IsShut (facts_of setup past) step handle reason → is_open (facts_of setup past).links handle ≡ true
       was_shut handle reason (overdue slot on link begins at due) = ap (λ (place : Option OpenLink). is_some place) at
+      was_shut handle reason (leaving link ends at due) =
+          sym (same_open (facts_of setup past).links _ (mapped_opens link_reported (facts_of setup past).links) handle) ∙ ap (λ (place : Option OpenLink). is_some place) at
       was_shut handle reason (reset link completed at code) = ap (λ (place : Option OpenLink). is_some place) at
 
       by : (note : Note) → Contains (notes_after setup (facts_of setup past) step) note → IsOfBase (is_open (facts_of setup past).links) note
@@ -78,15 +86,16 @@ module _ (setup : Setup) (past : List Step) (step : Step) (few : setup.links ≤
       by note inside = tt
 
   -- and PDUs where they are open after it
-  pub of_after : AllByRecursion (λ note. is_shutting note ≡ false → IsOfBase (is_open (facts_after setup (facts_of setup past) step).links) note) notes_then
-  of_after = each_in _ notes_then by
+  pub of_after : AllStay (facts_of setup past) step
+      → AllByRecursion (λ note. is_shutting note ≡ false → IsOfBase (is_open (facts_after setup (facts_of setup past) step).links) note) notes_then
+  of_after stay = each_in _ notes_then by
     where
       by : (note : Note) → Contains (notes_after setup (facts_of setup past) step) note → is_shutting note ≡ false
           → IsOfBase (is_open (facts_after setup (facts_of setup past) step).links) note
       by (Sent handle counted llid body) inside none =
-          open_after setup past step (Sent handle counted llid body) handle few inside (sent_data handle counted llid body)
+          open_after setup past step (Sent handle counted llid body) handle few inside (sent_data handle counted llid body) (stay handle)
       by (Took handle counted llid body) inside none =
-          open_after setup past step (Took handle counted llid body) handle few inside (took_data handle counted llid body)
+          open_after setup past step (Took handle counted llid body) handle few inside (took_data handle counted llid body) (stay handle)
       by (Shut handle reason) inside none = absurd cc
       by (Up packet) inside none = tt
       by note inside none = tt
@@ -128,7 +137,7 @@ UnusedWhereOpened given station step history =
 
 module _ (given : Given) (station : ℕ) (step : Step) (history : List Event) (few : (setup_at given station).links ≤ 4096) (own : HaveOwnNumbers given station history)
     (own_after : HaveOwnNumbers given station (after_call given station step history)) (unused : UnusedWhereOpened given station step history)
-    (booked : IsStationBooked given station history) where
+    (stay : AllStay (facts_at given station history) step) (booked : IsStationBooked given station history) where
   abbrev many : ℕ
   many = (setup_at given station).links
 
@@ -202,7 +211,7 @@ module _ (given : Given) (station : ℕ) (step : Step) (history : List Event) (f
       (subst (λ (held : Facts). AreApart (numbers_at station then_on) (is_open held.links)) (own_facts given station step history) (own_apart given station then_on own_after)) in
       let kept = notes_kept many station next (λ other. note_open other (before_open other) first) after_open rest own_then
       (λ other on. within other (handle == other) refl on) none
-      (of_rest rest shut (subst (AllByRecursion (λ note. is_shutting note ≡ false → IsOfBase after_open note)) is (of_after setup past step few)).1)
+      (of_rest rest shut (subst (AllByRecursion (λ note. is_shutting note ≡ false → IsOfBase after_open note)) is (of_after setup past step few stay)).1)
       (opening_kept many station called before_open handle role first_own peer free below unused_then called_so) in
       record {
         kept = booked_where many (numbers_at station then_on) (lines_at station then_on) (λ other. since_opened other (noted_by station then_on)) _ after_open
@@ -242,7 +251,7 @@ module _ (given : Given) (station : ℕ) (step : Step) (history : List Event) (f
       by : IsNotedAs (is_open (facts_at given station history).links) (is_open (facts_after (setup_at given station) (facts_at given station history) step).links)
           (notes_after (setup_at given station) (facts_at given station history) step) → KeepsCall
       by (stays none shut same) = plain_call none (λ handle. open_still handle (before_open handle) notes none shut ∙ sym (same handle))
-      by (shuts none reports opens once) = plain_call none opens
+      by (shuts none opens once) = plain_call none opens
       by (opens_first handle role first_own peer rest is none shut reports free now opens) = opening_call handle role first_own peer rest is none shut free now opens
 
   pub call_booked : IsStationBooked given station (after_call given station step history)
@@ -258,7 +267,7 @@ module _ (given : Given) (station : ℕ) (step : Step) (history : List Event) (f
   call_same_on other none_of =
       call_kept.same other (each_in (IsNotOf other (numbers_at station then_on)) notes (λ note inside handle is.
       let now = is_link (link_at handle (facts_after (setup_at given station) (facts_at given station history) step).links)
-      (open_after (setup_at given station) (past_of station history) step note handle few inside is) in
+      (open_after (setup_at given station) (past_of station history) step note handle few inside is (stay handle)) in
       none_of handle now.link (ap (λ (held : Facts). link_at handle held.links) (own_facts given station step history) ∙ now.is)))
 
 -- ---- what the host of the station sends
@@ -298,6 +307,10 @@ octet_none_of given station octet other history none handle link at =
     let was = octet_was given station octet handle history link at in
     ap (λ n. n == other) (octet_number given station octet handle history) ∙ none handle was.link was.is
 
+-- and no turn ends in it
+pub octet_stays : (given : Given) (station octet : ℕ) (history : List Event) → AllStay (facts_at given station history) (HostOctet octet)
+octet_stays given station octet history handle ends = absurd cc
+
 -- what a feed keeps
 pub record KeepsFeed (given : Given) (station : ℕ) (history after : List Event) : Type 0 where
   pub booked : IsStationBooked given station after
@@ -310,13 +323,14 @@ octets_kept given station (octet ∷ octets) history few own booked =
     let next = after_call given station (HostOctet octet) history in
     let own_next = octet_own given station octet history own in
     let unused = octet_unused given station octet history in
-    let rest = octets_kept given station octets next few own_next (call_booked given station (HostOctet octet) history few own own_next unused booked) in
+    let stay = octet_stays given station octet history in
+    let rest = octets_kept given station octets next few own_next (call_booked given station (HostOctet octet) history few own own_next unused stay booked) in
     record {
       booked = rest.booked;
       same = λ other none.
           let none_next = octet_none_of given station octet other history none in
           same_then other (lines_at station history) (lines_at station next) _
-          (call_same_on given station (HostOctet octet) history few own own_next unused booked other none_next) (rest.same other none_next);
+          (call_same_on given station (HostOctet octet) history few own own_next unused stay booked other none_next) (rest.same other none_next);
     }
 
 -- ---- other events

@@ -13,25 +13,25 @@ use Rattle.h4_frames.specs.declared.packet.Fed.TheVariants.{More, Packet, LostSy
 use Rattle.h4_frames.specs.declared.packet.HostPacket.TheVariants.{Command, Acl}
 use Rattle.acl_banks.specs.History.{HostData}
 use Rattle.acl_banks.specs.Packets.{DataPacket}
-use Rattle.link_model.proofs.Sending.{past_holds}
-use Rattle.open_links.specs.Data.{buffers_in, buffers_taken, complete_in}
-use Rattle.open_links.specs.OpenLinks.{OpenLink, facts_in, link_at}
+use Rattle.journal_acks.proofs.link_model.Sending.{past_together}
+use Rattle.journal_acks.specs.open_links.Data.{buffers_in, buffers_taken, complete_in}
+use Rattle.journal_acks.specs.open_links.OpenLinks.{OpenLink, facts_in, link_at}
 use Rattle.controller_model.specs.Facts.{Setup, Facts, first_facts}
 use Rattle.controller_model.specs.Side.{facts_after, facts_of, notes_after, result_of}
 use Rattle.controller_model.specs.Step.{Step, HostOctet}
 use Rattle.controller_model.proofs.Always.{IsInTurn}
 use Rattle.controller_model.proofs.Feds.{more_octets, turn_octets}
 use Rattle.controller_model.proofs.Handles.{own_handles}
-use Rattle.run_model.specs.History.{Event, HostFed, past_of}
-use Rattle.run_model.specs.Journal.{entry_of}
-use Rattle.run_model.specs.Links.{Links}
-use Rattle.run_model.specs.Run.{Given, after_call, after_feed, after_octets, facts_at, setup_at}
-use Rattle.run_model.proofs.Calls.{past_own, with_notes}
-use Rattle.run_model.proofs.LinksKnown.{links_event}
-use Rattle.run_model.proofs.OpenedNotes.{is_opened, outside_open}
+use Rattle.journal_acks.specs.run_model.History.{Event, HostFed, past_of}
+use Rattle.journal_acks.specs.run_model.Journal.{entry_of}
+use Rattle.journal_acks.specs.run_model.Links.{Links}
+use Rattle.journal_acks.specs.run_model.Run.{Given, after_call, after_feed, after_octets, facts_at, setup_at}
+use Rattle.journal_acks.proofs.run_model.Calls.{past_own, with_notes}
+use Rattle.journal_acks.proofs.run_model.LinksKnown.{links_event}
+use Rattle.journal_acks.proofs.run_model.OpenedNotes.{is_opened, outside_open}
 use Rattle.journal_acks.proofs.Exchanging.{number_at}
-use Rattle.run_laws.proofs.Hearings.{own_facts}
-use Rattle.run_laws.proofs.TurnPlaces.{event_past}
+use Rattle.journal_acks.proofs.run_laws.Hearings.{own_facts}
+use Rattle.journal_acks.proofs.run_laws.TurnPlaces.{event_past}
 use Rattle.controller_model.specs.Since.{count_fed, count_given, count_since, empties_from, empties_of}
 use Rattle.journal_data.specs.HostLines.{OpenUnder, Submitted, has_octets, kept_of, packets_framed}
 use Rattle.journal_data.specs.Lines.{Lines, buffers_taken as lines_taken, credited_on, data_on, empties_on, line_after, submitted_on}
@@ -328,7 +328,7 @@ pub all_given : (link : OpenLink) → let outgoing = (facts_in link).outgoing in
     length outgoing.given ≡ outgoing.reported + outgoing.complete + length outgoing.packets
 all_given link =
     let outgoing = (facts_in link).outgoing in
-    let kept = (past_holds link.setup link.past).kept in
+    let kept = (past_together link.setup link.past).kept in
     let all = ap length kept.taken in
     let parts = length-append kept.complete (map given_data outgoing.packets) in
     let waiting = length-map outgoing.packets given_data in

@@ -3,14 +3,14 @@ use Rattle.std.proofs.Common.{◌≡◌, ℕ, ◌+◌, ◌≤◌, List, Some, sy
 use Rattle.std.specs.List.{filter, flat_map, sum_by}
 use Rattle.ble_base.specs.declared.notes.Note.{Note}
 use Rattle.ack_bit.specs.Nonempty.{nonempty}
-use Rattle.link_model.specs.Data.{is_empty}
-use Rattle.open_links.specs.OpenLinks.{OpenLink, facts_in, link_at}
+use Rattle.journal_acks.specs.link_model.Data.{is_empty}
+use Rattle.journal_acks.specs.open_links.OpenLinks.{OpenLink, facts_in, link_at}
 use Rattle.controller_model.specs.Since.{data_up, data_waiting, empties_of, is_sent_on, is_took_on, since_opened}
 use Rattle.controller_model.proofs.DataBooks.{data_is_handed}
 use Rattle.controller_model.proofs.NoteBooks.{sent_notes_are, took_notes_are}
-use Rattle.run_model.specs.Feeding.{HasNoted}
-use Rattle.run_model.specs.History.{Event, noted_by, past_of}
-use Rattle.run_model.specs.Run.{Given, facts_at, setup_at}
+use Rattle.journal_acks.specs.run_model.Feeding.{HasNoted}
+use Rattle.journal_acks.specs.run_model.History.{Event, noted_by, past_of}
+use Rattle.journal_acks.specs.run_model.Run.{Given, facts_at, setup_at}
 use Rattle.journal_acks.proofs.Exchanging.{number_at}
 use Rattle.journal_data.specs.Lines.{data_on, empties_on}
 use Rattle.journal_data.proofs.Arriving.{IsEndBooked}

@@ -5,7 +5,7 @@ use Rattle.ble_base.specs.Side.{other_side}
 use Rattle.ble_base.specs.declared.roles.Side.{Side}
 use Rattle.acl_banks.specs.History.{octets_of, whole_packets}
 use Rattle.journal.specs.declared.entries.Entry.{Entry}
-use Rattle.run_model.specs.Pair.{pair_buffers}
+use Rattle.journal_acks.specs.run_model.Pair.{pair_buffers}
 use Rattle.journal_data.specs.Lines.{Lines, accepted_on, credited_on, data_on, empties_on, lines_of, pdus_on, received_on}
 
 -- on this link, what one side takes is what the other sends, in order, with its numbers, all but at most the last PDU

@@ -8,11 +8,11 @@ use Rattle.acl_banks.specs.Packets.{Marked, marked_octets}
 use Rattle.host_view.specs.Noted.{acl_handle, is_acl_data, two_octets}
 use Rattle.journal.specs.declared.entries.Entry.{Entry}
 use Rattle.journal.specs.declared.entries.Entry.TheVariants.{Fed, Up, Opened, Shut, Sent, Took}
-use Rattle.link_model.specs.Acknowledgement.{Pdu}
-use Rattle.link_model.specs.Data.{data_in}
+use Rattle.journal_acks.specs.link_model.Acknowledgement.{Pdu}
+use Rattle.journal_acks.specs.link_model.Data.{data_in}
 use Rattle.controller_model.specs.Notes.{is_event}
 use Rattle.controller_model.specs.Since.{starts_message}
-use Rattle.journal_packets.specs.Belonging.{is_side}
+use Rattle.journal_acks.specs.journal_packets.Belonging.{is_side}
 use Rattle.journal_data.specs.HostLines.{OpenUnder, Submitted, has_octets, kept_of, link_under, packets_framed}
 
 -- a PDU with a payload that is sent or taken on a link, and its number

@@ -5,10 +5,10 @@ ghost use Rattle.ble_base.specs.Side.{other_side};
 ghost use Rattle.ble_base.specs.declared.roles.Side.{Side};
 ghost use Rattle.journal.specs.declared.entries.Entry.{Entry};
 ghost use Rattle.radio_replay.specs.Script.{Script};
-ghost use Rattle.run_model.specs.Journal.{journal_of};
-ghost use Rattle.run_model.specs.LinkEnds.{HaveAddresses};
-ghost use Rattle.run_model.specs.Pair.{given_of};
-ghost use Rattle.run_model.specs.Run.{Given, history_of, run_of, setup_at};
+ghost use Rattle.journal_acks.specs.run_model.Journal.{journal_of};
+ghost use Rattle.journal_acks.specs.run_model.LinkEnds.{HaveAddresses};
+ghost use Rattle.journal_acks.specs.run_model.Pair.{given_of};
+ghost use Rattle.journal_acks.specs.run_model.Run.{Given, history_of, run_of, setup_at};
 ghost use Rattle.journal_data.specs.Delivered.{AllDataArrives, ArrivesInOrder};
 ghost use Rattle.journal_data.specs.Lines.{lines_of};
 

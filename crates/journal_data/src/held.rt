@@ -2,10 +2,10 @@
 //! The body only calls the laws that it rests on: the contract is the law.
 ghost use Rattle.std.specs.Prelude.{◌≡◌, ◌≤◌, ◌∷◌, [], ℕ, List, length};
 ghost use Rattle.radio_replay.specs.Script.{Script};
-ghost use Rattle.run_model.specs.Journal.{journal_of};
-ghost use Rattle.run_model.specs.LinkEnds.{HaveAddresses};
-ghost use Rattle.run_model.specs.Pair.{given_of};
-ghost use Rattle.run_model.specs.Run.{Given, history_of, run_of, setup_at};
+ghost use Rattle.journal_acks.specs.run_model.Journal.{journal_of};
+ghost use Rattle.journal_acks.specs.run_model.LinkEnds.{HaveAddresses};
+ghost use Rattle.journal_acks.specs.run_model.Pair.{given_of};
+ghost use Rattle.journal_acks.specs.run_model.Run.{Given, history_of, run_of, setup_at};
 ghost use Rattle.journal_data.specs.Held.{LinesAreOfOpenLinks};
 
 /// In the journal of a run of a pair, whole or ended by damage, each `sent`, `took`, `enter` and

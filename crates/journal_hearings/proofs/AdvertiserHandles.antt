@@ -7,8 +7,8 @@ use Rattle.host_view.specs.declared.view.Advertising.{Advertising as ViewAdverti
 use Rattle.host_view.specs.Refusals.{count_if, is_connectable}
 use Rattle.advertise.specs.Advertising.{AdvertiserFacts}
 use Rattle.scan_init.specs.Initiating.{InitiatorFacts}
-use Rattle.link_model.specs.declared.setup.LinkSetup.{LinkSetup}
-use Rattle.open_links.specs.OpenLinks.{free_from}
+use Rattle.journal_data.specs.link_model.declared.setup.LinkSetup.{LinkSetup}
+use Rattle.journal_data.specs.open_links.OpenLinks.{free_from}
 use Rattle.controller_model.specs.declared.doing.Doing.TheVariants.{Rests}
 use Rattle.controller_model.specs.declared.doing.Turn.{Turn}
 use Rattle.controller_model.specs.Step.{Step, HostOctet, TurnBegins, TurnEnds}
@@ -18,9 +18,9 @@ use Rattle.controller_model.proofs.Always.{IsInTurn, advertising_noted, initiato
 use Rattle.controller_model.proofs.AdvertisersKnown.{connectable_known}
 use Rattle.controller_model.proofs.Room.{may_connect}
 use Rattle.controller_model.proofs.ViewRoom.{IsKnown, IsRoomLeft, KnowsOwn, Makes, first_known, first_own, full_view, octet_known, own_after, turn_known}
-use Rattle.run_model.specs.Run.{step_of}
-use Rattle.run_laws.proofs.TurnPlaces.{Between, IsTurned, Stage, Standing, Within, standing, turned}
-use Rattle.run_laws.proofs.TurnSteps.{octet_turn}
+use Rattle.journal_data.specs.run_model.Run.{step_of}
+use Rattle.journal_data.proofs.run_laws.TurnPlaces.{Between, IsTurned, Stage, Standing, Within, standing, turned}
+use Rattle.journal_data.proofs.run_laws.TurnSteps.{octet_turn}
 use Rattle.journal_data.proofs.KeptData.{pass_in_turn}
 use Rattle.journal_hearings.proofs.AdvertiserRoom.{LeavesRoom, leaves_after}
 

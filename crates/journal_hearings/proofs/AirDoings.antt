@@ -9,15 +9,15 @@ use Rattle.advertise.specs.Answers.{advertiser_answer, is_connect_taken, is_scan
 use Rattle.adv_pdu.specs.Pdu.{sender_of}
 use Rattle.adv_pdu.specs.declared.pdu.ConnectFields.{ConnectFields}
 use Rattle.ble_base.specs.declared.addresses.Address.{Address}
-use Rattle.link_model.specs.declared.setup.LinkSetup.{LinkSetup}
-use Rattle.open_links.specs.OpenLinks.{OpenLink, free_from, link_at}
+use Rattle.journal_data.specs.link_model.declared.setup.LinkSetup.{LinkSetup}
+use Rattle.journal_data.specs.open_links.OpenLinks.{OpenLink, free_from, link_at}
 use Rattle.scan_init.specs.Initiating.{InitiatorFacts}
 use Rattle.scan_init.specs.Reports.{ScannerFacts, does_ask, scan_answer}
 use Rattle.controller_model.specs.declared.doing.Doing.{Doing}
 use Rattle.controller_model.specs.declared.doing.Doing.TheVariants.{Advertises, AwaitsRequest, Responds, Scans, Requests, AwaitsResponse, Initiates, Connects, CentralSends, CentralListens, PeripheralListens, PeripheralSends, Rests}
 use Rattle.controller_model.specs.Step.{Step, NothingHeard, TurnBegins}
 use Rattle.controller_model.specs.Facts.{Setup, Facts, Use, Sends, Listens, Idle}
-use Rattle.controller_model.specs.Heard.{advertiser_answers, advertiser_heard, asks_if, connects, heard, if_pdu, initiator_heard, is_new_between, link_to, replies_in, reply_if, scanner_heard, taken_if, taken_under, unheard}
+use Rattle.controller_model.specs.Heard.{advertiser_answers, advertiser_heard, asks_if, connects, has_room, heard, if_pdu, initiator_heard, is_new_between, link_to, replies_in, reply_if, scanner_heard, taken_if, taken_under, unheard}
 use Rattle.controller_model.specs.Outcome.{facts_passed}
 use Rattle.controller_model.specs.Packets.{advertisement_sent, connect_sent, request_sent, response_sent, facts_doing, listens_on, pdu_heard, sends_on, sends_pdu, use_for, verdict_advertising, verdict_of}
 use Rattle.controller_model.specs.Radio.{outcome_begun}
@@ -25,8 +25,8 @@ use Rattle.controller_model.specs.Side.{facts_after, facts_of}
 use Rattle.controller_model.proofs.Always.{MayBegin, left_doing}
 use Rattle.controller_model.proofs.DataChannels.{link_channel}
 use Rattle.controller_model.proofs.Phases.{EachOutcome, heard_is, unheard_is}
-use Rattle.run_model.specs.Run.{step_of}
-use Rattle.run_laws.proofs.TurnPlaces.{Between, IsTurned, Stage, Within, at_stage, standing, turned}
+use Rattle.journal_data.specs.run_model.Run.{step_of}
+use Rattle.journal_data.proofs.run_laws.TurnPlaces.{Between, IsTurned, Stage, Within, at_stage, standing, turned}
 
 -- ---- in which phase
 
@@ -121,7 +121,7 @@ passes_fit phases setup facts fits = record {
       asks_fit phases (true && does_ask (scan_answer on.params facts.view.accepted on.recent pdu)) channel pdu (subst (FitsPhase phases) doing fits);
   answered = λ channel octets pdu on doing is_on hears. tt;
   connects = λ channel octets pdu on access handle doing is_on hears answers next free in_range. ap suc (subst (FitsPhase phases) doing fits);
-  received = λ handle octets. reply_fits (suc phases) (replies_in (link_at handle facts.links) octets) handle;
+  received = λ handle octets. reply_fits (suc phases) (replies_in facts.turn.slot (has_room setup facts) (link_at handle facts.links) octets) handle;
 }
 
 passes_at : (setup : Setup) (phases : ℕ) (received : Option (List ℕ)) (facts : Facts) → IsAtPhase phases facts
@@ -314,9 +314,9 @@ heard_asks setup facts octets channel (Initiates on) is = initiates_ask (pdu_hea
 heard_asks setup facts octets channel (AwaitsRequest on) is = requests_ask (pdu_heard on octets) on channel facts is
 heard_asks setup facts octets channel (AwaitsResponse on) is = none_asks (heard setup (AwaitsResponse on) octets facts).next channel _ (responses_ask (pdu_heard on octets) on facts) is
 heard_asks setup facts octets channel (CentralListens handle) is =
-    none_asks (heard setup (CentralListens handle) octets facts).next channel _ (reply_asks (replies_in (link_at handle facts.links) octets) handle) is
+    none_asks (heard setup (CentralListens handle) octets facts).next channel _ (reply_asks (replies_in facts.turn.slot (has_room setup facts) (link_at handle facts.links) octets) handle) is
 heard_asks setup facts octets channel (PeripheralListens handle) is =
-    none_asks (heard setup (PeripheralListens handle) octets facts).next channel _ (reply_asks (replies_in (link_at handle facts.links) octets) handle) is
+    none_asks (heard setup (PeripheralListens handle) octets facts).next channel _ (reply_asks (replies_in facts.turn.slot (has_room setup facts) (link_at handle facts.links) octets) handle) is
 heard_asks setup facts octets channel (Advertises on) is = absurd cc
 heard_asks setup facts octets channel (Requests on advertiser) is = absurd cc
 heard_asks setup facts octets channel (Connects on link) is = absurd cc

@@ -12,7 +12,7 @@ use Rattle.host_view.specs.View.{View}
 use Rattle.controller_model.specs.Answers.{complete_answer, status_answer}
 use Rattle.controller_model.specs.Events.{notes_of_events}
 use Rattle.controller_model.proofs.NoAnswers.{IsNoAnswer, IsNoPacket, ReadsAnswers}
-use Rattle.run_model.specs.Readers.{packets_of}
+use Rattle.journal_data.specs.run_model.Readers.{packets_of}
 use Rattle.journal_hearings.specs.Settings.{is_left_out, status_unless, answer_statuses, answer_status}
 
 -- the statuses in the answers among these notes

@@ -1,8 +1,8 @@
 -- Two facts that each step of a run keeps are kept together.
 use Rattle.std.proofs.Common.{List}
-use Rattle.run_model.specs.History.{Event}
-use Rattle.run_model.specs.Run.{Given}
-use Rattle.run_model.proofs.Walk.{IsKept, Place}
+use Rattle.journal_data.specs.run_model.History.{Event}
+use Rattle.journal_data.specs.run_model.Run.{Given}
+use Rattle.journal_data.proofs.run_model.Walk.{IsKept, Place}
 
 pub both_kept : (given : Given) (P Q : Place → List Event → Type 0) → IsKept given P → IsKept given Q → IsKept given (λ place history. P place history × Q place history)
 both_kept given P Q one two = record {

@@ -9,21 +9,21 @@ use Rattle.ble_base.specs.declared.roles.Side.{Side}
 use Rattle.adv_pdu.specs.declared.pdu.AdvPdu.{AdvPdu}
 use Rattle.adv_pdu.specs.declared.pdu.AdvPdu.TheVariants.{Connect}
 use Rattle.controller_model.specs.Packets.{pdu_heard}
-use Rattle.link_model.specs.Setup.{Setup}
-use Rattle.run_model.specs.Due.{Each}
-use Rattle.run_model.specs.History.{Event, TurnBegan, HostFed, Called, Noted, Transmitted, Hearing}
-use Rattle.run_model.specs.Journal.{air_entries, entry_of, journal_from, journal_of, side_of}
-use Rattle.run_model.specs.LinkEnds.{ConnectInd}
-use Rattle.run_model.specs.Links.{Links, begins_link, first_links, is_advertising, is_connect_ind, links_after, links_noted, links_of, with_link}
-use Rattle.run_model.specs.Numbers.{HasNumber}
-use Rattle.run_model.specs.Run.{Given, history_of, others_than, run_of}
-use Rattle.run_model.proofs.Fates.{FatesBefore, HasOneOther, run_fated}
-use Rattle.run_model.proofs.Journals.{each_front, two}
-use Rattle.run_model.proofs.Parts.{journal_more}
-use Rattle.run_model.proofs.Places.{each_at}
-use Rattle.run_model.proofs.Stations.{is_in}
-use Rattle.journal_links.proofs.LinksBegun.{note_counts, add_by, begun_if}
-use Rattle.journal_acks.proofs.TwoStations.{IsOfTwo}
+use Rattle.journal_data.specs.link_model.Setup.{Setup}
+use Rattle.journal_data.specs.run_model.Due.{Each}
+use Rattle.journal_data.specs.run_model.History.{Event, TurnBegan, HostFed, Called, Noted, Transmitted, Hearing}
+use Rattle.journal_data.specs.run_model.Journal.{air_entries, entry_of, journal_from, journal_of, side_of}
+use Rattle.journal_data.specs.run_model.LinkEnds.{ConnectInd}
+use Rattle.journal_data.specs.run_model.Links.{Links, begins_link, first_links, is_advertising, is_connect_ind, links_after, links_noted, links_of, with_link}
+use Rattle.journal_data.specs.run_model.Numbers.{HasNumber}
+use Rattle.journal_data.specs.run_model.Run.{Given, history_of, others_than, run_of}
+use Rattle.journal_data.proofs.run_model.Fates.{FatesBefore, HasOneOther, run_fated}
+use Rattle.journal_data.proofs.run_model.Journals.{each_front, two}
+use Rattle.journal_data.proofs.run_model.Parts.{journal_more}
+use Rattle.journal_data.proofs.run_model.Places.{each_at}
+use Rattle.journal_data.proofs.run_model.Stations.{is_in}
+use Rattle.journal_data.proofs.journal_links.LinksBegun.{note_counts, add_by, begun_if}
+use Rattle.journal_data.proofs.journal_acks.TwoStations.{IsOfTwo}
 use Rattle.journal_hearings.specs.Connects.{ConnectLine, pdu_connects, connect_numbered, entry_connects, all_connects, nth_connect}
 
 -- ---- how many there are

@@ -6,35 +6,35 @@ use Rattle.ble_base.specs.declared.addresses.Address.{Address}
 use Rattle.adv_pdu.specs.declared.pdu.AdvPdu.{AdvPdu}
 use Rattle.adv_pdu.specs.declared.pdu.AdvPdu.TheVariants.{Connect}
 use Rattle.adv_pdu.specs.declared.pdu.ConnectFields.{ConnectFields}
-use Rattle.link_model.proofs.Received.{IsHeardWhole}
-use Rattle.open_links.specs.OpenLinks.{has_link_between}
+use Rattle.journal_data.proofs.link_model.Hearing.{IsHeardWhole}
+use Rattle.journal_data.specs.open_links.OpenLinks.{has_link_between}
 use Rattle.controller_model.specs.declared.doing.Doing.{Doing}
 use Rattle.controller_model.specs.declared.doing.Doing.TheVariants.{Advertises, AwaitsRequest, AwaitsResponse, Connects}
 use Rattle.controller_model.specs.Facts.{Facts, Sends}
 use Rattle.controller_model.specs.Packets.{pdu_heard}
 use Rattle.controller_model.proofs.DataChannels.{link_channel}
-use Rattle.run_model.specs.Feeding.{AreDistinct}
-use Rattle.run_model.specs.History.{Event, Hearing, Transmitted, past_of, turns_begun}
-use Rattle.run_model.specs.Journal.{journal_of, side_of}
-use Rattle.run_model.specs.LinkEnds.{HaveAddresses}
-use Rattle.run_model.specs.Links.{is_advertising, is_connect_ind}
-use Rattle.run_model.specs.Run.{Given, facts_at, history_of, run_of, setup_at, use_at}
-use Rattle.run_model.proofs.Fronts.{front_at}
-use Rattle.run_model.proofs.LinkEnds.{AreTaken, IsUnderstood}
-use Rattle.run_model.proofs.Stations.{among}
-use Rattle.run_model.proofs.Walk.{AtPackets, Place}
-use Rattle.run_laws.proofs.ConnectInds.{no_advertising}
-use Rattle.run_laws.proofs.DistinctAccess.{AreApart}
-use Rattle.run_laws.proofs.Hearings.{use_sent_at}
-use Rattle.run_laws.proofs.SentPackets.{IsUseSent, Says}
-use Rattle.run_laws.proofs.TurnPlaces.{Standing, standing, stands_at}
-use Rattle.journal_links.proofs.OfTwo.{are_distinct}
-use Rattle.journal_packets.proofs.AccessOrder.{AreNth}
-use Rattle.journal_packets.proofs.SoFar.{IsBelongingSoFar}
-use Rattle.journal_acks.proofs.Counting.{AreKnown}
-use Rattle.journal_acks.proofs.Known.{known_of}
-use Rattle.journal_acks.proofs.Seen.{IsSeen, seen_packet}
-use Rattle.journal_acks.proofs.TwoStations.{IsOfTwo, other_of}
+use Rattle.journal_data.specs.run_model.Feeding.{AreDistinct}
+use Rattle.journal_data.specs.run_model.History.{Event, Hearing, Transmitted, past_of, turns_begun}
+use Rattle.journal_data.specs.run_model.Journal.{journal_of, side_of}
+use Rattle.journal_data.specs.run_model.LinkEnds.{HaveAddresses}
+use Rattle.journal_data.specs.run_model.Links.{is_advertising, is_connect_ind}
+use Rattle.journal_data.specs.run_model.Run.{Given, facts_at, history_of, run_of, setup_at, use_at}
+use Rattle.journal_data.proofs.run_model.Fronts.{front_at}
+use Rattle.journal_data.proofs.run_model.LinkEnds.{AreTaken, IsUnderstood}
+use Rattle.journal_data.proofs.run_model.Stations.{among}
+use Rattle.journal_data.proofs.run_model.Walk.{AtPackets, Place}
+use Rattle.journal_data.proofs.run_laws.ConnectInds.{no_advertising}
+use Rattle.journal_data.proofs.run_laws.DistinctAccess.{AreApart}
+use Rattle.journal_data.proofs.run_laws.Hearings.{use_sent_at}
+use Rattle.journal_data.proofs.run_laws.SentPackets.{IsUseSent, Says}
+use Rattle.journal_data.proofs.run_laws.TurnPlaces.{Standing, standing, stands_at}
+use Rattle.journal_data.proofs.journal_links.OfTwo.{are_distinct}
+use Rattle.journal_data.proofs.journal_packets.AccessOrder.{AreNth}
+use Rattle.journal_data.proofs.journal_packets.SoFar.{IsBelongingSoFar}
+use Rattle.journal_data.proofs.journal_acks.Counting.{AreKnown}
+use Rattle.journal_data.proofs.journal_acks.Known.{known_of}
+use Rattle.journal_data.proofs.journal_acks.Seen.{IsSeen, seen_packet}
+use Rattle.journal_data.proofs.journal_acks.TwoStations.{IsOfTwo, other_of}
 use Rattle.journal_data.proofs.FewLinks.{HaveFewLinks}
 use Rattle.journal_data.proofs.KeptData.{IsDataAt, data_kept, other_in}
 use Rattle.journal_data.proofs.Law.{first_data}

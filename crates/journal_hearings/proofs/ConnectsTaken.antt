@@ -17,7 +17,7 @@ use Rattle.advertise.specs.Advertising.{AdvertiserFacts, advertisement, is_conne
 use Rattle.advertise.specs.Answers.{advertiser_answer, lets_connect, may_connect}
 use Rattle.scan_init.specs.Addresses.{is_same_address}
 use Rattle.scan_init.proofs.Listed.{equal_addresses}
-use Rattle.open_links.specs.OpenLinks.{free_from, has_link_between}
+use Rattle.journal_data.specs.open_links.OpenLinks.{free_from, has_link_between}
 use Rattle.controller_model.specs.declared.doing.Doing.{Doing}
 use Rattle.controller_model.specs.declared.doing.Doing.TheVariants.{AwaitsRequest}
 use Rattle.controller_model.specs.Facts.{Setup, Facts}

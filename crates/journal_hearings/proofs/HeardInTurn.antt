@@ -4,13 +4,12 @@ use Rattle.std.proofs.lemmas.Bool.{or_right}
 use Rattle.std.proofs.lemmas.List.Sums.{fold-append}
 use Rattle.ble_base.specs.Side.{other_side}
 use Rattle.ble_base.specs.declared.roles.Side.{Side}
-use Rattle.ble_base.specs.declared.roles.Side.TheVariants.{A}
 use Rattle.ble_base.specs.declared.verdicts.Verdict.TheVariants.{Good}
 use Rattle.journal.specs.declared.entries.Entry.{Entry}
 use Rattle.journal.specs.declared.entries.Entry.TheVariants.{Turn, Air}
-use Rattle.run_model.specs.Readers.{turns_of}
-use Rattle.journal_packets.specs.Belonging.{is_side}
-use Rattle.journal_packets.proofs.SendersLink.{same_side}
+use Rattle.journal_data.specs.run_model.Readers.{turns_of}
+use Rattle.journal_data.specs.journal_packets.Belonging.{is_side}
+use Rattle.journal_data.proofs.journal_packets.SendersLink.{same_side}
 use Rattle.journal_hearings.specs.Taken.{HasHeardConnect}
 
 abbrev pub heard_after : Side → Bool → Entry → Bool

@@ -11,26 +11,26 @@ use Rattle.radio_replay.specs.declared.fates.Fate.{Fate}
 use Rattle.controller_model.specs.Facts.{Facts, Sends}
 use Rattle.controller_model.specs.Side.{facts_of, notes_after}
 use Rattle.controller_model.specs.Step.{Step, TurnBegins, TurnEnds}
-use Rattle.run_model.specs.Due.{Each}
-use Rattle.run_model.specs.Feeding.{AreDistinct}
-use Rattle.run_model.specs.History.{Event, TurnBegan, HostFed, Called, Noted, Transmitted, Hearing, has_received, packet_received}
-use Rattle.run_model.specs.Journal.{journal_from, journal_of, side_of}
-use Rattle.run_model.specs.LinkEnds.{HaveAddresses}
-use Rattle.run_model.specs.Links.{Links, begins_link, links_after, links_of, with_link}
-use Rattle.run_model.specs.Run.{Given, after_call, after_feed, facts_at, hearings_of, octets_left, setup_at, step_of, use_at}
-use Rattle.run_model.proofs.Fronts.{More, feed_more}
-use Rattle.run_model.proofs.LinkEnds.{is_listener, received_by, received_event}
-use Rattle.run_model.proofs.LinksKnown.{last_by_call, links_event}
-use Rattle.run_model.proofs.Parts.{journal_more}
-use Rattle.run_model.proofs.Places.{each_event}
-use Rattle.run_model.proofs.Stations.{is_in, among, in_more_other, in_more_same, not_before}
-use Rattle.run_model.proofs.Walk.{Place, NoTurn, AtPackets, IsKept}
-use Rattle.run_laws.proofs.ByCalls.{first_hears}
-use Rattle.run_laws.proofs.Hearings.{AreHearing, hearing_kept, other_facts, sends_deaf}
-use Rattle.run_laws.proofs.InAgreement.{differs_back}
-use Rattle.run_laws.proofs.TurnPlaces.{event_past, stands_first}
-use Rattle.journal_packets.proofs.EachEvent.{each_call, each_feed}
-use Rattle.journal_acks.proofs.TwoStations.{IsOfTwo, other_is, other_of, same_number, side_same}
+use Rattle.journal_data.specs.run_model.Due.{Each}
+use Rattle.journal_data.specs.run_model.Feeding.{AreDistinct}
+use Rattle.journal_data.specs.run_model.History.{Event, TurnBegan, HostFed, Called, Noted, Transmitted, Hearing, has_received, packet_received}
+use Rattle.journal_data.specs.run_model.Journal.{journal_from, journal_of, side_of}
+use Rattle.journal_data.specs.run_model.LinkEnds.{HaveAddresses}
+use Rattle.journal_data.specs.run_model.Links.{Links, begins_link, links_after, links_of, with_link}
+use Rattle.journal_data.specs.run_model.Run.{Given, after_call, after_feed, facts_at, hearings_of, octets_left, setup_at, step_of, use_at}
+use Rattle.journal_data.proofs.run_model.Fronts.{More, feed_more}
+use Rattle.journal_data.proofs.run_model.LinkEnds.{is_listener, received_by, received_event}
+use Rattle.journal_data.proofs.run_model.LinksKnown.{last_by_call, links_event}
+use Rattle.journal_data.proofs.run_model.Parts.{journal_more}
+use Rattle.journal_data.proofs.run_model.Places.{each_event}
+use Rattle.journal_data.proofs.run_model.Stations.{is_in, among, in_more_other, in_more_same, not_before}
+use Rattle.journal_data.proofs.run_model.Walk.{Place, NoTurn, AtPackets, IsKept}
+use Rattle.journal_data.proofs.run_laws.ByCalls.{first_hears}
+use Rattle.journal_data.proofs.run_laws.Hearings.{AreHearing, hearing_kept, other_facts, sends_deaf}
+use Rattle.journal_data.proofs.run_laws.InAgreement.{differs_back}
+use Rattle.journal_data.proofs.run_laws.TurnPlaces.{event_past, stands_first}
+use Rattle.journal_data.proofs.journal_packets.EachEvent.{each_call, each_feed}
+use Rattle.journal_data.proofs.journal_acks.TwoStations.{IsOfTwo, other_is, other_of, same_number, side_same}
 use Rattle.journal_hearings.specs.Openings.{is_taken_by, takes}
 use Rattle.journal_hearings.proofs.ConnectsTaken.{TakesLink}
 

@@ -8,22 +8,22 @@ use Rattle.ble_base.specs.declared.notes.Note.TheVariants.{Opened}
 use Rattle.controller_model.specs.Facts.{Sends, Listens}
 use Rattle.controller_model.specs.Packets.{use_of}
 use Rattle.controller_model.specs.Side.{facts_of}
-use Rattle.run_model.specs.Due.{IsDue}
-use Rattle.run_model.specs.Feeding.{AreDistinct}
-use Rattle.run_model.specs.History.{Event, TurnBegan, HostFed, Called, Noted, Transmitted, Hearing, has_received, one_if, packet_received, past_of, received_after, steps_in, turns_begun, turns_in}
-use Rattle.run_model.specs.LinkEnds.{HaveAddresses}
-use Rattle.run_model.specs.Links.{Links, begins_link, links_after, links_noted, links_of, with_link}
-use Rattle.run_model.specs.Run.{Given, history_of, run_of, setup_at, use_at}
-use Rattle.run_model.proofs.Calls.{flat_nothing, turns_same}
-use Rattle.run_model.proofs.Dues.{run_due}
-use Rattle.run_model.proofs.LinkEnds.{is_listener, received_event}
-use Rattle.run_model.proofs.LinksKnown.{links_event}
-use Rattle.run_model.proofs.Places.{each_at}
-use Rattle.run_model.proofs.Stations.{is_in}
-use Rattle.run_laws.proofs.ByCalls.{first_hears}
-use Rattle.run_laws.proofs.Hearings.{AreHearing, hearing_kept}
-use Rattle.run_laws.proofs.TurnPlaces.{stands_first}
-use Rattle.journal_acks.proofs.Seen.{IsSeen, seen_turn}
+use Rattle.journal_data.specs.run_model.Due.{IsDue}
+use Rattle.journal_data.specs.run_model.Feeding.{AreDistinct}
+use Rattle.journal_data.specs.run_model.History.{Event, TurnBegan, HostFed, Called, Noted, Transmitted, Hearing, has_received, one_if, packet_received, past_of, received_after, steps_in, turns_begun, turns_in}
+use Rattle.journal_data.specs.run_model.LinkEnds.{HaveAddresses}
+use Rattle.journal_data.specs.run_model.Links.{Links, begins_link, links_after, links_noted, links_of, with_link}
+use Rattle.journal_data.specs.run_model.Run.{Given, history_of, run_of, setup_at, use_at}
+use Rattle.journal_data.proofs.run_model.Calls.{flat_nothing, turns_same}
+use Rattle.journal_data.proofs.run_model.Dues.{run_due}
+use Rattle.journal_data.proofs.run_model.LinkEnds.{is_listener, received_event}
+use Rattle.journal_data.proofs.run_model.LinksKnown.{links_event}
+use Rattle.journal_data.proofs.run_model.Places.{each_at}
+use Rattle.journal_data.proofs.run_model.Stations.{is_in}
+use Rattle.journal_data.proofs.run_laws.ByCalls.{first_hears}
+use Rattle.journal_data.proofs.run_laws.Hearings.{AreHearing, hearing_kept}
+use Rattle.journal_data.proofs.run_laws.TurnPlaces.{stands_first}
+use Rattle.journal_data.proofs.journal_acks.Seen.{IsSeen, seen_turn}
 
 pub record IsHeardLast (given : Given) (history : List Event) (station : ℕ) (octets : List ℕ) : Type 0 where
   pub sender : ℕ

@@ -10,21 +10,21 @@ use Rattle.ble_base.specs.declared.roles.Role.TheVariants.{Central, Peripheral}
 use Rattle.ble_base.specs.declared.roles.Side.{Side}
 use Rattle.ble_base.specs.declared.roles.Side.TheVariants.{A, B}
 use Rattle.scan_init.specs.Addresses.{is_same_address}
-use Rattle.link_model.specs.Setup.{Setup}
-use Rattle.open_links.specs.OpenLinks.{Links, OpenLink, has_link_between, is_between as is_link_between, link_at, link_from}
-use Rattle.open_links.proofs.Handles.{here, later}
-use Rattle.run_model.specs.History.{Event, Transmitted}
-use Rattle.run_model.specs.Journal.{journal_of, side_of}
-use Rattle.run_model.specs.LinkEnds.{ConnectInd, IsAtEnd}
-use Rattle.run_model.specs.Numbers.{AreNumbered}
-use Rattle.run_model.specs.Run.{Given, facts_at, history_of, run_of, setup_at}
-use Rattle.run_model.proofs.OfStations.{OfStations, run_of_stations}
-use Rattle.run_model.proofs.Places.{each_at}
-use Rattle.run_model.proofs.Stations.{is_in}
-use Rattle.journal_links.proofs.OfTwo.{two_apart}
-use Rattle.journal_packets.specs.Belonging.{is_side}
-use Rattle.journal_acks.proofs.Exchanging.{number_at}
-use Rattle.journal_acks.proofs.TwoStations.{IsOfTwo, side_same}
+use Rattle.journal_data.specs.link_model.Setup.{Setup}
+use Rattle.journal_data.specs.open_links.OpenLinks.{Links, OpenLink, has_link_between, is_between as is_link_between, link_at, link_from}
+use Rattle.journal_data.proofs.open_links.Handles.{here, later}
+use Rattle.journal_data.specs.run_model.History.{Event, Transmitted}
+use Rattle.journal_data.specs.run_model.Journal.{journal_of, side_of}
+use Rattle.journal_data.specs.run_model.LinkEnds.{ConnectInd, IsAtEnd}
+use Rattle.journal_data.specs.run_model.Numbers.{AreNumbered}
+use Rattle.journal_data.specs.run_model.Run.{Given, facts_at, history_of, run_of, setup_at}
+use Rattle.journal_data.proofs.run_model.OfStations.{OfStations, run_of_stations}
+use Rattle.journal_data.proofs.run_model.Places.{each_at}
+use Rattle.journal_data.proofs.run_model.Stations.{is_in}
+use Rattle.journal_data.proofs.journal_links.OfTwo.{two_apart}
+use Rattle.journal_data.specs.journal_packets.Belonging.{is_side}
+use Rattle.journal_data.proofs.journal_acks.Exchanging.{number_at}
+use Rattle.journal_data.proofs.journal_acks.TwoStations.{IsOfTwo, side_same}
 use Rattle.journal_data.specs.Held.{links_open}
 use Rattle.journal_data.specs.HostLines.{OpenUnder, link_under}
 use Rattle.journal_data.proofs.EachLine.{lines_at, numbers_at}

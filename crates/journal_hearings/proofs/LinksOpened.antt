@@ -6,30 +6,30 @@ use Rattle.ble_base.specs.declared.roles.Side.{Side}
 use Rattle.ble_base.specs.declared.verdicts.Verdict.TheVariants.{Good}
 use Rattle.journal.specs.declared.entries.Entry.TheVariants.{Turn, Air}
 use Rattle.journal.specs.declared.entries.Mark.{Mark}
-use Rattle.link_model.proofs.Received.{IsHeardWhole}
-use Rattle.run_model.specs.Due.{Each}
-use Rattle.run_model.specs.History.{Event, TurnBegan, HostFed, Called, Noted, Transmitted, Hearing, has_received, is_good}
-use Rattle.run_model.specs.Journal.{entries_of, journal_of, side_of}
-use Rattle.run_model.specs.LinkEnds.{HaveAddresses}
-use Rattle.run_model.specs.Links.{Links, is_connect_ind, links_of}
-use Rattle.run_model.specs.Run.{Given, GoesOn, history_of, run_of, setup_at}
-use Rattle.run_model.proofs.Dues.{run_due}
-use Rattle.run_model.specs.Due.{IsDue}
-use Rattle.run_model.proofs.EntryEvents.{is_of_event, turn_not_air, note_not_air}
-use Rattle.run_model.proofs.Fates.{FatesBefore, run_fated}
-use Rattle.run_model.proofs.Journals.{each_front, two}
-use Rattle.run_model.proofs.LinkEnds.{AreTaken, IsUnderstood}
-use Rattle.run_model.proofs.OfStations.{OfStations, run_of_stations}
-use Rattle.run_model.proofs.Places.{each_at}
-use Rattle.run_model.proofs.Stations.{is_in}
-use Rattle.run_model.proofs.UpToDate.{note_not_turn}
-use Rattle.run_laws.proofs.DistinctAccess.{AreApart}
-use Rattle.journal_links.specs.Begun.{links_begun}
-use Rattle.journal_links.proofs.OfTwo.{are_distinct}
-use Rattle.journal_packets.proofs.AccessOrder.{AreNth}
-use Rattle.journal_packets.proofs.SentLinks.{IsOfTwo as IsOfTwoSides, begun_are_sent, number_sent}
-use Rattle.journal_acks.proofs.Seen.{IsSeen, seen_last, seen_turn}
-use Rattle.journal_acks.proofs.TwoStations.{IsOfTwo, hearing_of, one_hearing, other_of, other_received, same_number, side_other}
+use Rattle.journal_data.proofs.link_model.Hearing.{IsHeardWhole}
+use Rattle.journal_data.specs.run_model.Due.{Each}
+use Rattle.journal_data.specs.run_model.History.{Event, TurnBegan, HostFed, Called, Noted, Transmitted, Hearing, has_received, is_good}
+use Rattle.journal_data.specs.run_model.Journal.{entries_of, journal_of, side_of}
+use Rattle.journal_data.specs.run_model.LinkEnds.{HaveAddresses}
+use Rattle.journal_data.specs.run_model.Links.{Links, is_connect_ind, links_of}
+use Rattle.journal_data.specs.run_model.Run.{Given, GoesOn, history_of, run_of, setup_at}
+use Rattle.journal_data.proofs.run_model.Dues.{run_due}
+use Rattle.journal_data.specs.run_model.Due.{IsDue}
+use Rattle.journal_data.proofs.run_model.EntryEvents.{is_of_event, turn_not_air, note_not_air}
+use Rattle.journal_data.proofs.run_model.Fates.{FatesBefore, run_fated}
+use Rattle.journal_data.proofs.run_model.Journals.{each_front, two}
+use Rattle.journal_data.proofs.run_model.LinkEnds.{AreTaken, IsUnderstood}
+use Rattle.journal_data.proofs.run_model.OfStations.{OfStations, run_of_stations}
+use Rattle.journal_data.proofs.run_model.Places.{each_at}
+use Rattle.journal_data.proofs.run_model.Stations.{is_in}
+use Rattle.journal_data.proofs.run_model.UpToDate.{note_not_turn}
+use Rattle.journal_data.proofs.run_laws.DistinctAccess.{AreApart}
+use Rattle.journal_data.specs.journal_links.Begun.{links_begun}
+use Rattle.journal_data.proofs.journal_links.OfTwo.{are_distinct}
+use Rattle.journal_data.proofs.journal_packets.AccessOrder.{AreNth}
+use Rattle.journal_data.proofs.journal_packets.SentLinks.{IsOfTwo as IsOfTwoSides, begun_are_sent, number_sent}
+use Rattle.journal_data.proofs.journal_acks.Seen.{IsSeen, seen_last, seen_turn}
+use Rattle.journal_data.proofs.journal_acks.TwoStations.{IsOfTwo, hearing_of, one_hearing, other_of, other_received, same_number, side_other}
 use Rattle.journal_data.proofs.FewLinks.{HaveFewLinks}
 use Rattle.journal_data.proofs.KeptData.{other_in}
 use Rattle.journal_hearings.specs.Openings.{AllHeardLinksAreOpened, HeardLinksAreOpened, IsToOpen, is_taken_by}

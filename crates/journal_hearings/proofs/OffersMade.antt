@@ -10,37 +10,37 @@ use Rattle.ble_base.specs.declared.notes.Note.TheVariants.{Up as UpNote}
 use Rattle.ble_base.specs.declared.roles.Side.{Side}
 use Rattle.adv_pdu.specs.declared.pdu.AdvPdu.{AdvPdu}
 use Rattle.advertise.specs.Advertising.{advertisement}
-use Rattle.link_model.specs.declared.setup.LinkSetup.{LinkSetup}
+use Rattle.journal_data.specs.link_model.declared.setup.LinkSetup.{LinkSetup}
 use Rattle.scan_init.specs.Initiating.{InitiatorFacts}
 use Rattle.scan_init.specs.Reports.{ScannerFacts, does_ask, scan_answer}
-use Rattle.open_links.specs.OpenLinks.{link_at}
+use Rattle.journal_data.specs.open_links.OpenLinks.{link_at}
 use Rattle.radio_replay.specs.declared.fates.Fate.{Fate}
 use Rattle.controller_model.specs.declared.doing.Doing.{Doing}
 use Rattle.controller_model.specs.declared.doing.Doing.TheVariants.{Advertises, AwaitsRequest, Responds, Scans, Requests, AwaitsResponse, Initiates, Connects, CentralSends, CentralListens, PeripheralListens, Rests}
 use Rattle.controller_model.specs.Step.{Step, HostOctet, TurnBegins}
 use Rattle.controller_model.specs.Facts.{Setup, Facts, Advertising, Sends, Listens}
-use Rattle.controller_model.specs.Heard.{asks_if, connects, fields_sent, heard, if_pdu, initiator_heard, link_made, link_to, replies_in, reply_if, scanner_heard, unheard}
+use Rattle.controller_model.specs.Heard.{asks_if, connects, fields_sent, has_room, heard, if_pdu, initiator_heard, link_made, link_to, replies_in, reply_if, scanner_heard, unheard}
 use Rattle.controller_model.specs.Packets.{advertisement_sent, advertising_packet, pdu_heard, sends_pdu}
 use Rattle.controller_model.specs.Side.{facts_after, facts_of, notes_after}
 use Rattle.controller_model.proofs.Phases.{EachOutcome, heard_is, unheard_is}
 use Rattle.controller_model.proofs.Sent.{AdvertisingFits, DoingFits, SomePdu, advertisement_is, sends_well}
-use Rattle.run_model.specs.Due.{packet_in}
-use Rattle.run_model.specs.Feeding.{AreDistinct}
-use Rattle.run_model.specs.History.{Event, TurnBegan, HostFed, Called, Noted, Transmitted, Hearing, packet_received, past_of, turns_begun}
-use Rattle.run_model.specs.Journal.{air_entries, entries_of, entry_of, journal_from, journal_of, side_of}
-use Rattle.run_model.specs.LinkEnds.{HaveAddresses}
-use Rattle.run_model.specs.Links.{Links, first_links, is_advertising, links_after}
-use Rattle.run_model.specs.Run.{Given, after_call, after_feed, after_octets, facts_at, hearings_of, octets_left, setup_at, step_of, use_at}
-use Rattle.run_model.proofs.Calls.{fold_called, fold_event}
-use Rattle.run_model.proofs.LinkEnds.{IsUnderstood, of_advertising}
-use Rattle.run_model.proofs.Stations.{is_in, among, in_more_other, in_more_same, not_before}
-use Rattle.run_model.proofs.Walk.{Place, NoTurn, AtFeeds, AtBegins, AfterPhases, AtPackets, AtListening, AtEnds, IsKept}
-use Rattle.run_laws.proofs.ByCalls.{first_hears}
-use Rattle.run_laws.proofs.Hearings.{AreHearing, hearing_kept, other_facts, own_facts, wanted_is}
-use Rattle.run_laws.proofs.InAgreement.{differs_back}
-use Rattle.run_laws.proofs.TurnPlaces.{Within, at_stage, event_past, stands_first}
-use Rattle.journal_packets.specs.Belonging.{is_side}
-use Rattle.journal_acks.proofs.TwoStations.{IsOfTwo, hearing_of, one_hearing, other_apart, side_same}
+use Rattle.journal_data.specs.run_model.Due.{packet_in}
+use Rattle.journal_data.specs.run_model.Feeding.{AreDistinct}
+use Rattle.journal_data.specs.run_model.History.{Event, TurnBegan, HostFed, Called, Noted, Transmitted, Hearing, packet_received, past_of, turns_begun}
+use Rattle.journal_data.specs.run_model.Journal.{air_entries, entries_of, entry_of, journal_from, journal_of, side_of}
+use Rattle.journal_data.specs.run_model.LinkEnds.{HaveAddresses}
+use Rattle.journal_data.specs.run_model.Links.{Links, first_links, is_advertising, links_after}
+use Rattle.journal_data.specs.run_model.Run.{Given, after_call, after_feed, after_octets, facts_at, hearings_of, octets_left, setup_at, step_of, use_at}
+use Rattle.journal_data.proofs.run_model.Calls.{fold_called, fold_event}
+use Rattle.journal_data.proofs.run_model.LinkEnds.{IsUnderstood, of_advertising}
+use Rattle.journal_data.proofs.run_model.Stations.{is_in, among, in_more_other, in_more_same, not_before}
+use Rattle.journal_data.proofs.run_model.Walk.{Place, NoTurn, AtFeeds, AtBegins, AfterPhases, AtPackets, AtListening, AtEnds, IsKept}
+use Rattle.journal_data.proofs.run_laws.ByCalls.{first_hears}
+use Rattle.journal_data.proofs.run_laws.Hearings.{AreHearing, hearing_kept, other_facts, own_facts, wanted_is}
+use Rattle.journal_data.proofs.run_laws.InAgreement.{differs_back}
+use Rattle.journal_data.proofs.run_laws.TurnPlaces.{Within, at_stage, event_past, stands_first}
+use Rattle.journal_data.specs.journal_packets.Belonging.{is_side}
+use Rattle.journal_data.proofs.journal_acks.TwoStations.{IsOfTwo, hearing_of, one_hearing, other_apart, side_same}
 use Rattle.journal_hearings.specs.Openings.{offer_after, offer_in, newer_offer}
 use Rattle.journal_hearings.proofs.AirDoings.{FitsPhase, UsesIt, at_phase, pdu_on}
 
@@ -241,7 +241,7 @@ offers_before setup facts = record {
   connects = λ channel octets pdu on access handle doing is_on hears answers next free in_range is.
       none_next (Connects channel (link_made on.params.own pdu (fields_sent setup on access facts) handle)) _ refl is;
   received = λ handle octets is.
-      let replies = replies_in (link_at handle facts.links) octets in none_next (reply_if replies handle) _ (replies_none replies handle) is;
+      let replies = replies_in facts.turn.slot (has_room setup facts) (link_at handle facts.links) octets in none_next (reply_if replies handle) _ (replies_none replies handle) is;
 }
 
 offering_before : (setup : Setup) (received : Option (List ℕ)) (facts : Facts) → is_offering (facts_after setup facts (step_of received)).turn.doing ≡ true

@@ -4,16 +4,16 @@ use Rattle.std.specs.Prelude.{⊤}
 use Rattle.std.proofs.lemmas.Bool.{eqb-true}
 use Rattle.controller_model.specs.Side.{facts_after, facts_of}
 use Rattle.radio_replay.specs.declared.fates.Fate.{Fate}
-use Rattle.run_model.specs.Feeding.{AreDistinct}
-use Rattle.run_model.specs.History.{Event, Transmitted, packet_received}
-use Rattle.run_model.specs.LinkEnds.{HaveAddresses}
-use Rattle.run_model.specs.Run.{Given, after_call, facts_at, hearings_of, setup_at, step_of}
-use Rattle.run_model.proofs.LinkEnds.{received_by}
-use Rattle.run_model.proofs.Stations.{is_in, in_more_other, in_more_same, not_before}
-use Rattle.run_model.proofs.Walk.{Place, NoTurn, AfterPhases, AtPackets, AtListening, IsKept}
-use Rattle.run_laws.proofs.ByCalls.{first_hears}
-use Rattle.run_laws.proofs.Hearings.{AreHearing, hearing_kept, other_facts, own_facts}
-use Rattle.run_laws.proofs.TurnPlaces.{event_past, stands_first}
+use Rattle.journal_data.specs.run_model.Feeding.{AreDistinct}
+use Rattle.journal_data.specs.run_model.History.{Event, Transmitted, packet_received}
+use Rattle.journal_data.specs.run_model.LinkEnds.{HaveAddresses}
+use Rattle.journal_data.specs.run_model.Run.{Given, after_call, facts_at, hearings_of, setup_at, step_of}
+use Rattle.journal_data.proofs.run_model.LinkEnds.{received_by}
+use Rattle.journal_data.proofs.run_model.Stations.{is_in, in_more_other, in_more_same, not_before}
+use Rattle.journal_data.proofs.run_model.Walk.{Place, NoTurn, AfterPhases, AtPackets, AtListening, IsKept}
+use Rattle.journal_data.proofs.run_laws.ByCalls.{first_hears}
+use Rattle.journal_data.proofs.run_laws.Hearings.{AreHearing, hearing_kept, other_facts, own_facts}
+use Rattle.journal_data.proofs.run_laws.TurnPlaces.{event_past, stands_first}
 
 -- ---- the phase that passed
 

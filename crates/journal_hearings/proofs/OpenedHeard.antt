@@ -13,40 +13,40 @@ use Rattle.adv_pdu.specs.declared.pdu.AdvPdu.TheVariants.{Connect}
 use Rattle.journal.specs.declared.entries.Entry.{Entry}
 use Rattle.journal.specs.declared.entries.Entry.TheVariants.{Air, Opened}
 use Rattle.journal.specs.declared.entries.Mark.{Mark}
-use Rattle.link_model.proofs.Received.{IsHeardWhole}
+use Rattle.journal_data.proofs.link_model.Hearing.{IsHeardWhole}
 use Rattle.controller_model.specs.declared.doing.Doing.{Doing}
 use Rattle.controller_model.specs.Facts.{Listens}
 use Rattle.controller_model.specs.Packets.{pdu_heard}
 use Rattle.controller_model.specs.Side.{facts_of}
 use Rattle.controller_model.proofs.Sent.{DoingFits, can_be_done}
-use Rattle.run_model.specs.Due.{IsDue}
-use Rattle.run_model.specs.Feeding.{AreDistinct}
-use Rattle.run_model.specs.History.{Event, Called, Noted, Transmitted, Hearing, has_received, packet_received, past_of}
-use Rattle.run_model.specs.Journal.{air_entries, journal_from, journal_of, mark_of, side_of}
-use Rattle.run_model.specs.LinkEnds.{HaveAddresses}
-use Rattle.run_model.specs.Links.{is_advertising, is_connect_ind, links_after, links_of}
-use Rattle.run_model.specs.Readers.{pair_openings_in, turns_of}
-use Rattle.run_model.specs.Run.{Given, facts_at, history_of, run_of, setup_at, use_at}
-use Rattle.run_model.proofs.Calls.{turns_called}
-use Rattle.run_model.proofs.Doings.{IsWanted, always_wanted}
-use Rattle.run_model.proofs.Dues.{run_due}
-use Rattle.run_model.proofs.Fates.{turns_are}
-use Rattle.run_model.proofs.LinkEnds.{AreTaken, IsUnderstood, of_advertising}
-use Rattle.run_model.proofs.LinksKnown.{last_by_call}
-use Rattle.run_model.proofs.NoteLines.{note_line}
-use Rattle.run_model.proofs.OfStations.{OfStations, run_of_stations}
-use Rattle.run_model.proofs.Parts.{journal_more}
-use Rattle.run_model.proofs.Places.{each_at}
-use Rattle.run_model.proofs.Stations.{is_in}
-use Rattle.run_model.proofs.Unseen.{good_is}
-use Rattle.run_laws.proofs.ChSel.{one_channel}
-use Rattle.run_laws.proofs.DistinctAccess.{AreApart}
-use Rattle.run_laws.proofs.Hearings.{wanted_is}
-use Rattle.journal_links.specs.Begun.{links_begun}
-use Rattle.journal_links.proofs.OfTwo.{are_distinct, of_two_stations, other_of as other_by}
-use Rattle.journal_links.proofs.OpenedLines.{opened_note}
-use Rattle.journal_packets.proofs.AccessOrder.{AreNth}
-use Rattle.journal_acks.proofs.TwoStations.{IsOfTwo, hearing_of, one_hearing, other_is, other_of, other_received, same_number}
+use Rattle.journal_data.specs.run_model.Due.{IsDue}
+use Rattle.journal_data.specs.run_model.Feeding.{AreDistinct}
+use Rattle.journal_data.specs.run_model.History.{Event, Called, Noted, Transmitted, Hearing, has_received, packet_received, past_of}
+use Rattle.journal_data.specs.run_model.Journal.{air_entries, journal_from, journal_of, mark_of, side_of}
+use Rattle.journal_data.specs.run_model.LinkEnds.{HaveAddresses}
+use Rattle.journal_data.specs.run_model.Links.{is_advertising, is_connect_ind, links_after, links_of}
+use Rattle.journal_data.specs.run_model.Readers.{pair_openings_in, turns_of}
+use Rattle.journal_data.specs.run_model.Run.{Given, facts_at, history_of, run_of, setup_at, use_at}
+use Rattle.journal_data.proofs.run_model.Calls.{turns_called}
+use Rattle.journal_data.proofs.run_model.Doings.{IsWanted, always_wanted}
+use Rattle.journal_data.proofs.run_model.Dues.{run_due}
+use Rattle.journal_data.proofs.run_model.Fates.{turns_are}
+use Rattle.journal_data.proofs.run_model.LinkEnds.{AreTaken, IsUnderstood, of_advertising}
+use Rattle.journal_data.proofs.run_model.LinksKnown.{last_by_call}
+use Rattle.journal_data.proofs.run_model.NoteLines.{note_line}
+use Rattle.journal_data.proofs.run_model.OfStations.{OfStations, run_of_stations}
+use Rattle.journal_data.proofs.run_model.Parts.{journal_more}
+use Rattle.journal_data.proofs.run_model.Places.{each_at}
+use Rattle.journal_data.proofs.run_model.Stations.{is_in}
+use Rattle.journal_data.proofs.run_model.Unseen.{good_is}
+use Rattle.journal_data.proofs.run_laws.ChSel.{one_channel}
+use Rattle.journal_data.proofs.run_laws.DistinctAccess.{AreApart}
+use Rattle.journal_data.proofs.run_laws.Hearings.{wanted_is}
+use Rattle.journal_data.specs.journal_links.Begun.{links_begun}
+use Rattle.journal_data.proofs.journal_links.OfTwo.{are_distinct, of_two_stations, other_of as other_by}
+use Rattle.journal_data.proofs.journal_links.OpenedLines.{opened_note}
+use Rattle.journal_data.proofs.journal_packets.AccessOrder.{AreNth}
+use Rattle.journal_data.proofs.journal_acks.TwoStations.{IsOfTwo, hearing_of, one_hearing, other_is, other_of, other_received, same_number}
 use Rattle.journal_data.proofs.FewLinks.{HaveFewLinks}
 use Rattle.journal_hearings.specs.Openings.{IsToOpen, OpenedLinksWereToOpen}
 use Rattle.journal_hearings.specs.Taken.{AllTakenLinksAreHeard, HasHeardConnect}

@@ -15,10 +15,10 @@ use Rattle.adv_pdu.specs.declared.pdu.ConnectFields.{ConnectFields}
 use Rattle.advertise.specs.declared.answers.AdvAnswer.TheVariants.{Ignore, Respond, Connect as Takes}
 use Rattle.advertise.specs.Advertising.{AdvertiserFacts}
 use Rattle.advertise.specs.Answers.{advertiser_answer, is_connect_taken, is_scan_answered}
-use Rattle.link_model.specs.declared.setup.LinkSetup.{LinkSetup}
+use Rattle.journal_data.specs.link_model.declared.setup.LinkSetup.{LinkSetup}
 use Rattle.scan_init.specs.Initiating.{InitiatorFacts}
 use Rattle.scan_init.specs.Reports.{ScannerFacts, scan_answer}
-use Rattle.open_links.specs.OpenLinks.{has_link_between, link_at}
+use Rattle.journal_data.specs.open_links.OpenLinks.{has_link_between}
 use Rattle.controller_model.specs.declared.doing.Doing.{Doing}
 use Rattle.controller_model.specs.declared.doing.Doing.TheVariants.{Advertises, AwaitsRequest, Scans, Requests, AwaitsResponse, Initiates, Connects, CentralSends, CentralListens, PeripheralListens}
 use Rattle.controller_model.specs.Step.{Step, HostOctet, TurnBegins, PacketHeard, NothingHeard, TurnEnds}
@@ -29,9 +29,9 @@ use Rattle.controller_model.specs.Links.{events_opened}
 use Rattle.controller_model.specs.Outcome.{Outcome, notes_passed}
 use Rattle.controller_model.specs.Packets.{notes_doing, pdu_heard}
 use Rattle.controller_model.specs.Side.{notes_after}
-use Rattle.run_model.proofs.Calls.{same_station}
-use Rattle.run_model.proofs.Doings.{IsWanted}
-use Rattle.run_model.proofs.OpenedNotes.{doing_open, events_open, is_opened, neither, opens_under, outside_open, taken_open}
+use Rattle.journal_data.proofs.run_model.Calls.{same_station}
+use Rattle.journal_data.proofs.run_model.Doings.{IsWanted}
+use Rattle.journal_data.proofs.run_model.OpenedNotes.{doing_open, events_open, hearing_open, is_opened, neither, opens_under, outside_open}
 use Rattle.journal_hearings.specs.Openings.{is_peripheral}
 
 -- it takes a CONNECT_IND that it hears
@@ -103,7 +103,7 @@ initiates_none None setup channel facts = nothing
 initiates_none (Some pdu) setup channel facts = initiator_none facts.initiator setup channel pdu facts
 
 link_none : (setup : Setup) (handle : ℕ) (octets : List ℕ) (facts : Facts) → OpenNone (link_heard setup handle octets facts).notes
-link_none setup handle octets facts = λ other. taken_open other facts.turn.slot (has_room setup facts) (link_at handle facts.links) octets
+link_none setup handle octets facts = λ other. hearing_open other (has_room setup facts) handle octets facts
 
 -- an initiator opens its link as the central
 central_none : (link : LinkSetup) (facts : Facts) → link.role ≡ Central → takes_in (notes_passed (opens link facts)) ≡ false

@@ -12,7 +12,7 @@ use Rattle.advertise.specs.Advertising.{AdvertiserFacts, advertisement}
 use Rattle.air_frame.specs.declared.Heard.{Heard}
 use Rattle.air_frame.specs.declared.Heard.TheVariants.{NotOurs, Broken, Whole}
 use Rattle.journal.specs.declared.entries.Mark.TheVariants.{Pass as Passed}
-use Rattle.link_model.specs.declared.setup.LinkSetup.{LinkSetup}
+use Rattle.journal_data.specs.link_model.declared.setup.LinkSetup.{LinkSetup}
 use Rattle.radio_replay.specs.Damage.{damaged_packet}
 use Rattle.radio_replay.specs.declared.fates.Fate.{Fate}
 use Rattle.radio_replay.specs.declared.fates.Fate.TheVariants.{Pass, Lost, Damage}
@@ -22,24 +22,24 @@ use Rattle.controller_model.specs.Facts.{Facts, Use, Sends, Listens}
 use Rattle.controller_model.specs.Packets.{advertisement_sent, advertising_packet, channel_listened, connect_sent, heard_on_channel, pdu_by, pdu_heard, sends_pdu, verdict_advertising, verdict_by, verdict_of}
 use Rattle.controller_model.specs.Side.{facts_after}
 use Rattle.controller_model.proofs.Sent.{AdvertisingFits, DoingFits, SomePdu, advertisement_is, can_be_done, sends_well}
-use Rattle.run_model.specs.Feeding.{AreDistinct}
-use Rattle.run_model.specs.History.{Event, Hearing, Transmitted, packet_received, past_of, turns_begun}
-use Rattle.run_model.specs.Journal.{journal_of, mark_of}
-use Rattle.run_model.specs.LinkEnds.{HaveAddresses}
-use Rattle.run_model.specs.Links.{is_advertising}
-use Rattle.run_model.specs.Run.{Given, facts_at, hearing_at, history_of, reaches, run_of, setup_at, step_of, use_at, verdict_where}
-use Rattle.run_model.proofs.EntryEvents.{is_aired}
-use Rattle.run_model.proofs.LinkEnds.{IsUnderstood}
-use Rattle.run_model.proofs.OfStations.{OfStations, run_of_stations}
-use Rattle.run_model.proofs.Places.{each_at}
-use Rattle.run_model.proofs.Stations.{is_in, among}
-use Rattle.run_model.proofs.Walk.{AtPackets}
-use Rattle.run_laws.proofs.ChSel.{one_channel}
-use Rattle.run_laws.proofs.Hearings.{AreHearing, IsHeard, sends_deaf, wanted_is}
-use Rattle.run_laws.proofs.InAgreement.{differs_back}
-use Rattle.journal_links.proofs.OfTwo.{are_distinct}
-use Rattle.journal_acks.proofs.Seen.{IsSeen, seen_packet}
-use Rattle.journal_acks.proofs.TwoStations.{IsOfTwo, hearing_of, one_hearing, other_is, other_of, same_number}
+use Rattle.journal_data.specs.run_model.Feeding.{AreDistinct}
+use Rattle.journal_data.specs.run_model.History.{Event, Hearing, Transmitted, packet_received, past_of, turns_begun}
+use Rattle.journal_data.specs.run_model.Journal.{journal_of, mark_of}
+use Rattle.journal_data.specs.run_model.LinkEnds.{HaveAddresses}
+use Rattle.journal_data.specs.run_model.Links.{is_advertising}
+use Rattle.journal_data.specs.run_model.Run.{Given, facts_at, hearing_at, history_of, reaches, run_of, setup_at, step_of, use_at, verdict_where}
+use Rattle.journal_data.proofs.run_model.EntryEvents.{is_aired}
+use Rattle.journal_data.proofs.run_model.LinkEnds.{IsUnderstood}
+use Rattle.journal_data.proofs.run_model.OfStations.{OfStations, run_of_stations}
+use Rattle.journal_data.proofs.run_model.Places.{each_at}
+use Rattle.journal_data.proofs.run_model.Stations.{is_in, among}
+use Rattle.journal_data.proofs.run_model.Walk.{AtPackets}
+use Rattle.journal_data.proofs.run_laws.ChSel.{one_channel}
+use Rattle.journal_data.proofs.run_laws.Hearings.{AreHearing, IsHeard, sends_deaf, wanted_is}
+use Rattle.journal_data.proofs.run_laws.InAgreement.{differs_back}
+use Rattle.journal_data.proofs.journal_links.OfTwo.{are_distinct}
+use Rattle.journal_data.proofs.journal_acks.Seen.{IsSeen, seen_packet}
+use Rattle.journal_data.proofs.journal_acks.TwoStations.{IsOfTwo, hearing_of, one_hearing, other_is, other_of, same_number}
 use Rattle.journal_data.proofs.KeptData.{other_in}
 use Rattle.journal_hearings.specs.Requests.{AllRequestsAreHeard, is_awaited}
 use Rattle.journal_hearings.proofs.AirDoings.{FitsPhase, HasAnswered, IsAnswered, IsAtPhase, IsAwaiting, IsSentOn, AwaitsNext, UsesIt, asks_after, asks_later, asks_on, at_phase, awaits_next, is_scan_request, pdu_on, sent_by}

@@ -11,20 +11,20 @@ use Rattle.hci_cmd.specs.declared.command.Command.{Command}
 use Rattle.journal.specs.declared.entries.Entry.{Entry}
 use Rattle.journal.specs.declared.entries.Entry.TheVariants.{Turn, Fed}
 use Rattle.controller_model.specs.Side.{notes_of}
-use Rattle.run_model.specs.Due.{Each}
-use Rattle.run_model.specs.Feeding.{HasNoted}
-use Rattle.run_model.specs.History.{Event, TurnBegan, HostFed, Called, Noted, Transmitted, noted_by, notes_in, one_if, past_of}
-use Rattle.run_model.specs.Journal.{entries_of, entry_of, journal_from, journal_of, side_of}
-use Rattle.run_model.specs.Links.{Links, first_links, links_after}
-use Rattle.run_model.specs.Readers.{fed_in, fed_to_side, of_side, packets_in, packets_of, packets_of_note, packets_to_host}
-use Rattle.run_model.specs.Run.{Given, facts_at, history_of, run_of, setup_at}
-use Rattle.run_model.proofs.Journals.{each_front, air_packets}
-use Rattle.run_model.proofs.OfStations.{OfStations, run_of_stations}
-use Rattle.run_model.proofs.Stations.{is_in}
-use Rattle.journal_links.proofs.LinkLines.{IsApart, other_side_none, own_side}
-use Rattle.journal_links.proofs.OfTwo.{two_apart}
-use Rattle.journal_packets.specs.Belonging.{is_side}
-use Rattle.journal_acks.proofs.TwoStations.{IsOfTwo}
+use Rattle.journal_data.specs.run_model.Due.{Each}
+use Rattle.journal_data.specs.run_model.Feeding.{HasNoted}
+use Rattle.journal_data.specs.run_model.History.{Event, TurnBegan, HostFed, Called, Noted, Transmitted, noted_by, notes_in, one_if, past_of}
+use Rattle.journal_data.specs.run_model.Journal.{entries_of, entry_of, journal_from, journal_of, side_of}
+use Rattle.journal_data.specs.run_model.Links.{Links, first_links, links_after}
+use Rattle.journal_data.specs.run_model.Readers.{fed_in, fed_to_side, of_side, packets_in, packets_of, packets_of_note, packets_to_host}
+use Rattle.journal_data.specs.run_model.Run.{Given, facts_at, history_of, run_of, setup_at}
+use Rattle.journal_data.proofs.run_model.Journals.{each_front, air_packets}
+use Rattle.journal_data.proofs.run_model.OfStations.{OfStations, run_of_stations}
+use Rattle.journal_data.proofs.run_model.Stations.{is_in}
+use Rattle.journal_data.proofs.journal_links.LinkLines.{IsApart, other_side_none, own_side}
+use Rattle.journal_data.proofs.journal_links.OfTwo.{two_apart}
+use Rattle.journal_data.specs.journal_packets.Belonging.{is_side}
+use Rattle.journal_data.proofs.journal_acks.TwoStations.{IsOfTwo}
 use Rattle.journal_data.specs.Lines.{Lines, is_of_side, line_after, lines_after, lines_of, no_lines}
 use Rattle.journal_data.proofs.EachLine.{lines_at}
 use Rattle.journal_data.proofs.Submitting.{HasFed}

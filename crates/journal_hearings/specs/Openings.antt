@@ -18,9 +18,9 @@ use Rattle.journal.specs.declared.entries.Entry.TheVariants.{Turn, Air, Opened}
 use Rattle.journal.specs.declared.entries.Mark.{Mark}
 use Rattle.scan_init.specs.Addresses.{is_same_address}
 use Rattle.controller_model.specs.Packets.{pdu_heard}
-use Rattle.run_model.specs.Links.{is_advertising}
-use Rattle.journal_links.specs.Begun.{links_begun}
-use Rattle.journal_packets.specs.Belonging.{is_side}
+use Rattle.journal_data.specs.run_model.Links.{is_advertising}
+use Rattle.journal_data.specs.journal_links.Begun.{links_begun}
+use Rattle.journal_data.specs.journal_packets.Belonging.{is_side}
 use Rattle.journal_data.specs.Held.{links_open}
 use Rattle.journal_data.specs.HostLines.{OpenUnder}
 use Rattle.journal_hearings.specs.Connects.{ConnectLine, connect_numbered}

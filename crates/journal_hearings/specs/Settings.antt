@@ -18,7 +18,7 @@ use Rattle.host_view.specs.Status.{named_address}
 use Rattle.journal.specs.declared.entries.Entry.{Entry}
 use Rattle.scan_init.specs.Addresses.{with_address, without_address}
 use Rattle.controller_model.specs.Notes.{as_two_octets, is_event}
-use Rattle.run_model.specs.Readers.{fed_to_side, packets_to_host}
+use Rattle.journal_data.specs.run_model.Readers.{fed_to_side, packets_to_host}
 
 -- ---- commands and their answers
 

@@ -12,9 +12,9 @@ use Rattle.journal.specs.declared.entries.Entry.{Entry}
 use Rattle.journal.specs.declared.entries.Entry.TheVariants.{Air, Opened}
 use Rattle.journal.specs.declared.entries.Mark.{Mark}
 use Rattle.controller_model.specs.Packets.{pdu_heard}
-use Rattle.run_model.specs.Links.{is_advertising}
-use Rattle.run_model.specs.Readers.{turns_of}
-use Rattle.journal_links.specs.Begun.{links_begun}
+use Rattle.journal_data.specs.run_model.Links.{is_advertising}
+use Rattle.journal_data.specs.run_model.Readers.{turns_of}
+use Rattle.journal_data.specs.journal_links.Begun.{links_begun}
 
 -- this side heard the CONNECT_IND of the link with this number, in the turn that is under way after these entries
 pub record HasHeardConnect (side : Side) (number : ℕ) (front : List Entry) : Type 0 where

@@ -6,10 +6,10 @@ ghost use Rattle.journal_hearings.specs.Openings.{AllHeardLinksAreOpened, HeardL
 ghost use Rattle.journal_hearings.specs.Openings.{OpenedLinksWereToOpen};
 ghost use Rattle.journal_hearings.specs.Requests.{AllRequestsAreHeard};
 ghost use Rattle.journal_hearings.specs.Taken.{AllTakenLinksAreHeard};
-ghost use Rattle.run_model.specs.History.{Event};
-ghost use Rattle.run_model.specs.Journal.{journal_of};
-ghost use Rattle.run_model.specs.LinkEnds.{HaveAddresses};
-ghost use Rattle.run_model.specs.Run.{Given, GoesOn, history_of, run_of, setup_at};
+ghost use Rattle.journal_data.specs.run_model.History.{Event};
+ghost use Rattle.journal_data.specs.run_model.Journal.{journal_of};
+ghost use Rattle.journal_data.specs.run_model.LinkEnds.{HaveAddresses};
+ghost use Rattle.journal_data.specs.run_model.Run.{Given, GoesOn, history_of, run_of, setup_at};
 
 /// In the journal of a run of two stations, with any number of links each, each SCAN_REQ, SCAN_RSP
 /// and CONNECT_IND that passes is judged good: the other side listens for it, on its channel (Core

@@ -16,10 +16,10 @@ ghost use Rattle.journal_hearings.specs.Rows.{listing_octets, offered_journal, p
 ghost use Rattle.journal_hearings.specs.Rows.{refusal};
 ghost use Rattle.journal_hearings.specs.Settings.{accept_list, filter_policy};
 ghost use Rattle.journal_hearings.specs.Taken.{HasHeardConnect};
-ghost use Rattle.run_laws.specs.Rows.{one_event_fields};
-ghost use Rattle.run_model.specs.Rows.{answer, connect_packet, connectable_packet};
-ghost use Rattle.run_model.specs.Rows.{connecting_octets, one_connection_journal, reset};
-ghost use Rattle.run_model.specs.Rows.{reset_answer, status_answer, turn_entry};
+ghost use Rattle.journal_data.specs.run_laws.Rows.{one_event_fields};
+ghost use Rattle.journal_data.specs.run_model.Rows.{answer, connect_packet, connectable_packet};
+ghost use Rattle.journal_data.specs.run_model.Rows.{connecting_octets, one_connection_journal, reset};
+ghost use Rattle.journal_data.specs.run_model.Rows.{reset_answer, status_answer, turn_entry};
 
 /// A CONNECT_IND is awaited, and an advertisement is not.
 pub fn worked_requests()

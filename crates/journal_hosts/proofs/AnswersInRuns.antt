@@ -13,12 +13,12 @@ use Rattle.hci_cmd.specs.declared.command.CmdRead.{CmdRead}
 use Rattle.hci_cmd.specs.declared.command.CmdRead.TheVariants.{Known, UnknownOpcode, BadLength}
 use Rattle.hci_cmd.specs.Command.{command_of}
 use Rattle.host_view.specs.Unbuilt.{status_of}
-use Rattle.controller_model.specs.Answers.{is_host_completed}
-use Rattle.controller_model.specs.Facts.{Setup, Facts, first_facts}
-use Rattle.controller_model.specs.Host.{commands_after, commands_from, commands_in, commands_of, is_answered, opcodes_of, with_answer}
-use Rattle.controller_model.specs.Notes.{as_two_octets, one_further}
-use Rattle.controller_model.specs.Side.{facts_after, result_of}
-use Rattle.controller_model.specs.Step.{Step, HostOctet, TurnBegins, PacketHeard, NothingHeard, TurnEnds}
+use Rattle.journal_data.specs.controller_model.Answers.{is_host_completed}
+use Rattle.journal_data.specs.controller_model.Facts.{Setup, Facts, first_facts}
+use Rattle.journal_data.specs.controller_model.Host.{commands_after, commands_from, commands_in, commands_of, is_answered, opcodes_of, with_answer}
+use Rattle.journal_data.specs.controller_model.Notes.{as_two_octets, one_further}
+use Rattle.journal_data.specs.controller_model.Side.{facts_after, result_of}
+use Rattle.journal_data.specs.controller_model.Step.{Step, HostOctet, TurnBegins, PacketHeard, NothingHeard, TurnEnds}
 use Rattle.run_model.specs.Answered.{IsAnswered, commands_at}
 use Rattle.run_model.specs.History.{past_of}
 use Rattle.run_model.specs.Readers.{station_of}

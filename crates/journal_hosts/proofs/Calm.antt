@@ -1,34 +1,34 @@
 -- While a controller hears no packet in a turn, no piece of data waits for its host, and each complete packet is reported.
-use Rattle.std.proofs.Common.{◌≡◌, ℕ, ◌+◌, ◌≤◌, Bool, true, false, Option, Some, None, List, [], ◌∷◌, ◌++◌, map, refl, ap, subst, ◌∙◌, arith}
+use Rattle.std.proofs.Common.{◌≡◌, ℕ, ◌+◌, ◌≤◌, Bool, true, false, Option, Some, None, List, [], ◌∷◌, ◌++◌, map, refl, ap, ◌∙◌}
 use Rattle.acl_banks.specs.declared.pieces.Piece.{Piece}
-use Rattle.link_model.specs.Acknowledgement.{is_acked}
-use Rattle.link_model.specs.Data.{Data, data_sent_if}
-use Rattle.link_model.specs.End.{facts_of as end_of}
-use Rattle.link_model.specs.Facts.{Facts as EndFacts}
-use Rattle.link_model.specs.Setup.{Setup as EndSetup}
-use Rattle.link_model.specs.Step.{DataGiven, DataReported, EventEntered, PacketSent, PduFixed}
-use Rattle.link_model.proofs.Pasts.{grows}
-use Rattle.open_links.specs.declared.ended.LinkEnded.{LinkEnded}
-use Rattle.open_links.specs.Data.{complete_in, completed_by, completed_from, received_past}
-use Rattle.open_links.specs.OpenLinks.{Links, OpenLink, facts_in, link_at, link_from, new_link}
-use Rattle.open_links.specs.Turns.{entered_if, is_anchor}
-use Rattle.open_links.proofs.Handles.{here, later}
-use Rattle.controller_model.specs.declared.doing.Doing.{Doing}
-use Rattle.controller_model.specs.declared.doing.Doing.TheVariants.{Advertises, CentralSends, Connects, Requests, Rests}
-use Rattle.controller_model.specs.Between.{is_between_turns}
-use Rattle.controller_model.specs.Data.{event_completed, note_received, notes_ended_turn}
-use Rattle.controller_model.specs.Events.{notes_of_events}
-use Rattle.controller_model.specs.Facts.{Setup, Facts}
-use Rattle.controller_model.specs.Heard.{unheard}
-use Rattle.controller_model.specs.Links.{ends_in}
-use Rattle.controller_model.specs.Outcome.{facts_passed}
-use Rattle.controller_model.specs.Packets.{facts_doing}
-use Rattle.controller_model.specs.Side.{facts_after, facts_of}
-use Rattle.controller_model.specs.Step.{Step, NothingHeard, TurnBegins}
-use Rattle.controller_model.proofs.Always.{IsKeptAtStarts, facts_opening, opening_passes, received_shut, start_keeps}
-use Rattle.controller_model.proofs.BetweenTurns.{none_complete, nothing_waits}
-use Rattle.run_laws.proofs.OpenSteps.{AtOpen, EachOpen, IsKeptServed, begin_open, open_has, opened, sends}
+use Rattle.journal_data.specs.link_model.Data.{Data, data_sent_if}
+use Rattle.journal_data.specs.link_model.End.{facts_of as end_of}
+use Rattle.journal_data.specs.link_model.Facts.{Facts as EndFacts}
+use Rattle.journal_data.specs.link_model.Setup.{Setup as EndSetup}
+use Rattle.journal_data.specs.link_model.Step.{DataGiven, DataReported, EventEntered, PacketSent, PduFixed, Step as EndStep}
+use Rattle.journal_data.proofs.link_model.Pasts.{grows}
+use Rattle.journal_data.specs.open_links.declared.ended.LinkEnded.{LinkEnded}
+use Rattle.journal_data.specs.open_links.Data.{complete_in, completed_from, received_past}
+use Rattle.journal_data.specs.open_links.Offered.{completed_by}
+use Rattle.journal_data.specs.open_links.OpenLinks.{Links, OpenLink, facts_in, link_at, new_link, link_after}
+use Rattle.journal_data.specs.open_links.Turns.{entered_if, enters_in}
+use Rattle.journal_data.specs.controller_model.declared.doing.Doing.{Doing}
+use Rattle.journal_data.specs.controller_model.declared.doing.Doing.TheVariants.{Advertises, CentralSends, Connects, Requests, Rests}
+use Rattle.journal_data.specs.controller_model.Between.{is_between_turns}
+use Rattle.journal_data.specs.controller_model.Data.{event_completed, note_received, notes_handed}
+use Rattle.journal_data.specs.controller_model.Events.{notes_of_events}
+use Rattle.journal_data.specs.controller_model.Facts.{Setup, Facts}
+use Rattle.journal_data.specs.controller_model.Heard.{unheard}
+use Rattle.journal_data.specs.controller_model.Outcome.{facts_passed}
+use Rattle.journal_data.specs.controller_model.Packets.{facts_doing}
+use Rattle.journal_data.specs.controller_model.Side.{facts_after, facts_of}
+use Rattle.journal_data.specs.controller_model.Step.{Step, NothingHeard, TurnBegins}
+use Rattle.journal_data.proofs.controller_model.Always.{IsKeptAtStarts, facts_opening, opening_passes, received_shut, start_keeps}
+use Rattle.journal_data.proofs.controller_model.BetweenTurns.{none_complete, nothing_waits}
+use Rattle.journal_data.proofs.run_laws.OpenSteps.{EachOpen, IsKeptServed, begin_open, open_has, opened, sends, each_under}
 use Rattle.journal_data.proofs.FewComplete.{given_complete}
+use Rattle.journal_data.specs.controller_model.Links.{ends_for}
+use Rattle.journal_data.proofs.DataSteps.{IsDeafStep, IsKeptBySending, deaf_link_keeps}
 
 -- no complete packet of a link waits to be reported
 abbrev pub IsReported : OpenLink → Type 0
@@ -40,23 +40,10 @@ pub record IsCalm (facts : Facts) : Type 0 where
 
 -- ---- between turns
 
-each_from : (first : ℕ) (links : Links) → ((handle : ℕ) → first ≤ handle → AtOpen IsReported (link_from first handle links)) → EachOpen IsReported links
-each_from first [] each = tt
-each_from first (place ∷ links) each = (
-  subst (AtOpen IsReported) (here first place links) (each first (omega arith)),
-  each_from (first + 1) links
-      (λ handle above. subst (AtOpen IsReported) (later first handle place links (omega (arith, above))) (each handle (omega (arith, above)))),
-)
-
-found_reported : (found : Option OpenLink) → ((link : OpenLink) → found ≡ Some link → IsReported link) → AtOpen IsReported found
-found_reported None each = tt
-found_reported (Some link) each = each link refl
-
 pub calm_between : (setup : Setup) (past : List Step) → is_between_turns past ≡ true → IsCalm (facts_of setup past)
 calm_between setup past is = record {
   received = nothing_waits setup past is;
-  reported = each_from 0 (facts_of setup past).links
-      (λ handle above. found_reported (link_at handle (facts_of setup past).links) (λ link found. none_complete setup past handle link is found));
+  reported = each_under IsReported 0 (facts_of setup past).links (λ handle link found. none_complete setup past handle link is found);
 }
 
 -- ---- one link
@@ -64,6 +51,12 @@ calm_between setup past is = record {
 sent_same : (new : Bool) (outgoing : Data) → (data_sent_if new outgoing).complete ≡ outgoing.complete
 sent_same true outgoing = refl
 sent_same false outgoing = refl
+
+kept_complete : IsKeptBySending (λ outgoing. outgoing.complete ≡ 0)
+kept_complete = record { fixed = λ limit pdu more outgoing is. is; sent = λ is_new outgoing is. sent_same is_new outgoing ∙ is }
+
+deaf_reported : (step : EndStep) (link : OpenLink) → IsDeafStep step → IsReported link → IsReported (link_after step link)
+deaf_reported step link deaf is = deaf_link_keeps (λ outgoing. outgoing.complete ≡ 0) kept_complete step link deaf is
 
 served_reported : IsKeptServed IsReported
 served_reported = record {
@@ -73,13 +66,12 @@ served_reported = record {
     reported = λ link is. ap (λ (facts : EndFacts). facts.outgoing.complete) (grows link.setup link.past DataReported);
   };
   served = λ slot link is. is;
-  fixed = λ link is. ap (λ (facts : EndFacts). facts.outgoing.complete) (grows link.setup link.past PduFixed) ∙ is;
-  sent = λ slot link is. ap (λ (facts : EndFacts). facts.outgoing.complete) (grows link.setup link.past (PacketSent slot))
-      ∙ sent_same (is_acked (facts_in link).acknowledgement) (facts_in link).outgoing ∙ is;
+  fixed = λ link is. deaf_reported PduFixed link tt is;
+  sent = λ slot link is. deaf_reported (PacketSent slot) link tt is;
 }
 
-entered_reported : (anchor : Bool) (slot : ℕ) (link : OpenLink) → IsReported link → IsReported (entered_if anchor slot link)
-entered_reported true slot link is = ap (λ (facts : EndFacts). facts.outgoing.complete) (grows link.setup link.past (EventEntered slot)) ∙ is
+entered_reported : (enters : Bool) (slot : ℕ) (link : OpenLink) → IsReported link → IsReported (entered_if enters slot link)
+entered_reported true slot link is = deaf_reported (EventEntered slot) link tt is
 entered_reported false slot link is = is
 
 new_reported : (setup : EndSetup) → IsReported (new_link setup)
@@ -98,7 +90,7 @@ shut_none (one ∷ ended) = shut_none ended
 pub received_none : IsKeptAtStarts HasNoneReceived HasNoneReceived
 received_none = record {
   weakens = λ facts none. none;
-  ends = λ slot facts none. ap (λ (pieces : List (ℕ × Piece)). received_shut pieces (ends_in slot facts)) none ∙ shut_none (ends_in slot facts);
+  ends = λ reason facts none. ap (λ (pieces : List (ℕ × Piece)). received_shut pieces (ends_for reason facts)) none ∙ shut_none (ends_for reason facts);
   begins = λ slot facts none. none;
   enters = λ slot facts none. none;
   wins = λ slot activity facts none. none;
@@ -110,7 +102,7 @@ pub begin_calm : (setup : Setup) (slot : ℕ) (on : Bool) (facts : Facts) → Is
 begin_calm setup slot on facts calm = record {
   received = start_keeps HasNoneReceived HasNoneReceived received_none slot on facts calm.received;
   reported = begin_open IsReported IsReported served_reported setup slot on facts
-      (λ link is. entered_reported (is_anchor slot link) slot link is) calm.reported;
+      (λ link is. entered_reported (enters_in slot link) slot link is) calm.reported;
 }
 
 -- ---- a phase passes in which nothing is heard
@@ -146,8 +138,8 @@ none_completed first (None ∷ links) are = none_completed (first + 1) links are
 none_completed first (Some link ∷ links) are =
     ap (λ n. completed_by first n ++ completed_from (first + 1) links) are.0 ∙ none_completed (first + 1) links are.1
 
-pub nothing_ended : (facts : Facts) → IsCalm facts → notes_ended_turn facts ≡ []
-nothing_ended facts calm =
+pub nothing_handed : (facts : Facts) → IsCalm facts → notes_handed facts ≡ []
+nothing_handed facts calm =
     λ i. map note_received (calm.received i) ++ notes_of_events facts.view (map event_completed (none_completed 0 facts.links calm.reported i))
 
 pub calm_under : (facts : Facts) (handle : ℕ) (link : OpenLink) → IsCalm facts → link_at handle facts.links ≡ Some link → complete_in link ≡ 0

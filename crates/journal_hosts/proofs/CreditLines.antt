@@ -13,22 +13,23 @@ use Rattle.hci_evt.specs.declared.event.Event.TheVariants.{CompletedPackets}
 use Rattle.host_view.specs.View.{View}
 use Rattle.journal.specs.declared.entries.Entry.{Entry}
 use Rattle.journal.specs.declared.entries.Entry.TheVariants.{Turn, Air, Up}
-use Rattle.open_links.specs.Data.{complete_in, completed_by, completed_from}
-use Rattle.open_links.specs.OpenLinks.{Links}
+use Rattle.journal_data.specs.open_links.Data.{complete_in, completed_from}
+use Rattle.journal_data.specs.open_links.Offered.{completed_by}
+use Rattle.journal_data.specs.open_links.OpenLinks.{Links}
 use Rattle.acl_banks.specs.declared.pieces.Piece.{Piece}
-use Rattle.controller_model.specs.Data.{acl_packet, event_completed, note_received}
-use Rattle.controller_model.specs.Events.{notes_of_events}
-use Rattle.controller_model.specs.Step.{Step}
+use Rattle.journal_data.specs.controller_model.Data.{acl_packet, event_completed, note_received}
+use Rattle.journal_data.specs.controller_model.Events.{notes_of_events}
+use Rattle.journal_data.specs.controller_model.Step.{Step}
 use Rattle.run_model.specs.Due.{Each}
 use Rattle.run_model.specs.History.{Event, TurnBegan, HostFed, Called, Noted, Transmitted}
 use Rattle.run_model.specs.Journal.{entries_of, entry_of, journal_from, journal_of, side_of}
 use Rattle.run_model.specs.Links.{Links as Numbers, links_after, links_of}
 use Rattle.run_model.proofs.Calls.{with_notes}
 use Rattle.run_model.proofs.Parts.{journal_event, journal_more}
-use Rattle.run_laws.proofs.OpenSteps.{EachOpen}
-use Rattle.journal_packets.specs.Belonging.{is_side}
+use Rattle.journal_data.proofs.run_laws.OpenSteps.{EachOpen}
+use Rattle.journal_data.specs.journal_packets.Belonging.{is_side}
 use Rattle.wire_fields.specs.Field.{little_endian}
-use Rattle.journal_acks.proofs.TwoStations.{side_same}
+use Rattle.journal_data.proofs.journal_acks.TwoStations.{side_same}
 use Rattle.journal_hosts.specs.Credits.{credit_count, credit_handle, fed_after, is_being_fed, is_credit}
 use Rattle.journal_hosts.proofs.CreditNotes.{AreNoCredits, IsNoCredit, IsOfOctet}
 
@@ -238,7 +239,7 @@ count_held handle count fits some = omega (arith, fits, some)
 abbrev pub HaveNone : List Event → Type 0
 HaveNone history = (side : Side) → some_handles (handles_at side history) ≡ []
 
-module _ (Few Fit : Type 0) where
+module _ (Few Fit Stay : Type 0) where
   -- before the first packet of the turn it is of one packet; after it, where handles fit into two octets, it is above all
   -- handles before it
   abbrev pub Fits : Option (List ℕ) → List ℕ → Type 0
@@ -252,15 +253,16 @@ module _ (Few Fit : Type 0) where
     -- where counts fit into two octets, it is of at least one packet
     pub some : Fit → 0 < credit_count octets
 
-  -- a packet to the host that is no credit comes before all credits of its side after that packet
+  -- where no link ends as a turn ends, a packet to the host that is no credit comes before all credits of its side after
+  -- that packet
   pub record IsFit (station : ℕ) (history : List Event) (octets : List ℕ) : Type 0 where
     pub credit : is_credit octets ≡ true → HasPlace (side_of station) (journal_of history) octets
-    pub other : is_credit octets ≡ false → some_handles (handles_at (side_of station) history) ≡ []
+    pub other : Stay → is_credit octets ≡ false → some_handles (handles_at (side_of station) history) ≡ []
 
   -- and what is no packet to a host before those of both sides
   abbrev pub FitsNote : ℕ → List Event → Note → Type 0
   FitsNote station history (UpNote packet) = IsFit station history packet.items
-  FitsNote station history note = HaveNone history
+  FitsNote station history note = Stay → HaveNone history
 
   abbrev pub CreditsFit : List Event → Event → Type 0
   CreditsFit history (Noted station note) = FitsNote station history note
@@ -273,12 +275,12 @@ module _ (Few Fit : Type 0) where
       → IsFit station history octets
   no_credit station history octets none first = record {
     credit = λ is. absurd (let h : false ≡ true = sym none ∙ is in absurd cc);
-    other = λ is. first;
+    other = λ stay is. first;
   }
 
   quiet_fits : (station : ℕ) (history : List Event) (note : Note) → IsNoCredit note → HaveNone history → FitsNote station history note
   quiet_fits station history (UpNote packet) none first = no_credit station history packet.items none (first (side_of station))
-  quiet_fits station history note none first = first
+  quiet_fits station history note none first = λ stay. first
 
   pub quiet_each : (station : ℕ) (notes : List Note) (history : List Event) → AreNoCredits notes → HaveNone history → Each CreditsFit history (map (Noted station) notes)
   quiet_each station [] history none first = tt
@@ -295,9 +297,9 @@ module _ (Few Fit : Type 0) where
       fed = λ none. fed;
       some = λ fit. omega (arith, count);
     };
-    other = λ is. ap some_handles (early (side_of station));
+    other = λ stay is. ap some_handles (early (side_of station));
   }
-  early_fits station history note early fed one = λ side. ap some_handles (early side)
+  early_fits station history note early fed one = λ stay side. ap some_handles (early side)
 
   pub early_each : (station : ℕ) (notes : List Note) (history : List Event) → ((side : Side) → handles_at side history ≡ None)
       → is_being_fed (side_of station) (journal_of history) ≡ true → AllByRecursion IsOfOctet notes → Each CreditsFit history (map (Noted station) notes)
@@ -306,6 +308,22 @@ module _ (Few Fit : Type 0) where
     early_fits station history note early fed ones.0,
     early_each station notes (history ++ Noted station note ∷ []) (λ side. noted_early side station history note (early side))
         (fed_noted station history note fed ones.0) ones.1,
+  )
+
+  -- what is noted only of links that end as a turn ends
+  leaving_fits : (station : ℕ) (history : List Event) (note : Note) → IsNoCredit note → (Stay → ⊥) → FitsNote station history note
+  leaving_fits station history (UpNote packet) none never = record {
+    credit = λ is. absurd (let h : false ≡ true = sym none ∙ is in absurd cc);
+    other = λ stay. absurd (never stay);
+  }
+  leaving_fits station history note none never = λ stay. absurd (never stay)
+
+  pub leaving_each : (station : ℕ) (notes : List Note) (history : List Event) → AreNoCredits notes → (Stay → notes ≡ [])
+      → Each CreditsFit history (map (Noted station) notes)
+  leaving_each station [] history none empty = tt
+  leaving_each station (note ∷ notes) history none empty = (
+    leaving_fits station history note none.0 (λ stay. let no : note ∷ notes ≡ [] = empty stay in absurd cc),
+    leaving_each station notes (history ++ Noted station note ∷ []) none.1 (λ stay. let no : note ∷ notes ≡ [] = empty stay in absurd cc),
   )
 
   -- ---- the credits as a turn ends
@@ -351,7 +369,7 @@ module _ (Few Fit : Type 0) where
               fed = λ none. absurd (let h : None ≡ Some handles = sym none ∙ are in absurd cc);
               some = λ fit. count_held first (suc count) (most fit) (omega arith);
             };
-            other = λ is. absurd (let h : false ≡ true = sym is ∙ is_one first (suc count) in absurd cc);
+            other = λ stay is. absurd (let h : false ≡ true = sym is ∙ is_one first (suc count) in absurd cc);
           },
           one (suc count),
         )

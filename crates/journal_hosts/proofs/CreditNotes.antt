@@ -1,6 +1,6 @@
 -- Which notes of a controller are credits: in a turn, those that it gives as the turn ends; before, only those of packets
 -- without octets.
-use Rattle.std.proofs.Common.{◌≡◌, ℕ, ◌==◌, Bool, true, false, Option, Some, None, List, [], ◌∷◌, ◌++◌, map, cond, refl, sym, ◌∙◌}
+use Rattle.std.proofs.Common.{◌≡◌, ℕ, ◌+◌, ◌==◌, Bool, true, false, Option, Some, None, List, [], ◌∷◌, ◌++◌, map, cond, refl, sym, ◌∙◌}
 use Rattle.std.specs.Prelude.{⊤, filter, flat_map}
 use Rattle.std.specs.List.{AllByRecursion}
 use Rattle.acl_banks.specs.declared.pieces.Piece.{Piece}
@@ -17,42 +17,41 @@ use Rattle.hci_cmd.specs.declared.command.CmdRead.TheVariants.{Known, UnknownOpc
 use Rattle.hci_cmd.specs.Command.{command_of}
 use Rattle.hci_evt.specs.Event.{mask_bit_of, written}
 use Rattle.hci_evt.specs.declared.event.Event.{Event}
-use Rattle.hci_evt.specs.declared.event.Event.TheVariants.{DisconnectionComplete, CommandComplete, CommandStatus, HardwareError, BufferOverflow, ConnectionComplete, AdvertisingReport, EnhancedConnection, ChannelSelection}
+use Rattle.hci_evt.specs.declared.event.Event.TheVariants.{DisconnectionComplete, HardwareError, BufferOverflow, ChannelSelection, CompletedPackets}
 use Rattle.host_view.specs.View.{View}
 use Rattle.host_view.specs.Unbuilt.{status_of}
-use Rattle.instants.specs.Track.{next_number}
-use Rattle.link_model.specs.declared.setup.LinkSetup.{LinkSetup}
-use Rattle.link_model.specs.End.{applied_notes, sent_notes_if, took_notes, took_notes_if}
-use Rattle.link_model.specs.Acknowledgement.{Pdu}
-use Rattle.link_model.specs.Facts.{Facts as EndFacts}
-use Rattle.link_model.specs.Packets.{good_pdu, pdu_of}
-use Rattle.open_links.specs.declared.ended.LinkEnded.{LinkEnded}
-use Rattle.open_links.specs.declared.offers.Offer.{Offer}
-use Rattle.open_links.specs.declared.offers.Offer.TheVariants.{NoLink, Empty, Overflow, Kept}
-use Rattle.open_links.specs.OpenLinks.{Links, OpenLink, facts_in, handles_from, link_at}
-use Rattle.open_links.specs.Turns.{is_anchor, notes_entering, notes_if}
+use Rattle.journal_data.specs.link_model.declared.setup.LinkSetup.{LinkSetup}
+use Rattle.journal_data.specs.link_model.Packets.{good_pdu}
+use Rattle.journal_data.specs.open_links.declared.ended.LinkEnded.{LinkEnded}
+use Rattle.journal_data.specs.open_links.declared.offers.Offer.{Offer}
+use Rattle.journal_data.specs.open_links.declared.offers.Offer.TheVariants.{NoLink, Empty, Overflow, Kept}
+use Rattle.journal_data.specs.open_links.OpenLinks.{Links, OpenLink, facts_in, handles_from, link_at}
+use Rattle.journal_data.specs.open_links.Turns.{due_in, enters_in, notes_entering, notes_if, ending_in}
 use Rattle.scan_init.specs.declared.reports.ReportKind.{ReportKind}
 use Rattle.scan_init.specs.declared.scanner.ScanAnswer.{ScanAnswer}
 use Rattle.scan_init.specs.Reports.{does_ask, kind_of, scan_answer}
-use Rattle.controller_model.specs.declared.doing.Doing.{Doing}
-use Rattle.controller_model.specs.declared.doing.Doing.TheVariants.{Advertises, CentralSends, PeripheralSends}
-use Rattle.controller_model.specs.Answers.{AreOneAnswer, HasNoAnswer, IsAnswerTo, answer_to}
-use Rattle.controller_model.specs.Commands.{events_caused, notes_before, notes_commanded, notes_known}
-use Rattle.controller_model.specs.Data.{note_received, notes_offered, offer_of}
-use Rattle.controller_model.specs.Events.{notes_of_events, passes}
-use Rattle.controller_model.specs.Facts.{Setup, Facts}
-use Rattle.controller_model.specs.Heard.{asks_if, does_report, events_reported, has_room, link_received, link_taken, notes_taken, replies_in, reply_if, report_event, report_events, scanner_after, with_scanner}
-use Rattle.controller_model.specs.Links.{connection_complete, connection_failed, ends_in, facts_ending, note_shut, notes_ended, notes_ending, notes_opened, wants_enhanced}
-use Rattle.controller_model.specs.Outcome.{notes_passed}
-use Rattle.controller_model.specs.Packets.{notes_doing, notes_sent}
-use Rattle.controller_model.specs.Radio.{outcome_begun, turn_begins}
-use Rattle.controller_model.specs.Side.{notes_after, notes_fed, result_of}
-use Rattle.controller_model.specs.Step.{Step, HostOctet, TurnBegins, PacketHeard, NothingHeard, TurnEnds}
-use Rattle.controller_model.proofs.AnsweredOnce.{answered_once}
-use Rattle.controller_model.proofs.Phases.{EachOutcome, heard_is, unheard_is}
+use Rattle.journal_data.specs.controller_model.declared.doing.Doing.{Doing}
+use Rattle.journal_data.specs.controller_model.declared.doing.Doing.TheVariants.{Advertises, CentralSends, PeripheralSends}
+use Rattle.journal_data.specs.controller_model.Answers.{HasNoAnswer, answer_to}
+use Rattle.journal_data.specs.controller_model.Commands.{events_caused, notes_before, notes_commanded, notes_known}
+use Rattle.journal_data.specs.controller_model.Data.{note_received, notes_offered, offer_of}
+use Rattle.journal_data.specs.controller_model.Events.{notes_of_events, passes}
+use Rattle.journal_data.specs.controller_model.Facts.{Setup, Facts}
+use Rattle.journal_data.specs.controller_model.Heard.{asks_if, does_report, events_reported, has_room, link_taken, notes_taken, report_event, report_events, scanner_after, with_scanner, events_received, link_heard}
+use Rattle.journal_data.specs.controller_model.Links.{connection_complete, connection_failed, ends_for, facts_ending, note_shut, notes_ended, notes_ending, notes_opened, wants_enhanced, notes_without, notes_leaving}
+use Rattle.journal_data.specs.controller_model.Outcome.{notes_passed}
+use Rattle.journal_data.specs.controller_model.Packets.{notes_doing, notes_sent}
+use Rattle.journal_data.specs.controller_model.Radio.{outcome_begun, turn_begins}
+use Rattle.journal_data.specs.controller_model.Side.{notes_after, notes_fed, result_of}
+use Rattle.journal_data.specs.controller_model.Step.{Step, HostOctet, TurnBegins, PacketHeard, NothingHeard, TurnEnds}
+use Rattle.journal_data.proofs.controller_model.AnsweredOnce.{answered_once}
+use Rattle.journal_data.proofs.controller_model.Phases.{EachOutcome, heard_is, unheard_is}
 use Rattle.wire_fields.specs.Field.{little_endian}
-use Rattle.journal_data.proofs.Openness.{all_append}
+use Rattle.journal_data.proofs.Openness.{all_append, IsOtherEvent, procedures_other, answers_are}
 use Rattle.journal_hosts.specs.Credits.{credit_count, is_credit}
+use Rattle.journal_data.proofs.controller_model.ProcedureEvents.{entering_events, reception_events}
+use Rattle.journal_data.proofs.controller_model.EndNotes.{sent_each, received_each, entered_each}
+use Rattle.journal_data.specs.controller_model.Entering.{events_entering, notes_all_entering}
 
 abbrev pub IsNoCredit : Note → Type 0
 IsNoCredit (Up packet) = is_credit packet.items ≡ false
@@ -72,33 +71,13 @@ both xs ys all also = all_append IsNoCredit xs ys all also
 
 -- ---- events
 
-abbrev IsPlain : Event → Type 0
-IsPlain (DisconnectionComplete status handle reason) = ⊤
-IsPlain (CommandComplete packets opcode fields) = ⊤
-IsPlain (CommandStatus status packets opcode) = ⊤
-IsPlain (HardwareError code) = ⊤
-IsPlain (BufferOverflow link_kind) = ⊤
-IsPlain (ConnectionComplete status handle role peer_kind peer interval latency timeout accuracy) = ⊤
-IsPlain (AdvertisingReport kind address_kind address report rssi) = ⊤
-IsPlain (EnhancedConnection status handle role peer_kind peer local other interval latency timeout accuracy) = ⊤
-IsPlain (ChannelSelection handle algorithm) = ⊤
-IsPlain other = ⊥
-
-plain_is : (event : Event) → IsPlain event → is_credit (written event) ≡ false
+other_is : (event : Event) → IsOtherEvent event → is_credit (written event) ≡ false
 unfolding little_endian
-plain_is (DisconnectionComplete status handle reason) is = refl
-plain_is (CommandComplete packets opcode fields) is = refl
-plain_is (CommandStatus status packets opcode) is = refl
-plain_is (HardwareError code) is = refl
-plain_is (BufferOverflow link_kind) is = refl
-plain_is (ConnectionComplete status handle role peer_kind peer interval latency timeout accuracy) is = refl
-plain_is (AdvertisingReport kind address_kind address report rssi) is = refl
-plain_is (EnhancedConnection status handle role peer_kind peer local other interval latency timeout accuracy) is = refl
-plain_is (ChannelSelection handle algorithm) is = refl
-plain_is other is = absurd is
+other_is (CompletedPackets handle count) is = absurd is
+other_is event is = refl
 
-module _ (P : Note → Type 0) (each : (event : Event) → IsPlain event → P (Up (record { items = written event }))) where
-  plain_each : (view : View) (events : List Event) → AllByRecursion IsPlain events → AllByRecursion P (notes_of_events view events)
+module _ (P : Note → Type 0) (each : (event : Event) → IsOtherEvent event → P (Up (record { items = written event }))) where
+  plain_each : (view : View) (events : List Event) → AllByRecursion IsOtherEvent events → AllByRecursion P (notes_of_events view events)
   plain_each view [] are = tt
   plain_each view (event ∷ events) are = by (passes view (mask_bit_of event)) (plain_each view events are.1)
     where
@@ -108,13 +87,13 @@ module _ (P : Note → Type 0) (each : (event : Event) → IsPlain event → P (
       by true rest = (each event are.0, rest)
       by false rest = rest
 
-plain_notes : (view : View) (events : List Event) → AllByRecursion IsPlain events → AreNoCredits (notes_of_events view events)
-plain_notes view events are = plain_each IsNoCredit plain_is view events are
+plain_notes : (view : View) (events : List Event) → AllByRecursion IsOtherEvent events → AreNoCredits (notes_of_events view events)
+plain_notes view events are = plain_each IsNoCredit other_is view events are
 
-plain_one : (event : Event) → IsPlain event → IsOfOctet (Up (record { items = written event }))
-plain_one event is = λ credit. absurd (let h : false ≡ true = sym (plain_is event is) ∙ credit in absurd cc)
+plain_one : (event : Event) → IsOtherEvent event → IsOfOctet (Up (record { items = written event }))
+plain_one event is = λ credit. absurd (let h : false ≡ true = sym (other_is event is) ∙ credit in absurd cc)
 
-plain_ones : (view : View) (events : List Event) → AllByRecursion IsPlain events → AllByRecursion IsOfOctet (notes_of_events view events)
+plain_ones : (view : View) (events : List Event) → AllByRecursion IsOtherEvent events → AllByRecursion IsOfOctet (notes_of_events view events)
 plain_ones view events are = plain_each IsOfOctet plain_one view events are
 
 -- ---- a turn begins
@@ -125,29 +104,31 @@ ends_none view (one ∷ ended) =
     both (notes_ended view one) (flat_map (notes_ended view) ended)
     (tt, plain_notes view (DisconnectionComplete 0 one.handle one.reason.0 ∷ []) (tt, tt)) (ends_none view ended)
 
-applied_none : (handle event : ℕ) (number : Option ℕ) → AreNoCredits (applied_notes handle event number)
-applied_none handle event None = tt
-applied_none handle event (Some number) = (tt, tt)
+ending_none : (reason : OpenLink → Option ℕ) (facts : Facts) → AreNoCredits (notes_without reason facts)
+ending_none reason facts = ends_none facts.view (ends_for reason facts)
 
-entry_none : (anchor : Bool) (slot : ℕ) (link : OpenLink) → AreNoCredits (notes_if anchor slot link)
+entry_none : (enters : Bool) (slot : ℕ) (link : OpenLink) → AreNoCredits (notes_if enters slot link)
 entry_none false slot link = tt
 entry_none true slot link =
-    both (applied_notes link.setup.link.handle _ (next_number (facts_in link).parameters)) _
-    (applied_none link.setup.link.handle _ (next_number (facts_in link).parameters)) (tt, tt)
+    entered_each IsNoCredit link.setup slot (facts_in link) (record { applied = λ number. tt; enter = tt; done = λ kind. tt; began = λ kind. tt })
 
-entering_none : (slot : ℕ) (links : Links) → AreNoCredits (notes_entering slot links)
-entering_none slot [] = tt
-entering_none slot (None ∷ links) = entering_none slot links
-entering_none slot (Some link ∷ links) =
-    both (notes_if (is_anchor slot link) slot link) (notes_entering slot links) (entry_none (is_anchor slot link) slot link) (entering_none slot links)
+place_none : (slot : ℕ) (place : Option OpenLink) → AreNoCredits (notes_entering slot place)
+place_none slot None = tt
+place_none slot (Some link) = entry_none (enters_in slot link) slot link
 
-sent_if : (noted : Bool) (handle : ℕ) (facts : EndFacts) → AreNoCredits (sent_notes_if noted handle facts)
-sent_if true handle facts = (tt, tt)
-sent_if false handle facts = tt
+entering_none : (view : View) (slot handle : ℕ) (links : Links) → AreNoCredits (notes_all_entering view slot handle links)
+entering_none view slot handle [] = tt
+entering_none view slot handle (place ∷ links) =
+    let notes = notes_entering slot place in
+    let events = events_entering slot handle place in
+    both (notes ++ notes_of_events view events) (notes_all_entering view slot (handle + 1) links)
+    (both notes (notes_of_events view events) (place_none slot place)
+    (plain_notes view events (procedures_other events (entering_events slot handle place))))
+    (entering_none view slot (handle + 1) links)
 
 sent_none : (slot : ℕ) (found : Option OpenLink) → AreNoCredits (notes_sent slot found)
 sent_none slot None = tt
-sent_none slot (Some link) = sent_if _ link.setup.link.handle (facts_in link)
+sent_none slot (Some link) = sent_each IsNoCredit link.setup (facts_in link) (λ number llid octets. tt)
 
 doing_none : (doing : Doing) (facts : Facts) → AreNoCredits (notes_doing doing facts)
 doing_none (CentralSends handle) facts = sent_none facts.turn.slot (link_at handle facts.links)
@@ -158,25 +139,29 @@ doing_none other facts = tt
 begin_none : (slot : ℕ) (on : Bool) (facts : Facts) → AreNoCredits (notes_passed (outcome_begun slot on facts))
 begin_none slot on facts =
     let begun = turn_begins slot (facts_ending slot facts) in
-    both (notes_ending slot facts ++ notes_entering slot begun.links) _
-    (both (notes_ending slot facts) (notes_entering slot begun.links) (ends_none facts.view (ends_in slot facts)) (entering_none slot begun.links))
+    let entering = notes_all_entering begun.view slot 0 begun.links in
+    both (notes_ending slot facts ++ entering) _
+    (both (notes_ending slot facts) entering (ending_none (due_in slot) facts) (entering_none begun.view slot 0 begun.links))
     (doing_none (outcome_begun slot on facts).next (outcome_begun slot on facts).facts)
 
 -- ---- a phase
 
-took_if : (noted : Bool) (handle : ℕ) (pdu : Pdu) (facts : EndFacts) → AreNoCredits (took_notes_if noted handle pdu facts)
-took_if true handle pdu facts = (tt, tt)
-took_if false handle pdu facts = tt
-
-took_by : (handle : ℕ) (room : Bool) (found : Option (List ℕ)) (facts : EndFacts) → AreNoCredits (took_notes handle room found facts)
-took_by handle room None facts = tt
-took_by handle room (Some pdu) facts = took_if _ handle (pdu_of pdu) facts
-
 took_none : (slot : ℕ) (room : Bool) (found : Option OpenLink) (octets : List ℕ) → AreNoCredits (notes_taken slot room found octets)
 took_none slot room None octets = tt
-took_none slot room (Some link) octets = took_by link.setup.link.handle room (good_pdu link.setup (facts_in link) octets) (facts_in link)
+took_none slot room (Some link) octets =
+    received_each IsNoCredit link.setup slot room (good_pdu link.setup (facts_in link) octets) (facts_in link)
+    (record { took = λ number llid octets. tt; refused = λ kind code. tt; done = λ kind. tt })
 
-complete_plain : (enhanced : Bool) (link : LinkSetup) → IsPlain (connection_complete enhanced link)
+heard_none : (setup : Setup) (handle : ℕ) (octets : List ℕ) (facts : Facts) → AreNoCredits (link_heard setup handle octets facts).notes
+heard_none setup handle octets facts =
+    let slot = facts.turn.slot in
+    let room = has_room setup facts in
+    let place = link_at handle facts.links in
+    let events = events_received handle slot room place octets in
+    both (notes_taken slot room place octets) (notes_of_events facts.view events) (took_none slot room place octets)
+    (plain_notes facts.view events (procedures_other events (reception_events handle slot room place octets)))
+
+complete_plain : (enhanced : Bool) (link : LinkSetup) → IsOtherEvent (connection_complete enhanced link)
 complete_plain true link = tt
 complete_plain false link = tt
 
@@ -219,10 +204,8 @@ phase_none setup facts = record {
       both (notes_of_events facts.view (events_reported answer pdu)) [] (scanned_none facts.view answer pdu) tt;
   connects = λ channel octets pdu on access handle doing is_on hears answers next free in_range. tt;
   received = λ handle octets.
-      let room = has_room setup facts in
-      both (notes_taken facts.turn.slot room (link_at handle facts.links) octets) _
-      (took_none facts.turn.slot room (link_at handle facts.links) octets)
-      (doing_none (reply_if (replies_in (link_at handle facts.links) octets) handle) (link_received handle room octets facts));
+      let heard = link_heard setup handle octets facts in
+      both heard.notes (notes_doing heard.next heard.facts) (heard_none setup handle octets facts) (doing_none heard.next heard.facts);
 }
 
 -- ---- the calls of a turn before its end
@@ -248,23 +231,17 @@ pub pieces_none : (pieces : List (ℕ × Piece)) → AreNoCredits (map note_rece
 pieces_none [] = tt
 pieces_none (piece ∷ pieces) = (refl, pieces_none pieces)
 
+-- and the links that end then
+pub leaving_none : (facts : Facts) → AreNoCredits (notes_leaving facts)
+leaving_none facts = ending_none ending_in facts
+
 -- ---- an octet of the host
-
-answer_plain : (opcode : ℕ) (event : Event) → IsAnswerTo opcode event → IsPlain event
-answer_plain opcode (CommandComplete packets answered fields) is = tt
-answer_plain opcode (CommandStatus status packets answered) is = tt
-answer_plain opcode other is = absurd is
-
-one_plain : (opcode : ℕ) (events : List Event) (none : Type 0) → AreOneAnswer opcode events none → AllByRecursion IsPlain events
-one_plain opcode [] none is = tt
-one_plain opcode (event ∷ []) none is = (answer_plain opcode event is, tt)
-one_plain opcode (event ∷ other ∷ events) none is = absurd is
 
 answer_ones : (setup : Setup) (facts : Facts) (opcode : ℕ) (read : CmdRead)
     → AllByRecursion IsOfOctet (notes_of_events facts.view (answer_to setup facts opcode read))
 answer_ones setup facts opcode read =
     plain_ones facts.view (answer_to setup facts opcode read)
-    (one_plain opcode (answer_to setup facts opcode read) (HasNoAnswer facts read) (answered_once setup facts opcode read))
+    (answers_are opcode (answer_to setup facts opcode read) (HasNoAnswer facts read) (answered_once setup facts opcode read))
 
 shut_ones : (handles : List ℕ) → AllByRecursion IsOfOctet (map (λ handle. note_shut handle 0) handles)
 shut_ones [] = tt
@@ -274,7 +251,7 @@ before_ones : (facts : Facts) (command : Command) → AllByRecursion IsOfOctet (
 before_ones facts Reset = shut_ones (handles_from 0 facts.links)
 before_ones facts other = tt
 
-failed_plain : (enhanced : Bool) (status : ℕ) → IsPlain (connection_failed enhanced status)
+failed_plain : (enhanced : Bool) (status : ℕ) → IsOtherEvent (connection_failed enhanced status)
 failed_plain true status = tt
 failed_plain false status = tt
 

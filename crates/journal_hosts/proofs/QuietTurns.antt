@@ -7,9 +7,9 @@ use Rattle.ble_base.specs.declared.notes.Note.{Note}
 use Rattle.ble_base.specs.declared.notes.Note.TheVariants.{Up as UpNote}
 use Rattle.ble_base.specs.declared.roles.Side.{Side}
 use Rattle.radio_replay.specs.declared.fates.Fate.{Fate}
-use Rattle.controller_model.specs.Between.{is_between_turns}
-use Rattle.controller_model.specs.Side.{facts_after, notes_after}
-use Rattle.controller_model.specs.Step.{Step, HostOctet, TurnBegins, TurnEnds}
+use Rattle.journal_data.specs.controller_model.Between.{is_between_turns}
+use Rattle.journal_data.specs.controller_model.Side.{facts_after, notes_after}
+use Rattle.journal_data.specs.controller_model.Step.{Step, HostOctet, TurnBegins, TurnEnds}
 use Rattle.run_model.specs.Feeding.{AreDistinct}
 use Rattle.run_model.specs.History.{Event, TurnBegan, HostFed, Called, Noted, Transmitted, packet_received, past_of, turns_begun}
 use Rattle.run_model.specs.Journal.{air_entries, entries_of, entry_of, journal_from, journal_of, side_of}
@@ -20,9 +20,9 @@ use Rattle.run_model.proofs.LinkEnds.{received_by, received_event}
 use Rattle.run_model.proofs.Parts.{journal_event, journal_more}
 use Rattle.run_model.proofs.Stations.{among, in_more_other, in_more_same, is_in, not_before}
 use Rattle.run_model.proofs.Walk.{Place, NoTurn, AtFeeds, AtBegins, AfterPhases, AtPackets, AtListening, AtEnds, IsKept}
-use Rattle.run_laws.proofs.Hearings.{other_facts, own_facts}
-use Rattle.run_laws.proofs.TurnPlaces.{AllStand, Between, Within, at_stage, stands_first, stands_kept}
-use Rattle.journal_acks.proofs.TwoStations.{IsOfTwo, one_hearing}
+use Rattle.journal_data.proofs.run_laws.Hearings.{other_facts, own_facts}
+use Rattle.journal_data.proofs.run_laws.TurnPlaces.{AllStand, Between, Within, at_stage, stands_first, stands_kept}
+use Rattle.journal_data.proofs.journal_acks.TwoStations.{IsOfTwo, one_hearing}
 use Rattle.journal_data.proofs.FedInRuns.{between_standing}
 use Rattle.journal_hosts.proofs.Calm.{IsCalm, begin_calm, calm_between, pass_calm}
 

@@ -6,8 +6,8 @@ use Rattle.ble_base.specs.declared.roles.Side.{Side}
 use Rattle.h4_frames.specs.Frames.{frames}
 use Rattle.journal.specs.declared.entries.Entry.{Entry}
 use Rattle.journal.specs.declared.entries.Entry.TheVariants.{Turn}
-use Rattle.controller_model.specs.Host.{opcodes_in, opcodes_of, with_answer}
-use Rattle.controller_model.specs.Notes.{answers_in, as_two_octets, one_further}
+use Rattle.journal_data.specs.controller_model.Host.{opcodes_in, opcodes_of, with_answer}
+use Rattle.journal_data.specs.controller_model.Notes.{answers_in, as_two_octets, one_further}
 use Rattle.run_model.specs.Readers.{fed_to_side, packets_to_host}
 
 -- the commands in the octets that a side was fed, in order: the opcode of each, as two octets hold it

@@ -6,7 +6,7 @@ use Rattle.journal.specs.declared.entries.Entry.{Entry}
 use Rattle.journal.specs.declared.entries.Entry.TheVariants.{Air, Enter, Fed, Sent, Took, Up}
 use Rattle.journal.specs.declared.entries.Mark.TheVariants.{Pass}
 use Rattle.run_model.specs.Rows.{one_connection_journal, one_event_journal, turn_entry}
-use Rattle.journal_acks.specs.Rows.{data_acknowledged, data_packet, host_packet, more_packet, more_reply}
+use Rattle.journal_data.specs.journal_acks.Rows.{data_acknowledged, data_packet, host_packet, more_packet, more_reply}
 
 -- a credit of a handle and a number of packets below 256
 abbrev pub credit_of : ℕ → ℕ → List ℕ

@@ -5,9 +5,9 @@ use Rattle.ble_base.specs.declared.roles.Side.{Side}
 use Rattle.host_view.specs.Noted.{two_octets}
 use Rattle.journal.specs.declared.entries.Entry.{Entry}
 use Rattle.journal.specs.declared.entries.Entry.TheVariants.{Fed, Shut, Turn, Up}
-use Rattle.controller_model.specs.Notes.{is_event}
+use Rattle.journal_data.specs.controller_model.Notes.{is_event}
 use Rattle.run_model.specs.Readers.{turn_packets, turns_of}
-use Rattle.journal_packets.specs.Belonging.{is_side}
+use Rattle.journal_data.specs.journal_packets.Belonging.{is_side}
 
 -- a credit is a Number Of Completed Packets event, 13. It is of one handle, which is at the place 4, and the number of
 -- its packets is after that

@@ -9,33 +9,35 @@ use Rattle.instants.specs.declared.indications.Params.{Params}
 use Rattle.instants.specs.Parameters.{anchor_in as anchor_by}
 use Rattle.journal.specs.declared.entries.Entry.{Entry}
 use Rattle.journal.specs.declared.entries.Entry.TheVariants.{Enter}
-use Rattle.link_model.specs.Events.{anchor_of, channel_after}
-use Rattle.link_model.specs.Setup.{Setup, first_params}
+use Rattle.run_laws.specs.plain_links.Events.{anchor_of, channel_after}
+use Rattle.run_laws.specs.link_model.Setup.{Setup, first_params}
 use Rattle.controller_model.specs.Entering.{begins_turn}
 use Rattle.controller_model.specs.Side.{notes_after}
 use Rattle.controller_model.specs.Step.{Step, HostOctet, TurnBegins, PacketHeard, NothingHeard, TurnEnds}
 use Rattle.controller_model.proofs.Entries.{enters_as_turns_begin, enters_at_anchors}
+use Rattle.controller_model.proofs.PlainEntries.{plain_entry}
 use Rattle.radio_replay.specs.Script.{Script}
-use Rattle.run_model.specs.Due.{IsCallDue, IsDue}
-use Rattle.run_model.specs.History.{Called, Noted, past_of, turns_begun}
-use Rattle.run_model.specs.Journal.{journal_from, journal_of}
-use Rattle.run_model.specs.Links.{links_of}
-use Rattle.run_model.specs.NoteLines.{enter_line}
-use Rattle.run_model.specs.OnAir.{ends_phase}
-use Rattle.run_model.specs.Pair.{given_of}
-use Rattle.run_model.specs.Readers.{turns_of}
-use Rattle.run_model.specs.Run.{Given, facts_at, history_of, run_of, setup_at}
-use Rattle.run_model.proofs.Calls.{turns_called}
-use Rattle.run_model.proofs.Dues.{run_due}
-use Rattle.run_model.proofs.Fates.{turns_are}
-use Rattle.run_model.proofs.LinkEnds.{AreTaken, IsUnderstood, pair_addresses}
-use Rattle.run_model.proofs.NoteLines.{is_contained, line_in_call, number_then}
-use Rattle.run_model.proofs.Numbers.{numbered_at}
-use Rattle.run_model.proofs.OfStations.{OfStations, run_of_stations}
-use Rattle.run_model.proofs.Ordered.{pair_distinct}
-use Rattle.run_model.proofs.Parts.{journal_more}
-use Rattle.run_model.proofs.Places.{each_at}
+use Rattle.run_laws.specs.run_model.Due.{IsCallDue, IsDue}
+use Rattle.run_laws.specs.run_model.History.{Called, Noted, past_of, turns_begun}
+use Rattle.run_laws.specs.run_model.Journal.{journal_from, journal_of}
+use Rattle.run_laws.specs.run_model.Links.{links_of}
+use Rattle.run_laws.specs.run_model.NoteLines.{enter_line}
+use Rattle.run_laws.specs.run_model.OnAir.{ends_phase}
+use Rattle.run_laws.specs.run_model.Pair.{given_of}
+use Rattle.run_laws.specs.run_model.Readers.{turns_of}
+use Rattle.run_laws.specs.run_model.Run.{Given, facts_at, history_of, run_of, setup_at}
+use Rattle.run_laws.proofs.run_model.Calls.{turns_called}
+use Rattle.run_laws.proofs.run_model.Dues.{run_due}
+use Rattle.run_laws.proofs.run_model.Fates.{turns_are}
+use Rattle.run_laws.proofs.run_model.LinkEnds.{AreTaken, IsUnderstood, pair_addresses}
+use Rattle.run_laws.proofs.run_model.NoteLines.{is_contained, line_in_call, number_then}
+use Rattle.run_laws.proofs.run_model.Numbers.{numbered_at}
+use Rattle.run_laws.proofs.run_model.OfStations.{OfStations, run_of_stations}
+use Rattle.run_laws.proofs.run_model.Ordered.{pair_distinct}
+use Rattle.run_laws.proofs.run_model.Parts.{journal_more}
+use Rattle.run_laws.proofs.run_model.Places.{each_at}
 use Rattle.run_laws.proofs.ChSel.{link_two}
+use Rattle.run_laws.proofs.PlainLinks.{links_plain}
 use Rattle.journal_links.specs.Begun.{LinkBegun, link_numbered}
 use Rattle.journal_links.specs.Entered.{IsEnteredInTime, anchor_in, channel_in}
 use Rattle.journal_links.proofs.LinksBegun.{number_stays}
@@ -126,6 +128,8 @@ module _ (understood : IsUnderstood) (taken : AreTaken) (a b : List ℕ) (script
       let entered = (enters_at_anchors setup (past_of station base) turn.slot turn.on handle event channel).0
       (subst (λ s. Contains (notes_after setup (facts_at given station base) s) (line.note handle)) turn.is is_noted) in
       let in_it = each_at (OfStations given) (history_of (run_of given)) base call.after called (run_of_stations given) call.called in
+      let plain = links_plain given addresses distinct base (called ∷ call.after) call.called station in_it handle entered.link entered.is_open in
+      let entry = plain_entry turn.slot (facts_at given station base).links handle event channel entered plain in
       let numbered = numbered_at understood taken given base call.after called distinct addresses call.called refl station handle entered.link entered.is_open in
       let known = (links_of base).link_of station handle in
       let of = link_of_number understood a b script six six_too base (called ∷ call.after) known station entered.link.setup call.called in_it numbered in
@@ -138,7 +142,7 @@ module _ (understood : IsUnderstood) (taken : AreTaken) (a b : List ℕ) (script
       ∙ turns_called station call.step call.earlier base in
       subst (λ n. IsEnteredInTime front side n event channel) (number_then given front line call (ap ends_phase turn.is))
       (entered_in_time {end = entered.link.setup} of front side turn.slot event channel (still_link {end = entered.link.setup} of front (journal_from (links_of base) noted) front_more)
-      (turns ∙ due.slot_is) entered.at_anchor entered.on_its_channel two)
+      (turns ∙ due.slot_is) entry.at_anchor entry.on_its_channel two)
 
 -- ---- both lines
 

@@ -8,3 +8,10 @@ pub mod NoProcedures
 pub mod LinkLines
 pub mod LineNotes
 pub mod OfTwo
+-- what the crates above use of those below
+pub use Rattle.run_laws.proofs.control_model as control_model
+pub use Rattle.run_laws.proofs.link_model as link_model
+pub use Rattle.run_laws.proofs.open_links as open_links
+pub use Rattle.run_laws.proofs.plain_links as plain_links
+pub use Rattle.run_laws.proofs as run_laws
+pub use Rattle.run_laws.proofs.run_model as run_model

@@ -1,10 +1,8 @@
 -- The lines of a link are the notes of it.
-use Rattle.std.proofs.Common.{◌≡◌, ◌≢◌, ℕ, ◌+◌, ◌≤◌, ◌==◌, ◌&&◌, ◌||◌, Bool, true, false, Some, List, [], ◌∷◌, ◌++◌, refl, sym, ap, subst, ◌∙◌, append-nil, append_assoc, arith}
-use Rattle.std.specs.Prelude.{fold, map, if◌then◌else◌}
+use Rattle.std.proofs.Common.{◌≡◌, ℕ, ◌≤◌, ◌==◌, ◌&&◌, ◌||◌, Bool, true, false, Some, List, [], ◌∷◌, ◌++◌, refl, sym, ap, subst, ◌∙◌, append-nil, append_assoc, arith}
+use Rattle.std.specs.Prelude.{map, if◌then◌else◌}
 use Rattle.std.proofs.lemmas.Bool.{eq-eqb, eqb-false, eqb-true, false_from_ne_true}
 use Rattle.std.proofs.lemmas.List.{map-append}
-use Rattle.std.proofs.lemmas.List.Folds.{list_any-append}
-use Rattle.std.proofs.lemmas.List.Sums.{fold-append}
 use Rattle.ble_base.specs.declared.addresses.Address.{Address}
 use Rattle.ble_base.specs.declared.notes.Note.{Note}
 use Rattle.ble_base.specs.declared.notes.Note.TheVariants.{Up, Opened, Shut, Sent, Took, Enter, Applied, Began, Refused, Done}
@@ -12,25 +10,25 @@ use Rattle.ble_base.specs.declared.roles.Role.{Role}
 use Rattle.ble_base.specs.declared.roles.Side.{Side}
 use Rattle.journal.specs.declared.entries.Entry.{Entry}
 use Rattle.journal.specs.declared.entries.Entry.TheVariants.{Opened as OpenedLine}
-use Rattle.open_links.specs.OpenLinks.{OpenLink, link_at}
+use Rattle.run_laws.specs.open_links.OpenLinks.{OpenLink, link_at}
 use Rattle.controller_model.specs.Since.{is_under, note_under, notes_opened_on, notes_under, opens_under, was_opened}
 use Rattle.controller_model.proofs.UnderNotes.{open_noted, opened_more, or_none, some_under, under_more}
-use Rattle.run_model.specs.Feeding.{AreDistinct, HasNoted}
-use Rattle.run_model.specs.History.{Event, TurnBegan, HostFed, Called, Noted, Transmitted, noted_by, notes_in, one_if, past_of}
-use Rattle.run_model.specs.Journal.{entries_of, entry_of, journal_of, side_of}
-use Rattle.run_model.specs.LinkEnds.{HaveAddresses}
-use Rattle.run_model.specs.Links.{Links, begins_link, links_after, links_noted, links_of, with_link}
-use Rattle.run_model.specs.Numbers.{AreNumbered}
-use Rattle.run_model.specs.Run.{Given, facts_at, history_of, run_of, setup_at}
-use Rattle.run_model.proofs.Calls.{flat_event, same_station}
-use Rattle.run_model.proofs.LinkEnds.{AreTaken, IsUnderstood}
-use Rattle.run_model.proofs.LinksKnown.{links_event}
-use Rattle.run_model.proofs.Numbers.{opening_at}
-use Rattle.run_model.proofs.OfStations.{OfStations, run_of_stations}
-use Rattle.run_model.proofs.Parts.{journal_event}
-use Rattle.run_model.proofs.Places.{each_at}
+use Rattle.run_laws.specs.run_model.Feeding.{AreDistinct, HasNoted}
+use Rattle.run_laws.specs.run_model.History.{Event, TurnBegan, HostFed, Called, Noted, Transmitted, noted_by, notes_in, one_if, past_of}
+use Rattle.run_laws.specs.run_model.Journal.{entries_of, entry_of, journal_of, side_of}
+use Rattle.run_laws.specs.run_model.LinkEnds.{HaveAddresses}
+use Rattle.run_laws.specs.run_model.Links.{Links, begins_link, links_after, links_noted, links_of, with_link}
+use Rattle.run_laws.specs.run_model.Numbers.{AreNumbered}
+use Rattle.run_laws.specs.run_model.Run.{Given, facts_at, history_of, run_of, setup_at}
+use Rattle.run_laws.proofs.run_model.Calls.{flat_event, same_station}
+use Rattle.run_laws.proofs.run_model.LinkEnds.{AreTaken, IsUnderstood}
+use Rattle.run_laws.proofs.run_model.LinksKnown.{links_event}
+use Rattle.run_laws.proofs.run_model.Numbers.{opening_at}
+use Rattle.run_laws.proofs.run_model.OfStations.{OfStations, run_of_stations}
+use Rattle.run_laws.proofs.run_model.Parts.{journal_event}
+use Rattle.run_laws.proofs.run_model.Places.{each_at}
 use Rattle.run_laws.proofs.InAgreement.{differs_back}
-use Rattle.journal_links.specs.LinkLines.{AreLinesOf, IsOfItsNotes, line_of, lines_of, link_named, where_named}
+use Rattle.journal_links.specs.LinkLines.{AreLinesOf, IsOfItsNotes, line_of, lines_of, where_named}
 use Rattle.journal_links.proofs.LinkLines.{IsApart, across, fresh, line_more, lines_append, named_elsewhere, named_here}
 
 -- ---- notes

@@ -1,7 +1,6 @@
 -- The lines of one side on one link, as a journal grows.
-use Rattle.std.proofs.Common.{◌≡◌, ◌≢◌, ℕ, ◌+◌, ◌<◌, ◌≤◌, ◌==◌, ◌&&◌, ◌||◌, Bool, true, false, Option, Some, None, List, [], ◌∷◌, ◌++◌, refl, sym, ap, subst, ◌∙◌, append-nil, append_assoc, arith, ◌⊎◌, inl, inr}
+use Rattle.std.proofs.Common.{◌≡◌, ◌≢◌, ℕ, ◌+◌, ◌<◌, ◌≤◌, ◌==◌, ◌&&◌, ◌||◌, Bool, true, false, Option, Some, None, List, [], ◌∷◌, ◌++◌, refl, sym, ap, ◌∙◌, append-nil, append_assoc, arith, ◌⊎◌, inl, inr}
 use Rattle.std.specs.Prelude.{fold, if◌then◌else◌}
-use Rattle.std.specs.List.{flat_map}
 use Rattle.std.proofs.lemmas.Bool.{false_from_ne_true, eqb-true}
 use Rattle.std.proofs.lemmas.Grind.{flat_map-append}
 use Rattle.ble_base.specs.declared.notes.Note.{Note}
@@ -9,16 +8,16 @@ use Rattle.ble_base.specs.declared.notes.Note.TheVariants.{Up, Opened, Shut, Sen
 use Rattle.ble_base.specs.declared.roles.Side.{Side}
 use Rattle.ble_base.specs.declared.roles.Side.TheVariants.{A, B}
 use Rattle.journal.specs.declared.entries.Entry.{Entry}
-use Rattle.run_model.specs.History.{Event, TurnBegan, HostFed, Called, Noted, Transmitted, has_received, noted_by, notes_in, one_if}
-use Rattle.run_model.specs.Journal.{entries_of, entry_of, journal_from, journal_of, side_of}
-use Rattle.run_model.specs.Links.{Links, begins_link, first_links, links_after, links_noted, links_of, with_handle, with_link}
-use Rattle.run_model.specs.Readers.{of_side}
-use Rattle.run_model.specs.Run.{Given, history_of, run_of}
-use Rattle.run_model.proofs.Journals.{side_none}
-use Rattle.run_model.proofs.OfStations.{OfStations, run_of_stations}
-use Rattle.run_model.proofs.Parts.{journal_more}
-use Rattle.run_model.proofs.Places.{each_at}
-use Rattle.run_model.proofs.Stations.{is_in}
+use Rattle.run_laws.specs.run_model.History.{Event, TurnBegan, HostFed, Called, Noted, Transmitted, has_received, noted_by, notes_in, one_if}
+use Rattle.run_laws.specs.run_model.Journal.{entries_of, entry_of, journal_from, journal_of, side_of}
+use Rattle.run_laws.specs.run_model.Links.{Links, begins_link, first_links, links_after, links_noted, links_of, with_link}
+use Rattle.run_laws.specs.run_model.Readers.{of_side}
+use Rattle.run_laws.specs.run_model.Run.{Given, history_of, run_of}
+use Rattle.run_laws.proofs.run_model.Journals.{side_none}
+use Rattle.run_laws.proofs.run_model.OfStations.{OfStations, run_of_stations}
+use Rattle.run_laws.proofs.run_model.Parts.{journal_more}
+use Rattle.run_laws.proofs.run_model.Places.{each_at}
+use Rattle.run_laws.proofs.run_model.Stations.{is_in}
 use Rattle.journal_links.specs.LinkLines.{lines_of, link_named, where_named}
 
 -- ---- sides

@@ -13,15 +13,15 @@ use Rattle.journal.specs.declared.entries.Entry.TheVariants.{Air}
 use Rattle.journal.specs.declared.entries.Mark.{Mark}
 use Rattle.controller_model.specs.Packets.{pdu_heard}
 use Rattle.radio_replay.specs.Script.{Script}
-use Rattle.run_model.specs.Due.{Each}
-use Rattle.run_model.specs.History.{Event, TurnBegan, HostFed, Called, Noted, Transmitted}
-use Rattle.run_model.specs.Journal.{entry_of, journal_from, journal_of, mark_of, side_of}
-use Rattle.run_model.specs.Links.{Links, begins_link, first_links, is_advertising, is_connect_ind, links_after, links_noted, links_of, with_link}
-use Rattle.run_model.specs.Pair.{given_of}
-use Rattle.run_model.specs.Readers.{turns_of}
-use Rattle.run_model.specs.Run.{Given, history_of, run_of}
-use Rattle.run_model.proofs.Fates.{FatesBefore, HasOneOther, pair_other, run_fated}
-use Rattle.run_model.proofs.Journals.{each_front}
+use Rattle.run_laws.specs.run_model.Due.{Each}
+use Rattle.run_laws.specs.run_model.History.{Event, TurnBegan, HostFed, Called, Noted, Transmitted}
+use Rattle.run_laws.specs.run_model.Journal.{entry_of, journal_from, journal_of, mark_of, side_of}
+use Rattle.run_laws.specs.run_model.Links.{Links, begins_link, first_links, is_advertising, is_connect_ind, links_after, links_noted, links_of, with_link}
+use Rattle.run_laws.specs.run_model.Pair.{given_of}
+use Rattle.run_laws.specs.run_model.Readers.{turns_of}
+use Rattle.run_laws.specs.run_model.Run.{Given, history_of, run_of}
+use Rattle.run_laws.proofs.run_model.Fates.{FatesBefore, HasOneOther, pair_other, run_fated}
+use Rattle.run_laws.proofs.run_model.Journals.{each_front}
 use Rattle.journal_links.specs.Begun.{LinkBegun, begun_by, begun_in, is_offered, link_numbered, links_begun, links_from, offers_in, with_number}
 
 -- ---- more entries

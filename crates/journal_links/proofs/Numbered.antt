@@ -11,25 +11,25 @@ use Rattle.adv_pdu.specs.declared.pdu.AdvPdu.TheVariants.{Connect}
 use Rattle.journal.specs.declared.entries.Entry.{Entry}
 use Rattle.journal.specs.declared.entries.Entry.TheVariants.{Air}
 use Rattle.journal.specs.declared.entries.Mark.{Mark}
-use Rattle.link_model.specs.Setup.{Setup}
+use Rattle.run_laws.specs.link_model.Setup.{Setup}
 use Rattle.controller_model.specs.Packets.{pdu_heard}
 use Rattle.radio_replay.specs.Script.{Script}
-use Rattle.run_model.specs.History.{Event, Transmitted, Hearing}
-use Rattle.run_model.specs.Journal.{air_entries, journal_from, journal_of, mark_of, side_of}
-use Rattle.run_model.specs.LinkEnds.{ConnectInd, IsAtEnd}
-use Rattle.run_model.specs.Links.{is_advertising, links_after, links_of}
-use Rattle.run_model.specs.Numbers.{HasNumber}
-use Rattle.run_model.specs.Pair.{given_of}
-use Rattle.run_model.specs.Readers.{turns_of}
-use Rattle.run_model.specs.Run.{history_of, run_of}
-use Rattle.run_model.proofs.Fates.{FatesBefore, pair_other, turns_are}
-use Rattle.run_model.proofs.Journals.{two}
-use Rattle.run_model.proofs.LinkEnds.{IsUnderstood, pair_addresses}
-use Rattle.run_model.proofs.OfStations.{OfStations, run_of_stations}
-use Rattle.run_model.proofs.Ordered.{pair_distinct}
-use Rattle.run_model.proofs.Parts.{journal_more}
-use Rattle.run_model.proofs.Places.{each_at}
-use Rattle.run_model.proofs.Stations.{is_in}
+use Rattle.run_laws.specs.run_model.History.{Event, Transmitted, Hearing}
+use Rattle.run_laws.specs.run_model.Journal.{air_entries, journal_from, journal_of, mark_of, side_of}
+use Rattle.run_laws.specs.run_model.LinkEnds.{ConnectInd, IsAtEnd}
+use Rattle.run_laws.specs.run_model.Links.{is_advertising, links_after, links_of}
+use Rattle.run_laws.specs.run_model.Numbers.{HasNumber}
+use Rattle.run_laws.specs.run_model.Pair.{given_of}
+use Rattle.run_laws.specs.run_model.Readers.{turns_of}
+use Rattle.run_laws.specs.run_model.Run.{history_of, run_of}
+use Rattle.run_laws.proofs.run_model.Fates.{FatesBefore, pair_other, turns_are}
+use Rattle.run_laws.proofs.run_model.Journals.{two}
+use Rattle.run_laws.proofs.run_model.LinkEnds.{IsUnderstood, pair_addresses}
+use Rattle.run_laws.proofs.run_model.OfStations.{OfStations, run_of_stations}
+use Rattle.run_laws.proofs.run_model.Ordered.{pair_distinct}
+use Rattle.run_laws.proofs.run_model.Parts.{journal_more}
+use Rattle.run_laws.proofs.run_model.Places.{each_at}
+use Rattle.run_laws.proofs.run_model.Stations.{is_in}
 use Rattle.run_laws.proofs.ByCalls.{last_turn}
 use Rattle.journal_links.specs.Begun.{LinkBegun, begun_by, begun_in, is_offered, link_numbered, links_begun, links_from, offers_in, with_number}
 use Rattle.journal_links.specs.Opened.{central_side}

@@ -4,11 +4,11 @@ use Rattle.std.specs.List.{IsDistinct}
 use Rattle.std.proofs.lemmas.Bool.{eqb-false}
 use Rattle.ble_base.specs.Side.{other_side}
 use Rattle.ble_base.specs.declared.roles.Side.TheVariants.{A, B}
-use Rattle.run_model.specs.Feeding.{AreDistinct}
-use Rattle.run_model.specs.Journal.{side_of}
-use Rattle.run_model.specs.Run.{Given}
-use Rattle.run_model.proofs.Journals.{two}
-use Rattle.run_model.proofs.Stations.{is_in}
+use Rattle.run_laws.specs.run_model.Feeding.{AreDistinct}
+use Rattle.run_laws.specs.run_model.Journal.{side_of}
+use Rattle.run_laws.specs.run_model.Run.{Given}
+use Rattle.run_laws.proofs.run_model.Journals.{two}
+use Rattle.run_laws.proofs.run_model.Stations.{is_in}
 use Rattle.journal_links.proofs.LinkLines.{IsApart}
 
 pub are_distinct : (given : Given) → given.stations ≡ 0 ∷ 1 ∷ [] → AreDistinct given.stations

@@ -24,19 +24,19 @@ use Rattle.controller_model.specs.Heard.{answers_by_connecting, connects, heard,
 use Rattle.controller_model.specs.Packets.{pdu_heard}
 use Rattle.controller_model.specs.Side.{facts_after, facts_of, notes_after}
 use Rattle.controller_model.proofs.DataChannels.{link_channel}
-use Rattle.run_model.specs.Due.{Each}
-use Rattle.run_model.specs.Feeding.{AreDistinct}
-use Rattle.run_model.specs.History.{Event, TurnBegan, HostFed, Called, Noted, Transmitted, Hearing, has_received, packet_received, past_of, turns_begun}
-use Rattle.run_model.specs.Journal.{air_entries, entries_of, entry_of, journal_from, journal_of, side_of}
-use Rattle.run_model.specs.LinkEnds.{HaveAddresses}
-use Rattle.run_model.specs.Links.{Links, first_links, is_advertising, is_connect_ind, links_after}
-use Rattle.run_model.specs.Readers.{of_side}
-use Rattle.run_model.specs.Run.{Given, after_call, after_feed, after_octets, facts_at, hearings_of, history_of, octets_left, run_of, setup_at, step_of, use_at}
-use Rattle.run_model.proofs.Calls.{fold_called, fold_event, past_other}
-use Rattle.run_model.proofs.LinkEnds.{IsUnderstood, is_listener, received_by, received_event}
-use Rattle.run_model.proofs.Places.{each_at, each_called, each_event}
-use Rattle.run_model.proofs.Stations.{is_in, among, not_before}
-use Rattle.run_model.proofs.Walk.{Place, NoTurn, AtBegins, AtPackets, AtListening, IsKept, IsWhole, IsStopped, ends_with, run_kept}
+use Rattle.run_laws.specs.run_model.Due.{Each}
+use Rattle.run_laws.specs.run_model.Feeding.{AreDistinct}
+use Rattle.run_laws.specs.run_model.History.{Event, TurnBegan, HostFed, Called, Noted, Transmitted, Hearing, has_received, packet_received, past_of, turns_begun}
+use Rattle.run_laws.specs.run_model.Journal.{air_entries, entries_of, entry_of, journal_from, journal_of, side_of}
+use Rattle.run_laws.specs.run_model.LinkEnds.{HaveAddresses}
+use Rattle.run_laws.specs.run_model.Links.{Links, first_links, is_advertising, is_connect_ind, links_after}
+use Rattle.run_laws.specs.run_model.Readers.{of_side}
+use Rattle.run_laws.specs.run_model.Run.{Given, after_call, after_feed, after_octets, facts_at, hearings_of, history_of, octets_left, run_of, setup_at, step_of, use_at}
+use Rattle.run_laws.proofs.run_model.Calls.{fold_called, fold_event, past_other}
+use Rattle.run_laws.proofs.run_model.LinkEnds.{IsUnderstood, is_listener, received_by, received_event}
+use Rattle.run_laws.proofs.run_model.Places.{each_at, each_called, each_event}
+use Rattle.run_laws.proofs.run_model.Stations.{is_in, among, not_before}
+use Rattle.run_laws.proofs.run_model.Walk.{Place, NoTurn, AtBegins, AtPackets, AtListening, IsKept, IsWhole, IsStopped, ends_with, run_kept}
 use Rattle.run_laws.proofs.ByCalls.{StandsBy, at_turn, first_hears, last_turn}
 use Rattle.run_laws.proofs.ChSel.{one_channel}
 use Rattle.run_laws.proofs.ConnectInds.{no_advertising, on_channel}

@@ -1,5 +1,5 @@
 -- Each line of a link that is opened names a link of the journal, and is in the turn of its CONNECT_IND.
-use Rattle.std.proofs.Common.{◌≡◌, ℕ, ◌+◌, List, [], ◌∷◌, ◌++◌, length, sym, ap, ◌∙◌, refl}
+use Rattle.std.proofs.Common.{◌≡◌, ℕ, ◌+◌, List, ◌∷◌, ◌++◌, length, sym, ap, ◌∙◌, refl}
 use Rattle.ble_base.specs.declared.addresses.Address.{Address}
 use Rattle.ble_base.specs.declared.notes.Note.{Note}
 use Rattle.ble_base.specs.declared.notes.Note.TheVariants.{Up as UpNote, Opened as OpenedNote}
@@ -8,19 +8,19 @@ use Rattle.ble_base.specs.declared.roles.Side.{Side}
 use Rattle.journal.specs.declared.entries.Entry.{Entry}
 use Rattle.journal.specs.declared.entries.Entry.TheVariants.{Opened}
 use Rattle.radio_replay.specs.Script.{Script}
-use Rattle.run_model.specs.History.{Event, TurnBegan, HostFed, Called, Noted, Transmitted}
-use Rattle.run_model.specs.Journal.{entries_of, entry_of, journal_of, side_of}
-use Rattle.run_model.specs.Links.{Links, links_of}
-use Rattle.run_model.specs.Pair.{given_of}
-use Rattle.run_model.specs.Readers.{turns_of}
-use Rattle.run_model.specs.Run.{Given, history_of, run_of}
-use Rattle.run_model.proofs.Fates.{turns_are}
-use Rattle.run_model.proofs.LinkEnds.{AreTaken, IsUnderstood, pair_addresses}
-use Rattle.run_model.proofs.NoteLines.{note_line}
-use Rattle.run_model.proofs.Numbers.{opening_at}
-use Rattle.run_model.proofs.OfStations.{OfStations, run_of_stations}
-use Rattle.run_model.proofs.Ordered.{pair_distinct}
-use Rattle.run_model.proofs.Places.{each_at}
+use Rattle.run_laws.specs.run_model.History.{Event, Noted}
+use Rattle.run_laws.specs.run_model.Journal.{entry_of, journal_of, side_of}
+use Rattle.run_laws.specs.run_model.Links.{Links, links_of}
+use Rattle.run_laws.specs.run_model.Pair.{given_of}
+use Rattle.run_laws.specs.run_model.Readers.{turns_of}
+use Rattle.run_laws.specs.run_model.Run.{Given, history_of, run_of}
+use Rattle.run_laws.proofs.run_model.Fates.{turns_are}
+use Rattle.run_laws.proofs.run_model.LinkEnds.{AreTaken, IsUnderstood, pair_addresses}
+use Rattle.run_laws.proofs.run_model.NoteLines.{note_line}
+use Rattle.run_laws.proofs.run_model.Numbers.{opening_at}
+use Rattle.run_laws.proofs.run_model.OfStations.{OfStations, run_of_stations}
+use Rattle.run_laws.proofs.run_model.Ordered.{pair_distinct}
+use Rattle.run_laws.proofs.run_model.Places.{each_at}
 use Rattle.journal_links.specs.Begun.{link_numbered}
 use Rattle.journal_links.specs.Opened.{IsOpenedInTime, central_side}
 use Rattle.journal_links.proofs.Numbered.{link_of_number}

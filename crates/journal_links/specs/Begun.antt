@@ -10,8 +10,8 @@ use Rattle.adv_pdu.specs.declared.pdu.ConnectFields.{ConnectFields}
 use Rattle.journal.specs.declared.entries.Entry.{Entry}
 use Rattle.journal.specs.declared.entries.Entry.TheVariants.{Turn, Air}
 use Rattle.controller_model.specs.Packets.{pdu_heard}
-use Rattle.run_model.specs.Links.{is_advertising}
-use Rattle.run_model.specs.Readers.{of_side, turns_of}
+use Rattle.run_laws.specs.run_model.Links.{is_advertising}
+use Rattle.run_laws.specs.run_model.Readers.{of_side, turns_of}
 
 -- ---- the advertisement
 

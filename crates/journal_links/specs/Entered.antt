@@ -7,8 +7,8 @@ use Rattle.chan_select.specs.declared.selection.Algorithm.TheVariants.{One, Two}
 use Rattle.instants.specs.declared.track.Change.{Change}
 use Rattle.instants.specs.Parameters.{anchor_in as anchor_after, params_in}
 use Rattle.journal.specs.declared.entries.Entry.{Entry}
-use Rattle.link_model.specs.Setup.{first_params}
-use Rattle.run_model.specs.Readers.{turns_of}
+use Rattle.run_laws.specs.link_model.Setup.{first_params}
+use Rattle.run_laws.specs.run_model.Readers.{turns_of}
 use Rattle.journal_links.specs.Begun.{LinkBegun, link_numbered}
 use Rattle.journal_links.specs.Changes.{changes_of}
 

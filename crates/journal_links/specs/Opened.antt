@@ -5,7 +5,7 @@ use Rattle.ble_base.specs.declared.roles.Role.{Role}
 use Rattle.ble_base.specs.declared.roles.Role.TheVariants.{Central, Peripheral}
 use Rattle.ble_base.specs.declared.roles.Side.{Side}
 use Rattle.journal.specs.declared.entries.Entry.{Entry}
-use Rattle.run_model.specs.Readers.{turns_of}
+use Rattle.run_laws.specs.run_model.Readers.{turns_of}
 use Rattle.journal_links.specs.Begun.{LinkBegun, link_numbered}
 
 -- the side of the central of a link, of which a side has the end with this role

@@ -1,4 +1,4 @@
--- No line of a journal is of a control procedure, as long as none is built (our choice).
+-- No line of a journal is of a control procedure, as long as no host may ask for one (our choice).
 use Rattle.std.specs.Prelude.{◌≡◌, List, ◌∷◌, ◌++◌, ⊤}
 use Rattle.journal.specs.declared.entries.Entry.{Entry}
 use Rattle.journal.specs.declared.entries.Entry.TheVariants.{Applied, Began, Refused, Done}

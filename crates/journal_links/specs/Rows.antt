@@ -6,7 +6,7 @@ use Rattle.journal.specs.declared.entries.Entry.{Entry}
 use Rattle.journal.specs.declared.entries.Entry.TheVariants.{Air}
 use Rattle.journal.specs.declared.entries.Mark.TheVariants.{Pass as Passed}
 use Rattle.run_laws.specs.Rows.{one_event_fields}
-use Rattle.run_model.specs.Rows.{connect_packet, connectable_packet, turn_entry}
+use Rattle.run_laws.specs.run_model.Rows.{connect_packet, connectable_packet, turn_entry}
 use Rattle.journal_links.specs.Begun.{LinkBegun}
 
 -- B sent its CONNECT_IND in turn 0, and both sides offer channel selection algorithm #2

@@ -14,16 +14,16 @@ ghost use Rattle.journal_links.specs.Entered.{IsEnteredInTime, anchor_in, channe
 ghost use Rattle.journal_links.specs.LinkLines.{AreLinesOf, IsOfItsNotes};
 ghost use Rattle.journal_links.specs.Opened.{IsOpenedInTime};
 ghost use Rattle.journal_links.specs.Procedures.{NoneNamesAProcedure};
-ghost use Rattle.open_links.specs.OpenLinks.{OpenLink, link_at};
+ghost use Rattle.run_laws.specs.open_links.OpenLinks.{OpenLink, link_at};
 ghost use Rattle.radio_replay.specs.Script.{Script};
-ghost use Rattle.run_model.specs.Feeding.{is_note};
-ghost use Rattle.run_model.specs.History.{Event, noted_by};
-ghost use Rattle.run_model.specs.Journal.{journal_of};
-ghost use Rattle.run_model.specs.LinkEnds.{HaveAddresses};
-ghost use Rattle.run_model.specs.Links.{links_of};
-ghost use Rattle.run_model.specs.Pair.{given_of};
-ghost use Rattle.run_model.specs.Readers.{turns_of};
-ghost use Rattle.run_model.specs.Run.{Given, facts_at, history_of, run_of};
+ghost use Rattle.run_laws.specs.run_model.Feeding.{is_note};
+ghost use Rattle.run_laws.specs.run_model.History.{Event, noted_by};
+ghost use Rattle.run_laws.specs.run_model.Journal.{journal_of};
+ghost use Rattle.run_laws.specs.run_model.LinkEnds.{HaveAddresses};
+ghost use Rattle.run_laws.specs.run_model.Links.{links_of};
+ghost use Rattle.run_laws.specs.run_model.Pair.{given_of};
+ghost use Rattle.run_laws.specs.run_model.Readers.{turns_of};
+ghost use Rattle.run_laws.specs.run_model.Run.{Given, facts_at, history_of, run_of};
 
 /// Each line of an end that enters an event of a link is in the turn of the anchor of that
 /// event, and its channel is that of the event: both follow from the CONNECT_IND of the link, the
@@ -94,9 +94,11 @@ pub fn each_opened_line_names_its_link()
     advertise::laws::connections_are_taken();
 }
 
-/// No line is of a control procedure or of an indication that takes effect: none is built.
+/// No line is of a control procedure or of an indication that takes effect: the commands that start
+/// a procedure are refused, so no link of a run has one.
 pub fn no_line_names_a_procedure()
-    ensures { (a b : List ℕ) (script : Script)
+    ensures { (a b : List ℕ) (script : Script) → length script.a.public ≡ 6
+        → length script.b.public ≡ 6
         → NoneNamesAProcedure (journal_of (history_of (run_of (given_of a b script)))) }
 {}
 

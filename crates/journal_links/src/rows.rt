@@ -11,7 +11,7 @@ ghost use Rattle.journal_links.specs.Rows.{
   unaccepted_packet,
   unoffered_packet,
 };
-ghost use Rattle.run_model.specs.Rows.{connect_packet, connectable_packet, one_event_journal};
+ghost use Rattle.run_laws.specs.run_model.Rows.{connect_packet, connectable_packet, one_event_journal};
 
 /// A journal with one CONNECT_IND has one link. Its first event is two slots after that, and its
 /// next event an interval of 24 slots later, on the channels 25 and 20.

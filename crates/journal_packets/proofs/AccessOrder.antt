@@ -17,14 +17,14 @@ use Rattle.air_frame.specs.Packet.{access_octets}
 use Rattle.scan_init.specs.Access.{IsNthAccess, access_at, nth_access}
 use Rattle.controller_model.specs.Heard.{access_found}
 use Rattle.controller_model.specs.Packets.{pdu_heard}
-use Rattle.run_model.specs.Due.{Each}
-use Rattle.run_model.specs.History.{Event, TurnBegan, HostFed, Called, Noted, Transmitted, turns_begun}
-use Rattle.run_model.specs.Journal.{side_of}
-use Rattle.run_model.specs.Links.{begins_link, is_advertising, is_connect_ind}
-use Rattle.run_model.specs.Run.{Given, setup_at}
-use Rattle.run_laws.specs.Access.{connects_in, connects_sent}
-use Rattle.run_laws.proofs.ConnectInds.{TakenInOrder, count_event}
-use Rattle.run_laws.proofs.DistinctAccess.{AreApart, found_at}
+use Rattle.journal_links.specs.run_model.Due.{Each}
+use Rattle.journal_links.specs.run_model.History.{Event, TurnBegan, HostFed, Called, Noted, Transmitted, turns_begun}
+use Rattle.journal_links.specs.run_model.Journal.{side_of}
+use Rattle.journal_links.specs.run_model.Links.{begins_link, is_advertising, is_connect_ind}
+use Rattle.journal_links.specs.run_model.Run.{Given, setup_at}
+use Rattle.journal_links.specs.run_laws.Access.{connects_in, connects_sent}
+use Rattle.journal_links.proofs.run_laws.ConnectInds.{TakenInOrder, count_event}
+use Rattle.journal_links.proofs.run_laws.DistinctAccess.{AreApart, found_at}
 use Rattle.journal_links.specs.Begun.{LinkBegun, begun_by}
 use Rattle.journal_packets.specs.Addresses.{AreInOrder}
 use Rattle.journal_packets.specs.Belonging.{first_number, fits, is_side}

@@ -10,11 +10,11 @@ use Rattle.ble_base.specs.declared.roles.Side.{Side}
 use Rattle.radio_replay.specs.declared.fates.Fate.{Fate}
 use Rattle.controller_model.specs.Step.{Step, HostOctet}
 use Rattle.controller_model.specs.Side.{notes_after}
-use Rattle.run_model.specs.History.{Event, TurnBegan, HostFed, Called, Noted, Transmitted, Hearing, fates_used, has_received, is_good}
-use Rattle.run_model.specs.Journal.{air_entries, entries_of, entry_of, journal_of, side_of}
-use Rattle.run_model.specs.Links.{is_advertising, links_of}
-use Rattle.run_model.specs.Run.{Given, setup_at, facts_at, after_call, after_octets, after_feed, fate_at, hearing_at, hearings_from, hearings_of, others_than}
-use Rattle.run_model.proofs.Parts.{journal_event}
+use Rattle.journal_links.specs.run_model.History.{Event, TurnBegan, HostFed, Called, Noted, Transmitted, Hearing, fates_used, has_received, is_good}
+use Rattle.journal_links.specs.run_model.Journal.{air_entries, entries_of, entry_of, journal_of, side_of}
+use Rattle.journal_links.specs.run_model.Links.{is_advertising, links_of}
+use Rattle.journal_links.specs.run_model.Run.{Given, setup_at, facts_at, after_call, after_octets, after_feed, fate_at, hearing_at, hearings_from, hearings_of, others_than}
+use Rattle.journal_links.proofs.run_model.Parts.{journal_event}
 use Rattle.journal_packets.specs.Belonging.{asked_after, have_one_access, is_answer, is_side}
 
 -- ---- an event more

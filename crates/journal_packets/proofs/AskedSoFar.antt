@@ -2,10 +2,9 @@
 -- where none did.
 use Rattle.std.proofs.Common.{◌≡◌, ℕ, zero, suc, ◌==◌, ◌⊎◌, ◌&&◌, ◌||◌, not, Bool, true, false, Some, None, List, [], ◌∷◌, ◌++◌, length, take, refl, sym, ap, subst, ◌∙◌}
 use Rattle.std.specs.Prelude.{⊤, map, if◌then◌else◌}
-use Rattle.std.specs.List.{IsDistinct}
 use Rattle.std.proofs.lemmas.Bool.{eqb-true, or_left, or_right}
 use Rattle.std.proofs.lemmas.Slice.Eq.{bytes_eq-Decides}
-use Rattle.open_links.specs.OpenLinks.{facts_in}
+use Rattle.journal_links.specs.open_links.OpenLinks.{facts_in}
 use Rattle.controller_model.specs.declared.doing.Doing.{Doing}
 use Rattle.controller_model.specs.declared.doing.Doing.TheVariants.{PeripheralSends}
 use Rattle.controller_model.specs.Step.{Step, TurnBegins, TurnEnds}
@@ -14,24 +13,22 @@ use Rattle.controller_model.specs.Side.{facts_after, facts_of, notes_after}
 use Rattle.controller_model.proofs.Always.{MayBegin}
 use Rattle.controller_model.proofs.DataChannels.{link_channel}
 use Rattle.radio_replay.specs.declared.fates.Fate.{Fate}
-use Rattle.run_model.specs.Due.{Each}
-use Rattle.run_model.specs.Feeding.{AreDistinct}
-use Rattle.run_model.specs.History.{Event, TurnBegan, Transmitted, Hearing, has_received, past_of, packet_received}
-use Rattle.run_model.specs.LinkEnds.{HaveAddresses}
-use Rattle.run_model.specs.Links.{is_advertising}
-use Rattle.run_model.specs.Run.{Given, setup_at, facts_at, use_at, octets_left, after_call, after_feed, hearings_of, step_of}
-use Rattle.run_model.proofs.Calls.{past_other}
-use Rattle.run_model.proofs.Journals.{two}
-use Rattle.run_model.proofs.LinkEnds.{IsUnderstood, is_listener, received_by, received_event}
-use Rattle.run_model.proofs.Places.{each_event}
-use Rattle.run_model.proofs.Stations.{is_in, among, in_more_other, in_more_same, not_before}
-use Rattle.run_model.proofs.Walk.{Place, NoTurn, AtFeeds, AtBegins, AfterPhases, AtPackets, AtListening, AtEnds, IsKept}
-use Rattle.run_laws.proofs.ByCalls.{at_turn, first_hears}
-use Rattle.run_laws.proofs.ChSel.{one_channel}
-use Rattle.run_laws.proofs.ConnectInds.{AreCounted, counted_kept, first_counts, no_advertising}
-use Rattle.run_laws.proofs.Hearings.{AreHearing, hearing_kept, own_facts, use_same, wanted_is}
-use Rattle.run_laws.proofs.TurnPlaces.{event_past, stands_first}
-use Rattle.run_laws.proofs.TurnSteps.{IsListening}
+use Rattle.journal_links.specs.run_model.Due.{Each}
+use Rattle.journal_links.specs.run_model.History.{Event, TurnBegan, Transmitted, Hearing, has_received, past_of, packet_received}
+use Rattle.journal_links.specs.run_model.LinkEnds.{HaveAddresses}
+use Rattle.journal_links.specs.run_model.Links.{is_advertising}
+use Rattle.journal_links.specs.run_model.Run.{Given, setup_at, facts_at, use_at, octets_left, after_call, after_feed, hearings_of, step_of}
+use Rattle.journal_links.proofs.run_model.Calls.{past_other}
+use Rattle.journal_links.proofs.run_model.LinkEnds.{IsUnderstood, is_listener, received_by, received_event}
+use Rattle.journal_links.proofs.run_model.Places.{each_event}
+use Rattle.journal_links.proofs.run_model.Stations.{is_in, among, in_more_other, in_more_same, not_before}
+use Rattle.journal_links.proofs.run_model.Walk.{Place, NoTurn, AtFeeds, AtBegins, AfterPhases, AtPackets, AtListening, AtEnds, IsKept}
+use Rattle.journal_links.proofs.run_laws.ByCalls.{at_turn, first_hears}
+use Rattle.journal_links.proofs.run_laws.ChSel.{one_channel}
+use Rattle.journal_links.proofs.run_laws.ConnectInds.{AreCounted, counted_kept, first_counts, no_advertising}
+use Rattle.journal_links.proofs.run_laws.Hearings.{AreHearing, hearing_kept, own_facts, use_same, wanted_is}
+use Rattle.journal_links.proofs.run_laws.TurnPlaces.{event_past, stands_first}
+use Rattle.journal_links.proofs.run_laws.TurnSteps.{IsListening}
 use Rattle.journal_links.proofs.OfTwo.{are_distinct, of_two_stations}
 use Rattle.journal_packets.specs.Belonging.{have_one_access}
 use Rattle.journal_packets.proofs.SentLinks.{IsOfTwo}

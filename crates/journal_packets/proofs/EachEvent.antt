@@ -3,10 +3,10 @@ use Rattle.std.proofs.Common.{ℕ, List, [], ◌∷◌, ◌++◌}
 use Rattle.ble_base.specs.declared.notes.Note.{Note}
 use Rattle.controller_model.specs.Step.{Step, HostOctet}
 use Rattle.controller_model.specs.Side.{notes_after}
-use Rattle.run_model.specs.Due.{Each}
-use Rattle.run_model.specs.History.{Event, HostFed, Called, Noted}
-use Rattle.run_model.specs.Run.{Given, setup_at, facts_at, after_call, after_octets, after_feed}
-use Rattle.run_model.proofs.Places.{each_called, each_event}
+use Rattle.journal_links.specs.run_model.Due.{Each}
+use Rattle.journal_links.specs.run_model.History.{Event, HostFed, Called, Noted}
+use Rattle.journal_links.specs.run_model.Run.{Given, setup_at, facts_at, after_call, after_octets, after_feed}
+use Rattle.journal_links.proofs.run_model.Places.{each_called, each_event}
 
 module _ (given : Given) (fact : List Event → Event → Type 0) (called : (before : List Event) (station : ℕ) (step : Step) → fact before (Called station step))
     (noted : (station : ℕ) (before : List Event) (note : Note) → fact before (Noted station note)) (fed : (before : List Event) (station : ℕ) (octets : List ℕ) → fact before (HostFed station octets)) where

@@ -3,16 +3,16 @@ use Rattle.std.proofs.Common.{◌≡◌, ℕ, ◌⊎◌, inl, inr, List, [], ◌
 use Rattle.ble_base.specs.declared.roles.Side.{Side}
 use Rattle.ble_base.specs.declared.roles.Side.TheVariants.{A, B}
 use Rattle.radio_replay.specs.Script.{Script}
-use Rattle.run_model.specs.Due.{Each}
-use Rattle.run_model.specs.History.{Event}
-use Rattle.run_model.specs.Journal.{journal_of, side_of}
-use Rattle.run_model.specs.LinkEnds.{HaveAddresses}
-use Rattle.run_model.specs.Pair.{given_of}
-use Rattle.run_model.specs.Run.{Given, history_of, run_of, setup_at}
-use Rattle.run_model.proofs.LinkEnds.{AreTaken, IsUnderstood, pair_addresses}
-use Rattle.run_model.proofs.Walk.{IsStopped, IsWhole, ends_with, run_kept}
-use Rattle.run_laws.specs.Access.{connects_sent}
-use Rattle.run_laws.proofs.ConnectInds.{TakenInOrder}
+use Rattle.journal_links.specs.run_model.Due.{Each}
+use Rattle.journal_links.specs.run_model.History.{Event}
+use Rattle.journal_links.specs.run_model.Journal.{journal_of, side_of}
+use Rattle.journal_links.specs.run_model.LinkEnds.{HaveAddresses}
+use Rattle.journal_links.specs.run_model.Pair.{given_of}
+use Rattle.journal_links.specs.run_model.Run.{Given, history_of, run_of, setup_at}
+use Rattle.journal_links.proofs.run_model.LinkEnds.{AreTaken, IsUnderstood, pair_addresses}
+use Rattle.journal_links.proofs.run_model.Walk.{IsStopped, IsWhole, ends_with, run_kept}
+use Rattle.journal_links.specs.run_laws.Access.{connects_sent}
+use Rattle.journal_links.proofs.run_laws.ConnectInds.{TakenInOrder}
 use Rattle.journal_links.specs.Begun.{links_begun}
 use Rattle.journal_packets.specs.Addresses.{AllAddressesAreNext, AreInOrder, cursor_of}
 use Rattle.journal_packets.proofs.AccessOrder.{sent_ordered}

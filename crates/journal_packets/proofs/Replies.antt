@@ -3,6 +3,7 @@ use Rattle.std.proofs.Common.{◌≡◌, ℕ, zero, suc, ◌&&◌, Bool, true, f
 use Rattle.std.specs.Prelude.{⊤, is_some, if◌then◌else◌}
 use Rattle.std.specs.Option.{option_map}
 use Rattle.std.specs.Str.{bytes_eq}
+use Rattle.std.proofs.lemmas.Bool.{and_parts}
 use Rattle.std.proofs.lemmas.Slice.Eq.{bytes_eq-Decides}
 use Rattle.ble_base.specs.declared.addresses.Address.{Address}
 use Rattle.ble_base.specs.declared.roles.Role.{Role}
@@ -16,16 +17,17 @@ use Rattle.advertise.specs.Answers.{advertiser_answer}
 use Rattle.air_frame.specs.declared.Heard.TheVariants.{NotOurs, Broken, Whole}
 use Rattle.air_frame.specs.Hearing.{heard_in}
 use Rattle.air_frame.specs.Packet.{access_octets, is_packet, pdu_in}
-use Rattle.link_model.specs.End.{replies_by, replies_of}
-use Rattle.link_model.specs.Facts.{Facts as EndFacts}
-use Rattle.link_model.specs.Packets.{good_in, good_pdu, packet_sent}
-use Rattle.link_model.specs.Setup.{Setup as EndSetup}
-use Rattle.link_model.specs.Step.{PacketSent, PacketReceived}
-use Rattle.link_model.specs.declared.setup.LinkSetup.{LinkSetup}
+use Rattle.journal_links.specs.link_model.Receiving.{replies_by, replies_of}
+use Rattle.journal_links.specs.link_model.Facts.{Facts as EndFacts}
+use Rattle.journal_links.specs.link_model.Verdicts.{good_in}
+use Rattle.journal_links.specs.link_model.Packets.{good_pdu, packet_sent}
+use Rattle.journal_links.specs.link_model.Setup.{Setup as EndSetup}
+use Rattle.journal_links.specs.link_model.Step.{PacketSent, PacketReceived}
+use Rattle.journal_links.specs.link_model.declared.setup.LinkSetup.{LinkSetup}
 use Rattle.scan_init.specs.Initiating.{InitiatorFacts}
 use Rattle.scan_init.specs.Reports.{ScannerFacts, does_ask, scan_answer}
-use Rattle.open_links.specs.OpenLinks.{Links, OpenLink, facts_in, free_from, link_after, link_at, with_change}
-use Rattle.open_links.proofs.Handles.{changed_is}
+use Rattle.journal_links.specs.open_links.OpenLinks.{Links, OpenLink, facts_in, free_from, link_after, link_at, with_change}
+use Rattle.journal_links.proofs.open_links.Handles.{changed_is}
 use Rattle.controller_model.specs.declared.doing.Doing.{Doing}
 use Rattle.controller_model.specs.declared.doing.Doing.TheVariants.{Advertises, AwaitsRequest, Scans, Requests, AwaitsResponse, Initiates, Connects, CentralSends, CentralListens, PeripheralListens, PeripheralSends}
 use Rattle.controller_model.specs.Facts.{Setup, Facts, Sends, Listens}
@@ -34,15 +36,16 @@ use Rattle.controller_model.specs.Outcome.{Outcome, facts_passed}
 use Rattle.controller_model.specs.Packets.{facts_doing, listens_on, pdu_heard, sends_on}
 use Rattle.controller_model.specs.Sent.{SendsOn}
 use Rattle.controller_model.specs.Side.{facts_after}
-use Rattle.run_model.specs.History.{Event, past_of, turns_begun}
-use Rattle.run_model.specs.Run.{Given, facts_at, setup_at, step_of}
-use Rattle.run_model.proofs.Stations.{is_in}
-use Rattle.run_model.proofs.Walk.{Place}
-use Rattle.run_laws.proofs.Entering.{IsInTurn}
-use Rattle.run_laws.proofs.LinkPhases.{HasRole, IsAtStage, IsInPhase, phased_at}
-use Rattle.run_laws.proofs.OwnLinks.{sent_begins}
-use Rattle.run_laws.proofs.TurnPlaces.{AllStand, Between, Stage, Within, stands_at}
-use Rattle.run_laws.proofs.TurnSteps.{IsListening}
+use Rattle.controller_model.proofs.Places.{link_receiving, receiving_is, refused_if, refuses_at}
+use Rattle.journal_links.specs.run_model.History.{Event, past_of, turns_begun}
+use Rattle.journal_links.specs.run_model.Run.{Given, facts_at, setup_at, step_of}
+use Rattle.journal_links.proofs.run_model.Stations.{is_in}
+use Rattle.journal_links.proofs.run_model.Walk.{Place}
+use Rattle.journal_links.proofs.run_laws.Entering.{IsInTurn}
+use Rattle.journal_links.proofs.run_laws.LinkPhases.{HasRole, IsAtStage, IsInPhase, phased_at}
+use Rattle.journal_links.proofs.run_laws.OwnLinks.{sent_begins}
+use Rattle.journal_links.proofs.run_laws.TurnPlaces.{AllStand, Between, Stage, Within, stands_at}
+use Rattle.journal_links.proofs.run_laws.TurnSteps.{IsListening}
 
 -- ---- the access address of a packet
 
@@ -57,17 +60,17 @@ good_begins max_rx channel access init octets good = by (bytes_eq (take 4 octets
     by false same some = absurd cc
 
 -- a peripheral answers packets that begin with the access address of its link
-replied_by : (role : Role) (setup : EndSetup) (facts : EndFacts) (octets : List ℕ) → setup.link.role ≡ role → replies_by role (good_pdu setup facts octets) ≡ true
-    → (setup.link.role ≡ Peripheral) × (take 4 octets ≡ access_octets setup.link.fields.access)
+replied_by : (role : Role) (ended : Bool) (setup : EndSetup) (facts : EndFacts) (octets : List ℕ) → setup.link.role ≡ role
+    → replies_by role ended (good_pdu setup facts octets) ≡ true → (setup.link.role ≡ Peripheral) × (take 4 octets ≡ access_octets setup.link.fields.access)
 unfolding good_pdu
-replied_by Central setup facts octets is replies = absurd cc
-replied_by Peripheral setup facts octets is replies =
-    (is, good_begins setup.link.max_rx facts.event.channel setup.link.fields.access setup.link.fields.crc_init octets replies)
+replied_by Central ended setup facts octets is replies = absurd cc
+replied_by Peripheral ended setup facts octets is replies =
+    (is, good_begins setup.link.max_rx facts.event.channel setup.link.fields.access setup.link.fields.crc_init octets (and_parts _ _ replies).0)
 
-replied : (setup : EndSetup) (facts : EndFacts) (octets : List ℕ) → replies_of setup facts octets ≡ true
+replied : (setup : EndSetup) (facts : EndFacts) (slot : ℕ) (octets : List ℕ) (room : Bool) → replies_of setup facts slot octets room ≡ true
     → (setup.link.role ≡ Peripheral) × (take 4 octets ≡ access_octets setup.link.fields.access)
 unfolding replies_of
-replied setup facts octets replies = replied_by setup.link.role setup facts octets refl replies
+replied setup facts slot octets room replies = replied_by setup.link.role _ setup facts octets refl replies
 
 -- ---- what comes of a phase
 
@@ -97,17 +100,25 @@ change_at : (handle : ℕ) (change : OpenLink → OpenLink) (links : Links) (lin
     → link_at handle (with_change handle change links) ≡ Some (change link)
 change_at handle change links link at = changed_is (option_map change) 0 handle links refl ∙ ap (option_map change) at
 
+receiving_setup : (handle : ℕ) (room : Bool) (octets : List ℕ) (facts : Facts) (link : OpenLink) → (link_receiving handle room octets facts link).setup ≡ link.setup
+receiving_setup handle room octets facts link = by (refuses_at handle room octets facts)
+  where
+    by : (refuses : Bool) → (refused_if refuses (link_after (PacketReceived facts.turn.slot octets room) link)).setup ≡ link.setup
+    by true = refl
+    by false = refl
+
 module _ (setup : Setup) (facts : Facts) (handle : ℕ) (octets : List ℕ) (listens : facts.wanted ≡ listens_on (link_at handle facts.links)) where
   abbrev room : Bool
   room = has_room setup facts
 
-  reply_is : (found : Option OpenLink) → link_at handle facts.links ≡ found → replies_in found octets ≡ true
+  reply_is : (found : Option OpenLink) → link_at handle facts.links ≡ found → replies_in facts.turn.slot room found octets ≡ true
       → IsReply facts (Some octets) (facts_doing (PeripheralSends handle) (link_received handle room octets facts))
   reply_is None at replies = absurd cc
   reply_is (Some link) at replies =
-      let took = link_after (PacketReceived facts.turn.slot octets room) link in
-      let told = replied link.setup (facts_in link) octets replies in
-      let now = change_at handle (link_after (PacketReceived facts.turn.slot octets room)) facts.links link at in
+      let took = link_receiving handle room octets facts link in
+      let same_setup = receiving_setup handle room octets facts link in
+      let told = replied link.setup (facts_in link) facts.turn.slot octets room replies in
+      let now = ap (link_at handle) (receiving_is handle room octets facts) ∙ change_at handle (link_receiving handle room octets facts) facts.links link at in
       let after = change_at handle (link_after (PacketSent facts.turn.slot)) (link_received handle room octets facts).links took now in record {
         handle = handle;
         doing = refl;
@@ -119,20 +130,20 @@ module _ (setup : Setup) (facts : Facts) (handle : ℕ) (octets : List ℕ) (lis
         answers = λ channel sent is.
             let one : Sends (facts_in took).event.channel (packet_sent took.setup (facts_in took)) ≡ Sends channel sent = sym (ap sends_on now) ∙ is in
             let same : packet_sent took.setup (facts_in took) ≡ sent = cc in
-            ap (take 4) (sym same) ∙ sent_begins took.setup (facts_in took);
+            ap (take 4) (sym same) ∙ sent_begins took.setup (facts_in took) ∙ ap (λ (end : EndSetup). access_octets end.link.fields.access) same_setup;
         role = λ one is.
             let two : Some (link_after (PacketSent facts.turn.slot) took) ≡ Some one = sym after ∙ is in
             let same : link_after (PacketSent facts.turn.slot) took ≡ one = cc in
-            subst (λ (l : OpenLink). l.setup.link.role ≡ Peripheral) same told.0;
+            subst (λ (l : OpenLink). l.setup.link.role ≡ Peripheral) same (ap (λ (end : EndSetup). end.link.role) same_setup ∙ told.0);
       }
 
-  reply_by : (replies : Bool) → replies_in (link_at handle facts.links) octets ≡ replies
+  reply_by : (replies : Bool) → replies_in facts.turn.slot room (link_at handle facts.links) octets ≡ replies
       → IsLeft facts (Some octets) (facts_doing (reply_if replies handle) (link_received handle room octets facts))
   reply_by false is = Silent refl
   reply_by true is = Replies (reply_is (link_at handle facts.links) refl is)
 
   link_left : IsLeft facts (Some octets) (facts_passed (link_heard setup handle octets facts))
-  link_left = reply_by (replies_in (link_at handle facts.links) octets) refl
+  link_left = reply_by (replies_in facts.turn.slot room (link_at handle facts.links) octets) refl
 
 -- ---- nothing else sends on a link next
 

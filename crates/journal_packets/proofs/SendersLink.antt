@@ -5,28 +5,28 @@ use Rattle.ble_base.specs.Side.{other_side}
 use Rattle.ble_base.specs.declared.roles.Side.{Side}
 use Rattle.ble_base.specs.declared.roles.Side.TheVariants.{A, B}
 use Rattle.air_frame.specs.Packet.{access_octets}
-use Rattle.link_model.specs.Setup.{Setup as EndSetup}
-use Rattle.link_model.specs.Step.{PacketSent}
-use Rattle.open_links.specs.OpenLinks.{OpenLink, facts_in, link_after}
+use Rattle.journal_links.specs.link_model.Setup.{Setup as EndSetup}
+use Rattle.journal_links.specs.link_model.Step.{PacketSent}
+use Rattle.journal_links.specs.open_links.OpenLinks.{OpenLink, facts_in, link_after}
 use Rattle.controller_model.specs.declared.doing.Doing.TheVariants.{CentralSends}
 use Rattle.controller_model.specs.Facts.{Sends}
-use Rattle.run_model.specs.Due.{Each}
-use Rattle.run_model.specs.History.{Event, Transmitted, packet_received, turns_begun}
-use Rattle.run_model.specs.Journal.{journal_of, side_of}
-use Rattle.run_model.specs.LinkEnds.{HaveAddresses}
-use Rattle.run_model.specs.Links.{is_advertising, links_of}
-use Rattle.run_model.specs.Numbers.{AreNumbered, HasNumber}
-use Rattle.run_model.specs.Run.{Given, facts_at, setup_at, use_at}
-use Rattle.run_model.proofs.Places.{each_at}
-use Rattle.run_model.proofs.Stations.{among}
-use Rattle.run_model.proofs.Walk.{AtPackets}
-use Rattle.run_laws.specs.Access.{connects_sent}
-use Rattle.run_laws.proofs.ConnectInds.{TakenInOrder, on_channel}
-use Rattle.run_laws.proofs.DistinctAccess.{AreApart}
-use Rattle.run_laws.proofs.Hearings.{sends_deaf, use_sent_at}
-use Rattle.run_laws.proofs.OwnLinks.{at_central, at_peripheral, sent_begins}
-use Rattle.run_laws.proofs.SentPackets.{IsUseSent}
-use Rattle.run_laws.proofs.TurnPlaces.{Within}
+use Rattle.journal_links.specs.run_model.Due.{Each}
+use Rattle.journal_links.specs.run_model.History.{Event, Transmitted, packet_received, turns_begun}
+use Rattle.journal_links.specs.run_model.Journal.{journal_of, side_of}
+use Rattle.journal_links.specs.run_model.LinkEnds.{HaveAddresses}
+use Rattle.journal_links.specs.run_model.Links.{is_advertising, links_of}
+use Rattle.journal_links.specs.run_model.Numbers.{AreNumbered, HasNumber}
+use Rattle.journal_links.specs.run_model.Run.{Given, facts_at, setup_at, use_at}
+use Rattle.journal_links.proofs.run_model.Places.{each_at}
+use Rattle.journal_links.proofs.run_model.Stations.{among}
+use Rattle.journal_links.proofs.run_model.Walk.{AtPackets}
+use Rattle.journal_links.specs.run_laws.Access.{connects_sent}
+use Rattle.journal_links.proofs.run_laws.ConnectInds.{TakenInOrder, on_channel}
+use Rattle.journal_links.proofs.run_laws.DistinctAccess.{AreApart}
+use Rattle.journal_links.proofs.run_laws.Hearings.{sends_deaf, use_sent_at}
+use Rattle.journal_links.proofs.run_laws.OwnLinks.{at_central, at_peripheral, sent_begins}
+use Rattle.journal_links.proofs.run_laws.SentPackets.{IsUseSent}
+use Rattle.journal_links.proofs.run_laws.TurnPlaces.{Within}
 use Rattle.journal_links.specs.Begun.{links_begun}
 use Rattle.journal_packets.specs.Belonging.{first_number, is_side, link_of_packet}
 use Rattle.journal_packets.specs.Senders.{IsOfSendersLink}

@@ -13,13 +13,13 @@ use Rattle.adv_pdu.specs.declared.pdu.ConnectFields.{ConnectFields}
 use Rattle.journal.specs.declared.entries.Entry.{Entry}
 use Rattle.journal.specs.declared.entries.Entry.TheVariants.{Air}
 use Rattle.controller_model.specs.Packets.{pdu_heard}
-use Rattle.run_model.specs.Due.{Each}
-use Rattle.run_model.specs.History.{Event, TurnBegan, HostFed, Called, Noted, Transmitted, Hearing, turns_begun}
-use Rattle.run_model.specs.Journal.{entries_of, journal_from, journal_of, mark_of, side_of}
-use Rattle.run_model.specs.Links.{Links, begins_link, first_links, is_advertising, is_connect_ind, links_after, links_of, with_link}
-use Rattle.run_model.proofs.Fates.{turns_are}
-use Rattle.run_model.proofs.LinksKnown.{links_event}
-use Rattle.run_model.proofs.Parts.{journal_event}
+use Rattle.journal_links.specs.run_model.Due.{Each}
+use Rattle.journal_links.specs.run_model.History.{Event, TurnBegan, HostFed, Called, Noted, Transmitted, Hearing, turns_begun}
+use Rattle.journal_links.specs.run_model.Journal.{entries_of, journal_from, journal_of, mark_of, side_of}
+use Rattle.journal_links.specs.run_model.Links.{Links, begins_link, first_links, is_advertising, is_connect_ind, links_after, links_of, with_link}
+use Rattle.journal_links.proofs.run_model.Fates.{turns_are}
+use Rattle.journal_links.proofs.run_model.LinksKnown.{links_event}
+use Rattle.journal_links.proofs.run_model.Parts.{journal_event}
 use Rattle.journal_links.specs.Begun.{LinkBegun, begun_by, begun_in, is_offered, links_begun, links_from, offers_in}
 use Rattle.journal_links.proofs.LinksBegun.{get_next, note_begins}
 

@@ -3,18 +3,18 @@ use Rattle.std.proofs.Common.{◌≡◌, ℕ, false, List, [], ◌∷◌, ◌++�
 use Rattle.std.specs.Prelude.{map, take}
 use Rattle.controller_model.specs.Step.{Step, TurnBegins, TurnEnds}
 use Rattle.controller_model.specs.Facts.{Sends}
-use Rattle.run_model.specs.Due.{Each}
-use Rattle.run_model.specs.History.{Event, TurnBegan, HostFed, Called, Noted, Transmitted, Hearing, packet_received}
-use Rattle.run_model.specs.LinkEnds.{HaveAddresses}
-use Rattle.run_model.specs.Links.{is_advertising}
-use Rattle.run_model.specs.Run.{Given, setup_at, use_at, octets_left, after_call, after_feed, hearings_of, step_of, run_of, history_of}
-use Rattle.run_model.proofs.Fronts.{IsFrontAt, front_first, fronts_kept}
-use Rattle.run_model.proofs.LinkEnds.{AreTaken, IsUnderstood}
-use Rattle.run_model.proofs.Notes.{IsNotedSoFar, first_notes, noted_stepped}
-use Rattle.run_model.proofs.Numbers.{IsNumberedSoFar, numbered_first, numbered_kept}
-use Rattle.run_model.proofs.Places.{each_at, each_event}
-use Rattle.run_model.proofs.Walk.{Place, NoTurn, AtPackets, IsKept, IsWhole, IsStopped, ends_with, run_kept, stepped_kept}
-use Rattle.run_laws.proofs.DistinctAccess.{AreApart}
+use Rattle.journal_links.specs.run_model.Due.{Each}
+use Rattle.journal_links.specs.run_model.History.{Event, TurnBegan, HostFed, Called, Noted, Transmitted, Hearing, packet_received}
+use Rattle.journal_links.specs.run_model.LinkEnds.{HaveAddresses}
+use Rattle.journal_links.specs.run_model.Links.{is_advertising}
+use Rattle.journal_links.specs.run_model.Run.{Given, setup_at, use_at, octets_left, after_call, after_feed, hearings_of, step_of, run_of, history_of}
+use Rattle.journal_links.proofs.run_model.Fronts.{IsFrontAt, front_first, fronts_kept}
+use Rattle.journal_links.proofs.run_model.LinkEnds.{AreTaken, IsUnderstood}
+use Rattle.journal_links.proofs.run_model.Notes.{IsNotedSoFar, first_notes, noted_stepped}
+use Rattle.journal_links.proofs.run_model.Numbers.{IsNumberedSoFar, numbered_first, numbered_kept}
+use Rattle.journal_links.proofs.run_model.Places.{each_at, each_event}
+use Rattle.journal_links.proofs.run_model.Walk.{Place, NoTurn, AtPackets, IsKept, IsWhole, IsStopped, ends_with, run_kept, stepped_kept}
+use Rattle.journal_links.proofs.run_laws.DistinctAccess.{AreApart}
 use Rattle.journal_packets.specs.Senders.{IsOfSendersLink}
 use Rattle.journal_packets.proofs.AccessOrder.{AreNth}
 use Rattle.journal_links.proofs.OfTwo.{are_distinct}

@@ -8,8 +8,8 @@ use Rattle.ble_base.specs.declared.roles.Side.TheVariants.{A, B}
 use Rattle.air_frame.specs.Packet.{access_octets}
 use Rattle.journal.specs.declared.entries.Entry.{Entry}
 use Rattle.journal.specs.declared.entries.Entry.TheVariants.{Turn, Air}
-use Rattle.run_model.specs.History.{is_good}
-use Rattle.run_model.specs.Links.{is_advertising}
+use Rattle.journal_links.specs.run_model.History.{is_good}
+use Rattle.journal_links.specs.run_model.Links.{is_advertising}
 use Rattle.journal_links.specs.Begun.{LinkBegun, links_begun}
 
 abbrev pub is_side : Side → Side → Bool

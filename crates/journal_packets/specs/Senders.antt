@@ -1,13 +1,13 @@
 -- The link that a packet of a run was sent on (Core 5.2, volume 6 part B, section 4.5).
 use Rattle.std.specs.Prelude.{◌≡◌, ℕ, List, Some}
-use Rattle.link_model.specs.Packets.{packet_sent}
-use Rattle.link_model.specs.Step.{PacketSent}
-use Rattle.open_links.specs.OpenLinks.{OpenLink, facts_in, link_after, link_at}
+use Rattle.journal_links.specs.link_model.Packets.{packet_sent}
+use Rattle.journal_links.specs.link_model.Step.{PacketSent}
+use Rattle.journal_links.specs.open_links.OpenLinks.{OpenLink, facts_in, link_after, link_at}
 use Rattle.controller_model.specs.Sent.{SendsOn}
-use Rattle.run_model.specs.History.{Event}
-use Rattle.run_model.specs.Journal.{journal_of, side_of}
-use Rattle.run_model.specs.Links.{links_of}
-use Rattle.run_model.specs.Run.{Given, facts_at}
+use Rattle.journal_links.specs.run_model.History.{Event}
+use Rattle.journal_links.specs.run_model.Journal.{journal_of, side_of}
+use Rattle.journal_links.specs.run_model.Links.{links_of}
+use Rattle.journal_links.specs.run_model.Run.{Given, facts_at}
 use Rattle.journal_packets.specs.Belonging.{link_of_packet}
 
 -- a packet that a station sends after this history is that of one of its open links, on the channel of its event, and the

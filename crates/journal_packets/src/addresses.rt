@@ -3,9 +3,9 @@
 ghost use Rattle.std.specs.Prelude.{◌≡◌, ℕ, List, length};
 ghost use Rattle.journal_packets.specs.Addresses.{AllAddressesAreNext};
 ghost use Rattle.radio_replay.specs.Script.{Script};
-ghost use Rattle.run_model.specs.Journal.{journal_of};
-ghost use Rattle.run_model.specs.Pair.{given_of};
-ghost use Rattle.run_model.specs.Run.{history_of, run_of};
+ghost use Rattle.journal_links.specs.run_model.Journal.{journal_of};
+ghost use Rattle.journal_links.specs.run_model.Pair.{given_of};
+ghost use Rattle.journal_links.specs.run_model.Run.{history_of, run_of};
 
 /// In the journal of a run of a pair, the CONNECT_INDs that a side sent have the valid access
 /// addresses from its cursor on, each the next one, whatever comes between, an HCI_Reset too (Core

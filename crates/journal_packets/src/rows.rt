@@ -5,7 +5,7 @@ ghost use Rattle.ble_base.specs.declared.verdicts.Verdict.TheVariants.{Good, Mis
 ghost use Rattle.journal.specs.declared.entries.Entry.TheVariants.{Air};
 ghost use Rattle.journal.specs.declared.entries.Mark.TheVariants.{Lost as WasLost, Pass as Passed};
 ghost use Rattle.journal_packets.specs.Belonging.{link_of_packet};
-ghost use Rattle.run_model.specs.Rows.{first_packet, first_reply, one_connection_journal, turn_entry};
+ghost use Rattle.journal_links.specs.run_model.Rows.{first_packet, first_reply, one_connection_journal, turn_entry};
 
 /// After the CONNECT_IND of B, a packet of B with its access address is of link 1. One of A is of
 /// it where it answers a packet of B that A heard in the same turn.

@@ -2,10 +2,10 @@
 //! contract is the law.
 ghost use Rattle.std.specs.Prelude.{◌≡◌, ◌++◌, ◌∷◌, ℕ, List, false, length};
 ghost use Rattle.radio_replay.specs.Script.{Script};
-ghost use Rattle.run_model.specs.History.{Event, Hearing, Transmitted};
-ghost use Rattle.run_model.specs.Links.{is_advertising};
-ghost use Rattle.run_model.specs.Pair.{given_of};
-ghost use Rattle.run_model.specs.Run.{history_of, run_of};
+ghost use Rattle.journal_links.specs.run_model.History.{Event, Hearing, Transmitted};
+ghost use Rattle.journal_links.specs.run_model.Links.{is_advertising};
+ghost use Rattle.journal_links.specs.run_model.Pair.{given_of};
+ghost use Rattle.journal_links.specs.run_model.Run.{history_of, run_of};
 ghost use Rattle.journal_packets.specs.Senders.{IsOfSendersLink};
 
 /// In a run of a pair, each packet on a data channel is that of a link that is open at its sender,

@@ -5,15 +5,17 @@ use Rattle.ble_base.specs.declared.roles.Role.{Role}
 use Rattle.ble_base.specs.declared.roles.Role.TheVariants.{Central, Peripheral}
 use Rattle.ble_base.specs.declared.verdicts.Verdict.TheVariants.{Good}
 use Rattle.journal.specs.declared.entries.Mark.TheVariants.{Pass as Passed}
-use Rattle.link_model.specs.Facts.{Facts as EndFacts}
-use Rattle.link_model.specs.Packets.{verdict_of as end_verdict}
-use Rattle.link_model.specs.Pair.{AreOneLink}
-use Rattle.link_model.specs.Step.{PacketSent}
-use Rattle.link_model.proofs.InEvents.{pasts_agree}
-use Rattle.link_model.proofs.Payloads.{past_fits, past_form}
-use Rattle.link_model.proofs.Received.{IsHeardWhole, judged_good}
-use Rattle.open_links.specs.OpenLinks.{Links, OpenLink, facts_in, link_after, link_at}
-use Rattle.open_links.specs.Slots.{IsOnTime}
+use Rattle.journal_data.specs.link_model.Facts.{Facts as EndFacts}
+use Rattle.journal_data.specs.link_model.Packets.{verdict_of as end_verdict}
+use Rattle.journal_data.specs.link_model.OneLink.{AreOneLink}
+use Rattle.journal_data.specs.link_model.Step.{PacketSent}
+use Rattle.journal_data.proofs.plain_links.InEvents.{pasts_agree}
+use Rattle.journal_data.proofs.plain_links.Growing.{plain_front}
+use Rattle.journal_data.proofs.plain_links.Payloads.{past_understood}
+use Rattle.journal_data.specs.link_model.declared.events.ConnectionEvent.{ConnectionEvent}
+use Rattle.journal_data.proofs.link_model.Hearing.{IsHeardWhole}
+use Rattle.journal_data.proofs.link_model.Received.{judged_good}
+use Rattle.journal_data.specs.open_links.OpenLinks.{Links, OpenLink, facts_in, link_after, link_at}
 use Rattle.radio_replay.specs.Damage.{damaged_packet}
 use Rattle.radio_replay.specs.declared.fates.Fate.{Fate}
 use Rattle.radio_replay.specs.declared.fates.Fate.TheVariants.{Pass}
@@ -34,19 +36,22 @@ use Rattle.run_model.proofs.OfStations.{OfStations, run_of_stations}
 use Rattle.run_model.proofs.Places.{each_at}
 use Rattle.run_model.proofs.Stations.{is_in, among}
 use Rattle.run_model.proofs.Walk.{AtPackets}
-use Rattle.run_laws.specs.Ends.{HaveOneConnectInd}
-use Rattle.run_laws.proofs.Agreed.{step_facts}
-use Rattle.run_laws.proofs.ByCalls.{always_by_calls}
-use Rattle.run_laws.proofs.ChSel.{link_two}
-use Rattle.run_laws.proofs.DistinctAccess.{AreApart}
-use Rattle.run_laws.proofs.Entering.{entering_in_run, same_number as same_entries}
-use Rattle.run_laws.proofs.Hearings.{sends_deaf, wanted_is}
-use Rattle.run_laws.proofs.InAgreement.{AreStations, TakesShort, first_station, stations_kept}
-use Rattle.run_laws.proofs.LinkPhases.{HasRole, IsInPhase}
-use Rattle.run_laws.proofs.OpenSteps.{open_has}
-use Rattle.run_laws.proofs.OwnLinks.{sent_begins}
-use Rattle.run_laws.proofs.TurnPlaces.{Within, at_stage}
-use Rattle.run_laws.proofs.TurnSteps.{IsListening}
+use Rattle.journal_data.specs.run_laws.Ends.{HaveOneConnectInd}
+use Rattle.journal_data.specs.run_laws.OnTime.{IsOnTime}
+use Rattle.journal_data.specs.run_laws.Plainness.{IsPlainLink}
+use Rattle.journal_data.proofs.run_laws.Agreed.{step_facts}
+use Rattle.journal_data.proofs.run_laws.ByCalls.{always_by_calls}
+use Rattle.journal_data.proofs.run_laws.ChSel.{link_two}
+use Rattle.journal_data.proofs.run_laws.DistinctAccess.{AreApart}
+use Rattle.journal_data.proofs.run_laws.Entering.{entering_in_run, same_number as same_entries}
+use Rattle.journal_data.proofs.run_laws.Hearings.{sends_deaf, wanted_is}
+use Rattle.journal_data.proofs.run_laws.InAgreement.{AreStations, TakesShort, first_station, stations_kept}
+use Rattle.journal_data.proofs.run_laws.LinkPhases.{HasRole, IsInPhase}
+use Rattle.journal_data.proofs.run_laws.OpenSteps.{open_has}
+use Rattle.journal_data.proofs.run_laws.OwnLinks.{sent_begins}
+use Rattle.journal_data.proofs.run_laws.PlainLinks.{links_plain}
+use Rattle.journal_data.proofs.run_laws.TurnPlaces.{Within, at_stage}
+use Rattle.journal_data.proofs.run_laws.TurnSteps.{IsListening}
 use Rattle.journal_links.specs.Begun.{links_begun}
 use Rattle.journal_links.specs.Opened.{central_side}
 use Rattle.journal_links.proofs.OfTwo.{are_distinct}
@@ -57,6 +62,7 @@ use Rattle.journal_packets.proofs.Asked.{is_asked}
 use Rattle.journal_packets.proofs.SoFar.{IsBelongingSoFar}
 use Rattle.journal_acks.proofs.Counting.{AreKnown, one_begun}
 use Rattle.journal_acks.proofs.Exchanging.{number_at}
+use Rattle.journal_acks.proofs.HeardSteps.{sent_in}
 use Rattle.journal_acks.proofs.Known.{known_of}
 use Rattle.journal_acks.proofs.Seen.{IsSeen, seen_packet}
 use Rattle.journal_acks.proofs.Standing.{PhasedBy, phased_at}
@@ -226,8 +232,16 @@ module _ (whole : IsHeardWhole) (understood : IsUnderstood) (taken : AreTaken) (
     abbrev far : OpenLink
     far = awaited.asker.far
 
+    own_plain : IsPlainLink own
+    own_plain = links_plain given six distinct before rest at station in_it awaited.sent.handle own awaited.sent.is_open
+
+    far_plain : IsPlainLink far
+    far_plain = links_plain given six distinct before rest at far_side far_in awaited.asker.handle far awaited.asker.is_open
+
     on_time : IsOnTime (facts_at given far_side before).turn.begun own
-    on_time = subst (λ n. IsOnTime n own) awaited.turns (entering_in_run taken given before rest station awaited.sent.handle own distinct in_it at awaited.sent.is_open)
+    on_time =
+        subst (λ n. IsOnTime n own) awaited.turns
+        (entering_in_run taken given before rest station awaited.sent.handle own distinct in_it at awaited.sent.is_open own_plain)
 
     one_link : AreOneLink own.setup far.setup
     one_link = record {
@@ -240,9 +254,10 @@ module _ (whole : IsHeardWhole) (understood : IsUnderstood) (taken : AreTaken) (
     sent_channel : (facts_in awaited.sent.link).event.channel ≡ (facts_in far).event.channel
     sent_channel =
         let entries = same_entries (facts_at given far_side before).turn.begun own far awaited.one on_time
-        (entering_in_run taken given before rest far_side awaited.asker.handle far distinct far_in at awaited.asker.is_open) in
-        sym (ap (λ (f : EndFacts). f.event.channel) (step_facts awaited.sent.link (PacketSent awaited.sent.slot)))
-        ∙ (pasts_agree own.setup far.setup own.past far.past one_link entries).channel
+        (entering_in_run taken given before rest far_side awaited.asker.handle far distinct far_in at awaited.asker.is_open far_plain) in
+        sym (ap (λ (f : EndFacts). f.event.channel) (step_facts awaited.sent.link (PacketSent awaited.sent.slot))
+        ∙ ap (λ (event : ConnectionEvent). event.channel) (sent_in awaited.sent.slot (facts_in awaited.sent.link)).event)
+        ∙ (pasts_agree own.setup far.setup own.past far.past one_link own_plain far_plain entries).channel
 
     short : 27 ≤ far.setup.link.max_rx
     short =
@@ -253,9 +268,9 @@ module _ (whole : IsHeardWhole) (understood : IsUnderstood) (taken : AreTaken) (
     good : end_verdict far.setup (facts_in far) octets ≡ Good
     good =
         ap (end_verdict far.setup (facts_in far)) awaited.sent.packet
-        ∙ judged_good whole awaited.sent.link.setup far.setup (facts_in awaited.sent.link) (facts_in far) one_link
-        (past_fits awaited.sent.link.setup awaited.sent.link.past far.setup (facts_in far) short)
-        (past_form awaited.sent.link.setup awaited.sent.link.past) sent_channel
+        ∙ judged_good whole awaited.sent.link.setup far.setup (facts_in awaited.sent.link) (facts_in far)
+        (past_understood awaited.sent.link.setup awaited.sent.link.past far.setup (facts_in far)
+        (plain_front awaited.sent.link.setup awaited.sent.link.past (PacketSent awaited.sent.slot ∷ []) own_plain) one_link short sent_channel)
 
     is_heard : ListensFor (facts_at given far_side before) channel octets
     is_heard =

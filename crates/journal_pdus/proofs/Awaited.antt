@@ -4,8 +4,8 @@ use Rattle.std.specs.Prelude.{⊤, if◌then◌else◌}
 use Rattle.std.proofs.lemmas.Bool.{eqb-true}
 use Rattle.std.proofs.lemmas.Slice.Eq.{bytes_eq-Decides}
 use Rattle.air_frame.specs.Packet.{access_octets}
-use Rattle.link_model.specs.Step.{PacketSent}
-use Rattle.open_links.specs.OpenLinks.{Links, OpenLink, facts_in, link_after, link_at}
+use Rattle.journal_data.specs.link_model.Step.{PacketSent}
+use Rattle.journal_data.specs.open_links.OpenLinks.{Links, OpenLink, facts_in, link_after, link_at}
 use Rattle.radio_replay.specs.declared.fates.Fate.{Fate}
 use Rattle.controller_model.specs.declared.doing.Doing.{Doing}
 use Rattle.controller_model.specs.declared.doing.Doing.TheVariants.{Advertises, CentralSends, CentralListens, PeripheralSends}
@@ -23,13 +23,13 @@ use Rattle.run_model.specs.Run.{Given, after_call, facts_at, hearings_of, setup_
 use Rattle.run_model.proofs.LinkEnds.{AreTaken, IsUnderstood, is_listener}
 use Rattle.run_model.proofs.Stations.{is_in, among, not_before}
 use Rattle.run_model.proofs.Walk.{Place, NoTurn, AtFeeds, AtBegins, AfterPhases, AtPackets, AtListening, AtEnds, IsKept}
-use Rattle.run_laws.proofs.ConnectInds.{on_channel}
-use Rattle.run_laws.proofs.Hearings.{other_facts, own_facts, use_same, use_sent_at}
-use Rattle.run_laws.proofs.InAgreement.{differs_back}
-use Rattle.run_laws.proofs.LinkPhases.{IsInPhase}
-use Rattle.run_laws.proofs.OwnLinks.{sent_begins}
-use Rattle.run_laws.proofs.SentPackets.{IsUseSent}
-use Rattle.run_laws.proofs.TurnPlaces.{Within, at_stage, event_past}
+use Rattle.journal_data.proofs.run_laws.ConnectInds.{on_channel}
+use Rattle.journal_data.proofs.run_laws.Hearings.{other_facts, own_facts, use_same, use_sent_at}
+use Rattle.journal_data.proofs.run_laws.InAgreement.{differs_back}
+use Rattle.journal_data.proofs.run_laws.LinkPhases.{IsInPhase}
+use Rattle.journal_data.proofs.run_laws.OwnLinks.{sent_begins}
+use Rattle.journal_data.proofs.run_laws.SentPackets.{IsUseSent}
+use Rattle.journal_data.proofs.run_laws.TurnPlaces.{Within, at_stage, event_past}
 use Rattle.journal_links.proofs.OfTwo.{of_two_stations}
 use Rattle.journal_packets.specs.Belonging.{have_one_access}
 use Rattle.journal_packets.proofs.Asked.{asked_called, asked_packet, asks_in, is_asked}

@@ -10,7 +10,7 @@ use Rattle.ble_base.specs.declared.roles.Side.{Side}
 use Rattle.adv_pdu.specs.declared.pdu.AdvPdu.{AdvPdu}
 use Rattle.adv_pdu.specs.declared.pdu.AdvPdu.TheVariants.{Connect}
 use Rattle.adv_pdu.specs.declared.pdu.ConnectFields.{ConnectFields}
-use Rattle.link_model.specs.declared.setup.LinkSetup.{LinkSetup}
+use Rattle.journal_data.specs.link_model.declared.setup.LinkSetup.{LinkSetup}
 use Rattle.journal.specs.declared.entries.Entry.{Entry}
 use Rattle.journal.specs.declared.entries.Entry.TheVariants.{Fed, Turn}
 use Rattle.radio_replay.specs.declared.fates.Fate.{Fate}
@@ -36,10 +36,10 @@ use Rattle.run_model.proofs.OpenedNotes.{is_opened, made_is_noted, opens_under}
 use Rattle.run_model.proofs.Parts.{journal_event}
 use Rattle.run_model.proofs.Stations.{is_in, among, in_more_other, in_more_same, not_before}
 use Rattle.run_model.proofs.Walk.{Place, NoTurn, AtFeeds, AtBegins, AfterPhases, AtPackets, AtListening, AtEnds, IsKept}
-use Rattle.run_laws.proofs.ConnectInds.{no_advertising}
-use Rattle.run_laws.proofs.Hearings.{other_facts, use_sent_at}
-use Rattle.run_laws.proofs.SentPackets.{IsUseSent, Says}
-use Rattle.run_laws.proofs.TurnPlaces.{event_past}
+use Rattle.journal_data.proofs.run_laws.ConnectInds.{no_advertising}
+use Rattle.journal_data.proofs.run_laws.Hearings.{other_facts, use_sent_at}
+use Rattle.journal_data.proofs.run_laws.SentPackets.{IsUseSent, Says}
+use Rattle.journal_data.proofs.run_laws.TurnPlaces.{event_past}
 use Rattle.journal_links.specs.Begun.{LinkBegun, begun_by, begun_in, link_numbered, links_begun, with_number}
 use Rattle.journal_links.proofs.LinksBegun.{links_more, note_begins}
 use Rattle.journal_packets.proofs.SentLinks.{begun_are_sent, is_answered, number_sent}

@@ -3,8 +3,8 @@ use Rattle.std.proofs.Common.{◌≡◌, ℕ, ◌+◌, ◌*◌, ◌≤◌, true,
 use Rattle.ble_base.specs.declared.roles.Side.{Side}
 use Rattle.adv_pdu.specs.declared.pdu.ConnectFields.{ConnectFields}
 use Rattle.journal.specs.declared.entries.Entry.TheVariants.{Turn}
-use Rattle.link_model.proofs.Received.{IsHeardWhole}
-use Rattle.open_links.specs.OpenLinks.{OpenLink, link_at}
+use Rattle.journal_data.proofs.link_model.Hearing.{IsHeardWhole}
+use Rattle.journal_data.specs.open_links.OpenLinks.{OpenLink, link_at}
 use Rattle.run_model.specs.Feeding.{AreDistinct}
 use Rattle.run_model.specs.History.{Event, packet_received, past_of, turns_begun}
 use Rattle.run_model.specs.Journal.{journal_of, side_of}
@@ -16,8 +16,8 @@ use Rattle.run_model.proofs.Fates.{turns_are}
 use Rattle.run_model.proofs.LinkEnds.{AreTaken, IsUnderstood}
 use Rattle.run_model.proofs.Stations.{is_in}
 use Rattle.run_model.proofs.Walk.{Place, NoTurn, IsKept}
-use Rattle.run_laws.proofs.DistinctAccess.{AreApart}
-use Rattle.run_laws.proofs.TurnPlaces.{stands_at, turned}
+use Rattle.journal_data.proofs.run_laws.DistinctAccess.{AreApart}
+use Rattle.journal_data.proofs.run_laws.TurnPlaces.{stands_at, turned}
 use Rattle.journal_links.specs.Begun.{LinkBegun}
 use Rattle.journal_packets.proofs.AccessOrder.{AreNth}
 use Rattle.journal_packets.proofs.SoFar.{IsBelongingSoFar}
@@ -62,7 +62,7 @@ all_last taken given Q known history has station handle link in_it at =
     let heard = plain (packet_received station history) handle (facts_at given station history).turn link _ (λ listens. has.is.holds.hearing.hears station in_it)
     (has.good station handle link in_it at) in
     let later = (turned setup (AreLater setup) (later_kept taken setup) (past_of station history) (stands_at NoTurn station (turns_begun history)) (later_first setup)
-    (has.is.holds.hearing.stand station in_it)).later handle link at in record {
+    (has.is.holds.hearing.stand station in_it)).later handle link at (known.plain NoTurn history has.is.known station in_it handle link at) in record {
       link = begun.link;
       is_link = begun.is_link;
       later = subst (λ n. n ≤ end_slot begun.link (last_heard (number_at station handle history) (side_of station) (journal_of history))) (sym (turns_are history))

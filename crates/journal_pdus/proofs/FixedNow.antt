@@ -1,13 +1,18 @@
--- Each packet of a link is of an end that fixed its PDU in this turn.
+-- Each packet of a plain link is of an end that fixed its PDU in this turn.
 use Rattle.std.proofs.Common.{◌≡◌, ℕ, suc, ◌+◌, Bool, true, false, Option, Some, None, List, refl, sym, ap, subst, ◌∙◌, arith}
 use Rattle.std.specs.Prelude.{⊤}
 use Rattle.std.specs.Option.{option_map}
 use Rattle.std.proofs.lemmas.Bool.{eqb-true, false_from_ne_true}
-use Rattle.link_model.specs.Facts.{Facts as EndFacts}
-use Rattle.link_model.specs.Packets.{good_pdu, packet_sent}
-use Rattle.link_model.specs.Step.{PacketReceived, PacketSent, PduFixed}
-use Rattle.open_links.specs.OpenLinks.{Links, OpenLink, facts_in, link_after, link_at, with_change}
-use Rattle.open_links.proofs.Handles.{changed_is}
+use Rattle.journal_data.specs.link_model.Facts.{Facts as EndFacts}
+use Rattle.journal_data.specs.link_model.Packets.{good_pdu, packet_sent}
+use Rattle.journal_data.specs.link_model.Step.{Step as EndStep, PacketReceived, PacketSent, PduFixed, RequestAnswered}
+use Rattle.journal_data.specs.plain_links.Plain.{ArePlain}
+use Rattle.journal_data.specs.plain_links.Steps.{plain_after}
+use Rattle.journal_data.proofs.plain_links.Growing.{plain_less}
+use Rattle.journal_data.proofs.plain_links.Idle.{past_idle}
+use Rattle.journal_data.proofs.plain_links.Steps.{step_plain}
+use Rattle.journal_data.specs.open_links.OpenLinks.{Links, OpenLink, facts_in, link_after, link_at, with_change}
+use Rattle.journal_data.proofs.open_links.Handles.{changed_is}
 use Rattle.controller_model.specs.declared.doing.Doing.{Doing}
 use Rattle.controller_model.specs.declared.doing.Doing.TheVariants.{Advertises, CentralSends, CentralListens, PeripheralListens, PeripheralSends, Rests}
 use Rattle.controller_model.specs.Step.{HostOctet, TurnBegins, TurnEnds}
@@ -18,31 +23,36 @@ use Rattle.controller_model.specs.Outcome.{facts_passed}
 use Rattle.controller_model.specs.Packets.{facts_doing, sends_on}
 use Rattle.controller_model.specs.Radio.{facts_entering, links_fixing, outcome_begun, plan_in, served, turn_begins}
 use Rattle.controller_model.specs.Side.{facts_after}
+use Rattle.controller_model.proofs.Places.{at_received, link_receiving, refusal, refused_if, refuses_at}
 use Rattle.slot_plan.specs.Holding.{winner_of}
 use Rattle.run_model.specs.History.{Event}
 use Rattle.run_model.specs.Run.{Given, facts_at, step_of}
-use Rattle.run_laws.proofs.Agreed.{step_facts}
-use Rattle.run_laws.proofs.LinkPasses.{IsPassing, Leaves, Opens, Receives, is_on_link, phase_passes}
-use Rattle.run_laws.proofs.TurnPlaces.{Between, IsTurned, Stage, Within}
+use Rattle.journal_data.proofs.run_laws.Agreed.{step_facts}
+use Rattle.journal_data.proofs.run_laws.LinkPasses.{IsPassingOn, LeavesAll, OpensOne, ReceivesOn, is_on_link, phase_passes_on}
+use Rattle.journal_data.proofs.run_laws.TurnPlaces.{Between, IsTurned, Stage, Within}
 use Rattle.journal_packets.specs.Senders.{IsOfSendersLink}
 use Rattle.journal_acks.proofs.LinkCalls.{off_sends}
-use Rattle.run_laws.proofs.LinkPhases.{IsInPhase}
+use Rattle.journal_data.proofs.run_laws.LinkPhases.{IsInPhase}
 use Rattle.journal_acks.proofs.LinkPhases.{IsPhased, phased_first, phased_kept}
 use Rattle.journal_acks.proofs.LinkUses.{sends_under}
 use Rattle.journal_acks.proofs.UnderHandles.{same_base}
 use Rattle.journal_pdus.proofs.NextPieces.{IsFixedNow, fixed_now, received_now}
 
+-- on a plain link the PDU that is fixed is the next piece still
+abbrev pub FixedIfPlain : OpenLink → Type 0
+FixedIfPlain link = ArePlain link.setup link.past → IsFixedNow (facts_in link).outgoing
+
 -- the end under a handle fixed its PDU
 abbrev pub HasFixed : Option OpenLink → Type 0
 HasFixed None = ⊤
-HasFixed (Some link) = IsFixedNow (facts_in link).outgoing
+HasFixed (Some link) = FixedIfPlain link
 
 -- what a link that it sends on was before that, and what it wants of the radio
 pub record IsSendingFixed (facts : Facts) (after : OpenLink) : Type 0 where
   pub link : OpenLink
   pub after_is : after ≡ link_after (PacketSent facts.turn.slot) link
   pub wanted : facts.wanted ≡ Sends (facts_in link).event.channel (packet_sent link.setup (facts_in link))
-  pub fixed : IsFixedNow (facts_in link).outgoing
+  pub fixed : FixedIfPlain link
 
 abbrev pub AllSendFixed : Facts → Type 0
 AllSendFixed facts = (handle : ℕ) (after : OpenLink) → sends_under handle facts.turn.doing ≡ true → link_at handle facts.links ≡ Some after → IsSendingFixed facts after
@@ -117,8 +127,17 @@ off_fixed facts off = record {
 
 -- ---- a turn begins
 
-fixed_end : (link : OpenLink) → IsFixedNow (facts_in (link_after PduFixed link)).outgoing
-fixed_end link = subst (λ (f : EndFacts). IsFixedNow f.outgoing) (sym (step_facts link PduFixed)) (fixed_now (facts_in link).outgoing)
+-- a step of a plain link is a plain one
+plain_end : (step : EndStep) (link : OpenLink) → ArePlain (link_after step link).setup (link_after step link).past
+    → (ArePlain link.setup link.past → IsFixedNow (plain_after link.setup (facts_in link) step).outgoing)
+    → IsFixedNow (facts_in (link_after step link)).outgoing
+plain_end step link plain is =
+    let less = plain_less link.setup link.past step plain in
+    subst (λ (f : EndFacts). IsFixedNow f.outgoing)
+    (sym (step_facts link step ∙ step_plain link.setup (facts_in link) (past_idle link.setup link.past less.0) step less.1)) (is less.0)
+
+fixed_end : (link : OpenLink) → FixedIfPlain (link_after PduFixed link)
+fixed_end link = λ plain. plain_end PduFixed link plain (λ before. fixed_now (facts_in link).outgoing)
 
 fixed_place : (place : Option OpenLink) → HasFixed (option_map (link_after PduFixed) place)
 fixed_place None = tt
@@ -149,23 +168,29 @@ begins_fixed setup slot on facts phase =
 
 -- ---- a phase passes
 
-received_end : (slot : ℕ) (octets : List ℕ) (room : Bool) (link : OpenLink) → IsFixedNow (facts_in link).outgoing
-    → IsFixedNow (facts_in (link_after (PacketReceived slot octets room) link)).outgoing
-received_end slot octets room link is =
-    subst (λ (f : EndFacts). IsFixedNow f.outgoing) (sym (step_facts link (PacketReceived slot octets room)))
-    (received_now slot room (good_pdu link.setup (facts_in link) octets) (facts_in link) is)
+received_end : (slot : ℕ) (octets : List ℕ) (room : Bool) (link : OpenLink) → FixedIfPlain link
+    → FixedIfPlain (link_after (PacketReceived slot octets room) link)
+received_end slot octets room link is = λ plain.
+    plain_end (PacketReceived slot octets room) link plain
+    (λ before. received_now slot room (good_pdu link.setup (facts_in link) octets) (facts_in link) (is before))
 
-received_place : (slot : ℕ) (octets : List ℕ) (room : Bool) (place : Option OpenLink) → HasFixed place
-    → HasFixed (option_map (link_after (PacketReceived slot octets room)) place)
-received_place slot octets room None has = tt
-received_place slot octets room (Some link) has = received_end slot octets room link has
+-- a plain link refuses nothing
+refused_end : (refuses : Bool) (link : OpenLink) → FixedIfPlain link → FixedIfPlain (refused_if refuses link)
+refused_end true link is = λ plain. absurd (plain_less link.setup link.past (RequestAnswered refusal) plain).1
+refused_end false link is = is
 
-reply_may : (replies : Bool) (slot handle : ℕ) (octets : List ℕ) (room : Bool) (links : Links) → HasFixed (link_at handle links)
-    → MaySend (with_change handle (link_after (PacketReceived slot octets room)) links) (reply_if replies handle)
-reply_may false slot handle octets room links has = tt
-reply_may true slot handle octets room links has =
-    subst HasFixed (sym (changed_is (option_map (link_after (PacketReceived slot octets room))) 0 handle links refl))
-    (received_place slot octets room (link_at handle links) has)
+received_place : (handle : ℕ) (octets : List ℕ) (room : Bool) (facts : Facts) (place : Option OpenLink) → HasFixed place
+    → HasFixed (option_map (link_receiving handle room octets facts) place)
+received_place handle octets room facts None has = tt
+received_place handle octets room facts (Some link) has =
+    refused_end (refuses_at handle room octets facts) (link_after (PacketReceived facts.turn.slot octets room) link)
+    (received_end facts.turn.slot octets room link has)
+
+reply_may : (replies : Bool) (handle : ℕ) (octets : List ℕ) (room : Bool) (facts : Facts) → HasFixed (link_at handle facts.links)
+    → MaySend (link_received handle room octets facts).links (reply_if replies handle)
+reply_may false handle octets room facts has = tt
+reply_may true handle octets room facts has =
+    at_received HasFixed handle handle room octets facts has (λ same. received_place handle octets room facts (link_at handle facts.links) has)
 
 -- a central does not answer
 central_rests : (replies : Bool) (phases handle : ℕ) (facts : Facts) (links : Links) → phases ≡ 1 → IsInPhase (suc phases) links (reply_if replies handle)
@@ -173,18 +198,18 @@ central_rests : (replies : Bool) (phases handle : ℕ) (facts : Facts) (links : 
 central_rests false phases handle facts links second is = doing_fixed Rests facts tt
 central_rests true phases handle facts links second is = absurd (let third = is.0 in omega (arith, second, third))
 
-off_passed : (facts after : Facts) (received : Option (List ℕ)) → is_on_link facts.turn.doing ≡ false → IsPassing facts received after → AreFixed after
-off_passed facts after received off (Leaves same on) =
+off_passed : (facts after : Facts) (received : Option (List ℕ)) → is_on_link facts.turn.doing ≡ false → IsPassingOn facts received after → AreFixed after
+off_passed facts after received off (LeavesAll same on) =
     off_fixed after (false_from_ne_true (is_on_link after.turn.doing) (λ does. let h : true ≡ false = sym (on does) ∙ off in absurd cc))
-off_passed facts after received off (Opens link is none) = off_fixed after none
-off_passed facts after received off (Receives handle octets is wanted on room replies links_are) = absurd (let h : true ≡ false = sym on ∙ off in absurd cc)
+off_passed facts after received off (OpensOne link is none) = off_fixed after none
+off_passed facts after received off (ReceivesOn handle octets is wanted listens on room refuses replies refused links_are) = absurd (let h : true ≡ false = sym on ∙ off in absurd cc)
 
 abbrev PassedIn : ℕ → Facts → Type 0
 PassedIn phases after = IsInPhase phases after.links after.turn.doing
 
 passes_fixed : (setup : Setup) (facts : Facts) (received : Option (List ℕ)) (phases : ℕ) (doing : Doing) → facts.turn.doing ≡ doing
     → ListensFixed facts.links doing → IsInPhase phases facts.links doing → PassedIn (suc phases) (facts_after setup facts (step_of received))
-    → IsPassing facts received (facts_after setup facts (step_of received)) → AreFixed (facts_after setup facts (step_of received))
+    → IsPassingOn facts received (facts_after setup facts (step_of received)) → AreFixed (facts_after setup facts (step_of received))
 passes_fixed setup facts None phases (CentralSends handle) doing has is next passing =
     subst (λ (d : Doing). AreFixed (facts_passed (unheard d facts))) (sym doing) (doing_fixed (CentralListens handle) facts tt)
 passes_fixed setup facts (Some octets) phases (CentralSends handle) doing has is next passing =
@@ -194,15 +219,15 @@ passes_fixed setup facts None phases (CentralListens handle) doing has is next p
 passes_fixed setup facts (Some octets) phases (CentralListens handle) doing has is next passing =
     let then_is = subst (λ (d : Doing). PassedIn (suc phases) (facts_passed (heard setup d octets facts))) doing next in
     subst (λ (d : Doing). AreFixed (facts_passed (heard setup d octets facts))) (sym doing)
-    (central_rests (replies_in (link_at handle facts.links) octets) phases handle (link_received handle (has_room setup facts) octets facts)
+    (central_rests (replies_in facts.turn.slot (has_room setup facts) (link_at handle facts.links) octets) phases handle (link_received handle (has_room setup facts) octets facts)
     (facts_passed (heard setup (CentralListens handle) octets facts)).links is.0 then_is)
 passes_fixed setup facts None phases (PeripheralListens handle) doing has is next passing =
     subst (λ (d : Doing). AreFixed (facts_passed (unheard d facts))) (sym doing) (doing_fixed Rests facts tt)
 passes_fixed setup facts (Some octets) phases (PeripheralListens handle) doing has is next passing =
-    let replies = replies_in (link_at handle facts.links) octets in
     let room = has_room setup facts in
+    let replies = replies_in facts.turn.slot room (link_at handle facts.links) octets in
     subst (λ (d : Doing). AreFixed (facts_passed (heard setup d octets facts))) (sym doing)
-    (doing_fixed (reply_if replies handle) (link_received handle room octets facts) (reply_may replies facts.turn.slot handle octets room facts.links has))
+    (doing_fixed (reply_if replies handle) (link_received handle room octets facts) (reply_may replies handle octets room facts has))
 passes_fixed setup facts None phases (PeripheralSends handle) doing has is next passing =
     subst (λ (d : Doing). AreFixed (facts_passed (unheard d facts))) (sym doing) (doing_fixed Rests facts tt)
 passes_fixed setup facts (Some octets) phases (PeripheralSends handle) doing has is next passing =
@@ -231,7 +256,7 @@ fixed_kept setup = record {
   passes = λ phases begun received facts is.
       let phased = (phased_kept setup).passes phases begun received facts is.phased in
       with_phase setup (Within (suc phases)) begun _ phased
-      (passes_fixed setup facts received phases facts.turn.doing refl is.listens is.phased.phase phased.phase (phase_passes setup facts received is.phased.uses.in_turn.listens));
+      (passes_fixed setup facts received phases facts.turn.doing refl is.listens is.phased.phase phased.phase (phase_passes_on setup facts received is.phased.uses.in_turn.listens));
   ends = λ begun facts is.
       let phased = (phased_kept setup).ends begun facts is.phased in
       with_phase setup Between begun _ phased (off_fixed (facts_after setup facts TurnEnds) (ap is_on_link phased.phase));
@@ -243,9 +268,9 @@ fixed_first setup = with_phase setup Between 0 (first_facts setup) (phased_first
 -- ---- the link before it sent
 
 pub sender_fixed : (given : Given) (history : List Event) (station channel : ℕ) (octets : List ℕ) (from : IsOfSendersLink given history station channel octets)
-    → AllSendFixed (facts_at given station history) → sends_under from.handle (facts_at given station history).turn.doing ≡ true
+    → ArePlain from.link.setup from.link.past → AllSendFixed (facts_at given station history) → sends_under from.handle (facts_at given station history).turn.doing ≡ true
     → IsFixedNow (facts_in from.link).outgoing
-sender_fixed given history station channel octets from sends on =
+sender_fixed given history station channel octets from plain sends on =
     let facts = facts_at given station history in
     let sending = sends from.handle (link_after (PacketSent from.slot) from.link) on from.is_open in
-    subst (λ (l : OpenLink). IsFixedNow (facts_in l).outgoing) (sym (same_base from.slot facts.turn.slot from.link sending.link sending.after_is)) sending.fixed
+    subst FixedIfPlain (sym (same_base from.slot facts.turn.slot from.link sending.link sending.after_is)) sending.fixed plain

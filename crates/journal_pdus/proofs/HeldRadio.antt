@@ -1,4 +1,4 @@
--- What holds the radio of a controller, after each call: a link holds it for two slots from the anchor of its event on.
+-- What holds the radio of a controller, after each call: a link holds it from the anchor of its event on.
 use Rattle.std.proofs.Common.{◌≡◌, ℕ, ◌==◌, Bool, true, false, Option, Some, None, List, [], ◌∷◌, refl, sym, subst}
 use Rattle.std.specs.Prelude.{fold, if◌then◌else◌}
 use Rattle.ble_base.specs.declared.roles.Role.{Role}
@@ -12,24 +12,25 @@ use Rattle.h4_frames.specs.declared.packet.HostPacket.TheVariants.{Command as Ho
 use Rattle.h4_frames.specs.declared.packet.Fed.{Fed}
 use Rattle.h4_frames.specs.declared.packet.Fed.TheVariants.{More, Packet, LostSync}
 use Rattle.host_view.specs.Unbuilt.{status_of}
-use Rattle.link_model.specs.declared.setup.LinkSetup.{LinkSetup}
-use Rattle.link_model.specs.Times.{span_of}
-use Rattle.open_links.specs.declared.ended.LinkEnded.{LinkEnded}
-use Rattle.open_links.specs.declared.offers.Offer.{Offer}
-use Rattle.open_links.specs.declared.offers.Offer.TheVariants.{NoLink, Empty, Overflow, Kept}
+use Rattle.journal_data.specs.link_model.declared.setup.LinkSetup.{LinkSetup}
+use Rattle.journal_data.specs.open_links.declared.ended.LinkEnded.{LinkEnded}
+use Rattle.journal_data.specs.open_links.declared.offers.Offer.{Offer}
+use Rattle.journal_data.specs.open_links.declared.offers.Offer.TheVariants.{NoLink, Empty, Overflow, Kept}
+use Rattle.journal_data.specs.open_links.OpenLinks.{Links, link_at}
+use Rattle.journal_data.specs.open_links.Turns.{due_in, ending_in}
 use Rattle.slot_plan.specs.declared.Activity.{Activity}
 use Rattle.slot_plan.specs.declared.Activity.TheVariants.{Link, Advertise, Scan, Initiate}
 use Rattle.slot_plan.specs.declared.plan.Hold.{Hold}
 use Rattle.slot_plan.specs.Holding.{is_held_in, winner_of}
 use Rattle.controller_model.specs.Commands.{facts_commanded, facts_known, radio_after, radio_unadvertised}
-use Rattle.controller_model.specs.Data.{facts_offered, offer_of}
+use Rattle.controller_model.specs.Data.{facts_handed, facts_offered, offer_of}
 use Rattle.controller_model.specs.Facts.{Facts, Radio, Setup, free_radio}
 use Rattle.controller_model.specs.Heard.{link_taken, opens}
-use Rattle.controller_model.specs.Links.{ends_in, facts_ending, facts_shut, is_link, stopped}
+use Rattle.controller_model.specs.Links.{ends_for, facts_ending, facts_shut, is_link, stopped}
 use Rattle.controller_model.specs.Outcome.{facts_passed}
-use Rattle.controller_model.specs.Radio.{facts_entering, facts_won, plan_in, radio_served, served, turn_begins, winner_served}
+use Rattle.controller_model.specs.Radio.{facts_entering, facts_won, plan_in, radio_held, radio_served, served, span_at, turn_begins, winner_served}
 use Rattle.controller_model.specs.Side.{facts_after, facts_fed, result_of}
-use Rattle.controller_model.specs.Step.{HostOctet, TurnBegins}
+use Rattle.controller_model.specs.Step.{HostOctet, TurnBegins, TurnEnds}
 use Rattle.controller_model.proofs.Phases.{EachOutcome, heard_is, unheard_is}
 use Rattle.run_model.specs.Run.{step_of}
 
@@ -121,7 +122,7 @@ pub phase_keeps : (setup : Setup) (facts : Facts) (received : Option (List ℕ))
 phase_keeps setup facts None = unheard_is setup facts _ (outcomes_keep setup facts) facts.turn.doing refl
 phase_keeps setup facts (Some octets) = heard_is setup facts _ (outcomes_keep setup facts) facts.turn.doing octets refl
 
--- ---- a turn begins
+-- ---- links end
 
 without_keeps : (ends : Bool) (radio : Radio) → Keeps radio (if ends then free_radio else radio)
 without_keeps true radio = keeps_free radio
@@ -133,35 +134,42 @@ shuts_keep (ended ∷ ends) facts =
     keeps_then facts.radio (facts_shut facts ended).radio (fold facts_shut (facts_shut facts ended) ends).radio
     (without_keeps (is_link ended.handle facts.radio.holder) facts.radio) (shuts_keep ends (facts_shut facts ended))
 
+-- as a turn begins
 pub ending_keeps : (slot : ℕ) (facts : Facts) → Keeps facts.radio (facts_ending slot facts).radio
-ending_keeps slot facts = shuts_keep (ends_in slot facts) _
+ending_keeps slot facts = shuts_keep (ends_for (due_in slot) facts) _
+
+-- and as one ends
+pub end_keeps : (setup : Setup) (facts : Facts) → Keeps facts.radio (facts_after setup facts TurnEnds).radio
+end_keeps setup facts = shuts_keep (ends_for ending_in (facts_handed facts)) _
+
+-- ---- what wins a slot
 
 -- it stays held, or the link that wins the slot holds it from there on
-pub data IsBegunSo (slot : ℕ) (winner : Option Activity) (before after : Radio) : Type 0 where
-  Stays : Keeps before after → IsBegunSo slot winner before after
-  Holds : (handle : ℕ) → winner ≡ Some (Link handle) → after ≡ record { hold = Some (record { from = record { 0 = slot }; slots = span_of }); holder = Link handle }
-      → IsBegunSo slot winner before after
+pub data IsBegunSo (slot : ℕ) (winner : Option Activity) (links : Links) (before after : Radio) : Type 0 where
+  Stays : Keeps before after → IsBegunSo slot winner links before after
+  Holds : (handle : ℕ) → winner ≡ Some (Link handle) → after ≡ radio_held (Link handle) slot (span_at (link_at handle links)) → IsBegunSo slot winner links before after
 
-won_so : (slot : ℕ) (activity : Activity) (facts : Facts) → IsBegunSo slot (Some activity) facts.radio (facts_won slot activity facts).radio
+won_so : (slot : ℕ) (activity : Activity) (facts : Facts) → IsBegunSo slot (Some activity) facts.links facts.radio (facts_won slot activity facts).radio
 won_so slot (Link handle) facts = Holds handle refl refl
 won_so slot Advertise facts = Stays (λ hold handle is holder. absurd (let h : Advertise ≡ Link handle = holder in absurd cc))
 won_so slot Scan facts = Stays (keeps_same facts.radio)
 won_so slot Initiate facts = Stays (keeps_same facts.radio)
 
-winner_so : (slot : ℕ) (winner : Option Activity) (facts : Facts) → IsBegunSo slot winner facts.radio (winner_served slot winner facts).facts.radio
+winner_so : (slot : ℕ) (winner : Option Activity) (facts : Facts) → IsBegunSo slot winner facts.links facts.radio (winner_served slot winner facts).facts.radio
 winner_so slot None facts = Stays (keeps_same facts.radio)
 winner_so slot (Some activity) facts = won_so slot activity facts
 
-radio_so : (held : Bool) (slot : ℕ) (winner : Option Activity) (facts : Facts) → IsBegunSo slot winner facts.radio (radio_served held slot winner facts).facts.radio
+radio_so : (held : Bool) (slot : ℕ) (winner : Option Activity) (facts : Facts) → IsBegunSo slot winner facts.links facts.radio (radio_served held slot winner facts).facts.radio
 radio_so true slot winner facts = Stays (keeps_same facts.radio)
 radio_so false slot winner facts = winner_so slot winner facts
 
-served_so : (on : Bool) (slot : ℕ) (winner : Option Activity) (facts : Facts) → IsBegunSo slot winner facts.radio (served on slot winner facts).facts.radio
+served_so : (on : Bool) (slot : ℕ) (winner : Option Activity) (facts : Facts) → IsBegunSo slot winner facts.links facts.radio (served on slot winner facts).facts.radio
 served_so false slot winner facts = Stays (keeps_same facts.radio)
 served_so true slot winner facts = radio_so (is_held_in facts.radio.hold slot) slot winner facts
 
 pub begins_so : (setup : Setup) (slot : ℕ) (on : Bool) (facts : Facts)
-    → IsBegunSo slot (winner_of (plan_in slot (turn_begins slot (facts_ending slot facts))) slot) (facts_ending slot facts).radio (facts_after setup facts (TurnBegins slot on)).radio
+    → IsBegunSo slot (winner_of (plan_in slot (turn_begins slot (facts_ending slot facts))) slot) (facts_entering slot (turn_begins slot (facts_ending slot facts))).links
+    (facts_ending slot facts).radio (facts_after setup facts (TurnBegins slot on)).radio
 begins_so setup slot on facts =
     let begun = turn_begins slot (facts_ending slot facts) in
     served_so on slot (winner_of (plan_in slot begun) slot) (facts_entering slot begun)

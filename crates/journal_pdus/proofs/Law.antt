@@ -1,6 +1,6 @@
 -- In every journal of a run of a pair each line is the one that is due, and nothing is under way or waits between turns.
 use Rattle.std.proofs.Common.{◌≡◌, ℕ, List, length, refl}
-use Rattle.link_model.proofs.Received.{IsHeardWhole}
+use Rattle.journal_data.proofs.link_model.Hearing.{IsHeardWhole}
 use Rattle.radio_replay.specs.Script.{Script}
 use Rattle.run_model.specs.History.{Event}
 use Rattle.run_model.specs.Journal.{journal_of, side_of}
@@ -8,7 +8,7 @@ use Rattle.run_model.specs.Pair.{given_of}
 use Rattle.run_model.specs.Run.{GoesOn, Stop, Stops, history_of, run_of}
 use Rattle.run_model.proofs.LinkEnds.{AreTaken, IsUnderstood, pair_addresses}
 use Rattle.run_model.proofs.Ordered.{pair_distinct}
-use Rattle.run_laws.proofs.DistinctAccess.{AreApart}
+use Rattle.journal_data.proofs.run_laws.DistinctAccess.{AreApart}
 use Rattle.journal_turns.specs.Stopped.{IsStoppedAt}
 use Rattle.journal_packets.proofs.AccessOrder.{AreNth}
 use Rattle.journal_data.proofs.Law.{eight_of}
@@ -43,7 +43,7 @@ module _ (whole : IsHeardWhole) (understood : IsUnderstood) (taken : AreTaken) (
         go_out_at_once = told_lines whole understood taken nth apart given refl pair addresses distinct eight;
         taken_at_once = taken_lines whole understood taken nth apart given refl pair addresses distinct eight (some_air a b script);
         at_rest = resting_lines whole understood taken nth apart given refl pair addresses distinct eight (some_air a b script);
-        settled_as_shut = settled_as_shut given;
+        settled_as_shut = settled_as_shut given addresses distinct;
         settled = settled_lines whole understood taken nth apart given refl pair addresses distinct eight;
       }
 

@@ -7,26 +7,32 @@ use Rattle.ble_base.specs.declared.notes.Note.TheVariants.{Up as UpNote, Sent as
 use Rattle.ble_base.specs.declared.roles.Side.{Side}
 use Rattle.ack_bit.specs.Nonempty.{nonempty}
 use Rattle.journal.specs.declared.entries.Entry.TheVariants.{Sent}
-use Rattle.link_model.specs.Acknowledgement.{Pdu, is_acked}
-use Rattle.link_model.specs.Data.{is_empty, numbered}
-use Rattle.link_model.specs.Delivery.{sent_data, sent_note}
-use Rattle.link_model.specs.End.{sent_notes, sent_notes_if}
-use Rattle.link_model.specs.Step.{PacketReceived, PacketSent}
-use Rattle.link_model.proofs.Received.{IsHeardWhole}
-use Rattle.open_links.specs.OpenLinks.{OpenLink, facts_in, link_after, link_at, with_change}
-use Rattle.open_links.specs.Turns.{notes_entering}
-use Rattle.open_links.proofs.Handles.{handle_is}
+use Rattle.journal_data.specs.link_model.Acknowledgement.{Acknowledgement, Pdu, is_acked}
+use Rattle.journal_data.specs.link_model.Data.{is_empty, numbered}
+use Rattle.journal_data.specs.link_model.Data.{sent_data}
+use Rattle.journal_data.specs.link_model.Numbers.{sent_note}
+use Rattle.journal_data.specs.link_model.Controls.{pdu_fixed}
+use Rattle.journal_data.specs.link_model.Sending.{sent_notes, sent_notes_if}
+use Rattle.journal_data.specs.link_model.Step.{PacketSent}
+use Rattle.journal_data.specs.link_model.Setup.{Setup as EndSetup}
+use Rattle.journal_data.proofs.link_model.Hearing.{IsHeardWhole}
+use Rattle.journal_data.specs.open_links.OpenLinks.{OpenLink, facts_in, link_after, link_at}
+use Rattle.journal_data.proofs.open_links.Handles.{handle_is}
+use Rattle.journal_data.proofs.plain_links.Growing.{plain_front}
+use Rattle.journal_data.proofs.plain_links.Idle.{past_idle}
+use Rattle.journal_data.proofs.plain_links.Steps.{pdu_plain}
 use Rattle.controller_model.specs.declared.doing.Doing.TheVariants.{PeripheralSends}
 use Rattle.controller_model.specs.Step.{Step, HostOctet, TurnBegins, TurnEnds}
 use Rattle.controller_model.specs.Facts.{Facts}
-use Rattle.controller_model.specs.Heard.{has_room, link_heard, link_received, notes_taken, replies_in, reply_if}
-use Rattle.controller_model.specs.Links.{facts_ending, notes_ending}
+use Rattle.controller_model.specs.Heard.{has_room, link_heard, link_received, replies_in, reply_if}
 use Rattle.controller_model.specs.Outcome.{facts_passed, notes_passed}
 use Rattle.controller_model.specs.Packets.{facts_doing, notes_doing, notes_sent}
+use Rattle.controller_model.specs.Plain.{AllPlain}
 use Rattle.controller_model.specs.Radio.{outcome_begun}
 use Rattle.controller_model.specs.Side.{facts_after, notes_after}
 use Rattle.controller_model.proofs.Always.{IsInTurn}
 use Rattle.controller_model.proofs.Handles.{own_handles}
+use Rattle.controller_model.proofs.Places.{link_receiving}
 use Rattle.run_model.specs.Feeding.{AreDistinct}
 use Rattle.run_model.specs.History.{Event, Called, Noted, packet_received, past_of, turns_begun}
 use Rattle.run_model.specs.Journal.{entry_of, journal_of, side_of}
@@ -38,13 +44,14 @@ use Rattle.run_model.proofs.NoteLines.{line_in_call, to_line}
 use Rattle.run_model.proofs.Places.{each_at}
 use Rattle.run_model.proofs.Stations.{among, is_in}
 use Rattle.run_model.proofs.Walk.{Place, AtBegins, AtListening}
-use Rattle.run_laws.proofs.Agreed.{ack_of}
-use Rattle.run_laws.proofs.DistinctAccess.{AreApart}
-use Rattle.run_laws.proofs.Hearings.{own_facts}
-use Rattle.run_laws.proofs.TurnPlaces.{AllStand, stands_at, turned}
+use Rattle.journal_data.specs.run_laws.Plainness.{IsPlainLink}
+use Rattle.journal_data.proofs.run_laws.Agreed.{ack_of}
+use Rattle.journal_data.proofs.run_laws.DistinctAccess.{AreApart}
+use Rattle.journal_data.proofs.run_laws.Hearings.{own_facts}
+use Rattle.journal_data.proofs.run_laws.TurnPlaces.{AllStand, stands_at, turned}
 use Rattle.journal_packets.proofs.AccessOrder.{AreNth}
 use Rattle.journal_packets.proofs.SoFar.{IsBelongingSoFar}
-use Rattle.journal_acks.proofs.CallNotes.{HasNoData, SendsNone, all_more, end_noted, is_sending, no_data, octet_noted, start_noted}
+use Rattle.journal_acks.proofs.CallNotes.{HasNoData, SendsNone, all_more, end_noted, is_sending, no_data, notes_starting, octet_noted, start_noted}
 use Rattle.journal_acks.proofs.Counting.{AreKnown}
 use Rattle.journal_acks.proofs.DataCalls.{on_link_notes, own_begun, received_at, sent_at, unfound}
 use Rattle.journal_acks.proofs.EachCall.{HaveCalls, OfCall, run_calls}
@@ -52,7 +59,7 @@ use Rattle.journal_acks.proofs.Exchanging.{number_at, number_notes}
 use Rattle.journal_acks.proofs.FirstCounts.{IsCallOf, OfNone}
 use Rattle.journal_acks.proofs.KeptCounts.{begun_call, call_is}
 use Rattle.journal_acks.proofs.Known.{known_of}
-use Rattle.journal_acks.proofs.LinkCalls.{base_ack, begins_under, taken_noted}
+use Rattle.journal_acks.proofs.LinkCalls.{base_ack, begins_under, received_noted, receiving_ack, receiving_setup, taking_sends}
 use Rattle.journal_acks.proofs.LinkUses.{sends_under}
 use Rattle.journal_acks.proofs.NewPdus.{between_turns, none_opened as none_opened_before}
 use Rattle.journal_acks.proofs.PhaseNotes.{IsOnLink, IsPhaseOf, IsPlainPhase, SendsFrom, SendsNothing, SendsOne, phase_of, sends_from, sent_same}
@@ -66,11 +73,11 @@ use Rattle.journal_data.proofs.KeptData.{IsDataAt, data_kept, pass_in_turn}
 use Rattle.journal_data.proofs.Law.{first_data}
 use Rattle.journal_data.proofs.FewLinks.{HaveFewLinks}
 use Rattle.journal_data.proofs.Openness.{AreNot, opens_where_free}
-use Rattle.journal_data.proofs.SameGiven.{WasGiven, after_sent, given_in, turn_given}
+use Rattle.journal_data.proofs.SameGiven.{WasGiven, given_in, own_same, turn_given}
 use Rattle.journal_data.proofs.Submitting.{call_submits}
 use Rattle.journal_pdus.specs.Exchanged.{AllAreNext}
 use Rattle.journal_pdus.specs.Waiting.{IsNextPdu, data_of_lines, next_pdu, octets_sent}
-use Rattle.journal_pdus.proofs.FixedNow.{AllSendFixed, IsFixed, fixed_first, fixed_kept}
+use Rattle.journal_pdus.proofs.FixedNow.{AllSendFixed, FixedIfPlain, IsFixed, fixed_first, fixed_kept}
 use Rattle.journal_pdus.proofs.NextPieces.{IsFixedNow, piece_is_next}
 
 -- ---- a new PDU is noted last in its call
@@ -148,16 +155,16 @@ plain_sent : (notes : List Note) → All HasNoData notes → AreNot is_sending n
 plain_sent notes all = none_sent notes (all_more HasNoData SendsNone (λ note has. has.sends) notes all)
 
 sent_if : (P : ℕ → ℕ → Pdu → Type 0) (starts : List Note) (base : OpenLink) (noted : Bool) → AreNot is_sending starts
-    → P base.setup.link.handle (numbered (ack_of base).sent + 1) (facts_in base).outgoing.fixed
-    → IsSentLast P (starts ++ sent_notes_if noted base.setup.link.handle (facts_in base))
+    → P base.setup.link.handle (numbered (ack_of base).sent + 1) (pdu_fixed (facts_in base))
+    → IsSentLast P (starts ++ sent_notes_if noted base.setup.link.handle (numbered (ack_of base).sent) (pdu_fixed (facts_in base)))
 sent_if P starts base true none is =
-    SendsNewLast starts base.setup.link.handle (numbered (ack_of base).sent + 1) (facts_in base).outgoing.fixed refl none is
+    SendsNewLast starts base.setup.link.handle (numbered (ack_of base).sent + 1) (pdu_fixed (facts_in base)) refl none is
 sent_if P starts base false none is = SendsNoNew (subst (AreNot is_sending) (sym (append-nil starts)) none)
 
 sent_by : (P : ℕ → ℕ → Pdu → Type 0) (starts : List Note) (base : OpenLink) → AreNot is_sending starts
-    → P base.setup.link.handle (numbered (ack_of base).sent + 1) (facts_in base).outgoing.fixed
+    → P base.setup.link.handle (numbered (ack_of base).sent + 1) (pdu_fixed (facts_in base))
     → IsSentLast P (starts ++ sent_notes base.setup (facts_in base))
-sent_by P starts base none is = sent_if P starts base (is_acked (ack_of base) && not (is_empty (facts_in base).outgoing.fixed)) none is
+sent_by P starts base none is = sent_if P starts base (is_acked (ack_of base) && not (is_empty (pdu_fixed (facts_in base)))) none is
 
 -- ---- the PDU that an end sends next
 
@@ -172,11 +179,12 @@ record IsSendingIn (given : Given) (station handle : ℕ) (history : List Event)
   slot : ℕ
   now : link_at handle (facts_after (setup_at given station) (facts_at given station history) step).links ≡ Some (link_after (PacketSent slot) base)
   sent : (ack_of base).sent ≡ (ack_of old).sent
+  plain : IsPlainLink base
   fixed : IsFixedNow (facts_in base).outgoing
 
 next_at : (given : Given) (station handle : ℕ) (history : List Event) (step : Step) (base : OpenLink) → (setup_at given station).links ≤ 4096
     → (setup_at given station).host_buffers ≡ 8 → IsWell given station history → IsSendingIn given station handle history step base
-    → IsNextAt (number_at station handle history) history station (numbered (ack_of base).sent + 1) (facts_in base).outgoing.fixed
+    → IsNextAt (number_at station handle history) history station (numbered (ack_of base).sent + 1) (pdu_fixed (facts_in base))
 next_at given station handle history step base few eight well sending =
     let setup = setup_at given station in
     let facts = facts_at given station history in
@@ -190,14 +198,15 @@ next_at given station handle history step base few eight well sending =
     turn_given handle setup past step sending.in_turn (link_after (PacketSent sending.slot) base) sending.now false opens in
     let same : was.old ≡ old = let some : Some was.old ≡ Some old = sym was.was ∙ sending.was in cc in
     let given_is : (facts_in base).outgoing.given ≡ data_on number lines =
-    sym (after_sent sending.slot base) ∙ was.same ∙ ap given_in same ∙ sym booked.submitted in
+    sym (own_same (PacketSent sending.slot) base tt) ∙ was.same ∙ ap given_in same ∙ sym booked.submitted in
     let lines_are : pdu_lines number 1 (nonempty is_empty (ack_of base).sent) ≡ pdus_on number lines.sent =
     ap (λ (pdus : List Pdu). pdu_lines number 1 (nonempty is_empty pdus)) sending.sent ∙ sym booked.sent in
     let sent_is : length (sent_data (ack_of base)) ≡ octets_sent number lines =
     ap length (sym (data_nonempty (ack_of base).sent) ∙ sym (lines_data number 1 (nonempty is_empty (ack_of base).sent)))
     ∙ ap (λ (all : List PduLine). length (data_of_lines all)) lines_are in
     record {
-      next = sending.fixed.next ∙ piece_is_next base.setup base.past ∙ (λ i. next_pdu [] 27 (given_is i) (sent_is i));
+      next = pdu_plain base.setup (facts_in base) (past_idle base.setup base.past sending.plain) ∙ sending.fixed.next
+          ∙ piece_is_next base.setup base.past sending.plain ∙ (λ i. next_pdu [] 27 (given_is i) (sent_is i));
       numbered = ap (λ n. n + 1) (sym (lines_length number 1 (nonempty is_empty (ack_of base).sent)) ∙ ap length lines_are);
     }
 
@@ -235,10 +244,15 @@ sends_fixed given place history stand station is =
 
 -- the end that sends after a step
 fixed_base : (facts : Facts) (other slot : ℕ) (base : OpenLink) → AllSendFixed facts → sends_under other facts.turn.doing ≡ true
-    → link_at other facts.links ≡ Some (link_after (PacketSent slot) base) → IsFixedNow (facts_in base).outgoing
+    → link_at other facts.links ≡ Some (link_after (PacketSent slot) base) → FixedIfPlain base
 fixed_base facts other slot base all sends at =
     let sending = all other (link_after (PacketSent slot) base) sends at in
-    subst (λ (l : OpenLink). IsFixedNow (facts_in l).outgoing) (sym (same_base slot facts.turn.slot base sending.link sending.after_is)) sending.fixed
+    subst FixedIfPlain (sym (same_base slot facts.turn.slot base sending.link sending.after_is)) sending.fixed
+
+-- and it was plain as it sent
+base_plain : (facts : Facts) (other slot : ℕ) (base : OpenLink) → AllPlain facts.links → link_at other facts.links ≡ Some (link_after (PacketSent slot) base)
+    → IsPlainLink base
+base_plain facts other slot base plain at = plain_front base.setup base.past (PacketSent slot ∷ []) (plain other (link_after (PacketSent slot) base) at)
 
 -- the note of it is under the handle of its link
 under_own : (history : List Event) (station own handle count : ℕ) (pdu : Pdu) → own ≡ handle → IsNextNote history station handle count pdu
@@ -251,20 +265,21 @@ module _ (given : Given) (few_links : HaveFewLinks given) (eight : (station : �
   facts = facts_at given station history
 
   begin_last : (slot : ℕ) (on : Bool) → AllSendFixed (facts_after (setup_at given station) facts (TurnBegins slot on))
+      → AllPlain (facts_after (setup_at given station) facts (TurnBegins slot on)).links
       → IsSentLast (IsNextNote history station) (notes_after (setup_at given station) facts (TurnBegins slot on))
-  begin_last slot on all = by (sends_from (outcome_begun slot on facts).next (outcome_begun slot on facts).facts)
+  begin_last slot on all plain = by (sends_from (outcome_begun slot on facts).next (outcome_begun slot on facts).facts)
     where
-      none : AreNot is_sending (notes_ending slot (facts_at given station history) ++ notes_entering slot (facts_ending slot (facts_at given station history)).links)
-      none = plain_sent (notes_ending slot facts ++ notes_entering slot (facts_ending slot facts).links) (start_noted HasNoData no_data slot facts)
+      none : AreNot is_sending (notes_starting slot (facts_at given station history))
+      none = plain_sent (notes_starting slot facts) (start_noted HasNoData no_data slot facts)
 
       by : SendsFrom (outcome_begun slot on (facts_at given station history)).next (outcome_begun slot on (facts_at given station history)).facts
           → IsSentLast (IsNextNote history station) (notes_after (setup_at given station) (facts_at given station history) (TurnBegins slot on))
       by (SendsNothing nothing) =
-          let start = notes_ending slot facts ++ notes_entering slot (facts_ending slot facts).links in
+          let start = notes_starting slot facts in
           SendsNoNew (subst (λ (more : List Note). AreNot is_sending (start ++ more)) (sym nothing) (subst (AreNot is_sending) (sym (append-nil start)) none))
       by (SendsOne other base found sends noted) =
           let setup = setup_at given station in
-          let start = notes_ending slot facts ++ notes_entering slot (facts_ending slot facts).links in
+          let start = notes_starting slot facts in
           let outcome = outcome_begun slot on facts in
           let now = outcome.facts.turn.slot in
           let after = link_after (PacketSent now) base in
@@ -274,9 +289,10 @@ module _ (given : Given) (few_links : HaveFewLinks given) (eight : (station : �
           let own = handle_is 0 other outcome.facts.links base (own_begun setup slot on facts (own_handles setup (past_of station history))).handles found in
           let base_is : begun.base ≡ base = let some : Some begun.base ≡ Some base = sym begun.found ∙ found in cc in
           let ack = base_ack facts slot on other _ after begun in
+          let is_plain = base_plain next other now base plain sent in
           subst (λ (more : List Note). IsSentLast (IsNextNote history station) (start ++ more)) (sym noted)
           (sent_by (IsNextNote history station) start base none
-          (under_own history station base.setup.link.handle other (numbered (ack_of base).sent + 1) (facts_in base).outgoing.fixed own
+          (under_own history station base.setup.link.handle other (numbered (ack_of base).sent + 1) (pdu_fixed (facts_in base)) own
           (next_at given station other history (TurnBegins slot on) base (few_links.links station) (eight station) well (record {
             in_turn = tt;
             old = begun.link;
@@ -284,7 +300,8 @@ module _ (given : Given) (few_links : HaveFewLinks given) (eight : (station : �
             slot = now;
             now = sent;
             sent = ap (λ (l : OpenLink). (ack_of l).sent) (sym base_is) ∙ ap (λ a. a.sent) ack;
-            fixed = fixed_base next other now base all sends sent;
+            plain = is_plain;
+            fixed = fixed_base next other now base all sends sent is_plain;
           }))))
 
   reply_last : (other : ℕ) (octets : List ℕ) (base : OpenLink) (starts : List Note) (replies : Bool) → link_at other facts.links ≡ Some base → AreNot is_sending starts
@@ -292,36 +309,41 @@ module _ (given : Given) (few_links : HaveFewLinks given) (eight : (station : �
       → facts_after (setup_at given station) facts (step_of (Some octets))
       ≡ facts_doing (reply_if replies other) (link_received other (has_room (setup_at given station) facts) octets facts)
       → AllSendFixed (facts_after (setup_at given station) facts (step_of (Some octets)))
+      → AllPlain (facts_after (setup_at given station) facts (step_of (Some octets))).links
       → IsSentLast (IsNextNote history station) (starts ++ notes_doing (reply_if replies other) (link_received other (has_room (setup_at given station) facts) octets facts))
-  reply_last other octets base starts false was none in_turn after_is all =
+  reply_last other octets base starts false was none in_turn after_is all plain =
       SendsNoNew (subst (AreNot is_sending) (sym (append-nil starts)) none)
-  reply_last other octets base starts true was none in_turn after_is all =
+  reply_last other octets base starts true was none in_turn after_is all plain =
       let setup = setup_at given station in
       let room = has_room setup facts in
       let slot = facts.turn.slot in
-      let taken = link_after (PacketReceived slot octets room) base in
-      let links = with_change other (link_after (PacketReceived slot octets room)) facts.links in
+      let taken = link_receiving other room octets facts base in
+      let links = (link_received other room octets facts).links in
       let next = facts_doing (PeripheralSends other) (link_received other room octets facts) in
-      let here = received_at slot other octets room facts.links base was in
+      let here = received_at other octets room facts base was in
       let sends = same_number other in
       let sent = sent_at slot other (PeripheralSends other) links taken sends here in
-      let own = handle_is 0 other facts.links base (own_handles setup (past_of station history)).handles was in
+      let own = ap (λ (s : EndSetup). s.link.handle) (receiving_setup other room octets facts base)
+      ∙ handle_is 0 other facts.links base (own_handles setup (past_of station history)).handles was in
+      let is_plain = base_plain next other slot taken (subst (λ (f : Facts). AllPlain f.links) after_is plain) sent in
       subst (λ (more : List Note). IsSentLast (IsNextNote history station) (starts ++ more)) (sym (ap (notes_sent slot) here))
       (sent_by (IsNextNote history station) starts taken none
-      (under_own history station taken.setup.link.handle other (numbered (ack_of taken).sent + 1) (facts_in taken).outgoing.fixed own
+      (under_own history station taken.setup.link.handle other (numbered (ack_of taken).sent + 1) (pdu_fixed (facts_in taken)) own
       (next_at given station other history (step_of (Some octets)) taken (few_links.links station) (eight station) well (record {
         in_turn = in_turn;
         old = base;
         was = was;
         slot = slot;
         now = ap (λ (f : Facts). link_at other f.links) after_is ∙ sent;
-        sent = (sent_same slot octets room base).sent;
-        fixed = fixed_base next other slot taken (subst AllSendFixed after_is all) sends sent;
+        sent = ap (λ (a : Acknowledgement). a.sent) (receiving_ack other room octets facts base) ∙ (sent_same slot octets room base).sent;
+        plain = is_plain;
+        fixed = fixed_base next other slot taken (subst AllSendFixed after_is all) sends sent is_plain;
       }))))
 
   phase_last : (received : Option (List ℕ)) → AllSendFixed (facts_after (setup_at given station) facts (step_of received))
+      → AllPlain (facts_after (setup_at given station) facts (step_of received)).links
       → IsSentLast (IsNextNote history station) (notes_after (setup_at given station) facts (step_of received))
-  phase_last received all = by (phase_of (setup_at given station) facts received)
+  phase_last received all plain = by (phase_of (setup_at given station) facts received)
     where
       found_last_in : (other : ℕ) (octets : List ℕ) → received ≡ Some octets → facts_after (setup_at given station) (facts_at given station history) (step_of (Some octets))
           ≡ facts_passed (link_heard (setup_at given station) other octets (facts_at given station history))
@@ -331,14 +353,15 @@ module _ (given : Given) (few_links : HaveFewLinks given) (eight : (station : �
           subst (IsSentLast (IsNextNote history station)) (sym (unfound (setup_at given station) facts other octets absent)) (SendsNoNew tt)
       found_last_in other octets some after_is (Some base) was =
           let room = has_room (setup_at given station) facts in
-          let taken = notes_taken facts.turn.slot room (link_at other facts.links) octets in
-          reply_last other octets base taken (replies_in (link_at other facts.links) octets) was
-          (none_sent taken (taken_noted SendsNone (λ handle count llid body. refl) facts.turn.slot room (link_at other facts.links) octets))
+          let taken = (link_heard (setup_at given station) other octets facts).notes in
+          reply_last other octets base taken (replies_in facts.turn.slot room (link_at other facts.links) octets) was
+          (none_sent taken (received_noted SendsNone taking_sends (setup_at given station) other octets facts))
           (pass_in_turn (Some octets)) after_is (subst (λ may. AllSendFixed (facts_after (setup_at given station) facts (step_of may))) some all)
+          (subst (λ may. AllPlain (facts_after (setup_at given station) facts (step_of may)).links) some plain)
 
       by : IsPhaseOf (setup_at given station) (facts_at given station history) received
           → IsSentLast (IsNextNote history station) (notes_after (setup_at given station) (facts_at given station history) (step_of received))
-      by (IsPlainPhase nothing plain) = SendsNoNew (plain_sent (notes_after (setup_at given station) facts (step_of received)) plain)
+      by (IsPlainPhase nothing none) = SendsNoNew (plain_sent (notes_after (setup_at given station) facts (step_of received)) none)
       by (IsOnLink other octets some listens heard_is) =
           subst (IsSentLast (IsNextNote history station)) (sym (on_link_notes (setup_at given station) facts received other octets some (ap notes_passed heard_is)))
           (found_last_in other octets some (ap facts_passed heard_is) (link_at other facts.links) refl)
@@ -354,6 +377,13 @@ module _ (whole : IsHeardWhole) (given : Given) (Q : Place → List Event → Ty
       subst AllSendFixed (own_facts given station step history)
       (sends_fixed given place (after_call given station step history) after.counted.holds.hearing.stand station in_it)
 
+  -- its links are plain then
+  own_plain : (place : Place) (station : ℕ) (step : Step) (history : List Event) → is_in station given.stations ≡ true → IsDataAt given Q place (after_call given station step history)
+      → AllPlain (facts_after (setup_at given station) (facts_at given station history) step).links
+  own_plain place station step history in_it after =
+      subst (λ (f : Facts). AllPlain f.links) (own_facts given station step history)
+      (known.plain place (after_call given station step history) after.counted.known station in_it)
+
   have_next : HaveCalls given (IsNextCall given) (IsDataAt given Q)
   have_next = record {
     feeds = λ station octet history. octet_next given history station octet;
@@ -361,7 +391,8 @@ module _ (whole : IsHeardWhole) (given : Given) (Q : Place → List Event → Ty
         let on = plan.radio_of station in
         let in_it = among given.stations done left station are in record {
           last = begin_last given few_links eight station history in_it (is.are.well station in_it) slot on
-              (own_fixed (AtBegins (done ++ station ∷ []) left) station (TurnBegins slot on) history in_it next);
+              (own_fixed (AtBegins (done ++ station ∷ []) left) station (TurnBegins slot on) history in_it next)
+              (own_plain (AtBegins (done ++ station ∷ []) left) station (TurnBegins slot on) history in_it next);
           of = begun_call whole given Q known are_two six distinct done left station slot on history are
               (between_turns given Q distinct done left station history are is.counted).uses.in_turn is.counted;
         };
@@ -369,7 +400,8 @@ module _ (whole : IsHeardWhole) (given : Given) (Q : Place → List Event → Ty
         let received = packet_received station history in
         let in_it = among given.stations done left station are in record {
           last = phase_last given few_links eight station history in_it (is.are.well station in_it) received
-              (own_fixed (AtListening phases (done ++ station ∷ []) left) station (step_of received) history in_it next);
+              (own_fixed (AtListening phases (done ++ station ∷ []) left) station (step_of received) history in_it next)
+              (own_plain (AtListening phases (done ++ station ∷ []) left) station (step_of received) history in_it next);
           of = call_is given Q known distinct phases done left station history are is.counted next.counted.known next.counted.holds;
         };
     ends = λ station history. end_next given history station;

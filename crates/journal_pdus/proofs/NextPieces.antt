@@ -1,4 +1,4 @@
--- What one end sends next is the next piece of what its host gave it, and MD tells whether more waits.
+-- What a plain end sends next is the next piece of what its host gave it, and MD tells whether more waits.
 use Rattle.std.proofs.Common.{◌≡◌, ℕ, ◌+◌, ◌-◌, ◌<◌, ◌≤◌, ◌==◌, ◌&&◌, nat_lt, not, Bool, true, false, cond, List, [], ◌∷◌, ◌++◌, length, map, take, drop, Option, Some, None, refl, sym, ap, subst, ◌∙◌, arith, length-append, if◌then◌else◌}
 use Rattle.std.specs.List.{find, flat_map}
 use Rattle.std.specs.Option.{option_map}
@@ -10,16 +10,22 @@ use Rattle.acl_banks.specs.History.{HostData, Past, octets_of}
 use Rattle.acl_banks.specs.Packets.{AreFresh, AreInOrder, DataPacket, Marked, is_all_sent, marked_octets, octets_out, packet_after_acked, piece_of, sent_length, unsent_octets, with_first, without_first}
 use Rattle.acl_banks.proofs.Octets.{length-marked_octets, length-piece_of, length-unsent_octets}
 use Rattle.acl_banks.proofs.OneLink.{IsKept, outs}
-use Rattle.link_model.specs.Acknowledgement.{Pdu, is_acked, next_sent}
-use Rattle.link_model.specs.Data.{Data, data_acked_if, data_completed, data_fixed, data_in, data_of, is_completed, is_empty, is_out, is_unsent, llid_of, next_piece, pdu_with, unsent_of}
-use Rattle.link_model.specs.Delivery.{sent_data}
-use Rattle.link_model.specs.End.{facts_of, facts_received}
-use Rattle.link_model.specs.Facts.{Facts}
-use Rattle.link_model.specs.Packets.{more_sent}
-use Rattle.link_model.specs.Setup.{Setup}
-use Rattle.link_model.specs.Step.{Step}
-use Rattle.link_model.proofs.Sending.{Holds, data-push, in_order, past_holds, past_of}
-use Rattle.run_laws.proofs.Agreed.{sent_ack}
+use Rattle.journal_data.specs.link_model.Acknowledgement.{Pdu, after_sending, is_acked, next_sent}
+use Rattle.journal_data.specs.link_model.Data.{Data, data_acked_if, data_completed, data_fixed, data_in, data_of, is_completed, is_empty, is_out, is_unsent, llid_of, next_piece, pdu_with, unsent_of}
+use Rattle.journal_data.specs.link_model.Data.{sent_data}
+use Rattle.journal_data.specs.link_model.End.{facts_of}
+use Rattle.journal_data.specs.link_model.Facts.{Facts}
+use Rattle.journal_data.specs.link_model.Packets.{more_sent}
+use Rattle.journal_data.specs.link_model.Setup.{Setup}
+use Rattle.journal_data.specs.link_model.Step.{Step}
+use Rattle.journal_data.proofs.link_model.Outgoing.{data-push}
+use Rattle.journal_data.proofs.link_model.Sending.{past_of}
+use Rattle.journal_data.specs.plain_links.Plain.{ArePlain}
+use Rattle.journal_data.specs.plain_links.Steps.{plain_received}
+use Rattle.journal_data.proofs.plain_links.Idle.{past_idle}
+use Rattle.journal_data.proofs.plain_links.Sending.{Holds, in_order, past_holds}
+use Rattle.journal_data.proofs.plain_links.Steps.{more_plain, pdu_plain}
+use Rattle.journal_data.proofs.run_laws.Agreed.{sent_ack}
 use Rattle.journal_pdus.specs.Waiting.{next_pdu, piece_after}
 
 abbrev given : DataPacket → HostData
@@ -105,12 +111,12 @@ sent_count (packet ∷ packets) count past kept =
     let acked = ap length kept.acknowledged ∙ length-append (octets_of kept.complete) (take packet.acknowledged whole) in
     omega (arith, sent, acked, outs_are, none, out, begun)
 
-pub piece_is_next : (setup : Setup) (past : List Step) → let facts = facts_of setup past in
+pub piece_is_next : (setup : Setup) (past : List Step) → ArePlain setup past → let facts = facts_of setup past in
     pdu_with (next_piece facts.outgoing) ≡ next_pdu [] 27 facts.outgoing.given (length (sent_data facts.acknowledgement))
-piece_is_next setup past =
+piece_is_next setup past plain =
     let facts = facts_of setup past in
     let outgoing = facts.outgoing in
-    let are = past_holds setup past in
+    let are = past_holds setup past plain in
     let kept = are.kept in
     let count = sent_count outgoing.packets outgoing.complete (past_of facts.acknowledgement outgoing) kept in
     ap (λ n. pdu_with (option_map (piece_of n) (find is_unsent outgoing.packets))) are.limit
@@ -228,7 +234,7 @@ acked_now true outgoing is = completed_now outgoing (find is_out outgoing.packet
 acked_now false outgoing is = is
 
 pub received_now : (slot : ℕ) (room : Bool) (pdu : Option (List ℕ)) (facts : Facts) → IsFixedNow facts.outgoing
-    → IsFixedNow (facts_received slot room pdu facts).outgoing
+    → IsFixedNow (plain_received slot room pdu facts).outgoing
 received_now slot room None facts is = is
 received_now slot room (Some pdu) facts is = acked_now _ facts.outgoing is
 
@@ -357,12 +363,25 @@ module _ (facts : Facts) (are : Holds facts) (is : IsFixedNow facts.outgoing) wh
       grind (arith, nat_tests)
   last_by false acked empty = absurd cc
 
-pub more_waits : (setup : Setup) (past : List Step) → let facts = facts_of setup past in IsFixedNow facts.outgoing
-    → more_sent facts ≡ nat_lt (length (data_of (sent_ack facts).sent)) (length (octets_of facts.outgoing.given))
-more_waits setup past is = let facts = facts_of setup past in waits_by facts (past_holds setup past) is (is_acked facts.acknowledgement)
+-- what is sent with the PDU that an end sends next, where that is not a control PDU
+plain_count : (setup : Setup) (past : List Step) → ArePlain setup past → let facts = facts_of setup past in
+    nat_lt (length (data_of (after_sending facts.outgoing.fixed facts.acknowledgement).sent)) (length (octets_of facts.outgoing.given))
+    ≡ nat_lt (length (data_of (sent_ack facts).sent)) (length (octets_of facts.outgoing.given))
+plain_count setup past plain =
+    let facts = facts_of setup past in
+    ap (λ pdu. nat_lt (length (data_of (after_sending pdu facts.acknowledgement).sent)) (length (octets_of facts.outgoing.given)))
+    (sym (pdu_plain setup facts (past_idle setup past plain)))
 
-pub empty_is_last : (setup : Setup) (past : List Step) → let facts = facts_of setup past in IsFixedNow facts.outgoing
+pub more_waits : (setup : Setup) (past : List Step) → ArePlain setup past → let facts = facts_of setup past in IsFixedNow facts.outgoing
+    → more_sent facts ≡ nat_lt (length (data_of (sent_ack facts).sent)) (length (octets_of facts.outgoing.given))
+more_waits setup past plain is =
+    let facts = facts_of setup past in
+    more_plain setup facts (past_idle setup past plain) ∙ waits_by facts (past_holds setup past plain) is (is_acked facts.acknowledgement)
+    ∙ plain_count setup past plain
+
+pub empty_is_last : (setup : Setup) (past : List Step) → ArePlain setup past → let facts = facts_of setup past in IsFixedNow facts.outgoing
     → is_acked facts.acknowledgement ≡ true → is_empty facts.outgoing.fixed ≡ true
     → nat_lt (length (data_of (sent_ack facts).sent)) (length (octets_of facts.outgoing.given)) ≡ false
-empty_is_last setup past is acked empty =
-    let facts = facts_of setup past in last_by facts (past_holds setup past) is (is_acked facts.acknowledgement) acked empty
+empty_is_last setup past plain is acked empty =
+    let facts = facts_of setup past in
+    sym (plain_count setup past plain) ∙ last_by facts (past_holds setup past plain) is (is_acked facts.acknowledgement) acked empty

@@ -5,12 +5,13 @@ use Rattle.std.specs.Prelude.{⊤}
 use Rattle.std.proofs.Math.Nat.{mul-le-mul_right}
 use Rattle.std.proofs.lemmas.Bool.{eqb-false, eqb-true}
 use Rattle.adv_pdu.specs.declared.pdu.ConnectFields.{ConnectFields}
-use Rattle.link_model.specs.Events.{anchor_of, entries_in}
-use Rattle.link_model.specs.Setup.{Setup as EndSetup}
-use Rattle.link_model.specs.Step.{PacketSent}
-use Rattle.link_model.proofs.Received.{IsHeardWhole}
-use Rattle.open_links.specs.OpenLinks.{OpenLink, link_after}
-use Rattle.open_links.specs.Slots.{IsOnTime}
+use Rattle.journal_data.specs.plain_links.Events.{anchor_of, entries_in}
+use Rattle.journal_data.specs.link_model.Setup.{Setup as EndSetup}
+use Rattle.journal_data.specs.link_model.Step.{PacketSent}
+use Rattle.journal_data.proofs.link_model.Hearing.{IsHeardWhole}
+use Rattle.journal_data.specs.open_links.OpenLinks.{OpenLink, link_after}
+use Rattle.journal_data.specs.run_laws.OnTime.{IsOnTime}
+use Rattle.journal_data.specs.run_laws.Plainness.{IsPlainLink}
 use Rattle.controller_model.specs.Facts.{Sends}
 use Rattle.controller_model.specs.Since.{notes_opened_on}
 use Rattle.run_model.specs.Feeding.{AreDistinct}
@@ -27,9 +28,9 @@ use Rattle.run_model.proofs.OfStations.{OfStations, run_of_stations}
 use Rattle.run_model.proofs.Places.{each_at}
 use Rattle.run_model.proofs.Stations.{is_in, among}
 use Rattle.run_model.proofs.Walk.{AtPackets, Place}
-use Rattle.run_laws.proofs.DistinctAccess.{AreApart}
-use Rattle.run_laws.proofs.Entering.{entering_in_run}
-use Rattle.run_laws.proofs.TurnPlaces.{Within, at_stage, turned}
+use Rattle.journal_data.proofs.run_laws.DistinctAccess.{AreApart}
+use Rattle.journal_data.proofs.run_laws.Entering.{entering_in_run}
+use Rattle.journal_data.proofs.run_laws.TurnPlaces.{Within, at_stage, turned}
 use Rattle.journal_links.specs.Entered.{anchor_in}
 use Rattle.journal_links.proofs.EnterLines.{plain_anchors}
 use Rattle.journal_links.proofs.OfTwo.{are_distinct}
@@ -49,7 +50,7 @@ use Rattle.journal_acks.proofs.TwoStations.{IsOfTwo}
 use Rattle.journal_pdus.specs.InEvent.{AllAreInEvents, IsInEvent}
 use Rattle.journal_acks.proofs.RadioUses.{Sending}
 use Rattle.journal_slots.proofs.SecondSlots.{entered_noted}
-use Rattle.journal_pdus.proofs.EventSlots.{AreInSlots, IsInSlot, OfEvent, TooEarly, in_slots_first, in_slots_kept}
+use Rattle.journal_pdus.proofs.EventSlots.{AreInSlots, Early, IsInSlot, OfEvent, in_slots_first, in_slots_kept}
 
 -- ---- the last event of a link
 
@@ -89,9 +90,7 @@ in_last slot begun link now on_time (OfEvent anchor has is) =
     let high = not_later slot anchor is in
     let at = has.at in
     last_of slot begun link now on_time has.event has.entered (omega (arith, high, at))
-in_last slot begun link now on_time (TooEarly entered early) =
-    let first = on_time.entered 0 entered in
-    absurd (omega (arith, first, early, now))
+in_last slot begun link now on_time (Early entered early) = last_of slot begun link now on_time 0 entered (omega (arith, early))
 
 in_turn_of : (slot count one other : ℕ) → (slot ≡ one) ⊎ (slot ≡ one + 1) → count ≡ slot + 1 → other ≡ one → (count ≡ other + 1) ⊎ (count ≡ other + 2)
 in_turn_of slot count one other (inl now) turns same = inl (omega (arith, now, turns, same))
@@ -106,6 +105,7 @@ record IsInTime (given : Given) (history : List Event) (station channel : ℕ) (
   in_slot : IsInSlot (facts_at given station history).turn.slot (link_after (PacketSent sent.slot) sent.link)
   now : (facts_at given station history).turn.slot + 1 ≡ (facts_at given station history).turn.begun
   turns : (facts_at given station history).turn.begun ≡ turns_begun history
+  plain : IsPlainLink (link_after (PacketSent sent.slot) sent.link)
 
 abbrev IsInTimeOn : Given → List Event → ℕ → ℕ → List ℕ → Type 0
 IsInTimeOn given history station channel octets = is_advertising channel ≡ false → IsInTime given history station channel octets
@@ -129,16 +129,18 @@ module _ (whole : IsHeardWhole) (understood : IsUnderstood) (taken : AreTaken) (
       let sent = known.sends phases done left station history are has.known channel octets wanted off in
       let own = link_after (PacketSent sent.slot) sent.link in
       let number = number_at station sent.handle history in
+      let plain = known.plain place history has.known station in_it sent.handle own sent.is_open in
       let stands = turned setup (AreInSlots setup) (in_slots_kept setup) (past_of station history) (at_stage (Within phases) (turns_begun history)) (in_slots_first setup)
       (has.holds.hearing.stand station in_it) in
       let turn = stands.entered.phased.uses.in_turn in record {
         sent = sent;
         begun = known.begun place history has.known station sent.handle own in_it sent.is_open;
         count = count_read (journal_of history) station number (notes_opened_on own.setup own.past) (known.lines place history has.known station sent.handle own in_it sent.is_open)
-            ∙ entered_noted own.setup own.past;
-        in_slot = stands.in_slot sent.handle own sent.is_open (Sending (sends_on sent.handle (facts_at given station history).turn.doing sent.sends));
+            ∙ entered_noted own.setup own.past plain;
+        in_slot = stands.in_slot sent.handle own sent.is_open plain (Sending (sends_on sent.handle (facts_at given station history).turn.doing sent.sends));
         now = turn.slot_is ∙ sym turn.begun_is;
         turns = turn.begun_is;
+        plain = plain;
       }
 
   sees : IsSeen given C (λ history. ⊤) (IsInTimeOn given)
@@ -150,7 +152,7 @@ module _ (whole : IsHeardWhole) (understood : IsUnderstood) (taken : AreTaken) (
       let own = link_after (PacketSent is.sent.slot) is.sent.link in
       let number = number_at station is.sent.handle before in
       let facts = facts_at given station before in
-      let last = in_last facts.turn.slot facts.turn.begun own is.now (entering_in_run taken given before rest station is.sent.handle own distinct in_it at is.sent.is_open) is.in_slot in
+      let last = in_last facts.turn.slot facts.turn.begun own is.now (entering_in_run taken given before rest station is.sent.handle own distinct in_it at is.sent.is_open is.plain) is.in_slot in
       let anchor : anchor_in is.begun.link [] last.event ≡ anchor_of own.setup last.event =
       plain_anchors is.begun.link last.event
       ∙ ap (λ (fields : ConnectFields). is.begun.link.slot + 2 + fields.win_offset + last.event * fields.interval) is.begun.fields

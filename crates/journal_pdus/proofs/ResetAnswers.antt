@@ -22,13 +22,13 @@ use Rattle.hci_cmd.specs.declared.command.CmdRead.TheVariants.{Known, UnknownOpc
 use Rattle.hci_cmd.specs.Command.{are_parameters, command_of, counts_layout, layout_of, layouts, read_with}
 use Rattle.hci_evt.specs.Event.{written}
 use Rattle.hci_evt.specs.declared.event.Event.{Event}
-use Rattle.hci_evt.specs.declared.event.Event.TheVariants.{DisconnectionComplete, HardwareError, CompletedPackets, BufferOverflow, ConnectionComplete, AdvertisingReport, EnhancedConnection, ChannelSelection}
+use Rattle.hci_evt.specs.declared.event.Event.TheVariants.{DisconnectionComplete, HardwareError, CompletedPackets, BufferOverflow, ConnectionComplete, AdvertisingReport, EnhancedConnection, ChannelSelection, EncryptionChange, RemoteVersion, UpdateComplete, RemoteFeatures, ParamRequest, LengthChange, PhyComplete}
 use Rattle.host_view.specs.Noted.{two_octets}
 use Rattle.host_view.specs.View.{View}
 use Rattle.host_view.specs.Unbuilt.{status_of}
-use Rattle.open_links.specs.OpenLinks.{Links, handles_from, without_links}
-use Rattle.open_links.specs.declared.offers.Offer.{Offer}
-use Rattle.open_links.specs.declared.offers.Offer.TheVariants.{NoLink, Empty, Overflow, Kept}
+use Rattle.journal_data.specs.open_links.OpenLinks.{Links, handles_from, without_links}
+use Rattle.journal_data.specs.open_links.declared.offers.Offer.{Offer}
+use Rattle.journal_data.specs.open_links.declared.offers.Offer.TheVariants.{NoLink, Empty, Overflow, Kept}
 use Rattle.controller_model.specs.Step.{Step, HostOctet}
 use Rattle.controller_model.specs.Facts.{Setup, Facts}
 use Rattle.controller_model.specs.Answers.{accepted_answer, answer_to, complete_answer, has_status_answer, refused_fields, returned, status_answer}
@@ -59,6 +59,13 @@ turn_quiet (ConnectionComplete status handle role peer_kind peer interval latenc
 turn_quiet (AdvertisingReport kind address_kind address report rssi) is = refl
 turn_quiet (EnhancedConnection status handle role peer_kind peer local other interval latency timeout accuracy) is = refl
 turn_quiet (ChannelSelection handle algorithm) is = refl
+turn_quiet (EncryptionChange status handle enabled) is = refl
+turn_quiet (RemoteVersion status handle version company sub) is = refl
+turn_quiet (UpdateComplete status handle interval latency timeout) is = refl
+turn_quiet (RemoteFeatures status handle features) is = refl
+turn_quiet (ParamRequest handle min max latency timeout) is = refl
+turn_quiet (LengthChange handle tx_octets tx_time rx_octets rx_time) is = refl
+turn_quiet (PhyComplete status handle tx rx) is = refl
 turn_quiet other is = absurd is
 
 each_quiet : (most : ℕ) → EachNote most IsQuiet
@@ -68,6 +75,10 @@ each_quiet most = record {
   opened = λ link below. tt;
   shut = λ handle reason below. tt;
   entered = λ handle event channel below. tt;
+  applied = λ handle number event below. tt;
+  began = λ handle kind below. tt;
+  refused = λ handle kind code below. tt;
+  done = λ handle kind below. tt;
   sent = λ handle number llid octets below. tt;
   took = λ handle number llid octets below. tt;
 }

@@ -9,8 +9,8 @@ use Rattle.ble_base.specs.declared.notes.Note.TheVariants.{Up as UpNote}
 use Rattle.ble_base.specs.declared.roles.Side.{Side}
 use Rattle.journal.specs.declared.entries.Entry.{Entry}
 use Rattle.journal.specs.declared.entries.Entry.TheVariants.{Up}
-use Rattle.link_model.proofs.Received.{IsHeardWhole}
-use Rattle.open_links.specs.OpenLinks.{Links, OpenLink, handles_from, link_at, link_from, without_links}
+use Rattle.journal_data.proofs.link_model.Hearing.{IsHeardWhole}
+use Rattle.journal_data.specs.open_links.OpenLinks.{Links, OpenLink, handles_from, link_at, link_from, without_links}
 use Rattle.controller_model.specs.Facts.{Facts}
 use Rattle.controller_model.specs.Links.{note_shut, notes_reset}
 use Rattle.controller_model.specs.Side.{facts_after, notes_after}
@@ -30,8 +30,8 @@ use Rattle.run_model.proofs.LinkEnds.{AreTaken, IsUnderstood}
 use Rattle.run_model.proofs.Places.{each_append, each_at, each_event}
 use Rattle.run_model.proofs.Stations.{among}
 use Rattle.run_model.proofs.Walk.{AtFeeds, Place, IsKept, IsStopped, IsWhole, ends_with, run_kept}
-use Rattle.run_laws.proofs.DistinctAccess.{AreApart}
-use Rattle.run_laws.proofs.Hearings.{own_facts}
+use Rattle.journal_data.proofs.run_laws.DistinctAccess.{AreApart}
+use Rattle.journal_data.proofs.run_laws.Hearings.{own_facts}
 use Rattle.journal_packets.proofs.AccessOrder.{AreNth}
 use Rattle.journal_packets.proofs.SoFar.{IsBelongingSoFar}
 use Rattle.journal_acks.proofs.Counting.{AreKnown, HaveOwnNumbers}
@@ -45,7 +45,7 @@ use Rattle.journal_data.proofs.HeldLinks.{HoldsLinks, nothing_in}
 use Rattle.journal_data.proofs.KeptData.{IsDataAt, data_kept, own_numbers, pass_in_turn}
 use Rattle.journal_data.proofs.Law.{first_data}
 use Rattle.journal_data.proofs.Openness.{is_open}
-use Rattle.journal_data.proofs.StationLines.{IsStationBooked, call_booked, event_booked, event_own, octet_own, octet_unused}
+use Rattle.journal_data.proofs.StationLines.{IsStationBooked, call_booked, event_booked, event_own, octet_own, octet_stays, octet_unused}
 use Rattle.journal_pdus.specs.Resetting.{ResetsLeaveNoLink, answers_reset}
 use Rattle.journal_pdus.proofs.ResetAnswers.{IsAnsweredSo, IsQuiet, Quiet, Resets, octet_so, turn_calls_quiet}
 
@@ -156,7 +156,8 @@ module _ (given : Given) (station : ℕ) where
     octets_none [] history own booked each = each
     octets_none (octet ∷ octets) history own booked each =
         let own_next = octet_own given station octet history own in
-        let booked_next = call_booked given station (HostOctet octet) history few own own_next (octet_unused given station octet history) booked in
+        let booked_next = call_booked given station (HostOctet octet) history few own own_next (octet_unused given station octet history)
+        (octet_stays given station octet history) booked in
         let notes = notes_after (setup_at given station) (facts_at given station history) (HostOctet octet) in
         octets_none octets (after_call given station (HostOctet octet) history) own_next booked_next
         (each_append LeavesNone [] history (Called station (HostOctet octet) ∷ map (Noted station) notes) each

@@ -2,7 +2,7 @@
 use Rattle.std.proofs.Common.{◌≡◌, ℕ, ◌<◌, None, List, ◌∷◌, ◌++◌, sym, ap, subst, ◌∙◌}
 use Rattle.ble_base.specs.declared.roles.Side.{Side}
 use Rattle.journal.specs.declared.entries.Entry.TheVariants.{Turn}
-use Rattle.link_model.proofs.Received.{IsHeardWhole}
+use Rattle.journal_data.proofs.link_model.Hearing.{IsHeardWhole}
 use Rattle.run_model.specs.Feeding.{AreDistinct}
 use Rattle.run_model.specs.History.{Event}
 use Rattle.run_model.specs.Journal.{journal_of}
@@ -12,7 +12,7 @@ use Rattle.run_model.specs.Run.{Given, GoesOn, history_of, run_of, setup_at}
 use Rattle.run_model.proofs.EntryEvents.{is_of_event}
 use Rattle.run_model.proofs.LinkEnds.{AreTaken, IsUnderstood}
 use Rattle.run_model.proofs.Walk.{IsKept, NoTurn, Place}
-use Rattle.run_laws.proofs.DistinctAccess.{AreApart}
+use Rattle.journal_data.proofs.run_laws.DistinctAccess.{AreApart}
 use Rattle.journal_packets.proofs.AccessOrder.{AreNth}
 use Rattle.journal_packets.proofs.SoFar.{IsBelongingSoFar}
 use Rattle.journal_acks.proofs.Known.{known_of}

@@ -1,9 +1,9 @@
 -- The end that is to transmit a packet on its link, by what the lines before it say.
 use Rattle.std.proofs.Common.{◌≡◌, ℕ, ◌+◌, true, false, List, [], ◌∷◌, ◌++◌, length, sym, ap, ◌∙◌}
-use Rattle.link_model.proofs.Received.{IsHeardWhole}
-use Rattle.link_model.specs.Acknowledgement.{Acknowledgement}
-use Rattle.link_model.specs.Step.{PacketSent}
-use Rattle.open_links.specs.OpenLinks.{OpenLink, facts_in, link_after}
+use Rattle.journal_data.proofs.link_model.Hearing.{IsHeardWhole}
+use Rattle.journal_data.specs.link_model.Acknowledgement.{Acknowledgement}
+use Rattle.journal_data.specs.link_model.Step.{PacketSent}
+use Rattle.journal_data.specs.open_links.OpenLinks.{OpenLink, facts_in, link_after}
 use Rattle.controller_model.specs.Facts.{Facts, Sends}
 use Rattle.controller_model.specs.Since.{data_waiting}
 use Rattle.run_model.specs.Feeding.{AreDistinct}
@@ -14,7 +14,7 @@ use Rattle.run_model.specs.Links.{is_advertising}
 use Rattle.run_model.specs.Run.{Given, facts_at, setup_at, use_at}
 use Rattle.run_model.proofs.Stations.{is_in, among}
 use Rattle.run_model.proofs.Walk.{Place, AtPackets}
-use Rattle.run_laws.proofs.Agreed.{ack_of, ack_sent, sent_ack}
+use Rattle.journal_data.proofs.run_laws.Agreed.{ack_of, ack_sent, sent_ack}
 use Rattle.journal_packets.specs.Senders.{IsOfSendersLink}
 use Rattle.journal_acks.specs.Carried.{carried_of}
 use Rattle.journal_acks.specs.Exchange.{Exchanged}

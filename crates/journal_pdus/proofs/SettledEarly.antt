@@ -2,9 +2,9 @@
 -- its packets that are complete are reported to it.
 use Rattle.std.proofs.Common.{◌≡◌, ℕ, ◌&&◌, Bool, true, false, Option, Some, None, List, ◌∷◌, ◌++◌, refl, sym, ap, subst, ◌∙◌}
 use Rattle.ble_base.specs.declared.roles.Side.{Side}
-use Rattle.link_model.proofs.Received.{IsHeardWhole}
-use Rattle.link_model.proofs.Sending.{past_holds}
-use Rattle.open_links.specs.OpenLinks.{OpenLink, facts_in, link_at}
+use Rattle.journal_data.proofs.link_model.Hearing.{IsHeardWhole}
+use Rattle.journal_data.proofs.link_model.Sending.{past_together}
+use Rattle.journal_data.specs.open_links.OpenLinks.{OpenLink, facts_in, link_at}
 use Rattle.controller_model.specs.declared.doing.Turn.{Turn}
 use Rattle.controller_model.specs.Since.{data_waiting}
 use Rattle.run_model.specs.Feeding.{AreDistinct}
@@ -17,8 +17,8 @@ use Rattle.run_model.proofs.EntryEvents.{is_aired}
 use Rattle.run_model.proofs.LinkEnds.{AreTaken, IsUnderstood}
 use Rattle.run_model.proofs.Stations.{is_in}
 use Rattle.run_model.proofs.Walk.{Place, AtPackets, IsKept}
-use Rattle.run_laws.proofs.Agreed.{ack_of}
-use Rattle.run_laws.proofs.DistinctAccess.{AreApart}
+use Rattle.journal_data.proofs.run_laws.Agreed.{ack_of}
+use Rattle.journal_data.proofs.run_laws.DistinctAccess.{AreApart}
 use Rattle.journal_packets.proofs.AccessOrder.{AreNth}
 use Rattle.journal_packets.proofs.SoFar.{IsBelongingSoFar}
 use Rattle.journal_acks.specs.Exchange.{Exchanged}
@@ -72,7 +72,7 @@ module _ (given : Given) (Q : Place → List Event → Type 0) (are_two : IsOfTw
       settled_end (number_at station handle history) (side_of station) (journal_of history) (facts_in link) (data_waiting handle facts.received)
       (sound given station handle history link (few_links.links station) (eight station) (is.data_is.are.well station in_it) at).booked
       (ap (data_waiting handle) calm.received)
-      (past_holds link.setup link.past)
+      (past_together link.setup link.past)
       (calm_under facts handle link calm at)
       (is.lined.lines station handle link in_it at)
       (acked_unheard _ (packet_received station history) handle facts.turn link (exchange_at (number_at station handle history) history (side_of station)) (own.unheard silent)

@@ -13,11 +13,12 @@ use Rattle.acl_banks.specs.History.{whole_packets}
 use Rattle.acl_banks.specs.Packets.{Marked}
 use Rattle.journal.specs.declared.entries.Entry.{Entry}
 use Rattle.journal.specs.declared.entries.Entry.TheVariants.{Fed, Up, Opened, Shut, Sent, Took}
-use Rattle.link_model.specs.Acknowledgement.{Acknowledgement, Pdu, empty_pdu}
-use Rattle.link_model.specs.Data.{data_in, data_of, is_empty}
-use Rattle.link_model.specs.Delivery.{acked_data}
-use Rattle.link_model.specs.Facts.{Facts as EndFacts}
-use Rattle.link_model.proofs.Sending.{EndsIn, Holds, in_order}
+use Rattle.journal_data.specs.link_model.Acknowledgement.{Acknowledgement, Pdu, empty_pdu}
+use Rattle.journal_data.specs.link_model.Data.{data_in, data_of, is_empty}
+use Rattle.journal_data.specs.link_model.Data.{acked_data}
+use Rattle.journal_data.specs.link_model.Facts.{Facts as EndFacts}
+use Rattle.journal_data.proofs.link_model.Outgoing.{EndsIn}
+use Rattle.journal_data.proofs.link_model.Sending.{IsTogether, in_order}
 use Rattle.journal_packets.specs.Belonging.{is_side}
 use Rattle.journal_acks.specs.Carried.{SentLine, sent_line_after, sent_line_from, sent_line_of}
 use Rattle.journal_acks.specs.Exchange.{exchange_of}
@@ -162,7 +163,7 @@ data_booked link pdus = lines_data link 1 (nonempty is_empty pdus) ∙ data_none
 
 -- nothing waits for its host, and all its complete packets are reported
 pub settled_end : (link : ℕ) (side : Side) (front : List Entry) (facts : EndFacts) (waiting : List Marked) → IsEndBooked link (lines_of 8 side front) facts waiting
-    → waiting ≡ [] → Holds facts → facts.outgoing.complete ≡ 0 → IsLined (sent_line_of link front side) facts.acknowledgement
+    → waiting ≡ [] → IsTogether facts.acknowledgement facts.outgoing → facts.outgoing.complete ≡ 0 → IsLined (sent_line_of link front side) facts.acknowledgement
     → (exchange_of link front side).acked ≡ facts.acknowledgement.acked → IsSettled link side front
 settled_end link side front facts waiting booked nothing holds none lined count =
     let lines = lines_of 8 side front in
@@ -172,7 +173,7 @@ settled_end link side front facts waiting booked nothing holds none lined count 
     let same : length (data_of_lines pdus) ≡ length (data_of ack.sent) = ap length (ap data_of_lines booked.sent ∙ data_booked link ack.sent) in
     let acked : length (acked_on link side front) ≡ length (acked_data ack) =
     ap (λ n. length (data_of_lines (take (length pdus - count_out line n) pdus))) count
-    ∙ acked_lines ack holds.last_sent holds.sent_only holds.one_at_a_time pdus same line (ends_in_line link front side) lined in
+    ∙ acked_lines ack holds.counts.last_sent holds.counts.sent_only holds.counts.one_at_a_time pdus same line (ends_in_line link front side) lined in
     let credits = booked.credited in
     let counted = (in_order facts holds).counted in
     let whole : whole_packets (data_on link lines) (length (acked_on link side front)) ≡ whole_packets facts.outgoing.given (length (acked_data ack)) =

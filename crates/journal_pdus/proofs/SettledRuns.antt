@@ -4,9 +4,9 @@ use Rattle.std.proofs.Common.{◌≡◌, ℕ, true, Some, List, ◌∷◌, ◌++
 use Rattle.ble_base.specs.declared.roles.Side.{Side}
 use Rattle.ble_base.specs.declared.roles.Side.TheVariants.{A, B}
 use Rattle.journal.specs.declared.entries.Entry.TheVariants.{Turn}
-use Rattle.link_model.proofs.Received.{IsHeardWhole}
-use Rattle.link_model.proofs.Sending.{past_holds}
-use Rattle.open_links.specs.OpenLinks.{OpenLink, facts_in, link_at}
+use Rattle.journal_data.proofs.link_model.Hearing.{IsHeardWhole}
+use Rattle.journal_data.proofs.link_model.Sending.{past_together}
+use Rattle.journal_data.specs.open_links.OpenLinks.{OpenLink, facts_in, link_at}
 use Rattle.controller_model.specs.Between.{is_between_turns}
 use Rattle.controller_model.specs.Since.{data_waiting}
 use Rattle.controller_model.proofs.BetweenTurns.{none_complete, nothing_waits}
@@ -20,8 +20,8 @@ use Rattle.run_model.proofs.EntryEvents.{is_of_event}
 use Rattle.run_model.proofs.LinkEnds.{AreTaken, IsUnderstood}
 use Rattle.run_model.proofs.Stations.{is_in}
 use Rattle.run_model.proofs.Walk.{Place, NoTurn, IsKept}
-use Rattle.run_laws.proofs.DistinctAccess.{AreApart}
-use Rattle.run_laws.proofs.TurnPlaces.{stands_at}
+use Rattle.journal_data.proofs.run_laws.DistinctAccess.{AreApart}
+use Rattle.journal_data.proofs.run_laws.TurnPlaces.{stands_at}
 use Rattle.journal_packets.proofs.AccessOrder.{AreNth}
 use Rattle.journal_packets.proofs.SoFar.{IsBelongingSoFar}
 use Rattle.journal_acks.proofs.Known.{known_of}
@@ -83,7 +83,7 @@ module _ (given : Given) (Q : Place → List Event → Type 0) (are_two : IsOfTw
       settled_end (number_at station handle history) (side_of station) (journal_of history) (facts_in link) (data_waiting handle (facts_at given station history).received)
       (sound given station handle history link (few_links.links station) (eight station) (is.data_is.are.well station in_it) at).booked
       (ap (data_waiting handle) (nothing_waits setup past (rests station in_it)))
-      (past_holds link.setup link.past)
+      (past_together link.setup link.past)
       (none_complete setup past handle link (rests station in_it) at)
       (is.lined.lines station handle link in_it at)
       (between_turns given Q history is.data_is.counted station handle link in_it at).acked

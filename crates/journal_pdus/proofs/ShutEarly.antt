@@ -1,29 +1,39 @@
 -- No link is shut after the packets of a turn: it is shut as an octet of the host completes a Reset, or as the turn begins.
-use Rattle.std.proofs.Common.{◌≡◌, ℕ, Bool, true, false, Option, Some, None, List, [], ◌∷◌, ◌++◌, refl, sym, ap, ◌∙◌, append-nil, append_assoc}
-use Rattle.std.specs.Prelude.{⊤, map, take}
+use Rattle.std.proofs.Common.{◌≡◌, ℕ, Bool, true, false, Option, Some, None, List, [], ◌∷◌, ◌++◌, refl, sym, ap, subst, ◌∙◌, append-nil, append_assoc}
+use Rattle.std.specs.Prelude.{All, ⊤, map, take}
+use Rattle.std.specs.List.{Contains}
+use Rattle.std.proofs.lemmas.List.Elements.{All-contains}
 use Rattle.std.proofs.lemmas.List.Sums.{fold-append}
 use Rattle.ble_base.specs.declared.notes.Note.{Note}
-use Rattle.ble_base.specs.declared.notes.Note.TheVariants.{Up as UpNote}
+use Rattle.ble_base.specs.declared.notes.Note.TheVariants.{Shut as ShutNote, Up as UpNote}
 use Rattle.ble_base.specs.declared.roles.Side.{Side}
 use Rattle.journal.specs.declared.entries.Entry.{Entry}
 use Rattle.journal.specs.declared.entries.Entry.TheVariants.{Shut}
-use Rattle.controller_model.specs.Facts.{Facts}
-use Rattle.controller_model.specs.Shutting.{IsShut, overdue, reset}
+use Rattle.controller_model.specs.Data.{notes_handed}
+use Rattle.controller_model.specs.Facts.{Facts, Setup}
+use Rattle.controller_model.specs.Links.{note_shut}
+use Rattle.controller_model.specs.Plain.{AllPlain}
+use Rattle.controller_model.specs.Shutting.{IsShut, leaving, overdue, reset}
 use Rattle.controller_model.specs.Side.{notes_after}
 use Rattle.controller_model.specs.Step.{Step, HostOctet, TurnBegins, PacketHeard, NothingHeard, TurnEnds}
 use Rattle.hci_cmd.specs.declared.command.Command.TheVariants.{Reset}
 use Rattle.controller_model.specs.Host.{commands_accepted_after}
+use Rattle.controller_model.proofs.LinkNotes.{handed_too}
 use Rattle.run_model.specs.Due.{Each}
+use Rattle.run_model.specs.Feeding.{AreDistinct}
 use Rattle.run_model.specs.History.{Event, TurnBegan, HostFed, Called, Noted, Transmitted, packet_received}
 use Rattle.run_model.specs.Journal.{entry_of, journal_of, side_of}
+use Rattle.run_model.specs.LinkEnds.{HaveAddresses}
 use Rattle.run_model.specs.Links.{links_of}
 use Rattle.run_model.specs.Run.{Given, after_call, after_feed, after_octets, facts_at, hearings_of, history_of, octets_left, run_of, setup_at, step_of}
+use Rattle.run_model.proofs.OfStations.{OfStations, run_of_stations}
 use Rattle.run_model.proofs.Parts.{journal_event}
 use Rattle.run_model.proofs.Places.{each_at, each_called, each_event}
 use Rattle.run_model.proofs.Walk.{Place, AtFeeds, AtBegins, IsKept, IsStopped, IsWhole, ends_with, run_kept}
 use Rattle.journal_acks.proofs.Exchanging.{any_note, call_keeps, notes_keep}
-use Rattle.run_model.proofs.NoteLines.{line_in_call}
+use Rattle.run_model.proofs.NoteLines.{is_contained, line_in_call}
 use Rattle.run_model.specs.NoteLines.{shut_line}
+use Rattle.journal_data.proofs.run_laws.PlainTurns.{before_plain, turn_ends_noting}
 use Rattle.journal_acks.proofs.ShutLines.{shut_in}
 use Rattle.journal_pdus.specs.Exchanged.{AllAreSettledAsShut}
 use Rattle.journal_pdus.specs.Settled.{packets_passed, passed_after}
@@ -180,14 +190,38 @@ resets_early facts (PacketHeard octets) is = absurd cc
 resets_early facts NothingHeard is = absurd cc
 resets_early facts TurnEnds is = absurd cc
 
-shuts_early : (facts : Facts) (step : Step) (handle reason : ℕ) → IsShut facts step handle reason → is_early step ≡ true
-shuts_early facts step handle reason (overdue slot on link begins is_open due) = ap is_early begins
-shuts_early facts step handle reason (reset link completed is_open code) = resets_early facts step completed
+shuts_early : (facts : Facts) (step : Step) (handle reason : ℕ) → (step ≡ TurnEnds → ⊥) → IsShut facts step handle reason → is_early step ≡ true
+shuts_early facts step handle reason not_end (overdue slot on link begins is_open due) = ap is_early begins
+shuts_early facts step handle reason not_end (leaving link ends is_open leaves) = absurd (not_end ends)
+shuts_early facts step handle reason not_end (reset link completed is_open code) = resets_early facts step completed
 
-pub settled_as_shut : (given : Given) → AllAreSettledAsShut (journal_of (history_of (run_of given)))
-settled_as_shut given = λ front rest side link reason is passed.
-    let call = line_in_call given front rest (Shut side link reason) (shut_line side link reason) refl is in
-    let early = shuts_early (facts_at given call.station call.base) call.step call.handle reason.0 (shut_in given front side link reason call) in
+-- no plain link is shut as a turn ends
+abbrev IsOfNoShut : Note → Type 0
+IsOfNoShut (ShutNote handle reason) = ⊥
+IsOfNoShut other = ⊤
+
+handed_shut : (facts : Facts) → All IsOfNoShut (notes_handed facts)
+handed_shut facts =
+    handed_too IsOfNoShut
+    (record { up = λ octets. tt; opened = λ link. tt; sent = λ handle number llid octets. tt; took = λ handle number llid octets. tt }) facts
+
+not_shut_at_end : (setup : Setup) (facts : Facts) (handle reason : ℕ) → AllPlain facts.links → Contains (notes_after setup facts TurnEnds) (note_shut handle reason) → ⊥
+not_shut_at_end setup facts handle reason plain contained =
+    All-contains IsOfNoShut (notes_handed facts) (note_shut handle reason) (handed_shut facts)
+    (subst (λ notes. Contains notes (note_shut handle reason)) (turn_ends_noting setup facts plain) contained)
+
+pub settled_as_shut : (given : Given) → HaveAddresses given → AreDistinct given.stations → AllAreSettledAsShut (journal_of (history_of (run_of given)))
+settled_as_shut given six distinct = λ front rest side link reason is passed.
+    let line = shut_line side link reason in
+    let call = line_in_call given front rest (Shut side link reason) line refl is in
+    let setup = setup_at given call.station in
+    let facts = facts_at given call.station call.base in
+    let in_it = each_at (OfStations given) (history_of (run_of given)) call.base call.after (Called call.station call.step) (run_of_stations given) call.called in
+    let plain = before_plain given six distinct call.base call.after call.station call.step call.called in_it in
+    let early = shuts_early facts call.step call.handle reason.0
+    (λ ends. not_shut_at_end setup facts call.handle reason.0 plain
+    (subst (λ (step : Step). Contains (notes_after setup facts step) (note_shut call.handle reason.0)) ends (is_contained given front line call)))
+    (shut_in given front side link reason call) in
     let none = each_at IsEarlyCall (history_of (run_of given)) call.base call.after (Called call.station call.step) (run_early given) call.called early in
     let not_passed : packets_passed front ≡ false =
     ap packets_passed call.front_is ∙ ap passed_at call.before_is ∙ in_call_passed call.station call.step call.base call.earlier ∙ none in

@@ -1,6 +1,6 @@
 -- The packet at which a run of a pair stops is due by the lines before it.
 use Rattle.std.proofs.Common.{◌≡◌, ℕ, false, List}
-use Rattle.link_model.proofs.Received.{IsHeardWhole}
+use Rattle.journal_data.proofs.link_model.Hearing.{IsHeardWhole}
 use Rattle.radio_replay.specs.Script.{Script}
 use Rattle.run_model.specs.Feeding.{AreDistinct}
 use Rattle.run_model.specs.History.{Event}
@@ -9,7 +9,7 @@ use Rattle.run_model.specs.LinkEnds.{HaveAddresses}
 use Rattle.run_model.specs.Links.{is_advertising}
 use Rattle.run_model.specs.Run.{Given, Stop, Stops, run_of, setup_at}
 use Rattle.run_model.proofs.LinkEnds.{AreTaken, IsUnderstood}
-use Rattle.run_laws.proofs.DistinctAccess.{AreApart}
+use Rattle.journal_data.proofs.run_laws.DistinctAccess.{AreApart}
 use Rattle.journal_turns.specs.Stopped.{IsStoppedAt}
 use Rattle.journal_packets.proofs.AccessOrder.{AreNth}
 use Rattle.journal_packets.proofs.SoFar.{IsBelongingSoFar}

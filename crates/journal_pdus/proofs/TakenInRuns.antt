@@ -8,17 +8,19 @@ use Rattle.ble_base.specs.declared.notes.Note.{Note}
 use Rattle.ble_base.specs.declared.notes.Note.TheVariants.{Up}
 use Rattle.ble_base.specs.declared.roles.Side.{Side}
 use Rattle.journal.specs.declared.entries.Entry.{Entry}
-use Rattle.link_model.specs.Acknowledgement.{Acknowledgement}
-use Rattle.link_model.specs.Data.{is_empty, numbered}
-use Rattle.link_model.specs.Packets.{pdu_sent}
-use Rattle.link_model.specs.Pair.{AreInAgreement}
-use Rattle.link_model.specs.Step.{PacketSent}
-use Rattle.link_model.proofs.Received.{IsHeardWhole}
-use Rattle.open_links.specs.OpenLinks.{OpenLink, facts_in, link_after}
-use Rattle.open_links.proofs.Handles.{handle_is}
+use Rattle.journal_data.specs.link_model.Acknowledgement.{Acknowledgement}
+use Rattle.journal_data.specs.link_model.Data.{is_empty, numbered}
+use Rattle.journal_data.specs.link_model.Packets.{pdu_sent}
+use Rattle.journal_data.specs.link_model.OneLink.{AreInAgreement}
+use Rattle.journal_data.specs.link_model.Step.{PacketSent}
+use Rattle.journal_data.proofs.link_model.Hearing.{IsHeardWhole}
+use Rattle.journal_data.specs.open_links.OpenLinks.{OpenLink, facts_in, link_after}
+use Rattle.journal_data.proofs.open_links.Handles.{handle_is}
+use Rattle.journal_data.proofs.plain_links.Growing.{plain_front}
 use Rattle.controller_model.specs.Facts.{Facts, Sends, Listens}
 use Rattle.controller_model.specs.Heard.{has_room}
 use Rattle.controller_model.specs.Packets.{verdict_of}
+use Rattle.controller_model.specs.Plain.{AllPlain}
 use Rattle.controller_model.specs.Side.{notes_after}
 use Rattle.controller_model.specs.Step.{Step, HostOctet, TurnBegins, TurnEnds}
 use Rattle.controller_model.proofs.DataChannels.{link_channel}
@@ -39,13 +41,13 @@ use Rattle.run_model.proofs.LinkEnds.{AreTaken, IsUnderstood, is_listener, recei
 use Rattle.run_model.proofs.Places.{each_at, each_event}
 use Rattle.run_model.proofs.Stations.{is_in, among, in_more_other, in_more_same, not_before}
 use Rattle.run_model.proofs.Walk.{Place, NoTurn, AtFeeds, AtBegins, AfterPhases, AtPackets, AtListening, AtEnds, IsKept, IsStopped, IsWhole, ends_with, run_kept}
-use Rattle.run_laws.specs.Ends.{HaveOneConnectInd}
-use Rattle.run_laws.proofs.Agreed.{Agree, ack_of, ack_sent, sent_ack}
-use Rattle.run_laws.proofs.DistinctAccess.{AreApart}
-use Rattle.run_laws.proofs.Hearings.{other_facts, wanted_is}
-use Rattle.run_laws.proofs.InAgreement.{TakesShort, WithAll, differs_back}
-use Rattle.run_laws.proofs.OpenSteps.{open_has}
-use Rattle.run_laws.proofs.TurnPlaces.{Within, turned}
+use Rattle.journal_data.specs.run_laws.Ends.{HaveOneConnectInd}
+use Rattle.journal_data.proofs.run_laws.Agreed.{Agree, ack_of, ack_sent, sent_ack}
+use Rattle.journal_data.proofs.run_laws.DistinctAccess.{AreApart}
+use Rattle.journal_data.proofs.run_laws.Hearings.{other_facts, own_facts, wanted_is}
+use Rattle.journal_data.proofs.run_laws.InAgreement.{TakesShort, WithAll, differs_back}
+use Rattle.journal_data.proofs.run_laws.OpenSteps.{open_has}
+use Rattle.journal_data.proofs.run_laws.TurnPlaces.{Within, turned}
 use Rattle.journal_packets.specs.Belonging.{is_side, link_of_packet}
 use Rattle.journal_packets.specs.Senders.{IsOfSendersLink}
 use Rattle.journal_packets.proofs.AccessOrder.{AreNth}
@@ -291,10 +293,12 @@ module _ (whole : IsHeardWhole) (given : Given) (Q : Place → List Event → Ty
     brought : untaken_pdu (link_of_packet front (side_of station) octets) front (side_of station) ≡ to_take given other after
     brought =
         let short = open_has TakesShort 0 listening.handle (facts other).links link (counted.holds.so_far.last.each other is_too).short listening.is_open in
+        let plain = known.plain here history counted.known other is_too listening.handle link listening.is_open in
+        let sender_plain = known.plain here history counted.known station in_it sent.handle sender sent.is_open in
         ap (λ may. untaken_pdu may front (side_of station)) sent.belongs
         ∙ (λ i. pdu_line_if (nat_lt (taken_is i) (sent_is i) && not (is_empty (carried_is i))) number (sent_is i) (carried_is i))
         ∙ taken_as whole ((links_of history).link_of other) (setup_at given other) (facts other) octets listening.handle number link sent.link room listening.is_open listening.on
-        number_is short (sym connect_ind.fields) sent.packet (sym sent.channel_is ∙ listening.channel_is) agreed
+        number_is plain (plain_front sent.link.setup sent.link.past (PacketSent sent.slot ∷ []) sender_plain) short (sym connect_ind.fields) sent.packet (sym sent.channel_is ∙ listening.channel_is) agreed
         ∙ sym (other_to_take true good)
 
   -- ---- both
@@ -380,6 +384,7 @@ module _ (given : Given) (are_two : IsOfTwo given) where
 
   -- the call of a phase
   module _ (done : List ℕ) (station : ℕ) (history : List Event) (is : is_in station given.stations ≡ true) (out : is_in station done ≡ false)
+      (plain : AllPlain (facts_at given station (after_call given station (step_of (packet_received station history)) history)).links)
       (pending_pdu : (one : ℕ) → is_in one given.stations ≡ true → pending_at one history ≡ (if is_in one done then None else to_take given one history)) where
     abbrev step : Step
     step = step_of (packet_received station history)
@@ -390,7 +395,8 @@ module _ (given : Given) (are_two : IsOfTwo given) where
     spends : IsSpent given history station step
     spends = record {
       first = pending_pdu station is ∙ ap (λ b. if b then None else to_take given station history) out;
-      later = phase_later (setup_at given station) (facts_at given station history) (packet_received station history);
+      later = phase_later (setup_at given station) (facts_at given station history) (packet_received station history)
+          (subst (λ (f : Facts). AllPlain f.links) (own_facts given station step history) plain);
     }
 
     still : (one : ℕ) → (one == station) ≡ false → to_take given one called ≡ to_take given one history
@@ -458,10 +464,13 @@ module _ (whole : IsHeardWhole) (given : Given) (Q : Place → List Event → Ty
     on_air = λ phases history has. record { is = kept.on_air phases history has.is; pending_pdu = has.pending_pdu; each = has.each };
     on_hearing = λ phases done left station history are begun has.
         let in_it = among given.stations done left station are in
-        let out = not_before given.stations done left station distinct are in record {
-          is = kept.on_hearing phases done left station history are begun has.is;
-          pending_pdu = λ one is_one. hearing_pending given are_two done station history in_it out has.pending_pdu one is_one (one == station) refl;
-          each = call_taken given station (step_of (packet_received station history)) history (spends given are_two done station history in_it out has.pending_pdu) has.each;
+        let out = not_before given.stations done left station distinct are in
+        let next = kept.on_hearing phases done left station history are begun has.is in
+        let plain = known.plain (AtListening phases (done ++ station ∷ []) left) (after_call given station (step_of (packet_received station history)) history)
+        next.lined.counts.known station in_it in record {
+          is = next;
+          pending_pdu = λ one is_one. hearing_pending given are_two done station history in_it out plain has.pending_pdu one is_one (one == station) refl;
+          each = call_taken given station (step_of (packet_received station history)) history (spends given are_two done station history in_it out plain has.pending_pdu) has.each;
         };
     on_heard = λ phases history has. record {
       is = kept.on_heard phases history has.is;

@@ -1,10 +1,11 @@
 -- A link that receives a packet notes that it takes the PDU in it where that is new and not empty: there is always room.
-use Rattle.std.proofs.Common.{◌≡◌, ℕ, ◌+◌, ◌<◌, ◌≤◌, ◌==◌, ◌&&◌, not, Bool, true, false, Option, Some, None, List, [], ◌++◌, length, refl, sym, ap, subst, ◌∙◌, nat_lt, arith}
+use Rattle.std.proofs.Common.{◌≡◌, ℕ, ◌+◌, ◌<◌, ◌≤◌, ◌==◌, ◌&&◌, not, Bool, true, false, Option, Some, None, List, [], ◌++◌, length, refl, sym, ap, subst, ◌∙◌, nat_lt, append_assoc, arith}
 use Rattle.std.specs.Prelude.{All}
 use Rattle.std.proofs.Math.Bool.{and-false}
 use Rattle.std.proofs.lemmas.Bool.{eqb-false, eqb-true}
 use Rattle.std.proofs.lemmas.Bool.Decides.{nat_tests}
 use Rattle.std.proofs.lemmas.List.{take_all}
+use Rattle.std.proofs.lemmas.List.Elements.{All-append, All-nil}
 use Rattle.acl_banks.specs.declared.pieces.Piece.{Piece}
 use Rattle.ble_base.specs.declared.notes.Note.{Note}
 use Rattle.ack_bit.specs.AckBits.{is_new}
@@ -20,36 +21,50 @@ use Rattle.hci_cmd.specs.declared.command.CmdRead.{CmdRead}
 use Rattle.hci_cmd.specs.declared.command.CmdRead.TheVariants.{Known, UnknownOpcode, BadLength}
 use Rattle.hci_cmd.specs.Command.{command_of}
 use Rattle.host_view.specs.Unbuilt.{status_of}
-use Rattle.link_model.specs.Acknowledgement.{Acknowledgement, Pdu, bits_of, end_of, is_acked}
-use Rattle.link_model.specs.Data.{is_empty, numbered}
-use Rattle.link_model.specs.End.{has_new_pdu, is_accepted, took_notes, took_notes_if, took_notes_of}
-use Rattle.link_model.specs.Facts.{Facts as EndFacts}
-use Rattle.link_model.specs.Packets.{good_pdu, header_sent, packet_sent, pdu_sent}
-use Rattle.link_model.specs.Pair.{AreInAgreement, AreOneLink}
-use Rattle.link_model.specs.Setup.{Setup as EndSetup}
-use Rattle.link_model.proofs.Payloads.{past_fits, past_form}
-use Rattle.link_model.proofs.Received.{IsHeardWhole, header_read, heard_good, pdu_read}
-use Rattle.open_links.specs.declared.offers.Offer.{Offer}
-use Rattle.open_links.specs.declared.offers.Offer.TheVariants.{NoLink, Empty, Overflow, Kept}
-use Rattle.open_links.specs.OpenLinks.{OpenLink, facts_in, link_at}
+use Rattle.journal_data.specs.link_model.Acknowledgement.{Acknowledgement, Pdu, bits_of, end_of, is_acked}
+use Rattle.journal_data.specs.link_model.Data.{is_empty, numbered}
+use Rattle.journal_data.specs.link_model.Data.{is_accepted}
+use Rattle.journal_data.specs.link_model.Verdicts.{pdu_of}
+use Rattle.journal_data.specs.link_model.Controls.{pdu_fixed}
+use Rattle.journal_data.specs.link_model.Hearing.{IsUnderstood, pdu_octets}
+use Rattle.journal_data.specs.link_model.Receiving.{has_new_pdu, received_notes, took_notes_if}
+use Rattle.journal_data.specs.link_model.Step.{PacketReceived}
+use Rattle.journal_data.specs.link_model.Facts.{Facts as EndFacts}
+use Rattle.journal_data.specs.link_model.Packets.{good_pdu, header_sent, packet_sent, pdu_sent}
+use Rattle.journal_data.specs.link_model.OneLink.{AreInAgreement}
+use Rattle.journal_data.proofs.link_model.Hearing.{IsHeardWhole}
+use Rattle.journal_data.proofs.link_model.Received.{header_read, heard_good, pdu_read}
+use Rattle.journal_data.specs.plain_links.Steps.{plain_took, plain_took_by}
+use Rattle.journal_data.proofs.plain_links.Growing.{plain_less}
+use Rattle.journal_data.proofs.plain_links.Idle.{past_idle}
+use Rattle.journal_data.proofs.plain_links.Payloads.{past_fits, past_form}
+use Rattle.journal_data.proofs.plain_links.Steps.{received_notes_plain}
+use Rattle.journal_data.specs.open_links.declared.offers.Offer.{Offer}
+use Rattle.journal_data.specs.open_links.declared.offers.Offer.TheVariants.{NoLink, Empty, Overflow, Kept}
+use Rattle.journal_data.specs.open_links.OpenLinks.{OpenLink, facts_in, link_after, link_at}
+use Rattle.journal_data.specs.open_links.Turns.{ending_in}
 use Rattle.scan_init.specs.Reports.{does_ask, scan_answer}
 use Rattle.controller_model.specs.declared.doing.Doing.{Doing}
 use Rattle.controller_model.specs.declared.doing.Doing.TheVariants.{Advertises, CentralSends, CentralListens, PeripheralListens}
 use Rattle.controller_model.specs.Commands.{facts_commanded, facts_known, received_after}
-use Rattle.controller_model.specs.Data.{facts_offered, offer_of}
+use Rattle.controller_model.specs.Data.{facts_handed, facts_offered, offer_of}
+use Rattle.controller_model.specs.Events.{notes_of_events}
 use Rattle.controller_model.specs.Facts.{Facts, Setup, first_facts}
-use Rattle.controller_model.specs.Heard.{asks_if, has_room, link_heard, link_received, link_taken, notes_taken, replies_in, reply_if}
+use Rattle.controller_model.specs.Heard.{asks_if, events_received, has_room, heard, link_heard, link_received, link_taken, notes_taken, replies_in, reply_if}
 use Rattle.controller_model.specs.Outcome.{facts_passed, notes_passed}
 use Rattle.controller_model.specs.Packets.{notes_doing}
+use Rattle.controller_model.specs.Plain.{AllPlain}
 use Rattle.controller_model.specs.Side.{facts_after, facts_fed, notes_after, result_of}
-use Rattle.controller_model.proofs.Always.{opening_passes, start_keeps}
+use Rattle.controller_model.proofs.Always.{leaving_is, opening_passes, start_keeps}
 use Rattle.controller_model.proofs.Phases.{EachOutcome, heard_is, unheard_is}
 use Rattle.run_model.specs.Run.{step_of}
-use Rattle.run_laws.proofs.Agreed.{ack_of, out_after, packet_of, sent_ack}
-use Rattle.run_laws.proofs.TurnPlaces.{Between, IsTurned, Stage, Within}
+use Rattle.journal_data.specs.run_laws.Plainness.{IsPlainLink}
+use Rattle.journal_data.proofs.run_laws.Agreed.{ack_of, out_after, packet_of, sent_ack}
+use Rattle.journal_data.proofs.run_laws.PlainLinks.{no_control_sent}
+use Rattle.journal_data.proofs.run_laws.TurnPlaces.{Between, IsTurned, Stage, Within}
 use Rattle.journal_acks.proofs.Acks.{sent_again}
-use Rattle.journal_acks.proofs.CallNotes.{HasNoData, TakesNone, all_more, doing_noted}
-use Rattle.journal_acks.proofs.DataCalls.{on_link_notes, unfound}
+use Rattle.journal_acks.proofs.CallNotes.{HasNoData, TakesNone, all_more, doing_noted, events_noted, no_data}
+use Rattle.journal_acks.proofs.DataCalls.{on_link_facts, on_link_notes, plain_heard, unfound}
 use Rattle.journal_acks.proofs.LinkUses.{listens_under}
 use Rattle.journal_acks.proofs.PhaseNotes.{IsOnLink, IsPhaseOf, IsPlainPhase, phase_of}
 use Rattle.journal_acks.proofs.TwoStations.{same_number}
@@ -128,7 +143,7 @@ passes_none setup facts yet = record {
   answered = λ channel octets pdu on_it doing is_on hears on.
       not_true _ _ (asks_never (false && does_ask (scan_answer on_it.params facts.view.accepted on_it.recent pdu)) channel pdu) on;
   connects = λ channel octets pdu on_it access handle doing is_on hears answers next free in_range on. not_true _ false refl on;
-  received = λ handle octets on. not_true _ _ (reply_never (replies_in (link_at handle facts.links) octets) handle) on;
+  received = λ handle octets on. not_true _ _ (reply_never (replies_in facts.turn.slot (has_room setup facts) (link_at handle facts.links) octets) handle) on;
 }
 
 phase_none : (setup : Setup) (facts : Facts) (received : Option (List ℕ)) → HasNoneYet facts → HasNoneYet (facts_after setup facts (step_of received))
@@ -141,7 +156,8 @@ empty_kept setup = record {
   feeds = λ begun octet facts none. fed_none setup facts (result_of facts.octets octet) none;
   begins = λ begun on facts none on_it. start_keeps HasNone HasNone received_none begun on facts none;
   passes = λ phases begun received facts yet. phase_none setup facts received yet;
-  ends = λ begun facts yet. refl;
+  ends = λ begun facts yet.
+      subst HasNone (sym (leaving_is (facts_handed facts))) (received_none.ends ending_in (facts_handed facts) refl);
 }
 
 pub empty_first : (setup : Setup) → IsEmptyAt setup Between 0 (first_facts setup)
@@ -176,28 +192,70 @@ later_if true handle pdu facts later none = none
 later_if false handle pdu facts later none = later_none later none
 
 later_took : (handle : ℕ) (room : Bool) (found : Option (List ℕ)) (facts : EndFacts) (later : List Note) → All TakesNone later
-    → All TakesNone (later_notes (took_notes handle room found facts ++ later))
+    → All TakesNone (later_notes (plain_took handle room found facts ++ later))
 later_took handle room None facts later none = later_none later none
 later_took handle room (Some pdu) facts later none = later_if _ handle _ facts later none
 
-later_link : (slot : ℕ) (room : Bool) (found : Option OpenLink) (octets : List ℕ) (later : List Note) → All TakesNone later
-    → All TakesNone (later_notes (notes_taken slot room found octets ++ later))
-later_link slot room None octets later none = later_none later none
-later_link slot room (Some link) octets later none = later_took link.setup.link.handle room (good_pdu link.setup (facts_in link) octets) (facts_in link) later none
+-- a plain link notes at most that it takes a PDU
+took_plain : (slot : ℕ) (room : Bool) (octets : List ℕ) (link : OpenLink) → IsPlainLink (link_after (PacketReceived slot octets room) link)
+    → notes_taken slot room (Some link) octets ≡ plain_took link.setup.link.handle room (good_pdu link.setup (facts_in link) octets) (facts_in link)
+took_plain slot room octets link plain =
+    let less = plain_less link.setup link.past (PacketReceived slot octets room) plain in
+    received_notes_plain link.setup (facts_in link) (past_idle link.setup link.past less.0) slot room (good_pdu link.setup (facts_in link) octets) less.1
+
+later_link : (slot : ℕ) (room : Bool) (octets : List ℕ) (link : OpenLink) (later : List Note) → IsPlainLink (link_after (PacketReceived slot octets room) link)
+    → All TakesNone later → All TakesNone (later_notes (notes_taken slot room (Some link) octets ++ later))
+later_link slot room octets link later plain none =
+    subst (λ notes. All TakesNone (later_notes (notes ++ later))) (sym (took_plain slot room octets link plain))
+    (later_took link.setup.link.handle room (good_pdu link.setup (facts_in link) octets) (facts_in link) later none)
 
 module _ (setup : Setup) (facts : Facts) where
+  -- after what a link notes of a packet come the events for its host, and what it notes as it replies
+  abbrev events_then : ℕ → List ℕ → List Note
+  events_then other octets =
+      notes_of_events facts.view (events_received other facts.turn.slot (has_room setup facts) (link_at other facts.links) octets)
+      ++ notes_doing (reply_if (replies_in facts.turn.slot (has_room setup facts) (link_at other facts.links) octets) other)
+      (link_received other (has_room setup facts) octets facts)
+
+  on_link_parts : (other : ℕ) (octets : List ℕ) → notes_passed (link_heard setup other octets facts)
+      ≡ notes_taken facts.turn.slot (has_room setup facts) (link_at other facts.links) octets ++ events_then other octets
+  on_link_parts other octets = append_assoc (notes_taken facts.turn.slot (has_room setup facts) (link_at other facts.links) octets) _ _
+
+  events_none : (other : ℕ) (octets : List ℕ) → All TakesNone (events_then other octets)
+  events_none other octets =
+      let slot = facts.turn.slot in
+      let room = has_room setup facts in
+      let events = notes_of_events facts.view (events_received other slot room (link_at other facts.links) octets) in
+      All-append TakesNone events _
+      (all_more HasNoData TakesNone (λ note has. has.takes) events
+      (events_noted HasNoData no_data.feeds facts.view (events_received other slot room (link_at other facts.links) octets)))
+      (doing_noted TakesNone (λ one number llid body. refl) (reply_if (replies_in slot room (link_at other facts.links) octets) other)
+      (link_received other room octets facts))
+
   -- only the first note of a phase takes a PDU
-  pub phase_later : (received : Option (List ℕ)) → All TakesNone (later_notes (notes_after setup facts (step_of received)))
-  phase_later received = by (phase_of setup facts received)
+  pub phase_later : (received : Option (List ℕ)) → AllPlain (facts_after setup facts (step_of received)).links
+      → All TakesNone (later_notes (notes_after setup facts (step_of received)))
+  phase_later received all_plain = by (phase_of setup facts received)
     where
+      on_link : (other : ℕ) (octets : List ℕ) → received ≡ Some octets → heard setup facts.turn.doing octets facts ≡ link_heard setup other octets facts
+          → (found : Option OpenLink) → link_at other facts.links ≡ found → All TakesNone (later_notes (notes_after setup facts (step_of received)))
+      on_link other octets some heard_is None absent =
+          subst (λ notes. All TakesNone (later_notes notes))
+          (sym (on_link_notes setup facts received other octets some (ap notes_passed heard_is) ∙ unfound setup facts other octets absent)) (All-nil TakesNone)
+      on_link other octets some heard_is (Some link) is =
+          let slot = facts.turn.slot in
+          let room = has_room setup facts in
+          let plain = plain_heard setup facts other octets link is
+          (subst (λ (after : Facts). AllPlain after.links) (on_link_facts setup facts received other octets some (ap facts_passed heard_is)) all_plain) in
+          subst (λ notes. All TakesNone (later_notes notes))
+          (sym (on_link_notes setup facts received other octets some (ap notes_passed heard_is) ∙ on_link_parts other octets))
+          (subst (λ found. All TakesNone (later_notes (notes_taken slot room found octets ++ events_then other octets))) (sym is)
+          (later_link slot room octets link (events_then other octets) plain (events_none other octets)))
+
       by : IsPhaseOf setup facts received → All TakesNone (later_notes (notes_after setup facts (step_of received)))
       by (IsPlainPhase none plain) =
           later_none (notes_after setup facts (step_of received)) (all_more HasNoData TakesNone (λ note has. has.takes) (notes_after setup facts (step_of received)) plain)
-      by (IsOnLink other octets some listens heard_is) =
-          let room = has_room setup facts in
-          subst (λ notes. All TakesNone (later_notes notes)) (sym (on_link_notes setup facts received other octets some (ap notes_passed heard_is)))
-          (later_link facts.turn.slot room (link_at other facts.links) octets _
-          (doing_noted TakesNone (λ one number llid body. refl) (reply_if (replies_in (link_at other facts.links) octets) other) (link_received other room octets facts)))
+      by (IsOnLink other octets some listens heard_is) = on_link other octets some heard_is (link_at other facts.links) refl
 
   -- where nothing is received on an open link, none takes one
   pub unheard_none : (link_of : ℕ → ℕ) (received : Option (List ℕ))
@@ -231,42 +289,40 @@ module _ (setup : Setup) (facts : Facts) where
         by (IsOnLink other heard some listens heard_is) =
             let same = eqb-true other handle (sym (listens handle) ∙ on) in
             let equal : heard ≡ octets = let told : Some heard ≡ Some octets = sym some in cc in
-            let reply = reply_if (replies_in (link_at other facts.links) heard) other in
-            let after_it = link_received other (has_room setup facts) heard facts in
+            let more = events_then other heard in
             ap (first_taken link_of)
-            (on_link_notes setup facts (Some octets) other heard some (ap notes_passed heard_is)
-            ∙ (λ i. notes_taken facts.turn.slot (room i) (link_at (same i) facts.links) (equal i) ++ notes_doing reply after_it)
-            ∙ ap (λ found. notes_taken facts.turn.slot true found octets ++ notes_doing reply after_it) is_open
-            ∙ ap (λ notes. notes ++ notes_doing reply after_it) are)
-            ∙ first_of link_of noted link.setup.link.handle pdu (facts_in link) (notes_doing reply after_it)
-            (doing_noted TakesNone (λ one number llid body. refl) reply after_it)
+            (on_link_notes setup facts (Some octets) other heard some (ap notes_passed heard_is) ∙ on_link_parts other heard
+            ∙ (λ i. notes_taken facts.turn.slot (room i) (link_at (same i) facts.links) (equal i) ++ more)
+            ∙ ap (λ found. notes_taken facts.turn.slot true found octets ++ more) is_open
+            ∙ ap (λ notes. notes ++ more) are)
+            ∙ first_of link_of noted link.setup.link.handle pdu (facts_in link) more (events_none other heard)
 
 -- ---- the PDU that the other end sent
-
--- only the fields of the link count in a packet
-abbrev as_other : EndSetup → EndSetup → EndSetup
-as_other from to = record { link = record to.link { fields = from.link.fields }; opened = to.opened }
-
-same_packet : (from to : EndSetup) (facts : EndFacts) → packet_sent from facts ≡ packet_sent (as_other from to) facts
-unfolding packet_sent
-same_packet from to facts = refl
 
 abbrev noted_of : OpenLink → OpenLink → Bool
 noted_of link from =
     is_accepted true (has_new_pdu (facts_in link) (header_sent (facts_in from))) (pdu_sent (facts_in from)) && not (is_empty (pdu_sent (facts_in from)))
 
-took_as : IsHeardWhole → (slot : ℕ) (link from : OpenLink) (octets : List ℕ) → 27 ≤ link.setup.link.max_rx
+took_as : IsHeardWhole → (slot : ℕ) (link from : OpenLink) (octets : List ℕ) → IsPlainLink link → IsPlainLink from → 27 ≤ link.setup.link.max_rx
     → link.setup.link.fields ≡ from.setup.link.fields → octets ≡ packet_sent from.setup (facts_in from) → (facts_in from).event.channel ≡ (facts_in link).event.channel
     → notes_taken slot true (Some link) octets ≡ took_notes_if (noted_of link from) link.setup.link.handle (pdu_sent (facts_in from)) (facts_in link)
-took_as whole slot link from octets fits fields packet channel =
+took_as whole slot link from octets plain from_plain fits fields packet channel =
     let sender = facts_in from in
-    let form = past_form from.setup from.past in
-    let alike = as_other from.setup link.setup in
-    let is_one : AreOneLink alike link.setup = record { fields = sym fields; two = refl; opened = refl } in
-    ap (λ found. took_notes link.setup.link.handle true found (facts_in link))
-    (ap (good_pdu link.setup (facts_in link)) (packet ∙ same_packet from.setup link.setup sender)
-    ∙ heard_good whole alike link.setup sender (facts_in link) is_one (past_fits from.setup from.past link.setup (facts_in link) fits) form channel)
-    ∙ (λ i. took_notes_of link.setup.link.handle true (header_read sender form i) (pdu_read sender form i) (facts_in link))
+    let handle = link.setup.link.handle in
+    let form = past_form from.setup from.past from_plain in
+    let understood : IsUnderstood from.setup sender link.setup (facts_in link) = record {
+      fields = sym fields;
+      channel = channel;
+      llid = form.low;
+      octets = form.short;
+      fits = past_fits from.setup from.past link.setup (facts_in link) from_plain fits;
+    } in
+    let pdu : pdu_of (pdu_octets sender) ≡ pdu_sent sender =
+    pdu_read sender form.low ∙ (λ i. record { llid = (pdu_sent sender).llid; body = form.opened i }) in
+    ap (λ found. received_notes link.setup slot true found (facts_in link))
+    (ap (good_pdu link.setup (facts_in link)) packet ∙ heard_good whole from.setup link.setup sender (facts_in link) understood)
+    ∙ received_notes_plain link.setup (facts_in link) (past_idle link.setup link.past plain) slot true (Some (pdu_octets sender)) (no_control_sent from from_plain)
+    ∙ (λ i. plain_took_by handle true (header_read sender form.low i) (pdu i) (facts_in link))
 
 module _ (sender : EndFacts) (one : Acknowledgement) (agreed : AreInAgreement (sent_ack sender) one) where
   abbrev fresh : Bool
@@ -283,7 +339,7 @@ module _ (sender : EndFacts) (one : Acknowledgement) (agreed : AreInAgreement (s
       let ahead = agreed.from_a.reliable in
       let new : fresh ≡ (length sent == length one.accepted + 1) =
       (says (end_of (sent_ack sender)) (end_of one) (packet_of sender true) agreed).fresh
-      ∙ ap (λ pdus. length pdus == length one.accepted + 1) (sent_again (sent_ack sender) sender.outgoing.fixed (is_acked (sent_ack sender)) refl (out_after sender one agreed)) in
+      ∙ ap (λ pdus. length pdus == length one.accepted + 1) (sent_again (sent_ack sender) (pdu_fixed sender) (is_acked (sent_ack sender)) refl (out_after sender one agreed)) in
       let differs = eqb-false (length sent) (length one.accepted + 1) (sym new ∙ is) in
       let high = ahead.at_most_one_ahead in
       let all : length sent ≤ length one.accepted = omega (arith, differs, high) in
@@ -309,17 +365,17 @@ same_line false false sent accepted number pdu more same =
 -- a station that receives the packet of the other end of its link takes the last PDU that was sent, where it has not yet
 pub taken_as : IsHeardWhole → (link_of : ℕ → ℕ) (setup : Setup) (facts : Facts) (octets : List ℕ) (handle number : ℕ) (link from : OpenLink)
     → has_room setup facts ≡ true → link_at handle facts.links ≡ Some link → listens_under handle facts.turn.doing ≡ true
-    → link_of link.setup.link.handle ≡ number → 27 ≤ link.setup.link.max_rx → link.setup.link.fields ≡ from.setup.link.fields
+    → link_of link.setup.link.handle ≡ number → IsPlainLink link → IsPlainLink from → 27 ≤ link.setup.link.max_rx → link.setup.link.fields ≡ from.setup.link.fields
     → octets ≡ packet_sent from.setup (facts_in from) → (facts_in from).event.channel ≡ (facts_in link).event.channel
     → AreInAgreement (sent_ack (facts_in from)) (ack_of link)
     → pdu_line_if (nat_lt (numbered (ack_of link).accepted) (numbered (sent_ack (facts_in from)).sent) && not (is_empty (pdu_sent (facts_in from)))) number
     (numbered (sent_ack (facts_in from)).sent) (pdu_sent (facts_in from))
     ≡ first_taken link_of (notes_after setup facts (step_of (Some octets)))
-taken_as whole link_of setup facts octets handle number link from room is_open on number_is fits fields packet channel agreed =
+taken_as whole link_of setup facts octets handle number link from room is_open on number_is plain from_plain fits fields packet channel agreed =
     let sender = facts_in from in
     let accepted = numbered (ack_of link).accepted in
     same_line (fresh sender (ack_of link) agreed) (is_empty (pdu_sent sender)) (numbered (sent_ack sender).sent) accepted number (pdu_sent sender)
     (fresh_more sender (ack_of link) agreed) (old_same sender (ack_of link) agreed)
     ∙ ap (λ n. pdu_line_if (noted_of link from) n (accepted + 1) (pdu_sent sender)) (sym number_is)
     ∙ sym (heard_taken setup facts octets handle link room is_open on (noted_of link from) (pdu_sent sender)
-    (took_as whole facts.turn.slot link from octets fits fields packet channel) link_of)
+    (took_as whole facts.turn.slot link from octets plain from_plain fits fields packet channel) link_of)

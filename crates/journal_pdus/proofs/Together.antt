@@ -1,6 +1,6 @@
 -- What is known of all stations at each place of a run of a pair: what the lines of their data say, and those of new PDUs.
 use Rattle.std.proofs.Common.{◌≡◌, ℕ, List, []}
-use Rattle.link_model.proofs.Received.{IsHeardWhole}
+use Rattle.journal_data.proofs.link_model.Hearing.{IsHeardWhole}
 use Rattle.run_model.specs.Feeding.{AreDistinct}
 use Rattle.run_model.specs.History.{Event}
 use Rattle.run_model.specs.LinkEnds.{HaveAddresses}

@@ -9,24 +9,25 @@ use Rattle.ble_base.specs.declared.notes.Note.{Note}
 use Rattle.ble_base.specs.declared.roles.Side.{Side}
 use Rattle.journal.specs.declared.entries.Entry.{Entry}
 use Rattle.journal.specs.declared.entries.Entry.TheVariants.{Air}
-use Rattle.link_model.specs.Acknowledgement.{Acknowledgement, Pdu, is_acked, next_sent}
-use Rattle.link_model.specs.Data.{is_empty, numbered}
-use Rattle.link_model.specs.End.{sent_notes_if}
-use Rattle.link_model.specs.Facts.{Facts as EndFacts}
-use Rattle.link_model.specs.Step.{PacketReceived, PacketSent}
-use Rattle.open_links.specs.OpenLinks.{Links, OpenLink, facts_in, link_after, link_at}
-use Rattle.open_links.specs.Turns.{notes_entering}
-use Rattle.open_links.proofs.Handles.{handle_is}
+use Rattle.journal_data.specs.link_model.Acknowledgement.{Acknowledgement, Pdu, is_acked, next_sent}
+use Rattle.journal_data.specs.link_model.Data.{is_empty, numbered}
+use Rattle.journal_data.specs.link_model.Controls.{pdu_fixed}
+use Rattle.journal_data.specs.link_model.Sending.{sent_notes_if}
+use Rattle.journal_data.specs.link_model.Facts.{Facts as EndFacts}
+use Rattle.journal_data.specs.link_model.Step.{PacketSent}
+use Rattle.journal_data.specs.link_model.Setup.{Setup as EndSetup}
+use Rattle.journal_data.specs.open_links.OpenLinks.{Links, OpenLink, facts_in, link_after, link_at}
+use Rattle.journal_data.proofs.open_links.Handles.{handle_is}
 use Rattle.controller_model.specs.declared.doing.Doing.{Doing}
 use Rattle.controller_model.specs.declared.doing.Doing.TheVariants.{Advertises, CentralSends, PeripheralSends, Rests}
 use Rattle.controller_model.specs.Step.{Step, HostOctet, TurnBegins}
 use Rattle.controller_model.specs.Facts.{Setup, Facts}
-use Rattle.controller_model.specs.Heard.{has_room, heard, link_heard, link_received, notes_taken, replies_in, reply_if}
-use Rattle.controller_model.specs.Links.{facts_ending, notes_ending}
+use Rattle.controller_model.specs.Heard.{has_room, heard, link_heard, link_received, replies_in, reply_if}
 use Rattle.controller_model.specs.Outcome.{Outcome, facts_passed, notes_passed}
 use Rattle.controller_model.specs.Packets.{notes_doing, notes_sent}
 use Rattle.controller_model.specs.Radio.{outcome_begun}
 use Rattle.controller_model.specs.Side.{facts_after, notes_after}
+use Rattle.controller_model.proofs.Places.{link_receiving, receiving_is}
 use Rattle.run_model.specs.Feeding.{AreDistinct}
 use Rattle.run_model.specs.History.{Event, TurnBegan, HostFed, Transmitted, Hearing, is_good, packet_received}
 use Rattle.run_model.specs.Journal.{air_entries, journal_of, mark_of, side_of}
@@ -35,24 +36,24 @@ use Rattle.run_model.specs.Run.{Given, after_call, after_feed, after_octets, fac
 use Rattle.run_model.proofs.Parts.{journal_event}
 use Rattle.run_model.proofs.Stations.{is_in}
 use Rattle.run_model.proofs.Walk.{Place, AtListening}
-use Rattle.run_laws.proofs.Agreed.{ack_of}
-use Rattle.run_laws.proofs.ByCalls.{Holds}
-use Rattle.run_laws.proofs.Hearings.{other_facts, own_facts}
-use Rattle.run_laws.proofs.InAgreement.{AreStations, IsStation, differs_back}
+use Rattle.journal_data.proofs.run_laws.Agreed.{ack_of}
+use Rattle.journal_data.proofs.run_laws.ByCalls.{Holds}
+use Rattle.journal_data.proofs.run_laws.Hearings.{other_facts, own_facts}
+use Rattle.journal_data.proofs.run_laws.InAgreement.{AreStations, IsStation, differs_back}
 use Rattle.journal_links.specs.Begun.{link_numbered}
 use Rattle.journal_packets.specs.Belonging.{is_side, link_of_packet}
 use Rattle.journal_acks.specs.Exchange.{Exchanged, after_packet, carries_empty, exchange_of, is_number, with_heard, with_sent}
-use Rattle.journal_acks.proofs.CallNotes.{HasNoData, SendsNone, all_more, doing_noted, no_data, start_noted}
+use Rattle.journal_acks.proofs.CallNotes.{HasNoData, SendsNone, all_more, doing_noted, no_data, notes_starting, start_noted}
 use Rattle.journal_acks.proofs.Counting.{AreCountedSo, AreKnown, facts_event, plain}
 use Rattle.journal_acks.proofs.DataCalls.{on_link_notes, own_begun, sent_at}
 use Rattle.journal_acks.proofs.Exchanging.{OpensNone, exchange_at, exchange_more, exchange_other, exchange_same, feed_quiet, number_at, number_called, number_other, number_quiet, number_sent as number_aired, opening_none, turn_quiet}
 use Rattle.journal_acks.proofs.KeptCounts.{AreCountedAt, before_call, own_at, phased, station_is, unsent, was_taking}
 use Rattle.journal_acks.proofs.KeptLines.{rests_deaf, rests_none}
-use Rattle.journal_acks.proofs.LinkCalls.{HasPassed, IsNew, Stays, Takes, base_ack, begins_under, off_sends, passes_under, taken_noted}
+use Rattle.journal_acks.proofs.LinkCalls.{HasPassed, IsNew, Stays, Takes, base_ack, begins_under, off_sends, passes_under, received_noted, receiving_ack, receiving_setup, taking_opens, taking_sends}
 use Rattle.journal_acks.proofs.LinkUses.{listens_under, sends_under}
 use Rattle.journal_acks.proofs.PhaseNotes.{IsOnLink, IsPhaseOf, IsPlainPhase, phase_of, same_but}
 use Rattle.journal_acks.proofs.TwoStations.{IsOfTwo, other_apart, same_number}
-use Rattle.journal_acks.proofs.UnderHandles.{change_if, change_under, sending_under}
+use Rattle.journal_acks.proofs.UnderHandles.{WasOpen, change_if, change_under, sending_under}
 use Rattle.journal_data.specs.Lines.{PduLine}
 use Rattle.journal_pdus.specs.Announced.{is_first_sent, pdu_line_if}
 use Rattle.journal_pdus.proofs.ToldLines.{air_other_told, called_none, called_other, called_sent, fed_other_told, told_at, turn_told}
@@ -62,7 +63,7 @@ use Rattle.journal_pdus.proofs.ToldLines.{air_other_told, called_none, called_ot
 -- the new PDU with a payload that an end sends next, as its line tells it
 abbrev pub line_to_send : ℕ → EndFacts → Option PduLine
 line_to_send number facts =
-    pdu_line_if (is_acked facts.acknowledgement && not (is_empty facts.outgoing.fixed)) number (numbered facts.acknowledgement.sent + 1) facts.outgoing.fixed
+    pdu_line_if (is_acked facts.acknowledgement && not (is_empty (pdu_fixed facts))) number (numbered facts.acknowledgement.sent + 1) (pdu_fixed facts)
 
 numbered_more : (pdus : List Pdu) (pdu : Pdu) → is_empty pdu ≡ false → numbered (pdus ++ pdu ∷ []) ≡ numbered pdus + 1
 numbered_more pdus pdu full =
@@ -316,12 +317,12 @@ module _ (given : Given) (station : ℕ) (step : Step) (history : List Event) (o
       called_none given station step history before (subst (All SendsNone) (sym (notes_are ∙ ap (λ xs. earlier ++ xs) nothing ∙ append-nil earlier)) none)
 
   told_if : (handle : ℕ) (base : OpenLink) → link_at handle outcome.facts.links ≡ Some base → (noted : Bool)
-      → notes_doing outcome.next outcome.facts ≡ sent_notes_if noted base.setup.link.handle (facts_in base)
-      → told_at station after ≡ pdu_line_if noted (number_at station handle history) (numbered (ack_of base).sent + 1) (facts_in base).outgoing.fixed
+      → notes_doing outcome.next outcome.facts ≡ sent_notes_if noted base.setup.link.handle (numbered (ack_of base).sent) (pdu_fixed (facts_in base))
+      → told_at station after ≡ pdu_line_if noted (number_at station handle history) (numbered (ack_of base).sent + 1) (pdu_fixed (facts_in base))
   told_if handle base at false are = quiet are
   told_if handle base at true are =
       called_sent given station step history base.setup.link.handle _ _ _ earlier (notes_are ∙ ap (λ xs. earlier ++ xs) are) (opens base.setup.link.handle)
-      ∙ ap (λ h. pdu_line_if true (number_at station h history) (numbered (ack_of base).sent + 1) (facts_in base).outgoing.fixed) (own handle base at)
+      ∙ ap (λ h. pdu_line_if true (number_at station h history) (numbered (ack_of base).sent + 1) (pdu_fixed (facts_in base))) (own handle base at)
 
   no_link : (handle : ℕ) → link_at handle outcome.facts.links ≡ None → (link : OpenLink) → link_at handle (facts_passed outcome).links ≡ Some link → ⊥
   no_link handle absent link at =
@@ -339,7 +340,7 @@ module _ (given : Given) (station : ℕ) (step : Step) (history : List Event) (o
         after_is = refl;
         sent = (exchange_same given (number_at station handle after) station step history (side_of station)).sent
             ∙ ap (λ n. (exchange_at n history (side_of station)).sent) (number_same handle) ∙ sent handle base at on;
-        told_is = told_if handle base at (is_acked (ack_of base) && not (is_empty (facts_in base).outgoing.fixed)) (are ∙ ap (notes_sent outcome.facts.turn.slot) at)
+        told_is = told_if handle base at (is_acked (ack_of base) && not (is_empty (pdu_fixed (facts_in base)))) (are ∙ ap (notes_sent outcome.facts.turn.slot) at)
             ∙ ap (λ n. line_to_send n (facts_in base)) (sym (number_same handle));
       })
 
@@ -365,7 +366,7 @@ begin_tells given station slot on history in_it rests station_is counted before 
     let setup = setup_at given station in
     let facts = facts_at given station history in
     let outcome = outcome_begun slot on facts in
-    let start = notes_ending slot facts ++ notes_entering slot (facts_ending slot facts).links in
+    let start = notes_starting slot facts in
     let own = own_begun setup slot on facts station_is.own in
     call_tells given station (TurnBegins slot on) history outcome start refl refl
     (all_more HasNoData SendsNone (λ note has. has.sends) start (start_noted HasNoData no_data slot facts))
@@ -385,10 +386,10 @@ begin_tells given station slot on history in_it rests station_is counted before 
 
 -- ---- a phase passes
 
-received_handle : (same : Bool) (slot : ℕ) (octets : List ℕ) (room : Bool) (link : OpenLink)
-    → (change_if same (link_after (PacketReceived slot octets room)) link).setup.link.handle ≡ link.setup.link.handle
-received_handle true slot octets room link = refl
-received_handle false slot octets room link = refl
+received_handle : (same : Bool) (other : ℕ) (room : Bool) (octets : List ℕ) (facts : Facts) (link : OpenLink)
+    → (change_if same (link_receiving other room octets facts) link).setup.link.handle ≡ link.setup.link.handle
+received_handle true other room octets facts link = ap (λ (s : EndSetup). s.link.handle) (receiving_setup other room octets facts link)
+received_handle false other room octets facts link = refl
 
 reply_sends : (replies : Bool) (other handle : ℕ) → sends_under handle (reply_if replies other) ≡ true → (other == handle) ≡ true
 reply_sends true other handle on = on
@@ -436,32 +437,38 @@ module _ (given : Given) (Q : Place → List Event → Type 0) (known : AreKnown
 
   -- a packet is received on a link
   module _ (other : ℕ) (octets : List ℕ) (some : received ≡ Some octets) (listens : (handle : ℕ) → listens_under handle facts.turn.doing ≡ (other == handle)) where
-    abbrev taking : OpenLink → OpenLink
-    taking link = link_after (PacketReceived facts.turn.slot octets room) link
+    received_from : (handle : ℕ) (base : OpenLink) → link_at handle (link_received other room octets facts).links ≡ Some base
+        → WasOpen (change_if (other == handle) (link_receiving other room octets facts)) (link_at handle facts.links) base
+    received_from handle base at =
+        change_under other handle (link_receiving other room octets facts) facts.links base
+        (ap (link_at handle) (sym (receiving_is other room octets facts)) ∙ at)
 
     own_taken : (handle : ℕ) (base : OpenLink) → link_at handle (link_received other room octets facts).links ≡ Some base → base.setup.link.handle ≡ handle
     own_taken handle base at =
-        let was = change_under other handle taking facts.links base at in
-        ap (λ (l : OpenLink). l.setup.link.handle) was.is ∙ received_handle (other == handle) facts.turn.slot octets room was.link
+        let was = received_from handle base at in
+        ap (λ (l : OpenLink). l.setup.link.handle) was.is ∙ received_handle (other == handle) other room octets facts was.link
         ∙ handle_is 0 handle facts.links was.link station_has.own.handles was.was
 
     sent_taken : (handle : ℕ) (base : OpenLink) → link_at handle (link_received other room octets facts).links ≡ Some base → (other == handle) ≡ true
         → (exchange_at (number_at station handle history) history (side_of station)).sent ≡ length (ack_of base).sent
     sent_taken handle base at one =
-        let was = change_under other handle taking facts.links base at in
-        let base_is : base ≡ taking was.link = was.is ∙ ap (λ b. change_if b taking was.link) one in
+        let was = received_from handle base at in
+        let receiving = link_receiving other room octets facts in
+        let base_is : base ≡ receiving was.link = was.is ∙ ap (λ b. change_if b receiving was.link) one in
         let counts = was_taking received octets handle facts.turn was.link (exchange_at (number_at station handle history) history (side_of station)) (listens handle ∙ one) some
         (before_call given Q known distinct phases done left station history are is q holds handle was.link was.was) in
-        counts.sent ∙ ap length (same_but facts.turn.slot octets false room was.link).sent ∙ ap (λ (l : OpenLink). length (ack_of l).sent) (sym base_is)
+        counts.sent ∙ ap length (same_but facts.turn.slot octets false room was.link).sent
+        ∙ ap (λ (a : Acknowledgement). length a.sent) (sym (receiving_ack other room octets facts was.link))
+        ∙ ap (λ (l : OpenLink). length (ack_of l).sent) (sym base_is)
 
     link_tells : heard setup facts.turn.doing octets facts ≡ link_heard setup other octets facts → IsTold given true station heard_after
     link_tells heard_is =
-        call_tells given station (step_of received) history (link_heard setup other octets facts) (notes_taken facts.turn.slot room (link_at other facts.links) octets)
+        call_tells given station (step_of received) history (link_heard setup other octets facts) (link_heard setup other octets facts).notes
         (ap (λ may. facts_after setup facts (step_of may)) some ∙ ap facts_passed heard_is)
         (on_link_notes setup facts received other octets some (ap notes_passed heard_is))
-        (taken_noted SendsNone (λ handle count llid body. refl) facts.turn.slot room (link_at other facts.links) octets)
-        (λ handle. taken_noted (OpensNone handle) (λ one count llid body. refl) facts.turn.slot room (link_at other facts.links) octets)
-        own_taken (λ handle base at on. sent_taken handle base at (reply_sends (replies_in (link_at other facts.links) octets) other handle on)) before
+        (received_noted SendsNone taking_sends setup other octets facts)
+        (λ handle. received_noted (OpensNone handle) (taking_opens handle) setup other octets facts)
+        own_taken (λ handle base at on. sent_taken handle base at (reply_sends (replies_in facts.turn.slot room (link_at other facts.links) octets) other handle on)) before
 
   pub phase_tells : IsTold given true station heard_after
   phase_tells = by (phase_of (setup_at given station) (facts_at given station history) (packet_received station history))

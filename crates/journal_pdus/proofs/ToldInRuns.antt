@@ -8,19 +8,17 @@ use Rattle.ble_base.specs.declared.notes.Note.TheVariants.{Up as UpNote}
 use Rattle.ble_base.specs.declared.roles.Side.{Side}
 use Rattle.journal.specs.declared.entries.Entry.{Entry}
 use Rattle.journal.specs.declared.entries.Entry.TheVariants.{Turn, Fed, Air}
-use Rattle.link_model.specs.Acknowledgement.{is_acked}
-use Rattle.link_model.specs.Data.{is_empty}
-use Rattle.link_model.specs.End.{sent_notes_if}
-use Rattle.link_model.specs.Facts.{Facts as EndFacts}
-use Rattle.link_model.proofs.Received.{IsHeardWhole}
-use Rattle.open_links.specs.OpenLinks.{OpenLink, facts_in, link_at}
-use Rattle.open_links.specs.Turns.{notes_entering}
+use Rattle.journal_data.specs.link_model.Acknowledgement.{Pdu, is_acked}
+use Rattle.journal_data.specs.link_model.Data.{is_empty, numbered}
+use Rattle.journal_data.specs.link_model.Controls.{pdu_fixed}
+use Rattle.journal_data.specs.link_model.Sending.{sent_notes_if}
+use Rattle.journal_data.proofs.link_model.Hearing.{IsHeardWhole}
+use Rattle.journal_data.specs.open_links.OpenLinks.{OpenLink, facts_in, link_at}
 use Rattle.controller_model.specs.declared.doing.Doing.{Doing}
 use Rattle.controller_model.specs.declared.doing.Doing.TheVariants.{Advertises, CentralSends, PeripheralSends}
 use Rattle.controller_model.specs.Step.{Step, HostOctet, TurnBegins, TurnEnds}
 use Rattle.controller_model.specs.Facts.{Facts}
-use Rattle.controller_model.specs.Heard.{has_room, link_heard}
-use Rattle.controller_model.specs.Links.{facts_ending, notes_ending}
+use Rattle.controller_model.specs.Heard.{link_heard}
 use Rattle.controller_model.specs.Outcome.{notes_passed}
 use Rattle.controller_model.specs.Packets.{notes_doing, notes_sent}
 use Rattle.controller_model.specs.Radio.{outcome_begun}
@@ -38,19 +36,19 @@ use Rattle.run_model.proofs.LinkEnds.{AreTaken, IsUnderstood}
 use Rattle.run_model.proofs.Places.{each_at, each_called, each_event}
 use Rattle.run_model.proofs.Stations.{is_in, among, in_more_other, in_more_same, not_before}
 use Rattle.run_model.proofs.Walk.{Place, AtPackets, AtBegins, AtFeeds, AtEnds, NoTurn, IsKept, IsStopped, IsWhole, ends_with, run_kept}
-use Rattle.run_laws.proofs.Agreed.{ack_of}
-use Rattle.run_laws.proofs.DistinctAccess.{AreApart}
-use Rattle.run_laws.proofs.Hearings.{own_facts, wanted_is}
-use Rattle.run_laws.proofs.TurnPlaces.{Between, Within, at_stage}
+use Rattle.journal_data.proofs.run_laws.Agreed.{ack_of}
+use Rattle.journal_data.proofs.run_laws.DistinctAccess.{AreApart}
+use Rattle.journal_data.proofs.run_laws.Hearings.{own_facts, wanted_is}
+use Rattle.journal_data.proofs.run_laws.TurnPlaces.{Between, Within, at_stage}
 use Rattle.journal_packets.specs.Belonging.{is_side}
 use Rattle.journal_packets.proofs.AccessOrder.{AreNth}
 use Rattle.journal_packets.proofs.SoFar.{IsBelongingSoFar}
-use Rattle.journal_acks.proofs.CallNotes.{HasNoData, SendsNone, all_more, end_noted, no_data, octet_noted, start_noted}
+use Rattle.journal_acks.proofs.CallNotes.{HasNoData, SendsNone, all_more, end_noted, no_data, notes_starting, octet_noted, start_noted}
 use Rattle.journal_acks.proofs.Counting.{AreKnown}
 use Rattle.journal_acks.proofs.DataCalls.{on_link_notes}
 use Rattle.journal_acks.proofs.KeptCounts.{AreCountedAt, unsent}
 use Rattle.journal_acks.proofs.Known.{known_of}
-use Rattle.journal_acks.proofs.LinkCalls.{taken_noted}
+use Rattle.journal_acks.proofs.LinkCalls.{received_noted, taking_sends}
 use Rattle.journal_acks.proofs.LinkUses.{sends_under}
 use Rattle.journal_acks.proofs.RunCounts.{counts_first}
 use Rattle.journal_acks.proofs.PhaseNotes.{IsOnLink, IsPhaseOf, IsPlainPhase, phase_of}
@@ -88,14 +86,15 @@ all_quiet given history station step before plain_too =
       few = omega arith;
     }
 
-few_if : (noted : Bool) (handle : ℕ) (facts : EndFacts) → length (sent_notes_if noted handle facts) ≤ 1
-few_if true handle facts = omega arith
-few_if false handle facts = omega arith
+few_if : (noted : Bool) (handle number : ℕ) (pdu : Pdu) → length (sent_notes_if noted handle number pdu) ≤ 1
+few_if true handle number pdu = omega arith
+few_if false handle number pdu = omega arith
 
 few_sent : (slot : ℕ) (found : Option OpenLink) → length (notes_sent slot found) ≤ 1
 few_sent slot None = omega arith
 few_sent slot (Some link) =
-    few_if (is_acked (ack_of link) && not (is_empty (facts_in link).outgoing.fixed)) link.setup.link.handle (facts_in link)
+    let pdu = pdu_fixed (facts_in link) in
+    few_if (is_acked (ack_of link) && not (is_empty pdu)) link.setup.link.handle (numbered (ack_of link).sent) pdu
 
 few_doing : (doing : Doing) (facts : Facts) → length (notes_doing doing facts) ≤ 1
 few_doing (CentralSends handle) facts = few_sent facts.turn.slot (link_at handle facts.links)
@@ -107,7 +106,7 @@ begin_call : (given : Given) (station slot : ℕ) (on : Bool) (history : List Ev
 begin_call given station slot on history before =
     let facts = facts_at given station history in
     let outcome = outcome_begun slot on facts in
-    let start = notes_ending slot facts ++ notes_entering slot (facts_ending slot facts).links in record {
+    let start = notes_starting slot facts in record {
       before = before;
       start = start;
       last = notes_doing outcome.next outcome.facts;
@@ -127,7 +126,7 @@ phase_call given station received history before (IsOnLink other octets some lis
       start = outcome.notes;
       last = notes_doing outcome.next outcome.facts;
       are = on_link_notes setup facts received other octets some (ap notes_passed heard_is);
-      none = taken_noted SendsNone (λ handle count llid body. refl) facts.turn.slot (has_room setup facts) (link_at other facts.links) octets;
+      none = received_noted SendsNone taking_sends setup other octets facts;
       few = few_doing outcome.next outcome.facts;
     }
 

@@ -4,11 +4,12 @@ use Rattle.std.specs.Prelude.{if◌then◌else◌}
 use Rattle.ack_bit.specs.Nonempty.{nonempty}
 use Rattle.ble_base.specs.declared.roles.Side.{Side}
 use Rattle.journal.specs.declared.entries.Entry.{Entry}
-use Rattle.link_model.specs.Acknowledgement.{Acknowledgement, is_acked}
-use Rattle.link_model.specs.Data.{is_empty, numbered}
-use Rattle.link_model.specs.Step.{PacketSent}
-use Rattle.link_model.proofs.Received.{IsHeardWhole}
-use Rattle.open_links.specs.OpenLinks.{OpenLink, facts_in, link_after, link_at}
+use Rattle.journal_data.specs.link_model.Acknowledgement.{Acknowledgement, is_acked}
+use Rattle.journal_data.specs.link_model.Data.{is_empty, numbered}
+use Rattle.journal_data.specs.link_model.Controls.{pdu_fixed}
+use Rattle.journal_data.specs.link_model.Step.{PacketSent}
+use Rattle.journal_data.proofs.link_model.Hearing.{IsHeardWhole}
+use Rattle.journal_data.specs.open_links.OpenLinks.{OpenLink, facts_in, link_after, link_at}
 use Rattle.controller_model.specs.Facts.{Sends}
 use Rattle.run_model.specs.Feeding.{AreDistinct}
 use Rattle.run_model.specs.History.{Event}
@@ -18,10 +19,9 @@ use Rattle.run_model.specs.Links.{is_advertising}
 use Rattle.run_model.specs.Run.{Given, facts_at, setup_at, use_at}
 use Rattle.run_model.proofs.Stations.{among}
 use Rattle.run_model.proofs.Walk.{Place, AtPackets}
-use Rattle.run_laws.proofs.Agreed.{ack_of, ack_sent, sent_ack}
-use Rattle.run_laws.proofs.Hearings.{wanted_is}
+use Rattle.journal_data.proofs.run_laws.Agreed.{ack_of, ack_sent, sent_ack}
+use Rattle.journal_data.proofs.run_laws.Hearings.{wanted_is}
 use Rattle.journal_packets.specs.Belonging.{link_of_packet}
-use Rattle.journal_packets.specs.Senders.{IsOfSendersLink}
 use Rattle.journal_packets.specs.Senders.{IsOfSendersLink}
 use Rattle.journal_acks.specs.Carried.{carried_of}
 use Rattle.journal_acks.proofs.Counting.{AreKnown}
@@ -101,7 +101,7 @@ module _ (whole : IsHeardWhole) (given : Given) (Q : Place → List Event → Ty
         let ack = base.acknowledgement in
         let acked = acked_is whole given Q known are_two few_links six distinct eight phases done left station channel octets history are wanted is off in
         tells_of.told_is
-        ∙ brings_line (is_acked ack) (is_empty base.outgoing.fixed) ack base.outgoing.fixed (carried_of number front side) (exchange_at number history side) number (last_number_sent number front side) refl
+        ∙ brings_line (is_acked ack) (is_empty (pdu_fixed base)) ack (pdu_fixed base) (carried_of number front side) (exchange_at number history side) number (last_number_sent number front side) refl
         (λ i. acked i == tells_of.sent i) (carried_is whole given Q known are_two few_links six distinct eight phases done left station channel octets history are wanted is off) count_is
         ∙ ap (λ may. new_pdu_of may front side)
         (sym sending.belongs)

@@ -3,15 +3,14 @@ use Rattle.std.proofs.Common.{◌≡◌, ℕ, nat_lt, List, length, ap, ◌∙�
 use Rattle.ack_bit.specs.Nonempty.{nonempty}
 use Rattle.acl_banks.specs.History.{octets_of}
 use Rattle.acl_banks.specs.Packets.{Marked}
-use Rattle.link_model.specs.Acknowledgement.{is_acked}
-use Rattle.link_model.specs.Data.{data_of, is_empty}
-use Rattle.link_model.specs.Facts.{Facts as EndFacts}
-use Rattle.link_model.specs.Step.{PacketSent}
-use Rattle.open_links.specs.OpenLinks.{OpenLink, facts_in, link_after}
-use Rattle.run_laws.proofs.Agreed.{ack_of, ack_sent, sent_ack, step_facts}
+use Rattle.journal_data.specs.link_model.Data.{data_of, is_empty}
+use Rattle.journal_data.specs.link_model.Facts.{Facts as EndFacts}
+use Rattle.journal_data.specs.link_model.Step.{PacketSent}
+use Rattle.journal_data.specs.open_links.OpenLinks.{OpenLink, facts_in, link_after}
+use Rattle.journal_data.proofs.run_laws.Agreed.{ack_sent, sent_ack}
 use Rattle.journal_data.specs.Lines.{Lines, pdus_on}
 use Rattle.journal_data.proofs.Arriving.{IsEndBooked, data_nonempty, lines_data}
-use Rattle.journal_data.proofs.SameGiven.{sent_same}
+use Rattle.journal_data.proofs.SameGiven.{own_same}
 use Rattle.journal_pdus.specs.Waiting.{data_of_lines, data_waits}
 
 -- ---- by what an end holds
@@ -30,8 +29,7 @@ waits_is number lines facts waiting booked =
 
 -- sending adds nothing to what was given
 given_same : (slot : ℕ) (link : OpenLink) → (facts_in (link_after (PacketSent slot) link)).outgoing.given ≡ (facts_in link).outgoing.given
-given_same slot link =
-    ap (λ (f : EndFacts). f.outgoing.given) (step_facts link (PacketSent slot)) ∙ sent_same (is_acked (ack_of link)) (facts_in link).outgoing
+given_same slot link = own_same (PacketSent slot) link tt
 
 pub waits_after : (number : ℕ) (lines : Lines) (slot : ℕ) (link : OpenLink) (waiting : List Marked) → IsEndBooked number lines (facts_in (link_after (PacketSent slot) link)) waiting
     → data_waits number lines ≡ nat_lt (length (data_of (sent_ack (facts_in link)).sent)) (length (octets_of (facts_in link).outgoing.given))

@@ -1,13 +1,18 @@
 -- In every run of a pair, each packet of a link tells whether more data of its side waits.
-use Rattle.std.proofs.Common.{◌≡◌, ℕ, Bool, true, false, List, ◌∷◌, ◌++◌, length, refl, sym, ap, subst, ◌∙◌}
+use Rattle.std.proofs.Common.{◌≡◌, ℕ, Bool, true, false, List, [], ◌∷◌, ◌++◌, length, refl, sym, ap, subst, ◌∙◌}
 use Rattle.std.specs.Prelude.{nat_lt, if◌then◌else◌}
 use Rattle.std.proofs.lemmas.Bool.{eq-eqb}
 use Rattle.acl_banks.specs.History.{octets_of}
-use Rattle.link_model.proofs.Received.{IsHeardWhole}
-use Rattle.link_model.specs.Acknowledgement.{Acknowledgement, Pdu, is_acked}
-use Rattle.link_model.specs.Data.{data_of, is_empty}
-use Rattle.link_model.specs.Facts.{Facts as EndFacts}
-use Rattle.open_links.specs.OpenLinks.{facts_in}
+use Rattle.journal_data.proofs.link_model.Hearing.{IsHeardWhole}
+use Rattle.journal_data.specs.link_model.Acknowledgement.{Acknowledgement, Pdu, is_acked}
+use Rattle.journal_data.specs.link_model.Data.{data_of, is_empty}
+use Rattle.journal_data.specs.link_model.Controls.{pdu_fixed}
+use Rattle.journal_data.specs.link_model.Facts.{Facts as EndFacts}
+use Rattle.journal_data.specs.link_model.Step.{PacketSent}
+use Rattle.journal_data.specs.open_links.OpenLinks.{facts_in, link_after}
+use Rattle.journal_data.proofs.plain_links.Growing.{plain_front}
+use Rattle.journal_data.proofs.plain_links.Idle.{past_idle}
+use Rattle.journal_data.proofs.plain_links.Steps.{pdu_plain}
 use Rattle.controller_model.specs.Facts.{Sends}
 use Rattle.controller_model.specs.Since.{data_waiting}
 use Rattle.ble_base.specs.declared.roles.Side.{Side}
@@ -25,9 +30,10 @@ use Rattle.run_model.specs.Run.{Given, facts_at, history_of, run_of, setup_at, u
 use Rattle.run_model.proofs.LinkEnds.{AreTaken, IsUnderstood}
 use Rattle.run_model.proofs.Stations.{among}
 use Rattle.run_model.proofs.Walk.{Place, AtPackets}
-use Rattle.run_laws.proofs.Agreed.{sent_ack}
-use Rattle.run_laws.proofs.DistinctAccess.{AreApart}
-use Rattle.run_laws.proofs.TurnPlaces.{Within, turned}
+use Rattle.journal_data.specs.run_laws.Plainness.{IsPlainLink}
+use Rattle.journal_data.proofs.run_laws.Agreed.{sent_ack}
+use Rattle.journal_data.proofs.run_laws.DistinctAccess.{AreApart}
+use Rattle.journal_data.proofs.run_laws.TurnPlaces.{Within, turned}
 use Rattle.journal_packets.specs.Senders.{IsOfSendersLink}
 use Rattle.journal_packets.proofs.AccessOrder.{AreNth}
 use Rattle.journal_packets.proofs.SoFar.{IsBelongingSoFar}
@@ -82,12 +88,19 @@ module _ (whole : IsHeardWhole) (given : Given) (Q : Place → List Event → Ty
       waits_after number (lines_at station history) sending.slot sending.link (data_waiting sending.handle (facts_at given station history).received)
       (booked_is whole given Q known are_two few_links six distinct eight phases done left station channel octets history are wanted has off)
 
+  -- no procedure ran on the link as it sent
+  plain : IsPlainLink sending.link
+  plain =
+      let sent_on = link_after (PacketSent sending.slot) sending.link in
+      plain_front sending.link.setup sending.link.past (PacketSent sending.slot ∷ [])
+      (known.plain (AtPackets phases done (station ∷ left)) history has.lined.counts.known station (among given.stations done left station are) sending.handle sent_on sending.is_open)
+
   fixed : IsFixedNow base.outgoing
   fixed =
       let setup = setup_at given station in
       let stands = turned setup (IsFixed setup) (fixed_kept setup) (past_of station history) (record { stage = Within phases; begun = turns_begun history }) (fixed_first setup)
       (has.lined.counts.holds.hearing.stand station (among given.stations done left station are)) in
-      sender_fixed given history station channel octets sending stands.sends
+      sender_fixed given history station channel octets sending plain stands.sends
       (sends_on whole given Q known are_two few_links six distinct eight phases done left station channel octets history are wanted has off)
 
   -- of the packet, whatever says that it is one of this link
@@ -96,14 +109,15 @@ module _ (whole : IsHeardWhole) (given : Given) (Q : Place → List Event → Ty
       let is = packet.number_is in
       let waits_it = ap (λ n. data_waits n (lines_at station history)) is ∙ waits in record {
         packet = packet.packet;
-        more = packet.more_is ∙ more_waits sending.link.setup sending.link.past fixed ∙ sym waits_it;
+        more = packet.more_is ∙ more_waits sending.link.setup sending.link.past plain fixed ∙ sym waits_it;
         empty_last = λ all empty.
             let acked = all_acked end base.acknowledgement
             (acked_is whole given Q known are_two few_links six distinct eight phases done left station channel octets history are wanted has off)
             (tells_of whole given Q known are_two few_links six distinct eight phases done left station channel octets history are wanted has told_is off).sent
             (subst (λ n. (exchange_at n history (side_of station)).acked ≡ (exchange_at n history (side_of station)).sent) is all) in
-            waits_it ∙ empty_is_last sending.link.setup sending.link.past fixed acked
-            (ap is_empty (sym (last_fixed (is_acked base.acknowledgement) base.outgoing.fixed base.acknowledgement.last acked)
+            waits_it ∙ empty_is_last sending.link.setup sending.link.past plain fixed acked
+            (ap is_empty (sym (pdu_plain sending.link.setup base (past_idle sending.link.setup sending.link.past plain))
+            ∙ sym (last_fixed (is_acked base.acknowledgement) (pdu_fixed base) base.acknowledgement.last acked)
             ∙ sym (carried_is whole given Q known are_two few_links six distinct eight phases done left station channel octets history are wanted has off))
             ∙ subst (λ n. is_empty (carried_of n (journal_of history) (side_of station)) ≡ true) is empty);
         no_control_last = λ all empty. refl;

@@ -3,8 +3,8 @@ use Rattle.std.specs.Prelude.{ℕ, ◌==◌, ◌&&◌, not, Bool, true, false, L
 use Rattle.ble_base.specs.declared.roles.Side.{Side}
 use Rattle.journal.specs.declared.entries.Entry.{Entry}
 use Rattle.journal.specs.declared.entries.Entry.TheVariants.{Fed, Air, Sent}
-use Rattle.link_model.specs.Acknowledgement.{Pdu}
-use Rattle.link_model.specs.Data.{is_empty}
+use Rattle.journal_data.specs.link_model.Acknowledgement.{Pdu}
+use Rattle.journal_data.specs.link_model.Data.{is_empty}
 use Rattle.run_model.specs.Links.{is_advertising}
 use Rattle.run_model.specs.Order.{side_of_note}
 use Rattle.journal_packets.specs.Belonging.{is_side, link_of_packet}

@@ -4,7 +4,7 @@ use Rattle.ble_base.specs.Side.{other_side}
 use Rattle.ble_base.specs.declared.roles.Side.{Side}
 use Rattle.journal.specs.declared.entries.Entry.{Entry}
 use Rattle.journal.specs.declared.entries.Entry.TheVariants.{Air, Took}
-use Rattle.link_model.specs.Data.{is_empty}
+use Rattle.journal_data.specs.link_model.Data.{is_empty}
 use Rattle.run_model.specs.History.{is_good}
 use Rattle.run_model.specs.Links.{is_advertising}
 use Rattle.journal_packets.specs.Belonging.{is_side, link_of_packet}

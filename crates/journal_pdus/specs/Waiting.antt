@@ -7,8 +7,8 @@ use Rattle.ble_base.specs.Limits.{first_payload_octets}
 use Rattle.acl_banks.specs.declared.pieces.Piece.{Piece}
 use Rattle.acl_banks.specs.History.{HostData, octets_of}
 use Rattle.acl_banks.specs.Packets.{Marked}
-use Rattle.link_model.specs.Acknowledgement.{Pdu}
-use Rattle.link_model.specs.Data.{data_in, has_some, is_control, is_empty, next_of}
+use Rattle.journal_data.specs.link_model.Acknowledgement.{Pdu}
+use Rattle.journal_data.specs.link_model.Data.{data_in, has_some, is_control, is_empty, next_of}
 use Rattle.journal.specs.declared.entries.Entry.{Entry}
 use Rattle.journal_acks.specs.Carried.{IsLinkPacket, carried_of}
 use Rattle.journal_acks.specs.Exchange.{exchange_of}

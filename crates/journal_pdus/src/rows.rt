@@ -9,7 +9,7 @@ ghost use Rattle.journal.specs.declared.entries.Mark.TheVariants.{Lost as WasLos
 ghost use Rattle.journal_acks.specs.Rows.{data_heard, data_packet, data_pdu, data_sent};
 ghost use Rattle.journal_acks.specs.Rows.{data_acknowledged, data_taken, reply_packet};
 ghost use Rattle.journal_data.specs.Lines.{lines_of};
-ghost use Rattle.link_model.specs.Acknowledgement.{Pdu, empty_pdu};
+ghost use Rattle.journal_data.specs.link_model.Acknowledgement.{Pdu, empty_pdu};
 ghost use Rattle.run_model.specs.Rows.{first_packet, one_event_journal};
 ghost use Rattle.journal_pdus.specs.Announced.{announced_pdu, new_pdu_in};
 ghost use Rattle.journal_pdus.specs.Pending.{pending_pdu, taken_pdu};

@@ -12,25 +12,28 @@ use Rattle.air_frame.specs.Packet.{access_octets, is_packet, on_air, pdu_in}
 use Rattle.data_pdu.specs.Header.{header_in}
 use Rattle.journal.specs.declared.entries.Entry.{Entry}
 use Rattle.journal.specs.declared.entries.Entry.TheVariants.{Air}
-use Rattle.link_model.specs.declared.events.ConnectionEvent.{ConnectionEvent}
-use Rattle.link_model.specs.End.{facts_received}
-use Rattle.link_model.specs.Facts.{Facts as EndFacts}
-use Rattle.link_model.specs.Packets.{good_in, good_pdu, has_room_for, more_sent, pdu_by}
-use Rattle.link_model.specs.Setup.{Setup as EndSetup}
-use Rattle.link_model.specs.Step.{EventEntered, PacketReceived, PacketSent, PduFixed}
-use Rattle.open_links.specs.OpenLinks.{OpenLink, facts_in, link_after}
-use Rattle.open_links.specs.Turns.{entered_if, is_anchor}
-use Rattle.open_links.proofs.Ends.{entered_setup}
+use Rattle.journal_acks.specs.link_model.declared.events.ConnectionEvent.{ConnectionEvent}
+use Rattle.journal_acks.specs.link_model.Controls.{goes_on}
+use Rattle.journal_acks.specs.link_model.Entering.{facts_entered_if}
+use Rattle.journal_acks.specs.link_model.Facts.{Facts as EndFacts}
+use Rattle.journal_acks.specs.link_model.Verdicts.{good_in, has_room_for, pdu_by}
+use Rattle.journal_acks.specs.link_model.Packets.{good_pdu, more_sent}
+use Rattle.journal_acks.specs.link_model.Setup.{Setup as EndSetup}
+use Rattle.journal_acks.specs.link_model.Step.{EventEntered, PacketReceived, PacketSent}
+use Rattle.journal_acks.specs.open_links.OpenLinks.{OpenLink, facts_in, link_after}
+use Rattle.journal_acks.specs.open_links.Turns.{entered_if, enters_in, link_entered}
+use Rattle.journal_acks.proofs.open_links.Unmoved.{entered_setup}
 use Rattle.controller_model.specs.declared.doing.Doing.{Doing}
 use Rattle.controller_model.specs.declared.doing.Turn.{Turn}
 use Rattle.controller_model.specs.Facts.{Facts}
-use Rattle.run_laws.proofs.Agreed.{step_facts}
+use Rattle.journal_acks.proofs.run_laws.Agreed.{step_facts}
 use Rattle.journal_acks.proofs.Counting.{taking_if, nothing_taken}
 use Rattle.journal_acks.proofs.LinkCalls.{HasBegun, fixed_if}
 use Rattle.journal_acks.proofs.LinkUses.{listens_under, sends_under}
 use Rattle.journal_acks.proofs.RadioUses.{first_of_both}
 use Rattle.journal_acks.proofs.UnderHandles.{sent_if}
 use Rattle.journal_slots.specs.SecondSlot.{HasToContinue, PacketInSlot, has_more}
+use Rattle.journal_slots.proofs.ExchangeSlots.{event_after_fixing, event_after_receiving, event_after_sending, event_received}
 
 -- ---- packets in the slot of an event
 
@@ -94,15 +97,21 @@ new_on_air number side journal event unheard quiet = record {
 
 -- ---- what changes nothing of that
 
-entered_on_air : (number : ℕ) (side : Side) (journal : List Entry) (anchor : Bool) (slot : ℕ) (link : OpenLink) → IsOnAir number side journal (facts_in link).event
-    → IsOnAir number side journal (facts_in (entered_if anchor slot link)).event
+entry_on_air : (number : ℕ) (side : Side) (journal : List Entry) (goes : Bool) (slot : ℕ) (setup : EndSetup) (facts : EndFacts) → IsOnAir number side journal facts.event
+    → IsOnAir number side journal (facts_entered_if goes setup slot facts).event
+entry_on_air number side journal true slot setup facts is = new_on_air number side journal (facts_entered_if true setup slot facts).event refl refl
+entry_on_air number side journal false slot setup facts is = is
+
+entered_on_air : (number : ℕ) (side : Side) (journal : List Entry) (enters : Bool) (slot : ℕ) (link : OpenLink) → IsOnAir number side journal (facts_in link).event
+    → IsOnAir number side journal (facts_in (entered_if enters slot link)).event
 entered_on_air number side journal true slot link is =
-    let now = step_facts link (EventEntered slot) in
-    new_on_air number side journal (facts_in (link_after (EventEntered slot) link)).event (ap (λ (f : EndFacts). f.event.heard) now) (ap (λ (f : EndFacts). f.event.more) now)
+    let facts = facts_in link in
+    subst (λ (f : EndFacts). IsOnAir number side journal f.event) (sym (step_facts link (EventEntered slot)))
+    (entry_on_air number side journal (goes_on facts) slot link.setup facts is)
 entered_on_air number side journal false slot link is = is
 
 fixed_event : (fixes : Bool) (link : OpenLink) → (facts_in (fixed_if fixes link)).event ≡ (facts_in link).event
-fixed_event true link = ap (λ (f : EndFacts). f.event) (step_facts link PduFixed)
+fixed_event true link = event_after_fixing link
 fixed_event false link = refl
 
 pub event_on_air : (number : ℕ) (side : Side) (journal : List Entry) (one other : OpenLink) → (facts_in other).event ≡ (facts_in one).event → IsOnAir number side journal (facts_in one).event
@@ -113,22 +122,15 @@ event_on_air number side journal one other same is = subst (IsOnAir number side 
 pub base_on_air : (number : ℕ) (side : Side) (journal : List Entry) (facts : Facts) (slot : ℕ) (on : Bool) (handle : ℕ) (doing : Doing) (after : OpenLink)
     (begun : HasBegun facts slot on handle doing after) → IsOnAir number side journal (facts_in begun.link).event → IsOnAir number side journal (facts_in begun.base).event
 base_on_air number side journal facts slot on handle doing after begun is =
-    event_on_air number side journal (entered_if (is_anchor slot begun.link) slot begun.link) begun.base
+    event_on_air number side journal (link_entered slot begun.link) begun.base
     (ap (λ (l : OpenLink). (facts_in l).event) begun.base_is ∙ fixed_event begun.fixes begun.entered
-    ∙ (λ i. (facts_in (record { setup = (begun.setup_is ∙ sym (entered_setup (is_anchor slot begun.link) slot begun.link)) i; past = begun.past_is i; last_served = 0 })).event))
-    (entered_on_air number side journal (is_anchor slot begun.link) slot begun.link is)
-
-room_received : (slot : ℕ) (room other : Bool) (found : Option (List ℕ)) (facts : EndFacts) → (facts_received slot room found facts).event ≡ (facts_received slot other found facts).event
-room_received slot room other None facts = refl
-room_received slot room other (Some pdu) facts = refl
+    ∙ (λ i. (facts_in (record { setup = (begun.setup_is ∙ sym (entered_setup slot begun.link)) i; past = begun.past_is i; last_served = 0 })).event))
+    (entered_on_air number side journal (enters_in slot begun.link) slot begun.link is)
 
 -- whether there is room for data does not matter
 pub room_event : (slot : ℕ) (octets : List ℕ) (room other : Bool) (link : OpenLink)
     → (facts_in (link_after (PacketReceived slot octets room) link)).event ≡ (facts_in (link_after (PacketReceived slot octets other) link)).event
-room_event slot octets room other link =
-    ap (λ (f : EndFacts). f.event) (step_facts link (PacketReceived slot octets room))
-    ∙ room_received slot room other (good_pdu link.setup (facts_in link) octets) (facts_in link)
-    ∙ sym (ap (λ (f : EndFacts). f.event) (step_facts link (PacketReceived slot octets other)))
+room_event slot octets room other link = event_after_receiving slot octets room link ∙ sym (event_after_receiving slot octets other link)
 
 -- ---- it sends a packet, which is on the air
 
@@ -145,7 +147,7 @@ pub sent_on_air : (number : ℕ) (side : Side) (journal : List Entry) (slot : �
     → IsOnAir number side journal (facts_in (link_after (PacketSent slot) link)).event
 sent_on_air number side journal slot link is packet says =
     let event = (facts_in link).event in
-    subst (IsOnAir number side journal) (sym (ap (λ (f : EndFacts). f.event) (step_facts link (PacketSent slot)))) (record {
+    subst (IsOnAir number side journal) (sym (event_after_sending slot link)) (record {
       heard = is.heard;
       more = λ more. by (either event.more ((slot == event.slot) && more_sent (facts_in link)) more);
     })
@@ -178,33 +180,33 @@ good_octets setup facts octets =
     by true false fits is = λ pdu found. absurd cc
     by false whole fits is = λ pdu found. absurd cc
 
-module _ (number : ℕ) (side : Side) (journal : List Entry) (slot : ℕ) (facts : EndFacts) (is : IsOnAir number side journal facts.event) (heard : IsHeardIn number slot side journal)
-    (channel : heard.packet.channel ≡ facts.event.channel) where
-  received_by : (room : Bool) (found : Option (List ℕ)) → IsPduIn found facts.event.channel heard.packet.octets → IsOnAir number side journal (facts_received slot room found facts).event
-  received_by room None pdu_is = is
-  received_by room (Some pdu) pdu_is = record {
-    heard = λ now. first (either facts.event.heard (slot == facts.event.slot) now);
-    more = λ now. by (either facts.event.more ((slot == facts.event.slot) && (header_in pdu).md) now);
+module _ (number : ℕ) (side : Side) (journal : List Entry) (slot : ℕ) (event : ConnectionEvent) (is : IsOnAir number side journal event) (heard : IsHeardIn number slot side journal)
+    (channel : heard.packet.channel ≡ event.channel) where
+  received_by : (found : Option (List ℕ)) → IsPduIn found event.channel heard.packet.octets → IsOnAir number side journal (event_received slot found event)
+  received_by None pdu_is = is
+  received_by (Some pdu) pdu_is = record {
+    heard = λ now. first (either event.heard (slot == event.slot) now);
+    more = λ now. by (either event.more ((slot == event.slot) && (header_in pdu).md) now);
   }
     where
-      first : (facts.event.heard ≡ true) ⊎ ((slot == facts.event.slot) ≡ true) → IsHeardIn number facts.event.slot side journal
+      first : (event.heard ≡ true) ⊎ ((slot == event.slot) ≡ true) → IsHeardIn number event.slot side journal
       first (inl before) = is.heard before
-      first (inr now) = subst (λ n. IsHeardIn number n side journal) (eqb-true slot facts.event.slot now) heard
+      first (inr now) = subst (λ n. IsHeardIn number n side journal) (eqb-true slot event.slot now) heard
 
-      by : (facts.event.more ≡ true) ⊎ (((slot == facts.event.slot) && (header_in pdu).md) ≡ true) → SaysMore number facts.event.slot side journal
+      by : (event.more ≡ true) ⊎ (((slot == event.slot) && (header_in pdu).md) ≡ true) → SaysMore number event.slot side journal
       by (inl before) = is.more before
       by (inr now) =
-          subst (λ n. SaysMore number n side journal) (eqb-true slot facts.event.slot (first_of_both (slot == facts.event.slot) (header_in pdu).md now))
+          subst (λ n. SaysMore number n side journal) (eqb-true slot event.slot (first_of_both (slot == event.slot) (header_in pdu).md now))
           (InHeard heard (ap (λ n. has_more n heard.packet.octets) channel ∙ ap (λ xs. (header_in xs).md) (sym (pdu_is pdu refl))
-          ∙ second_of_both (slot == facts.event.slot) (header_in pdu).md now))
+          ∙ second_of_both (slot == event.slot) (header_in pdu).md now))
 
 pub received_on_air : (number : ℕ) (side : Side) (journal : List Entry) (slot : ℕ) (room : Bool) (link : OpenLink) → IsOnAir number side journal (facts_in link).event
     → (heard : IsHeardIn number slot side journal) → heard.packet.channel ≡ (facts_in link).event.channel
     → IsOnAir number side journal (facts_in (link_after (PacketReceived slot heard.packet.octets room) link)).event
 received_on_air number side journal slot room link is heard channel =
     let octets = heard.packet.octets in
-    subst (IsOnAir number side journal) (sym (ap (λ (f : EndFacts). f.event) (step_facts link (PacketReceived slot octets room))))
-    (received_by number side journal slot (facts_in link) is heard channel room (good_pdu link.setup (facts_in link) octets) (good_octets link.setup (facts_in link) octets))
+    subst (IsOnAir number side journal) (sym (event_after_receiving slot octets room link))
+    (received_by number side journal slot (facts_in link).event is heard channel (good_pdu link.setup (facts_in link) octets) (good_octets link.setup (facts_in link) octets))
 
 -- ---- one end
 

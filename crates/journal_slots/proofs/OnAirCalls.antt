@@ -3,39 +3,40 @@ use Rattle.std.proofs.Common.{◌≡◌, ℕ, suc, ◌==◌, ◌&&◌, ◌||◌,
 use Rattle.std.specs.Prelude.{All, map, if◌then◌else◌}
 use Rattle.std.proofs.lemmas.Bool.{eqb-true}
 use Rattle.journal.specs.declared.entries.Entry.{Entry}
-use Rattle.link_model.specs.declared.events.ConnectionEvent.{ConnectionEvent}
-use Rattle.link_model.specs.Facts.{Facts as EndFacts, no_event}
-use Rattle.link_model.specs.Packets.{more_sent}
-use Rattle.link_model.specs.Step.{PacketReceived, PacketSent}
-use Rattle.open_links.specs.OpenLinks.{OpenLink, facts_in, link_after, link_at}
+use Rattle.journal_acks.specs.link_model.declared.events.ConnectionEvent.{ConnectionEvent}
+use Rattle.journal_acks.specs.link_model.Events.{no_event}
+use Rattle.journal_acks.specs.link_model.Packets.{more_sent}
+use Rattle.journal_acks.specs.link_model.Step.{PacketReceived}
+use Rattle.journal_acks.specs.open_links.OpenLinks.{OpenLink, facts_in, link_after, link_at}
 use Rattle.controller_model.specs.declared.doing.Doing.TheVariants.{Rests}
 use Rattle.controller_model.specs.declared.doing.Turn.{Turn}
 use Rattle.controller_model.specs.Step.{Step, HostOctet, TurnBegins, TurnEnds}
 use Rattle.controller_model.specs.Facts.{Facts}
 use Rattle.controller_model.specs.Heard.{has_room}
 use Rattle.controller_model.specs.Side.{facts_after, notes_after}
-use Rattle.run_model.specs.Feeding.{AreDistinct}
-use Rattle.run_model.specs.History.{Event, Called, HostFed, Noted, packet_received, steps_in, turns_begun}
-use Rattle.run_model.specs.Journal.{entries_of, journal_from, journal_of, side_of}
-use Rattle.run_model.specs.Links.{links_of}
-use Rattle.run_model.specs.Run.{Given, after_call, after_feed, after_octets, facts_at, setup_at, step_of}
-use Rattle.run_model.proofs.Calls.{same_station}
-use Rattle.run_model.proofs.LinkEnds.{received_by}
-use Rattle.run_model.proofs.Parts.{journal_event, journal_more}
-use Rattle.run_model.proofs.Stations.{is_in, among, not_before}
-use Rattle.run_model.proofs.Walk.{Place, AtListening}
-use Rattle.run_laws.proofs.Agreed.{step_facts}
-use Rattle.run_laws.proofs.Hearings.{other_facts, own_facts}
-use Rattle.run_laws.proofs.TurnPlaces.{Within, at_stage}
-use Rattle.run_laws.proofs.TurnSteps.{begins_slot, octet_turn, phase_turn}
+use Rattle.controller_model.proofs.Places.{link_receiving}
+use Rattle.journal_acks.specs.run_model.Feeding.{AreDistinct}
+use Rattle.journal_acks.specs.run_model.History.{Event, Called, HostFed, Noted, packet_received, steps_in, turns_begun}
+use Rattle.journal_acks.specs.run_model.Journal.{entries_of, journal_from, journal_of, side_of}
+use Rattle.journal_acks.specs.run_model.Links.{links_of}
+use Rattle.journal_acks.specs.run_model.Run.{Given, after_call, after_feed, after_octets, facts_at, setup_at, step_of}
+use Rattle.journal_acks.proofs.run_model.Calls.{same_station}
+use Rattle.journal_acks.proofs.run_model.LinkEnds.{received_by}
+use Rattle.journal_acks.proofs.run_model.Parts.{journal_event, journal_more}
+use Rattle.journal_acks.proofs.run_model.Stations.{is_in, among, not_before}
+use Rattle.journal_acks.proofs.run_model.Walk.{Place, AtListening}
+use Rattle.journal_acks.proofs.run_laws.Hearings.{other_facts, own_facts}
+use Rattle.journal_acks.proofs.run_laws.TurnPlaces.{Within, at_stage}
+use Rattle.journal_acks.proofs.run_laws.TurnSteps.{begins_slot, octet_turn, phase_turn}
 use Rattle.journal_acks.proofs.CallNotes.{begin_noted, end_noted, octet_noted}
 use Rattle.journal_acks.proofs.Counting.{facts_event, taking_if}
 use Rattle.journal_acks.proofs.Exchanging.{OpensNone, number_at, number_called, number_other, number_quiet, opening_none}
 use Rattle.journal_acks.proofs.KeptCounts.{AreCountedAt, own_at, unsent}
-use Rattle.journal_acks.proofs.LinkCalls.{HasPassed, IsNew, IsOpenedNow, Stays, Takes, begins_under, new_event, off_sends, passes_under, phase_quiet}
+use Rattle.journal_acks.proofs.LinkCalls.{HasPassed, IsNew, IsOpenedNow, Stays, Takes, begins_under, new_event, off_sends, passes_under, phase_quiet, receiving_event}
 use Rattle.journal_acks.proofs.LinkUses.{listens_under, sends_under}
 use Rattle.journal_acks.proofs.Standing.{PhasedBy, phased_at}
 use Rattle.journal_acks.proofs.UnderHandles.{end_under, octet_under, sent_if}
+use Rattle.journal_slots.proofs.ExchangeSlots.{event_after_sending}
 use Rattle.journal_slots.proofs.OnAir.{IsEndOnAir, IsOnAir, WasOnAir, base_on_air, event_on_air, from_base, moved, new_on_air, not_sending, on_air_stays, plain, room_event}
 
 -- ---- all ends
@@ -223,7 +224,7 @@ base_quiet : (sends : Bool) (slot : ℕ) (base : OpenLink) → (facts_in (sent_i
 base_quiet false slot base none = (ap (λ (e : ConnectionEvent). e.heard) none, ap (λ (e : ConnectionEvent). e.more) none)
 base_quiet true slot base none =
     let event = (facts_in base).event in
-    let sent = sym (ap (λ (f : EndFacts). f.event) (step_facts base (PacketSent slot))) ∙ none in
+    let sent = sym (event_after_sending slot base) ∙ none in
     (ap (λ (e : ConnectionEvent). e.heard) sent, neither event.more ((slot == event.slot) && more_sent (facts_in base)) (ap (λ (e : ConnectionEvent). e.more) sent))
   where
     neither : (one other : Bool) → (one || other) ≡ false → one ≡ false
@@ -283,7 +284,7 @@ module _ (given : Given) (Q : Place → List Event → Type 0) (distinct : AreDi
   new_passed handle link none (IsNew end made opened off) = new_rests handle link none (off_sends handle held.turn.doing off)
   new_passed handle link none (Stays was sends nothing listened) = new_rests handle link none sends
   new_passed handle link none (Takes base octets was some on same) =
-      let taken = link_after (PacketReceived facts.turn.slot octets (has_room (setup_at given station) facts)) base in
+      let taken = link_receiving handle (has_room (setup_at given station) facts) octets facts base in
       let sends = sends_under handle held.turn.doing in
       let quiet = base_quiet sends facts.turn.slot taken (ap (λ (l : OpenLink). (facts_in l).event) (sym same) ∙ none) in
       new_by handle link taken (same ∙ ap (λ n. sent_if sends n taken) (sym (phase_turn (setup_at given station) facts received).slot)) quiet.0 quiet.1
@@ -297,11 +298,11 @@ module _ (given : Given) (Q : Place → List Event → Type 0) (distinct : AreDi
       (plain false received handle facts.turn link (number_at station handle history) (side_of station) (journal_of history) refl nothing (before_phase handle link was))
   passed handle link number (Takes base octets was some on same) =
       let room = has_room (setup_at given station) facts in
-      let taken = link_after (PacketReceived facts.turn.slot octets room) base in
+      let taken = link_receiving handle room octets facts base in
       let as_if = link_after (PacketReceived facts.turn.slot octets false) base in
       own_sends given station (step_of received) history (packet_received station after) handle link taken none_after number
       (same ∙ ap (λ n. sent_if (sends_under handle held.turn.doing) n taken) (sym (phase_turn (setup_at given station) facts received).slot))
-      (event_on_air (number_at station handle history) (side_of station) (journal_of history) as_if taken (room_event facts.turn.slot octets room false base)
+      (event_on_air (number_at station handle history) (side_of station) (journal_of history) as_if taken (receiving_event handle room octets facts base ∙ room_event facts.turn.slot octets room false base)
       (not_sending false facts.turn.slot as_if (number_at station handle history) (side_of station) (journal_of history) refl
       (subst (λ (l : OpenLink). WasOnAir false facts.turn.slot l (number_at station handle history) (side_of station) (journal_of history))
       (λ i. taking_if (on i) (some i) facts.turn.slot base) (before_phase handle base was))))

@@ -13,33 +13,36 @@ use Rattle.data_pdu.specs.declared.header.DataHeader.{DataHeader}
 use Rattle.data_pdu.specs.Header.{header_in, octets_of}
 use Rattle.journal.specs.declared.entries.Entry.{Entry}
 use Rattle.journal.specs.declared.entries.Entry.TheVariants.{Air}
-use Rattle.link_model.specs.Facts.{Facts as EndFacts}
-use Rattle.link_model.specs.Packets.{header_sent, more_sent, packet_sent, payload_sent}
-use Rattle.link_model.specs.Setup.{Setup as EndSetup}
-use Rattle.link_model.specs.Step.{PacketReceived, PacketSent}
-use Rattle.link_model.proofs.Payloads.{IsInForm, past_form}
-use Rattle.link_model.proofs.Received.{IsHeardWhole, header_read}
-use Rattle.open_links.specs.OpenLinks.{OpenLink, facts_in, link_after, link_at}
+use Rattle.journal_acks.specs.link_model.Facts.{Facts as EndFacts}
+use Rattle.journal_acks.specs.link_model.Packets.{header_sent, more_sent, packet_sent, payload_sent}
+use Rattle.journal_acks.specs.link_model.Setup.{Setup as EndSetup}
+use Rattle.journal_acks.specs.link_model.Step.{PacketReceived, PacketSent}
+use Rattle.journal_acks.proofs.link_model.Hearing.{IsHeardWhole}
+use Rattle.journal_acks.proofs.link_model.Received.{header_read}
+use Rattle.journal_acks.proofs.plain_links.Growing.{plain_front}
+use Rattle.journal_acks.proofs.plain_links.Payloads.{IsInForm, past_form}
+use Rattle.journal_acks.specs.open_links.OpenLinks.{OpenLink, facts_in, link_after, link_at}
 use Rattle.controller_model.specs.declared.doing.Turn.{Turn}
 use Rattle.controller_model.specs.Facts.{Facts, Sends}
 use Rattle.radio_replay.specs.declared.fates.Fate.{Fate}
-use Rattle.run_model.specs.Feeding.{AreDistinct}
-use Rattle.run_model.specs.History.{Event, Hearing, Transmitted, has_received, is_good, packet_received, turns_begun}
-use Rattle.run_model.specs.Journal.{air_entries, entries_of, journal_of, mark_of, side_of}
-use Rattle.run_model.specs.LinkEnds.{HaveAddresses}
-use Rattle.run_model.specs.Links.{is_advertising, links_of}
-use Rattle.run_model.specs.Readers.{turns_of}
-use Rattle.run_model.specs.Run.{Given, facts_at, hearings_of, unseen_in, use_at}
-use Rattle.run_model.proofs.Fates.{turns_are}
-use Rattle.run_model.proofs.LinkEnds.{is_listener, received_event}
-use Rattle.run_model.proofs.Parts.{journal_event}
-use Rattle.run_model.proofs.Stations.{among, in_more_other, in_more_same, is_in, not_before}
-use Rattle.run_model.proofs.Unseen.{good_is}
-use Rattle.run_model.proofs.Walk.{AtPackets, Place}
-use Rattle.run_laws.proofs.Hearings.{wanted_is}
-use Rattle.run_laws.proofs.TurnPlaces.{Within, at_stage}
-use Rattle.journal_packets.specs.Belonging.{link_of_packet}
-use Rattle.journal_packets.specs.Senders.{IsOfSendersLink}
+use Rattle.journal_acks.specs.run_model.Feeding.{AreDistinct}
+use Rattle.journal_acks.specs.run_model.History.{Event, Hearing, Transmitted, has_received, is_good, packet_received, turns_begun}
+use Rattle.journal_acks.specs.run_model.Journal.{air_entries, entries_of, journal_of, mark_of, side_of}
+use Rattle.journal_acks.specs.run_model.LinkEnds.{HaveAddresses}
+use Rattle.journal_acks.specs.run_model.Links.{is_advertising, links_of}
+use Rattle.journal_acks.specs.run_model.Readers.{turns_of}
+use Rattle.journal_acks.specs.run_model.Run.{Given, facts_at, hearings_of, unseen_in, use_at}
+use Rattle.journal_acks.proofs.run_model.Fates.{turns_are}
+use Rattle.journal_acks.proofs.run_model.LinkEnds.{is_listener, received_event}
+use Rattle.journal_acks.proofs.run_model.Parts.{journal_event}
+use Rattle.journal_acks.proofs.run_model.Stations.{among, in_more_other, in_more_same, is_in, not_before}
+use Rattle.journal_acks.proofs.run_model.Unseen.{good_is}
+use Rattle.journal_acks.proofs.run_model.Walk.{AtPackets, Place}
+use Rattle.journal_acks.specs.run_laws.Plainness.{IsPlainLink}
+use Rattle.journal_acks.proofs.run_laws.Hearings.{wanted_is}
+use Rattle.journal_acks.proofs.run_laws.TurnPlaces.{Within, at_stage}
+use Rattle.journal_acks.specs.journal_packets.Belonging.{link_of_packet}
+use Rattle.journal_acks.specs.journal_packets.Senders.{IsOfSendersLink}
 use Rattle.journal_acks.proofs.AirCounts.{heard_it, listening, one as same_link, one_number}
 use Rattle.journal_acks.proofs.Counting.{AreKnown, facts_event, taking_if}
 use Rattle.journal_acks.proofs.Exchanging.{number_at, number_sent}
@@ -75,7 +78,7 @@ packet_says_more whole setup facts form =
     ap (λ xs. (header_in xs).md)
     (whole_pdu facts.event.channel setup.link.fields.access setup.link.fields.crc_init (packet_sent setup facts) pdu
     (whole facts.event.channel setup.link.fields.access setup.link.fields.crc_init pdu (sent_in_form facts form)))
-    ∙ ap (λ (h : DataHeader). h.md) (header_read facts form)
+    ∙ ap (λ (h : DataHeader). h.md) (header_read facts form.low)
 
 -- ---- the line of the packet
 
@@ -233,10 +236,13 @@ module _ (whole : IsHeardWhole) (given : Given) (Q : Place → List Event → Ty
     sends_it : sends_under sent.handle (facts station).turn.doing ≡ true
     sends_it = sends_on sent.handle (facts station).turn.doing sent.sends
 
+    plain_sender : IsPlainLink sent.link
+    plain_sender = plain_front sent.link.setup sent.link.past (PacketSent sent.slot ∷ []) (known.plain here history has.known station in_it sent.handle _ sent.is_open)
+
     -- it says whether more waits at the end that sent it
     says : has_more channel octets ≡ more_sent (facts_in sent.link)
     says =
-        (λ i. has_more (sent.channel_is i) (sent.packet i)) ∙ packet_says_more whole sent.link.setup (facts_in sent.link) (past_form sent.link.setup sent.link.past)
+        (λ i. has_more (sent.channel_is i) (sent.packet i)) ∙ packet_says_more whole sent.link.setup (facts_in sent.link) (past_form sent.link.setup sent.link.past plain_sender)
 
     own_sent : (link : OpenLink) → link_at sent.handle (facts station).links ≡ Some link → IsOwnThen sent.handle link
     own_sent link at =

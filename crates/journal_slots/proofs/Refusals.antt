@@ -6,13 +6,13 @@ use Rattle.ble_base.specs.Side.{other_side}
 use Rattle.ble_base.specs.declared.roles.Side.{Side}
 use Rattle.journal.specs.declared.entries.Entry.{Entry}
 use Rattle.journal.specs.declared.entries.Entry.TheVariants.{Air}
-use Rattle.run_model.specs.History.{is_good}
-use Rattle.run_model.specs.Links.{is_advertising}
-use Rattle.run_model.specs.Readers.{turns_of}
-use Rattle.journal_links.specs.Begun.{LinkBegun, link_numbered}
-use Rattle.journal_links.specs.Entered.{anchor_in}
-use Rattle.journal_packets.specs.Belonging.{is_side, link_of_packet}
-use Rattle.journal_packets.proofs.SendersLink.{same_side}
+use Rattle.journal_acks.specs.run_model.History.{is_good}
+use Rattle.journal_acks.specs.run_model.Links.{is_advertising}
+use Rattle.journal_acks.specs.run_model.Readers.{turns_of}
+use Rattle.journal_acks.specs.journal_links.Begun.{LinkBegun, link_numbered}
+use Rattle.journal_acks.specs.journal_links.Entered.{anchor_in}
+use Rattle.journal_acks.specs.journal_packets.Belonging.{is_side, link_of_packet}
+use Rattle.journal_acks.proofs.journal_packets.SendersLink.{same_side}
 use Rattle.journal_acks.specs.EventOrder.{entered_on}
 use Rattle.journal_slots.specs.SecondSlot.{HasToContinue, IsContinued, PacketInSlot, has_more}
 

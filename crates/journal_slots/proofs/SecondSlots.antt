@@ -6,52 +6,48 @@ use Rattle.std.proofs.lemmas.Bool.{and_parts, eqb-true, false_from_ne_true}
 use Rattle.ble_base.specs.declared.roles.Side.{Side}
 use Rattle.adv_pdu.specs.declared.pdu.ConnectFields.{ConnectFields}
 use Rattle.journal.specs.declared.entries.Entry.{Entry}
-use Rattle.link_model.specs.Delivery.{notes_of as end_notes_of}
-use Rattle.link_model.specs.End.{facts_of as end_facts_of}
-use Rattle.link_model.specs.Events.{IsInEvent as IsEndInEvent, anchor_of, entries_in}
-use Rattle.link_model.specs.Facts.{Facts as EndFacts, first_facts as first_end_facts}
-use Rattle.link_model.specs.Packets.{more_sent}
-use Rattle.link_model.specs.Setup.{Setup as EndSetup}
-use Rattle.link_model.specs.Step.{PacketSent, Step as EndStep}
-use Rattle.link_model.specs.Times.{has_second_exchange}
-use Rattle.link_model.proofs.InEvents.{past_in}
-use Rattle.link_model.proofs.Received.{IsHeardWhole}
-use Rattle.open_links.specs.OpenLinks.{OpenLink, facts_in, link_after, link_at}
+use Rattle.journal_acks.specs.plain_links.Events.{anchor_of, entries_in}
+use Rattle.journal_acks.specs.plain_links.Plain.{ArePlain}
+use Rattle.journal_acks.specs.link_model.declared.events.ConnectionEvent.{ConnectionEvent}
+use Rattle.journal_acks.specs.link_model.Packets.{more_sent}
+use Rattle.journal_acks.specs.link_model.Setup.{Setup as EndSetup}
+use Rattle.journal_acks.specs.link_model.Step.{PacketSent, Step as EndStep}
+use Rattle.journal_acks.proofs.link_model.Hearing.{IsHeardWhole}
+use Rattle.journal_acks.specs.open_links.OpenLinks.{OpenLink, facts_in, link_after, link_at}
 use Rattle.controller_model.specs.declared.doing.Turn.{Turn}
 use Rattle.controller_model.specs.Facts.{Sends}
 use Rattle.controller_model.specs.Since.{notes_opened_on}
 use Rattle.controller_model.specs.Side.{facts_of}
 use Rattle.controller_model.specs.Step.{TurnBegins, TurnEnds}
-use Rattle.run_model.specs.Due.{packet_in}
-use Rattle.run_model.specs.Feeding.{AreDistinct}
-use Rattle.run_model.specs.History.{Event, TurnBegan, packet_received, past_of, turns_begun}
-use Rattle.run_model.specs.Journal.{journal_of, side_of}
-use Rattle.run_model.specs.LinkEnds.{HaveAddresses}
-use Rattle.run_model.specs.Links.{is_advertising}
-use Rattle.run_model.specs.Readers.{turns_of}
-use Rattle.run_model.specs.Run.{Given, after_call, after_feed, facts_at, history_of, octets_left, run_of, setup_at, step_of, use_at}
-use Rattle.run_model.proofs.EntryEvents.{is_aired}
-use Rattle.run_model.proofs.Fates.{turns_are}
-use Rattle.run_model.proofs.LinkEnds.{AreTaken, IsUnderstood, received_by, received_event}
-use Rattle.run_model.proofs.Calls.{same_station}
-use Rattle.run_model.proofs.Stations.{among, in_more_other, in_more_same, is_in, not_before}
-use Rattle.run_model.proofs.Walk.{AtBegins, AtEnds, AtFeeds, AtPackets, IsKept, NoTurn, Place}
-use Rattle.run_laws.proofs.DistinctAccess.{AreApart}
-use Rattle.run_laws.proofs.Agreed.{step_facts}
-use Rattle.run_laws.proofs.OpenSteps.{none_open, open_has}
-use Rattle.run_laws.proofs.Hearings.{wanted_is}
-use Rattle.run_laws.proofs.TurnPlaces.{Between, Within, at_stage, turned}
-use Rattle.journal_links.specs.Begun.{LinkBegun, link_numbered}
-use Rattle.journal_links.specs.Entered.{anchor_in}
-use Rattle.journal_links.proofs.EnterLines.{plain_anchors}
-use Rattle.journal_links.proofs.OfTwo.{are_distinct}
-use Rattle.journal_packets.specs.Senders.{IsOfSendersLink}
-use Rattle.journal_packets.proofs.AccessOrder.{AreNth}
-use Rattle.journal_packets.proofs.SoFar.{IsBelongingSoFar}
+use Rattle.journal_acks.specs.run_model.Due.{packet_in}
+use Rattle.journal_acks.specs.run_model.Feeding.{AreDistinct}
+use Rattle.journal_acks.specs.run_model.History.{Event, TurnBegan, packet_received, past_of, turns_begun}
+use Rattle.journal_acks.specs.run_model.Journal.{journal_of, side_of}
+use Rattle.journal_acks.specs.run_model.LinkEnds.{HaveAddresses}
+use Rattle.journal_acks.specs.run_model.Links.{is_advertising}
+use Rattle.journal_acks.specs.run_model.Readers.{turns_of}
+use Rattle.journal_acks.specs.run_model.Run.{Given, after_call, after_feed, facts_at, history_of, octets_left, run_of, setup_at, step_of, use_at}
+use Rattle.journal_acks.proofs.run_model.EntryEvents.{is_aired}
+use Rattle.journal_acks.proofs.run_model.Fates.{turns_are}
+use Rattle.journal_acks.proofs.run_model.LinkEnds.{AreTaken, IsUnderstood, received_by, received_event}
+use Rattle.journal_acks.proofs.run_model.Calls.{same_station}
+use Rattle.journal_acks.proofs.run_model.Stations.{among, in_more_other, in_more_same, is_in, not_before}
+use Rattle.journal_acks.proofs.run_model.Walk.{AtBegins, AtEnds, AtFeeds, AtPackets, IsKept, NoTurn, Place}
+use Rattle.journal_acks.proofs.run_laws.DistinctAccess.{AreApart}
+use Rattle.journal_acks.proofs.run_laws.OpenSteps.{none_open, open_has}
+use Rattle.journal_acks.proofs.run_laws.Hearings.{wanted_is}
+use Rattle.journal_acks.proofs.run_laws.TurnPlaces.{Between, Within, at_stage, turned}
+use Rattle.journal_acks.specs.journal_links.Begun.{LinkBegun, link_numbered}
+use Rattle.journal_acks.specs.journal_links.Entered.{anchor_in}
+use Rattle.journal_acks.proofs.journal_links.EnterLines.{plain_anchors}
+use Rattle.journal_acks.proofs.journal_links.OfTwo.{are_distinct}
+use Rattle.journal_acks.specs.journal_packets.Senders.{IsOfSendersLink}
+use Rattle.journal_acks.proofs.journal_packets.AccessOrder.{AreNth}
+use Rattle.journal_acks.proofs.journal_packets.SoFar.{IsBelongingSoFar}
 use Rattle.journal_acks.specs.EventOrder.{entered_on}
 use Rattle.journal_acks.proofs.Counting.{AreKnown, IsBegun, taking_if}
 use Rattle.journal_acks.proofs.EntryLines.{count_read}
-use Rattle.journal_acks.proofs.EntryNotes.{count_note, end_entered}
+use Rattle.journal_acks.proofs.EntryNotes.{count_note, past_entered}
 use Rattle.journal_acks.proofs.Exchanging.{number_at, number_quiet}
 use Rattle.journal_acks.proofs.KeptCounts.{AreCountedAt, counts_kept, unsent}
 use Rattle.journal_acks.proofs.Known.{known_of}
@@ -62,7 +58,7 @@ use Rattle.journal_acks.proofs.Seen.{IsSeen, seen_packet}
 use Rattle.journal_acks.proofs.Standing.{PhasedBy, last_phase, phased_at, sends_on, silent_sends}
 use Rattle.journal_acks.proofs.TwoStations.{IsOfTwo}
 use Rattle.journal_slots.specs.SecondSlot.{AllAreContinued, HasToContinue, IsContinued}
-use Rattle.journal_slots.proofs.ExchangeSlots.{AreInExchanges, IsAtAnchor, IsInExchange, exchanges_first, exchanges_kept}
+use Rattle.journal_slots.proofs.ExchangeSlots.{AreInExchanges, IsAtAnchor, IsInExchange, event_after_sending, exchanges_first, exchanges_kept, goes_further}
 use Rattle.journal_slots.proofs.OnAir.{IsEndOnAir, WasOnAir, continues}
 use Rattle.journal_slots.proofs.OnAirCalls.{AreOnAirSo, begin_on_air, end_on_air, feed_on_air, on_air_call, on_air_event, on_air_same, passes_on_air}
 use Rattle.journal_slots.proofs.OnAirPackets.{any_sending, listener_off, packet_on_air}
@@ -191,7 +187,8 @@ record IsInExchangeOf (given : Given) (history : List Event) (station channel : 
   sent : IsOfSendersLink given history station channel octets
   begun : IsBegun history (number_at station sent.handle history) station sent.link.setup
   count : entered_on (side_of station) (number_at station sent.handle history) (journal_of history) ≡ entries_in (link_after (PacketSent sent.slot) sent.link).past
-  anchored : IsAtAnchor (link_after (PacketSent sent.slot) sent.link)
+  anchored : (event : ℕ) → entries_in (link_after (PacketSent sent.slot) sent.link).past ≡ event + 1
+      → (facts_in (link_after (PacketSent sent.slot) sent.link)).event.slot ≡ anchor_of sent.link.setup event
   in_exchange : IsInExchange (facts_at given station history).turn.slot (link_after (PacketSent sent.slot) sent.link)
   on_air : WasOnAir true (facts_at given station history).turn.slot (link_after (PacketSent sent.slot) sent.link) (number_at station sent.handle history) (side_of station) (journal_of history)
   turns : length (turns_of (journal_of history)) ≡ (facts_at given station history).turn.slot + 1
@@ -199,21 +196,16 @@ record IsInExchangeOf (given : Given) (history : List Event) (station channel : 
 abbrev IsInExchangeOn : Given → List Event → ℕ → ℕ → List ℕ → Type 0
 IsInExchangeOn given history station channel octets = is_advertising channel ≡ false → IsInExchangeOf given history station channel octets
 
-first_in : (setup : EndSetup) → IsEndInEvent setup 0 (first_end_facts setup)
-unfolding end_facts_of
-first_in setup = past_in setup []
+-- a plain end has noted as many events as it has entered
+pub entered_noted : (setup : EndSetup) (past : List EndStep) → ArePlain setup past → fold count_note 0 (notes_opened_on setup past) ≡ entries_in past
+entered_noted setup past plain = (past_entered setup past plain).count
 
--- an end has noted as many events as it has entered
-pub entered_noted : (setup : EndSetup) (past : List EndStep) → fold count_note 0 (notes_opened_on setup past) ≡ entries_in past
-unfolding end_notes_of
-entered_noted setup past = (end_entered setup 0 (first_end_facts setup) past (first_in setup)).count
-
--- an event has a second exchange by what was sent and heard in the slot of its anchor
-second_before : (slot : ℕ) (base : OpenLink) → (slot == (facts_in base).event.slot) ≡ false → has_second_exchange (facts_in (link_after (PacketSent slot) base)) ≡ true
-    → has_second_exchange (facts_in base) ≡ true
-second_before slot base later has =
+-- an event goes further by what was sent and heard in the slot of its anchor
+further_before : (slot : ℕ) (base : OpenLink) → (slot == (facts_in base).event.slot) ≡ false → goes_further (facts_in (link_after (PacketSent slot) base)).event ≡ true
+    → goes_further (facts_in base).event ≡ true
+further_before slot base later goes =
     let event = (facts_in base).event in
-    by event.heard event.more (slot == event.slot) (more_sent (facts_in base)) later (sym (ap has_second_exchange (step_facts base (PacketSent slot))) ∙ has)
+    by event.heard event.more (slot == event.slot) (more_sent (facts_in base)) later (sym (ap goes_further (event_after_sending slot base)) ∙ goes)
   where
     by : (heard more same sent : Bool) → same ≡ false → (heard && (more || (same && sent))) ≡ true → (heard && more) ≡ true
     by true true same sent other is = refl
@@ -231,11 +223,11 @@ late received handle turn link number side journal on was =
 continued_by : (slot : ℕ) (own : OpenLink) (number : ℕ) (side : Side) (journal : List Entry) → slot ≡ (facts_in own).event.slot + 1 → IsInExchange slot own
     → WasOnAir true slot own number side journal → HasToContinue number (facts_in own).event.slot side journal
 continued_by slot own number side journal later (inl first) was = absurd (omega (arith, later, first))
-continued_by slot own number side journal later (inr has) was =
+continued_by slot own number side journal later (inr goes) was =
     let event = (facts_in was.base).event in
-    let slots : (facts_in own).event.slot ≡ event.slot = ap (λ (l : OpenLink). (facts_in l).event.slot) was.is ∙ ap (λ (f : EndFacts). f.event.slot) (step_facts was.base (PacketSent slot)) in
+    let slots : (facts_in own).event.slot ≡ event.slot = ap (λ (l : OpenLink). (facts_in l).event.slot) was.is ∙ ap (λ (e : ConnectionEvent). e.slot) (event_after_sending slot was.base) in
     let differs : (slot == event.slot) ≡ false = false_from_ne_true (slot == event.slot) (λ same. let equal = eqb-true slot event.slot same in omega (arith, later, slots, equal)) in
-    let both = and_parts event.heard event.more (second_before slot was.base differs (ap (λ (l : OpenLink). has_second_exchange (facts_in l)) (sym was.is) ∙ has)) in
+    let both = and_parts event.heard event.more (further_before slot was.base differs (ap (λ (l : OpenLink). goes_further (facts_in l).event) (sym was.is) ∙ goes)) in
     subst (λ n. HasToContinue number n side journal) (sym slots) (continues number event.slot side journal (was.on_air.heard both.0) (was.on_air.more both.1))
 
 module _ (whole : IsHeardWhole) (understood : IsUnderstood) (taken : AreTaken) (nth : AreNth) (apart : AreApart) (given : Given) (pair : IsOfTwo given) (six : HaveAddresses given) where
@@ -264,8 +256,9 @@ module _ (whole : IsHeardWhole) (understood : IsUnderstood) (taken : AreTaken) (
         sent = sent;
         begun = known.begun place history has.is.known station sent.handle own in_it sent.is_open;
         count = count_read (journal_of history) station number (notes_opened_on own.setup own.past) (known.lines place history has.is.known station sent.handle own in_it sent.is_open)
-            ∙ entered_noted own.setup own.past;
-        anchored = exchanges.anchored sent.handle own sent.is_open;
+            ∙ entered_noted own.setup own.past (known.plain place history has.is.known station in_it sent.handle own sent.is_open);
+        anchored = open_has IsAtAnchor 0 sent.handle (facts_at given station history).links own exchanges.anchored sent.is_open
+            (known.plain place history has.is.known station in_it sent.handle own sent.is_open);
         in_exchange = exchanges.in_exchange sent.handle own sent.is_open (Sending on);
         on_air = late (packet_received station history) sent.handle turn own number (side_of station) (journal_of history) on
             (subst (λ b. IsEndOnAir (not b) (packet_received station history) sent.handle turn own number (side_of station) (journal_of history))

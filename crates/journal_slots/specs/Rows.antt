@@ -5,7 +5,7 @@ use Rattle.ble_base.specs.declared.verdicts.Verdict.TheVariants.{Good, Missed}
 use Rattle.journal.specs.declared.entries.Entry.{Entry}
 use Rattle.journal.specs.declared.entries.Entry.TheVariants.{Air}
 use Rattle.journal.specs.declared.entries.Mark.TheVariants.{Lost, Pass}
-use Rattle.run_model.specs.Rows.{first_packet, first_reply, one_event_journal, turn_entry}
+use Rattle.journal_acks.specs.run_model.Rows.{first_packet, first_reply, one_event_journal, turn_entry}
 use Rattle.journal_acks.specs.Rows.{given_to, more_packet, more_reply}
 
 -- the next packet of the central, on data channel 25: an empty PDU with SN 1, NESN 1 and MD 0

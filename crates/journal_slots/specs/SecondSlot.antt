@@ -10,12 +10,12 @@ use Rattle.data_pdu.specs.Header.{header_in}
 use Rattle.journal.specs.declared.entries.Entry.{Entry}
 use Rattle.journal.specs.declared.entries.Entry.TheVariants.{Air}
 use Rattle.journal.specs.declared.entries.Mark.{Mark}
-use Rattle.run_model.specs.Links.{is_advertising}
-use Rattle.run_model.specs.Readers.{turns_of}
-use Rattle.journal_links.specs.Begun.{LinkBegun, link_numbered}
-use Rattle.journal_links.specs.Changes.{changes_of}
-use Rattle.journal_links.specs.Entered.{anchor_in}
-use Rattle.journal_packets.specs.Belonging.{link_of_packet}
+use Rattle.journal_acks.specs.run_model.Links.{is_advertising}
+use Rattle.journal_acks.specs.run_model.Readers.{turns_of}
+use Rattle.journal_acks.specs.journal_links.Begun.{LinkBegun, link_numbered}
+use Rattle.journal_acks.specs.journal_links.Changes.{changes_of}
+use Rattle.journal_acks.specs.journal_links.Entered.{anchor_in}
+use Rattle.journal_acks.specs.journal_packets.Belonging.{link_of_packet}
 use Rattle.journal_acks.specs.EventOrder.{entered_on}
 
 -- MD is 1 in the octets of a packet on this channel

@@ -6,7 +6,7 @@ ghost use Rattle.journal_acks.specs.Rows.{more_packet, more_reply, reply_packet}
 ghost use Rattle.journal_slots.specs.SecondSlot.{AllAreContinued, IsContinued, has_more};
 ghost use Rattle.journal_slots.specs.Rows.{continued_by_none, continued_unheard, next_packet};
 ghost use Rattle.journal_slots.specs.Rows.{peripheral_says_more};
-ghost use Rattle.run_model.specs.Rows.{first_packet, first_reply};
+ghost use Rattle.journal_acks.specs.run_model.Rows.{first_packet, first_reply};
 
 /// MD is bit 4 of the first octet of a PDU.
 pub fn worked_more_bits()

@@ -2,9 +2,9 @@
 //! contracts are the laws.
 ghost use Rattle.std.specs.Prelude.{◌≡◌, ◌∷◌, []};
 ghost use Rattle.journal_slots.specs.SecondSlot.{AllAreContinued};
-ghost use Rattle.run_model.specs.Journal.{journal_of};
-ghost use Rattle.run_model.specs.LinkEnds.{HaveAddresses};
-ghost use Rattle.run_model.specs.Run.{Given, history_of, run_of};
+ghost use Rattle.journal_acks.specs.run_model.Journal.{journal_of};
+ghost use Rattle.journal_acks.specs.run_model.LinkEnds.{HaveAddresses};
+ghost use Rattle.journal_acks.specs.run_model.Run.{Given, history_of, run_of};
 
 /// In the journal of a run of two stations, with any number of links each, a side sends a packet of
 /// a link in the turn after that of the anchor of an event only where it judged a packet of the

@@ -3,14 +3,14 @@ use Rattle.std.proofs.Common.{◌≡◌, ℕ, ◌-◌, ◌==◌, Bool, true, fal
 use Rattle.std.specs.Prelude.{fold, map, take, Option, Some, None, slice_get}
 use Rattle.std.proofs.lemmas.Bool.{eqb-true}
 use Rattle.std.proofs.lemmas.List.Sums.{fold-append}
-use Rattle.controller_model.specs.declared.doing.Doing.{Doing}
-use Rattle.controller_model.specs.declared.doing.Doing.TheVariants.{Rests}
-use Rattle.controller_model.specs.Facts.{Setup, Facts, Idle, first_facts}
-use Rattle.controller_model.specs.Heard.{heard, unheard}
-use Rattle.controller_model.specs.Outcome.{Outcome, facts_passed}
-use Rattle.controller_model.specs.Packets.{use_for}
-use Rattle.controller_model.specs.Side.{facts_after, facts_of, notes_after}
-use Rattle.controller_model.specs.Step.{Step, HostOctet, TurnBegins, PacketHeard, NothingHeard, TurnEnds}
+use Rattle.run_model.specs.controller_model.declared.doing.Doing.{Doing}
+use Rattle.run_model.specs.controller_model.declared.doing.Doing.TheVariants.{Rests}
+use Rattle.run_model.specs.controller_model.Facts.{Setup, Facts, Idle, first_facts}
+use Rattle.run_model.specs.controller_model.Heard.{heard, unheard}
+use Rattle.run_model.specs.controller_model.Outcome.{Outcome, facts_passed}
+use Rattle.run_model.specs.controller_model.Packets.{use_for}
+use Rattle.run_model.specs.controller_model.Side.{facts_after, facts_of, notes_after}
+use Rattle.run_model.specs.controller_model.Step.{Step, HostOctet, TurnBegins, PacketHeard, NothingHeard, TurnEnds}
 use Rattle.run_model.specs.Due.{Each, plan_at}
 use Rattle.run_model.specs.History.{Event, TurnBegan, HostFed, Called, Noted, Transmitted, packet_received, past_of, steps_in, turns_begun}
 use Rattle.run_model.specs.Run.{Given, Plan, Stop, Stops, after_call, after_feed, after_octets, facts_at, hearings_of, history_of, octets_left, run_of, setup_at, step_of}

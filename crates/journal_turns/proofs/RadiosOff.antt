@@ -11,8 +11,8 @@ use Rattle.journal.specs.declared.entries.Mark.{Mark}
 use Rattle.radio_replay.specs.Damage.{damaged_packet}
 use Rattle.radio_replay.specs.Script.{Script, Turn as ScriptTurn}
 use Rattle.radio_replay.specs.declared.fates.Fate.{Fate}
-use Rattle.controller_model.specs.Facts.{Use, Sends, Idle}
-use Rattle.controller_model.specs.Packets.{channel_listened, use_of}
+use Rattle.run_model.specs.controller_model.Facts.{Use, Sends, Idle}
+use Rattle.run_model.specs.controller_model.Packets.{channel_listened, use_of}
 use Rattle.run_model.specs.Due.{plan_at}
 use Rattle.run_model.specs.Entries.{IsAired}
 use Rattle.run_model.specs.History.{Event, Hearing, Transmitted, fates_used, turns_begun}

@@ -1,6 +1,6 @@
 -- Where a run of a pair stops, by its lines.
-use Rattle.std.proofs.Common.{◌≡◌, ◌≢◌, ℕ, ◌+◌, ◌-◌, ◌<◌, ◌⊎◌, inl, inr, Bool, true, false, List, [], ◌∷◌, length, refl, sym, ap, subst, ◌∙◌, arith}
-use Rattle.std.specs.Prelude.{Some, slice_get}
+use Rattle.std.proofs.Common.{◌≡◌, ℕ, ◌-◌, ◌<◌, ◌⊎◌, inl, inr, Bool, true, false, List, [], ◌∷◌, refl, sym, ap, subst, ◌∙◌, arith}
+use Rattle.std.specs.Prelude.{slice_get}
 use Rattle.std.specs.List.{Contains}
 use Rattle.std.proofs.lemmas.List.Elements.{Contains-push_cases}
 use Rattle.ble_base.specs.Side.{other_side}
@@ -8,22 +8,20 @@ use Rattle.ble_base.specs.declared.roles.Side.{Side}
 use Rattle.ble_base.specs.declared.verdicts.Verdict.{Verdict}
 use Rattle.ble_base.specs.declared.verdicts.Verdict.TheVariants.{Good, Missed}
 use Rattle.radio_replay.specs.Damage.{damaged_packet}
-use Rattle.radio_replay.specs.Script.{Script, Turn as ScriptTurn}
+use Rattle.radio_replay.specs.Script.{Script}
 use Rattle.radio_replay.specs.declared.fates.Fate.{Fate}
-use Rattle.run_model.specs.Due.{plan_at}
 use Rattle.run_model.specs.History.{Event, Hearing, fates_used, turns_begun}
 use Rattle.run_model.specs.Journal.{journal_of, side_of}
 use Rattle.run_model.specs.OnAir.{IsUnseenStop}
-use Rattle.run_model.specs.Pair.{given_of, plan_of}
-use Rattle.run_model.specs.Readers.{station_of, turn_packets}
+use Rattle.run_model.specs.Pair.{given_of}
+use Rattle.run_model.specs.Readers.{station_of}
 use Rattle.run_model.specs.Run.{Given, Plan, Stop, Stops, fate_at, hearing_at, hearings_from, hearings_of, others_than, run_of, use_at}
 use Rattle.run_model.proofs.Fates.{pair_other, stop_placed, turns_are}
 use Rattle.run_model.proofs.Journals.{two}
-use Rattle.run_model.proofs.Stations.{is_in}
 use Rattle.journal_turns.specs.Radios.{radio_of}
 use Rattle.journal_turns.specs.Stopped.{IsStoppedAt}
-use Rattle.journal_turns.proofs.Quiet.{IsSilent, stop_silent}
-use Rattle.journal_turns.proofs.RadiosOff.{is_one, misses_at, of_side, other_station, plan_radio, sends_on, turn_at}
+use Rattle.journal_turns.proofs.Quiet.{stop_silent}
+use Rattle.journal_turns.proofs.RadiosOff.{is_one, misses_at, other_station, plan_radio, sends_on, turn_at}
 
 -- ---- the one listener
 

@@ -13,12 +13,13 @@ use Rattle.journal.specs.declared.entries.Entry.{Entry}
 use Rattle.radio_replay.specs.Damage.{damaged_packet}
 use Rattle.radio_replay.specs.declared.fates.Fate.{Fate}
 use Rattle.radio_replay.specs.declared.fates.Fate.TheVariants.{Pass, Lost, Damage}
-use Rattle.link_model.specs.Packets.{heard_of, has_room_for, verdict_by as verdict_of_heard, verdict_of as verdict_of_end}
-use Rattle.open_links.specs.OpenLinks.{Links, OpenLink, facts_in, link_at}
-use Rattle.controller_model.specs.declared.doing.Doing.{Doing}
-use Rattle.controller_model.specs.declared.doing.Doing.TheVariants.{AwaitsRequest, Scans, AwaitsResponse, Initiates, CentralListens, PeripheralListens}
-use Rattle.controller_model.specs.Facts.{Facts}
-use Rattle.controller_model.specs.Packets.{channel_listened, heard_on_channel, verdict_by, verdict_doing, verdict_of, verdict_of_link}
+use Rattle.run_model.specs.link_model.Packets.{heard_of, verdict_of as verdict_of_end}
+use Rattle.run_model.specs.link_model.Verdicts.{has_room_for, verdict_by as verdict_of_heard}
+use Rattle.run_model.specs.open_links.OpenLinks.{Links, OpenLink, facts_in, link_at}
+use Rattle.run_model.specs.controller_model.declared.doing.Doing.{Doing}
+use Rattle.run_model.specs.controller_model.declared.doing.Doing.TheVariants.{AwaitsRequest, Scans, AwaitsResponse, Initiates, CentralListens, PeripheralListens}
+use Rattle.run_model.specs.controller_model.Facts.{Facts}
+use Rattle.run_model.specs.controller_model.Packets.{channel_listened, heard_on_channel, verdict_by, verdict_doing, verdict_of, verdict_of_link}
 use Rattle.run_model.specs.Entries.{IsAired}
 use Rattle.run_model.specs.History.{Event, Hearing, fates_used}
 use Rattle.run_model.specs.Journal.{mark_of}

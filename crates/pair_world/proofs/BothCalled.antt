@@ -7,8 +7,8 @@ use Rattle.controller_model.specs.Packets.{use_of}
 use Rattle.controller_model.specs.Side.{facts_of}
 use Rattle.controller_model.specs.Step.{Step}
 use Rattle.controller.specs.Knowing.{Knows}
-use Rattle.run_model.specs.History.{Event, fates_used, packet_received, packets_on_air, past_of, turns_begun}
-use Rattle.run_model.specs.Run.{Given, after_call, after_listening, after_listenings, setup_at, step_of}
+use Rattle.journal_pdus.specs.run_model.History.{Event, fates_used, packet_received, packets_on_air, past_of, turns_begun}
+use Rattle.journal_pdus.specs.run_model.Run.{Given, after_call, after_listening, after_listenings, setup_at, step_of}
 use Rattle.pair_world.specs.Air.{InPhase}
 use Rattle.pair_world.specs.Logs.{LogState, entries_noted, known_after, with_entries}
 use Rattle.pair_world.specs.Stations.{StationState, Keeps, HasStepped, Writes}

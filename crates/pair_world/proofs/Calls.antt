@@ -6,10 +6,10 @@ use Rattle.std.proofs.lemmas.Bool.{eq-eqb}
 use Rattle.ble_base.specs.declared.notes.Note.{Note}
 use Rattle.controller_model.specs.Step.{Step}
 use Rattle.controller_model.specs.Side.{notes_after}
-use Rattle.run_model.specs.History.{Event, Called, Noted, one_if, steps_in, past_of, octets_in, fed_to, turns_in, turns_begun, packets_after, packets_on_air, fates_after, fates_used, received_after, packet_received}
-use Rattle.run_model.specs.Links.{links_after, links_of}
-use Rattle.run_model.specs.Journal.{journal_from, journal_of}
-use Rattle.run_model.specs.Run.{Given, after_call, facts_at, octets_left, setup_at}
+use Rattle.journal_pdus.specs.run_model.History.{Event, Called, Noted, one_if, steps_in, past_of, octets_in, fed_to, turns_in, turns_begun, packets_after, packets_on_air, fates_after, fates_used, received_after, packet_received}
+use Rattle.journal_pdus.specs.run_model.Links.{links_after, links_of}
+use Rattle.journal_pdus.specs.run_model.Journal.{journal_from, journal_of}
+use Rattle.journal_pdus.specs.run_model.Run.{Given, after_call, facts_at, octets_left, setup_at}
 use Rattle.pair_world.proofs.Histories.{past_more, fed_more, turns_more, fates_more, packets_more, received_more, links_more, journal_more}
 
 -- what a station notes in a call

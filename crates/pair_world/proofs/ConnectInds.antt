@@ -11,7 +11,7 @@ use Rattle.air_frame.specs.Hearing.{heard_in}
 use Rattle.air_frame.specs.Packet.{is_packet, on_air, pdu_in}
 use Rattle.controller_model.specs.Packets.{pdu_by, pdu_heard}
 use Rattle.air_frame.specs.declared.advertising.TheConstants.{ADVERTISING_ACCESS, ADVERTISING_CRC_INIT}
-use Rattle.run_model.specs.Links.{begins_link, is_advertising, is_connect_ind}
+use Rattle.journal_pdus.specs.run_model.Links.{begins_link, is_advertising, is_connect_ind}
 
 -- a packet has seven octets more than its PDU
 abbrev pub HasSevenMore : Type 0

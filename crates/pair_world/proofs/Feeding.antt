@@ -5,10 +5,10 @@ use Rattle.ble_base.specs.declared.roles.Side.{Side}
 use Rattle.journal.specs.declared.entries.Entry.TheVariants.{Fed}
 use Rattle.controller_model.specs.Step.{Step, HostOctet}
 use Rattle.controller.specs.Knowing.{Knows}
-use Rattle.run_model.specs.History.{Event, HostFed, past_of, fed_to, fates_used, packets_on_air, turns_begun}
-use Rattle.run_model.specs.Journal.{side_of}
-use Rattle.run_model.specs.Links.{Links, links_of}
-use Rattle.run_model.specs.Run.{Given, after_call, after_feed, after_octets, octets_left, setup_at}
+use Rattle.journal_pdus.specs.run_model.History.{Event, HostFed, past_of, fed_to, fates_used, packets_on_air, turns_begun}
+use Rattle.journal_pdus.specs.run_model.Journal.{side_of}
+use Rattle.journal_pdus.specs.run_model.Links.{Links, links_of}
+use Rattle.journal_pdus.specs.run_model.Run.{Given, after_call, after_feed, after_octets, octets_left, setup_at}
 use Rattle.pair_world.specs.Logs.{LogState, with_entries}
 use Rattle.pair_world.specs.Stations.{StationState, Keeps, KnowsLinks, StationIsUpTo, number_of}
 use Rattle.pair_world.proofs.Calls.{same_number}

@@ -14,10 +14,10 @@ use Rattle.controller_model.specs.Facts.{Use, Sends, Listens, Idle}
 use Rattle.controller_model.specs.Packets.{use_of}
 use Rattle.controller_model.specs.Side.{facts_of}
 use Rattle.controller.specs.Knowing.{Knows}
-use Rattle.run_model.specs.History.{Event, Transmitted, Hearing, fates_used, fed_to, has_received, is_good, packet_received, packets_on_air, past_of, turns_begun}
-use Rattle.run_model.specs.Journal.{journal_of, mark_of, side_of}
-use Rattle.run_model.specs.Links.{Links, begins_link, links_of, with_link}
-use Rattle.run_model.specs.Run.{Given, GoesOn, after_packet, fate_at, hearing_at, hearings_of, is_unseen, packet_outcome, packet_with, setup_at, unseen_in, use_at}
+use Rattle.journal_pdus.specs.run_model.History.{Event, Transmitted, Hearing, fates_used, fed_to, has_received, is_good, packet_received, packets_on_air, past_of, turns_begun}
+use Rattle.journal_pdus.specs.run_model.Journal.{journal_of, mark_of, side_of}
+use Rattle.journal_pdus.specs.run_model.Links.{Links, begins_link, links_of, with_link}
+use Rattle.journal_pdus.specs.run_model.Run.{Given, GoesOn, after_packet, fate_at, hearing_at, hearings_of, is_unseen, packet_outcome, packet_with, setup_at, unseen_in, use_at}
 use Rattle.pair_world.specs.declared.stops.Stop.{Stop}
 use Rattle.pair_world.specs.declared.stops.Stop.TheVariants.{Unseen, Memory}
 use Rattle.pair_world.specs.Air.{HasFlown, InAir, IsSent, IsUnseenOr, goes_unseen, verdict_by, with_last}

@@ -4,9 +4,9 @@ use Rattle.std.specs.Prelude.{fold}
 use Rattle.std.proofs.lemmas.List.Sums.{fold-append}
 use Rattle.std.proofs.lemmas.List.Concat.{flat_map-append}
 use Rattle.journal.specs.declared.entries.Entry.{Entry}
-use Rattle.run_model.specs.History.{Event, steps_in, past_of, octets_in, fed_to, turns_in, turns_begun, packets_after, packets_on_air, fates_after, fates_used, received_after, packet_received}
-use Rattle.run_model.specs.Links.{Links, first_links, links_after, links_of}
-use Rattle.run_model.specs.Journal.{entries_of, journal_from, journal_of}
+use Rattle.journal_pdus.specs.run_model.History.{Event, steps_in, past_of, octets_in, fed_to, turns_in, turns_begun, packets_after, packets_on_air, fates_after, fates_used, received_after, packet_received}
+use Rattle.journal_pdus.specs.run_model.Links.{Links, first_links, links_after, links_of}
+use Rattle.journal_pdus.specs.run_model.Journal.{entries_of, journal_from, journal_of}
 
 pub past_more : (station : ℕ) (history more : List Event) → past_of station (history ++ more) ≡ past_of station history ++ past_of station more
 past_more station history more = flat_map-append (steps_in station) history more

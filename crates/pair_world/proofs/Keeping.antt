@@ -10,10 +10,10 @@ use Rattle.controller_model.specs.Facts.{Setup}
 use Rattle.controller_model.specs.Notes.{HasHandleBelow}
 use Rattle.controller_model.specs.Side.{facts_of, notes_after}
 use Rattle.controller.specs.Knowing.{Knows}
-use Rattle.run_model.specs.History.{Event, past_of}
-use Rattle.run_model.specs.Journal.{journal_from, journal_of, side_of}
-use Rattle.run_model.specs.Links.{Links, links_after, links_of}
-use Rattle.run_model.specs.Run.{Given, after_call, setup_at}
+use Rattle.journal_pdus.specs.run_model.History.{Event, past_of}
+use Rattle.journal_pdus.specs.run_model.Journal.{journal_from, journal_of, side_of}
+use Rattle.journal_pdus.specs.run_model.Links.{Links, links_after, links_of}
+use Rattle.journal_pdus.specs.run_model.Run.{Given, after_call, setup_at}
 use Rattle.pair_world.specs.declared.links.TheConstants.{LINKS}
 use Rattle.pair_world.specs.KnownLinks.{KnownLinks}
 use Rattle.pair_world.specs.Logs.{LogState, entries_noted, known_after, with_entries}

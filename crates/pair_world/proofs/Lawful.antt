@@ -4,10 +4,10 @@ use Rattle.journal.specs.declared.entries.Entry.{Entry}
 use Rattle.journal_pdus.specs.Lawful.{IsLawful, IsWhole}
 use Rattle.journal_pdus.specs.Undelivered.{IsUndelivered}
 use Rattle.radio_replay.specs.Script.{Script}
-use Rattle.run_model.specs.History.{Event}
-use Rattle.run_model.specs.Journal.{journal_of}
-use Rattle.run_model.specs.Pair.{IsRun}
-use Rattle.run_model.specs.Run.{Given, GoesOn, Stop, Stops, history_of, run_of}
+use Rattle.journal_pdus.specs.run_model.History.{Event}
+use Rattle.journal_pdus.specs.run_model.Journal.{journal_of}
+use Rattle.journal_pdus.specs.run_model.Pair.{IsRun}
+use Rattle.journal_pdus.specs.run_model.Run.{Given, GoesOn, Stop, Stops, history_of, run_of}
 use Rattle.pair_world.specs.Faults.{IsDueAtFault, IsLawfulSoFar, IsRunFault}
 use Rattle.pair_world.specs.declared.run.RunFault.{RunFault}
 use Rattle.pair_world.specs.declared.run.RunFault.TheVariants.{Unseen, Memory}

@@ -10,8 +10,8 @@ use Rattle.ble_base.specs.declared.notes.Note.TheVariants.{Up, Opened, Shut, Sen
 use Rattle.journal.specs.declared.entries.Entry.{Entry}
 use Rattle.journal.specs.declared.entries.Entry.TheVariants.{Opened as OpenedEntry, Shut as ShutEntry, Sent as SentEntry, Took as TookEntry, Enter as EnterEntry, Applied as AppliedEntry, Began as BeganEntry, Refused as RefusedEntry, Done as DoneEntry}
 use Rattle.controller_model.specs.Notes.{HasHandleBelow}
-use Rattle.run_model.specs.Links.{Links, links_after, links_noted, with_handle}
-use Rattle.run_model.specs.Journal.{entry_of, journal_from, side_of}
+use Rattle.journal_pdus.specs.run_model.Links.{Links, links_after, links_noted, with_handle}
+use Rattle.journal_pdus.specs.run_model.Journal.{entry_of, journal_from, side_of}
 use Rattle.pair_world.specs.declared.links.TheConstants.{LINKS}
 use Rattle.pair_world.specs.KnownLinks.{KnownLinks, number_in, with_note, with_handle as known_with}
 use Rattle.pair_world.specs.Logs.{entry_noted, entries_noted, known_after}

@@ -3,8 +3,8 @@ use Rattle.std.proofs.Common.{◌≡◌, ℕ, ◌+◌, List, sym, ap, subst, ◌
 use Rattle.journal.specs.declared.entries.Entry.{Entry}
 use Rattle.radio_replay.specs.declared.fates.Fate.{Fate}
 use Rattle.controller_model.specs.Facts.{Use}
-use Rattle.run_model.specs.History.{Event}
-use Rattle.run_model.specs.Run.{Given, GoesOn, Run, after_listenings, after_packets, after_phase, after_phases, and_then}
+use Rattle.journal_pdus.specs.run_model.History.{Event}
+use Rattle.journal_pdus.specs.run_model.Run.{Given, GoesOn, Run, after_listenings, after_packets, after_phase, after_phases, and_then}
 use Rattle.pair_world.specs.declared.stops.Stop.{Stop}
 use Rattle.pair_world.specs.Air.{InPhase}
 use Rattle.pair_world.specs.Logs.{LogState}

@@ -4,8 +4,8 @@ use Rattle.ble_base.specs.declared.roles.Side.TheVariants.{A, B}
 use Rattle.journal.specs.declared.entries.Entry.{Entry}
 use Rattle.radio_replay.specs.declared.fates.Fate.{Fate}
 use Rattle.controller_model.specs.Facts.{Use}
-use Rattle.run_model.specs.History.{Event}
-use Rattle.run_model.specs.Run.{Given, GoesOn, Run, after_packet, after_packets, and_then}
+use Rattle.journal_pdus.specs.run_model.History.{Event}
+use Rattle.journal_pdus.specs.run_model.Run.{Given, GoesOn, Run, after_packet, after_packets, and_then}
 use Rattle.pair_world.specs.declared.stops.Stop.{Stop}
 use Rattle.pair_world.specs.declared.stops.Stop.TheVariants.{Unseen, Memory}
 use Rattle.pair_world.specs.Air.{HasFlown, InAir, InPhase}

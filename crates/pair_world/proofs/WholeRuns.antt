@@ -3,11 +3,11 @@ use Rattle.std.proofs.Common.{◌≡◌, ℕ, zero, suc, ◌+◌, ◌<◌, ◌�
 use Rattle.std.specs.Prelude.{slice_get}
 use Rattle.journal.specs.declared.entries.Entry.{Entry}
 use Rattle.radio_replay.specs.Script.{Script, Turn as ScriptTurn}
-use Rattle.run_model.specs.History.{Event, turns_begun}
-use Rattle.run_model.specs.Journal.{journal_of}
-use Rattle.run_model.specs.Links.{links_of}
-use Rattle.run_model.specs.Pair.{IsRun, given_of, plan_of}
-use Rattle.run_model.specs.Run.{Given, Plan, Run, after_turn, and_then, run_from, run_of, setup_at}
+use Rattle.journal_pdus.specs.run_model.History.{Event, turns_begun}
+use Rattle.journal_pdus.specs.run_model.Journal.{journal_of}
+use Rattle.journal_pdus.specs.run_model.Links.{links_of}
+use Rattle.journal_pdus.specs.run_model.Pair.{IsRun, given_of, plan_of}
+use Rattle.journal_pdus.specs.run_model.Run.{Given, Plan, Run, after_turn, and_then, run_from, run_of, setup_at}
 use Rattle.pair_world.specs.declared.links.TheConstants.{LINKS}
 use Rattle.pair_world.specs.declared.run.RunFault.{RunFault}
 use Rattle.pair_world.specs.declared.run.RunFault.TheVariants.{Memory as OutOfMemory}

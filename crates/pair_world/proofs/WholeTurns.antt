@@ -11,10 +11,10 @@ use Rattle.controller_model.specs.Packets.{use_of}
 use Rattle.controller_model.specs.Side.{facts_of}
 use Rattle.controller_model.specs.Step.{Step, TurnBegins, TurnEnds}
 use Rattle.controller.specs.Knowing.{Knows}
-use Rattle.run_model.specs.History.{Event, TurnBegan, fates_used, fed_to, packets_on_air, past_of, turns_begun}
-use Rattle.run_model.specs.Links.{Links}
-use Rattle.run_model.specs.Pair.{plan_of}
-use Rattle.run_model.specs.Run.{Given, GoesOn, Run, after_begins, after_ends, after_feed, after_feeds, after_opening, after_phases, after_turn, and_then, octets_left, setup_at}
+use Rattle.journal_pdus.specs.run_model.History.{Event, TurnBegan, fates_used, fed_to, packets_on_air, past_of, turns_begun}
+use Rattle.journal_pdus.specs.run_model.Links.{Links}
+use Rattle.journal_pdus.specs.run_model.Pair.{plan_of}
+use Rattle.journal_pdus.specs.run_model.Run.{Given, GoesOn, Run, after_begins, after_ends, after_feed, after_feeds, after_opening, after_phases, after_turn, and_then, octets_left, setup_at}
 use Rattle.pair_world.specs.declared.stops.Stop.{Stop}
 use Rattle.pair_world.specs.Air.{InPhase}
 use Rattle.pair_world.specs.Logs.{LogState, entries_noted, with_entries}

@@ -12,10 +12,10 @@ use Rattle.controller_model.specs.Facts.{Setup, Use}
 use Rattle.controller_model.specs.Packets.{channel_listened, use_of}
 use Rattle.controller_model.specs.Step.{Step}
 use Rattle.controller_model.specs.Side.{facts_of}
-use Rattle.run_model.specs.History.{Event, is_good, turns_begun, packets_on_air, fates_used, packet_received}
-use Rattle.run_model.specs.Journal.{mark_of}
-use Rattle.run_model.specs.Links.{begins_link}
-use Rattle.run_model.specs.Run.{Given, reaches, use_at, verdict_where}
+use Rattle.journal_pdus.specs.run_model.History.{Event, is_good, turns_begun, packets_on_air, fates_used, packet_received}
+use Rattle.journal_pdus.specs.run_model.Journal.{mark_of}
+use Rattle.journal_pdus.specs.run_model.Links.{begins_link}
+use Rattle.journal_pdus.specs.run_model.Run.{Given, reaches, use_at, verdict_where}
 use Rattle.pair_world.specs.declared.stops.Stop.{Stop}
 use Rattle.pair_world.specs.declared.stops.Stop.TheVariants.{Unseen, Memory}
 use Rattle.pair_world.specs.Logs.{LogState, with_entries}

@@ -4,8 +4,8 @@ use Rattle.journal.specs.declared.entries.Entry.{Entry}
 use Rattle.journal_pdus.specs.Lawful.{IsLawful}
 use Rattle.journal_pdus.specs.Undelivered.{IsUndelivered}
 use Rattle.radio_replay.specs.Script.{Script}
-use Rattle.run_model.specs.Pair.{EndsUnseen}
-use Rattle.run_model.specs.Run.{Given}
+use Rattle.journal_pdus.specs.run_model.Pair.{EndsUnseen}
+use Rattle.journal_pdus.specs.run_model.Run.{Given}
 use Rattle.pair_world.specs.declared.run.RunFault.{RunFault}
 use Rattle.pair_world.specs.declared.run.RunFault.TheVariants.{Unseen as UnseenFault, Memory as OutOfMemory}
 use Rattle.pair_world.specs.declared.stops.Stop.{Stop}

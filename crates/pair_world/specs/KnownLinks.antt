@@ -2,7 +2,7 @@
 use Rattle.std.specs.Prelude.{ℕ, List, replicate, slice_index_or, slice_set}
 use Rattle.ble_base.specs.declared.notes.Note.{Note}
 use Rattle.ble_base.specs.declared.notes.Note.TheVariants.{Up, Opened, Shut, Sent, Took, Enter, Applied, Began, Refused, Done}
-use Rattle.run_model.specs.Pair.{pair_links}
+use Rattle.journal_pdus.specs.run_model.Pair.{pair_links}
 
 pub record KnownLinks : Type 0 where
   -- the link that it began or received last

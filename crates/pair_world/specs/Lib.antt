@@ -8,3 +8,6 @@ pub mod Wishes
 pub mod Air
 pub mod Turns
 pub mod Faults
+-- what the crates above use of those below
+pub use Rattle.journal_pdus.specs as journal_pdus
+pub use Rattle.journal_pdus.specs.run_model as run_model

@@ -3,7 +3,7 @@ use Rattle.std.specs.Prelude.{ℕ, List, [], ◌∷◌, ◌++◌}
 use Rattle.ble_base.specs.declared.roles.Side.{Side}
 use Rattle.ble_base.specs.declared.notes.Note.{Note}
 use Rattle.journal.specs.declared.entries.Entry.{Entry}
-use Rattle.run_model.specs.Journal.{entry_of}
+use Rattle.journal_pdus.specs.run_model.Journal.{entry_of}
 use Rattle.pair_world.specs.KnownLinks.{KnownLinks, number_in, with_note}
 
 -- the journal so far, and how many links began

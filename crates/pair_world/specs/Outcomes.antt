@@ -1,9 +1,9 @@
 -- Where a part of a run leads: on to a history, or to a stop (our choice).
 use Rattle.std.specs.Prelude.{◌≡◌, ℕ, List, ⊤}
 use Rattle.journal.specs.declared.entries.Entry.{Entry}
-use Rattle.run_model.specs.History.{Event}
-use Rattle.run_model.specs.Run.{Run, GoesOn, Stops, Stop as RunStop}
-use Rattle.run_model.specs.Journal.{journal_of}
+use Rattle.journal_pdus.specs.run_model.History.{Event}
+use Rattle.journal_pdus.specs.run_model.Run.{Run, GoesOn, Stops, Stop as RunStop}
+use Rattle.journal_pdus.specs.run_model.Journal.{journal_of}
 use Rattle.pair_world.specs.declared.stops.Stop.{Stop}
 use Rattle.pair_world.specs.declared.stops.Stop.TheVariants.{Unseen, Memory}
 

@@ -7,11 +7,11 @@ use Rattle.controller_model.specs.Facts.{Setup}
 use Rattle.controller_model.specs.Step.{Step}
 use Rattle.controller.specs.Held.{Held}
 use Rattle.controller.specs.Knowing.{Knows, Goes}
-use Rattle.run_model.specs.History.{Event, past_of}
-use Rattle.run_model.specs.Run.{Given, setup_at, octets_left}
-use Rattle.run_model.specs.Links.{Links, links_of}
-use Rattle.run_model.specs.Journal.{journal_of}
-use Rattle.run_model.specs.Pair.{pair_links}
+use Rattle.journal_pdus.specs.run_model.History.{Event, past_of}
+use Rattle.journal_pdus.specs.run_model.Run.{Given, setup_at, octets_left}
+use Rattle.journal_pdus.specs.run_model.Links.{Links, links_of}
+use Rattle.journal_pdus.specs.run_model.Journal.{journal_of}
+use Rattle.journal_pdus.specs.run_model.Pair.{pair_links}
 use Rattle.pair_world.specs.KnownLinks.{KnownLinks, first_known, number_in}
 use Rattle.pair_world.specs.Logs.{LogState}
 

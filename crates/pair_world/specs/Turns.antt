@@ -1,9 +1,9 @@
 -- A turn of a run, as the code of both stations goes through it (our choice).
 use Rattle.std.specs.Prelude.{◌≡◌, ℕ, ◌+◌, List, [], ◌∷◌, ◌++◌, map, Option}
 use Rattle.radio_replay.specs.Script.{Turn as ScriptTurn}
-use Rattle.run_model.specs.History.{Event, TurnBegan, turns_begun, packets_on_air, fates_used, packet_received}
-use Rattle.run_model.specs.Pair.{plan_of}
-use Rattle.run_model.specs.Run.{Given, Plan, after_feeds}
+use Rattle.journal_pdus.specs.run_model.History.{Event, TurnBegan, turns_begun, packets_on_air, fates_used, packet_received}
+use Rattle.journal_pdus.specs.run_model.Pair.{plan_of}
+use Rattle.journal_pdus.specs.run_model.Run.{Given, Plan, after_feeds}
 use Rattle.pair_world.specs.Logs.{LogState}
 use Rattle.pair_world.specs.Stations.{StationState, Keeps, Writes}
 

@@ -1,7 +1,7 @@
 //! Which packets begin a link.
 ghost use Rattle.std.specs.Prelude.{◌≡◌, ◌<◌};
 ghost use Rattle.controller_model.specs.Packets.{pdu_heard};
-ghost use Rattle.run_model.specs.Links.{begins_link, is_advertising, is_connect_ind};
+ghost use Rattle.journal_pdus.specs.run_model.Links.{begins_link, is_advertising, is_connect_ind};
 
 use adv_pdu::AdvPdu;
 use air_frame::{ADVERTISING_ACCESS, ADVERTISING_CRC_INIT, Heard, unframe};

@@ -2,8 +2,8 @@
 ghost use Rattle.std.specs.Prelude.{◌≡◌, ℕ, ◌+◌, ◌^◌, ◌<◌, ◌≤◌, List, [], length, slice_get, Some};
 ghost use Rattle.std.specs.Prelude.{OnOk, IfOk, IfErr};
 ghost use Rattle.radio_replay.specs.Script.{Turn as ScriptTurn};
-ghost use Rattle.run_model.specs.History.{Event};
-ghost use Rattle.run_model.specs.Run.{Given, after_packets, after_phase, after_phases};
+ghost use Rattle.journal_pdus.specs.run_model.History.{Event};
+ghost use Rattle.journal_pdus.specs.run_model.Run.{Given, after_packets, after_phase, after_phases};
 ghost use Rattle.pair_world.specs.Air.{InPhase};
 ghost use Rattle.pair_world.specs.Order.{HaveBothBegun};
 ghost use Rattle.pair_world.specs.Wishes.{heard_of};

@@ -1,8 +1,8 @@
 //! A run.
 ghost use Rattle.std.specs.Prelude.{◌≡◌, ◌≤◌, ◌⊎◌, [], length, IfOk, IfErr};
 ghost use Rattle.controller_model.specs.Facts.{setup_of};
-ghost use Rattle.run_model.specs.Pair.{IsRun, given_of};
-ghost use Rattle.run_model.specs.Run.{Given};
+ghost use Rattle.journal_pdus.specs.run_model.Pair.{IsRun, given_of};
+ghost use Rattle.journal_pdus.specs.run_model.Run.{Given};
 ghost use Rattle.journal_pdus.specs.Lawful.{IsLawful, IsWhole};
 ghost use Rattle.pair_world.specs.Faults.{IsDueAtFault, IsLawfulSoFar, IsRunFault, fault_of};
 ghost use Rattle.pair_world.specs.Logs.{first_log};

@@ -2,9 +2,9 @@
 ghost use Rattle.std.specs.Prelude.{◌≡◌, ℕ, ◌+◌, ◌^◌, ◌<◌, ◌≤◌, List, [], length, slice_get, Some};
 ghost use Rattle.std.specs.Prelude.{OnOk, IfErr};
 ghost use Rattle.radio_replay.specs.Script.{Turn as ScriptTurn};
-ghost use Rattle.run_model.specs.History.{Event};
-ghost use Rattle.run_model.specs.Pair.{plan_of};
-ghost use Rattle.run_model.specs.Run.{Given, after_begins, after_ends, after_opening, after_turn};
+ghost use Rattle.journal_pdus.specs.run_model.History.{Event};
+ghost use Rattle.journal_pdus.specs.run_model.Pair.{plan_of};
+ghost use Rattle.journal_pdus.specs.run_model.Run.{Given, after_begins, after_ends, after_opening, after_turn};
 ghost use Rattle.pair_world.specs.Air.{InPhase};
 ghost use Rattle.pair_world.specs.Order.{HaveBothBegun, MayBothBegin};
 ghost use Rattle.pair_world.specs.Outcomes.{Reaches, IsStopped};

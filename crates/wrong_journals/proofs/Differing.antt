@@ -5,9 +5,9 @@ use Rattle.ble_base.specs.declared.roles.Role.{Role}
 use Rattle.ble_base.specs.declared.roles.Side.{Side}
 use Rattle.journal.specs.declared.entries.Entry.{Entry}
 use Rattle.run_model.specs.Readers.{turns_of}
-use Rattle.journal_links.specs.Begun.{LinkBegun, link_numbered}
-use Rattle.journal_links.specs.Entered.{IsEnteredInTime, anchor_in, channel_in}
-use Rattle.journal_links.specs.Opened.{IsOpenedInTime, central_side}
+use Rattle.journal_pdus.specs.journal_links.Begun.{LinkBegun, link_numbered}
+use Rattle.journal_pdus.specs.journal_links.Entered.{IsEnteredInTime, anchor_in, channel_in}
+use Rattle.journal_pdus.specs.journal_links.Opened.{IsOpenedInTime, central_side}
 use Rattle.wrong_journals.proofs.Packets.{some_is}
 
 pub numbers_differ : (one other : ℕ) → nat_eq one other ≡ false → one ≡ other → ⊥

@@ -11,10 +11,10 @@ use Rattle.journal.specs.declared.entries.Entry.TheVariants.{Air}
 use Rattle.journal.specs.declared.entries.Mark.{Mark}
 use Rattle.run_model.specs.History.{is_good}
 use Rattle.run_model.specs.Rows.{turn_entry}
-use Rattle.journal_hearings.specs.Openings.{WasToOpen, lets_in, offer_in}
-use Rattle.journal_hearings.specs.Settings.{accept_list, filter_policy}
-use Rattle.journal_hearings.specs.Taken.{HasHeardConnect}
-use Rattle.journal_packets.specs.Belonging.{is_side}
+use Rattle.journal_pdus.specs.journal_hearings.Openings.{WasToOpen, lets_in, offer_in}
+use Rattle.journal_pdus.specs.journal_hearings.Settings.{accept_list, filter_policy}
+use Rattle.journal_pdus.specs.journal_hearings.Taken.{HasHeardConnect}
+use Rattle.journal_pdus.specs.journal_packets.Belonging.{is_side}
 use Rattle.wrong_journals.proofs.Differing.{truths_differ}
 use Rattle.wrong_journals.specs.Hearings.{unasked_connect}
 

@@ -3,10 +3,10 @@ use Rattle.std.proofs.Common.{◌≡◌, ℕ, ◌+◌, ◌⊎◌, List, [], leng
 use Rattle.ble_base.specs.declared.roles.Side.{Side}
 use Rattle.journal.specs.declared.entries.Entry.{Entry}
 use Rattle.run_model.specs.Readers.{turns_of}
-use Rattle.journal_links.specs.Begun.{LinkBegun, link_numbered}
-use Rattle.journal_links.specs.Entered.{anchor_in}
-use Rattle.journal_packets.specs.Belonging.{link_of_packet}
-use Rattle.journal_acks.specs.EventOrder.{entered_on}
+use Rattle.journal_pdus.specs.journal_links.Begun.{LinkBegun, link_numbered}
+use Rattle.journal_pdus.specs.journal_links.Entered.{anchor_in}
+use Rattle.journal_pdus.specs.journal_packets.Belonging.{link_of_packet}
+use Rattle.journal_pdus.specs.journal_acks.EventOrder.{entered_on}
 use Rattle.journal_pdus.specs.InEvent.{IsInEvent}
 use Rattle.wrong_journals.proofs.Packets.{some_is}
 

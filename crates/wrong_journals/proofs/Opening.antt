@@ -5,11 +5,11 @@ use Rattle.adv_pdu.specs.Reading.{read_of}
 use Rattle.air_frame.specs.Hearing.{heard_in}
 use Rattle.frame_bits.specs.Crc.{crc, crc_octets, crc_of_bits, remainder}
 use Rattle.frame_bits.specs.Whitening.{mask_of, next_mask, whitening_bit, whitening_of}
-use Rattle.controller_model.specs.Packets.{pdu_heard}
+use Rattle.journal_pdus.specs.controller_model.Packets.{pdu_heard}
 use Rattle.run_model.specs.Rows.{one_connection_journal}
 use Rattle.wire_fields.specs.Field.{little_endian}
-use Rattle.journal_links.specs.Begun.{LinkBegun, link_numbered, links_begun}
-use Rattle.journal_links.specs.Rows.{one_link}
+use Rattle.journal_pdus.specs.journal_links.Begun.{LinkBegun, link_numbered, links_begun}
+use Rattle.journal_pdus.specs.journal_links.Rows.{one_link}
 use Rattle.journal_pdus.specs.OpenedLinks.{is_opened_by}
 use Rattle.wrong_journals.proofs.Packets.{some_is}
 

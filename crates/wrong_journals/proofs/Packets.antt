@@ -3,13 +3,13 @@ use Rattle.std.proofs.Common.{◌≡◌, ℕ, Bool, true, false, List, Some, sym
 use Rattle.ble_base.specs.declared.roles.Side.{Side}
 use Rattle.journal.specs.declared.entries.Entry.{Entry}
 use Rattle.air_frame.specs.Packet.{on_air}
-use Rattle.link_model.specs.Data.{is_empty}
-use Rattle.journal_links.specs.Begun.{LinkBegun, link_numbered}
-use Rattle.journal_packets.specs.Belonging.{link_of_packet}
-use Rattle.journal_acks.specs.Carried.{bits_of, carried_of, channel_entered, pdu_octets}
-use Rattle.journal_acks.specs.Exchange.{exchange_of}
-use Rattle.journal_data.specs.Delivered.{host_buffers}
-use Rattle.journal_data.specs.Lines.{lines_of}
+use Rattle.journal_pdus.specs.link_model.Data.{is_empty}
+use Rattle.journal_pdus.specs.journal_links.Begun.{LinkBegun, link_numbered}
+use Rattle.journal_pdus.specs.journal_packets.Belonging.{link_of_packet}
+use Rattle.journal_pdus.specs.journal_acks.Carried.{bits_of, carried_of, channel_entered, pdu_octets}
+use Rattle.journal_pdus.specs.journal_acks.Exchange.{exchange_of}
+use Rattle.journal_pdus.specs.journal_data.Delivered.{host_buffers}
+use Rattle.journal_pdus.specs.journal_data.Lines.{lines_of}
 use Rattle.journal_pdus.specs.Waiting.{TellsWhatWaits, data_waits}
 
 -- the octets of a packet of this link with this MD

@@ -4,7 +4,7 @@ use Rattle.ble_base.specs.declared.roles.Side.{Side}
 use Rattle.journal.specs.declared.entries.Entry.{Entry}
 use Rattle.journal.specs.declared.entries.Entry.TheVariants.{Turn, Fed}
 use Rattle.run_model.specs.Order.{AreNotes, side_of_note}
-use Rattle.journal_acks.specs.Shut.{CompletesReset}
+use Rattle.journal_pdus.specs.journal_acks.Shut.{CompletesReset}
 use Rattle.wrong_journals.proofs.Differing.{numbers_differ, truths_differ}
 
 abbrev pub is_turn : Entry → Bool

@@ -14,7 +14,7 @@ use Rattle.radio_replay.specs.declared.fates.Fate.{Fate}
 use Rattle.radio_replay.specs.declared.fates.Fate.TheVariants.{Damage, Lost, Pass}
 use Rattle.run_model.specs.Journal.{mark_of}
 use Rattle.run_model.specs.Readers.{HasNextFate, PairOpening, turn_packets, turns_of}
-use Rattle.journal_turns.specs.Radios.{IsOnRadio, radio_of}
+use Rattle.journal_pdus.specs.journal_turns.Radios.{IsOnRadio, radio_of}
 use Rattle.wrong_journals.proofs.Differing.{numbers_differ}
 use Rattle.wrong_journals.proofs.Packets.{some_is}
 

@@ -3,10 +3,10 @@ use Rattle.std.proofs.Common.{◌≡◌, ℕ, ◌==◌, Bool, true, false, List,
 use Rattle.std.specs.List.{AllByRecursion}
 use Rattle.std.proofs.lemmas.Bool.{eq-eqb}
 use Rattle.std.proofs.lemmas.List.Elements.{recursion_from_All}
-use Rattle.controller_model.specs.Host.{opcodes_of, with_answer}
-use Rattle.controller_model.specs.Notes.{one_further}
+use Rattle.journal_pdus.specs.controller_model.Host.{opcodes_of, with_answer}
+use Rattle.journal_pdus.specs.controller_model.Notes.{one_further}
 use Rattle.std.specs.Prelude.{map}
-use Rattle.journal_hosts.specs.Answered.{AreAnswered}
+use Rattle.journal_pdus.specs.journal_hosts.Answered.{AreAnswered}
 
 abbrev MayLack : ℕ × Bool → Type 0
 MayLack one = one.1 ≡ false → one.0 ≡ 0x0C35

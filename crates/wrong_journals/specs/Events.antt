@@ -6,7 +6,7 @@ use Rattle.ble_base.specs.declared.roles.Side.TheVariants.{A, B}
 use Rattle.journal.specs.declared.entries.Entry.{Entry}
 use Rattle.journal.specs.declared.entries.Entry.TheVariants.{Applied, Began, Enter, Opened}
 use Rattle.run_model.specs.Rows.{connect_packet, one_connection_journal, turn_entry}
-use Rattle.journal_links.specs.Rows.{answered_by, unoffered_packet}
+use Rattle.journal_pdus.specs.journal_links.Rows.{answered_by, unoffered_packet}
 use Rattle.wrong_journals.specs.Hearings.{passed_connect}
 use Rattle.wrong_journals.specs.Resetting.{shut_by_reset}
 

@@ -6,8 +6,8 @@ use Rattle.journal.specs.declared.entries.Entry.{Entry}
 use Rattle.journal.specs.declared.entries.Entry.TheVariants.{Air, Fed, Sent, Took, Up}
 use Rattle.journal.specs.declared.entries.Mark.TheVariants.{Lost, Pass}
 use Rattle.run_model.specs.Rows.{one_event_journal, turn_entry}
-use Rattle.journal_acks.specs.Rows.{central_says_more, data_heard, data_packet, data_sent, data_taken, host_packet, second_slot}
-use Rattle.journal_slots.specs.Rows.{next_packet}
+use Rattle.journal_pdus.specs.journal_acks.Rows.{central_says_more, data_heard, data_packet, data_sent, data_taken, host_packet, second_slot}
+use Rattle.journal_pdus.specs.journal_slots.Rows.{next_packet}
 
 -- ---- packets of the central on data channel 25, in the second slot
 

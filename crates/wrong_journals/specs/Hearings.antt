@@ -7,7 +7,7 @@ use Rattle.ble_base.specs.declared.verdicts.Verdict.TheVariants.{Broken, Good, M
 use Rattle.journal.specs.declared.entries.Entry.{Entry}
 use Rattle.journal.specs.declared.entries.Entry.TheVariants.{Air, Opened}
 use Rattle.journal.specs.declared.entries.Mark.TheVariants.{Damage, Lost, Pass}
-use Rattle.journal_hearings.specs.Rows.{offered_journal}
+use Rattle.journal_pdus.specs.journal_hearings.Rows.{offered_journal}
 use Rattle.run_model.specs.Rows.{connect_packet, turn_entry}
 
 -- the CONNECT_IND passes, and the advertiser misses it

@@ -7,7 +7,7 @@ use Rattle.journal.specs.declared.entries.Entry.{Entry}
 use Rattle.journal.specs.declared.entries.Entry.TheVariants.{Air, Up, Enter, Opened, Shut, Sent, Took}
 use Rattle.journal.specs.declared.entries.Mark.TheVariants.{Lost}
 use Rattle.run_model.specs.Rows.{one_connection_journal, turn_entry}
-use Rattle.journal_acks.specs.Rows.{data_acknowledged}
+use Rattle.journal_pdus.specs.journal_acks.Rows.{data_acknowledged}
 use Rattle.wrong_journals.specs.Hearings.{lost_connect, passed_connect}
 use Rattle.wrong_journals.specs.Hosts.{data_up}
 use Rattle.wrong_journals.specs.Resetting.{shut_by_reset}

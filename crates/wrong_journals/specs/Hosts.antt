@@ -6,7 +6,7 @@ use Rattle.journal.specs.declared.entries.Entry.{Entry}
 use Rattle.journal.specs.declared.entries.Entry.TheVariants.{Air, Enter, Fed, Shut, Up}
 use Rattle.journal.specs.declared.entries.Mark.TheVariants.{Pass}
 use Rattle.run_model.specs.Rows.{first_packet, one_event_journal, turn_entry}
-use Rattle.journal_acks.specs.Rows.{data_acknowledged, data_taken}
+use Rattle.journal_pdus.specs.journal_acks.Rows.{data_acknowledged, data_taken}
 use Rattle.wrong_journals.specs.Events.{turns_before_first}
 
 -- the octet AA for the host of the peripheral, as the start of a message

@@ -6,7 +6,7 @@ use Rattle.journal.specs.declared.entries.Entry.{Entry}
 use Rattle.journal.specs.declared.entries.Entry.TheVariants.{Air, Enter}
 use Rattle.journal.specs.declared.entries.Mark.TheVariants.{Pass}
 use Rattle.run_model.specs.Rows.{first_packet, one_event_journal, turn_entry}
-use Rattle.journal_slots.specs.Rows.{next_packet}
+use Rattle.journal_pdus.specs.journal_slots.Rows.{next_packet}
 use Rattle.wrong_journals.specs.Events.{turns_before_first}
 
 -- both sides have entered event 0, in its turn

@@ -6,12 +6,12 @@ use Rattle.ble_base.specs.declared.verdicts.Verdict.TheVariants.{Good}
 use Rattle.journal.specs.declared.entries.Entry.{Entry}
 use Rattle.journal.specs.declared.entries.Entry.TheVariants.{Air, Up}
 use Rattle.journal.specs.declared.entries.Mark.TheVariants.{Pass}
-use Rattle.controller_model.specs.Rows.{address_a, address_b}
+use Rattle.journal_pdus.specs.controller_model.Rows.{address_a, address_b}
 use Rattle.radio_replay.specs.Script.{Script, Turn}
 use Rattle.radio_replay.specs.declared.fates.Fate.{Fate}
 use Rattle.run_model.specs.Rows.{connecting_octets, enabling_octets, reset}
-use Rattle.journal_acks.specs.Rows.{host_packet, reply_packet}
-use Rattle.journal_hosts.specs.CreditRows.{both_taken, data_up as octet_up}
+use Rattle.journal_pdus.specs.journal_acks.Rows.{host_packet, reply_packet}
+use Rattle.journal_pdus.specs.journal_hosts.CreditRows.{both_taken, data_up as octet_up}
 use Rattle.wrong_journals.specs.Exchanges.{first_taken}
 use Rattle.wrong_journals.specs.Hosts.{credit, data_up}
 

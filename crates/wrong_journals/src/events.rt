@@ -1,6 +1,6 @@
 //! Lines of links and events that do not follow from a CONNECT_IND, or do not come in their order.
-ghost use Rattle.journal_acks.specs.EventOrder.{AllAreInOrder};
-ghost use Rattle.journal_links.specs.Procedures.{NoneNamesAProcedure};
+ghost use Rattle.journal_pdus.specs.journal_acks.EventOrder.{AllAreInOrder};
+ghost use Rattle.journal_pdus.specs.journal_links.Procedures.{NoneNamesAProcedure};
 ghost use Rattle.journal_pdus.specs.Lawful.{AllAreEntered, AllAreOpened};
 ghost use Rattle.wrong_journals.specs.Events.{entered_by_other, entered_elsewhere, entered_late};
 ghost use Rattle.wrong_journals.specs.Events.{entered_by_hopping, entered_unoffered};

@@ -1,8 +1,8 @@
 //! CONNECT_INDs that are missed, or whose links the advertiser does not open, or opens without having
 //! heard them.
-ghost use Rattle.journal_hearings.specs.Openings.{AllHeardLinksAreOpened};
-ghost use Rattle.journal_hearings.specs.Openings.{OpenedLinksWereToOpen};
-ghost use Rattle.journal_hearings.specs.Requests.{AllRequestsAreHeard};
+ghost use Rattle.journal_pdus.specs.journal_hearings.Openings.{AllHeardLinksAreOpened};
+ghost use Rattle.journal_pdus.specs.journal_hearings.Openings.{OpenedLinksWereToOpen};
+ghost use Rattle.journal_pdus.specs.journal_hearings.Requests.{AllRequestsAreHeard};
 ghost use Rattle.wrong_journals.specs.Hearings.{connect_missed, heard_unopened};
 ghost use Rattle.wrong_journals.specs.Hearings.{opened_though_broken, opened_though_lost};
 ghost use Rattle.wrong_journals.specs.Hearings.{opened_unasked};

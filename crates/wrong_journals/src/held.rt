@@ -1,5 +1,5 @@
 //! Lines of links that are not open, and links that are opened under a wrong handle.
-ghost use Rattle.journal_data.specs.Held.{LinesAreOfOpenLinks};
+ghost use Rattle.journal_pdus.specs.journal_data.Held.{LinesAreOfOpenLinks};
 ghost use Rattle.wrong_journals.specs.Held.{credit_of_none, credit_of_two, data_cut};
 ghost use Rattle.wrong_journals.specs.Held.{data_of_none, entered_unopened, handle_in_use};
 ghost use Rattle.wrong_journals.specs.Held.{handle_skipped, opened_twice, sent_before};

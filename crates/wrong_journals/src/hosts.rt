@@ -1,5 +1,5 @@
 //! Data and credits that a host must not receive, or does not receive.
-ghost use Rattle.journal_data.specs.Delivered.{AllDataArrives};
+ghost use Rattle.journal_pdus.specs.journal_data.Delivered.{AllDataArrives};
 ghost use Rattle.journal_pdus.specs.AtOnce.{AllAreCreditedAtOnce};
 ghost use Rattle.journal_pdus.specs.Exchanged.{AllAreSettled, AllAreSettledAsShut};
 ghost use Rattle.wrong_journals.specs.Hosts.{credit_after_packet, credit_from_nothing};

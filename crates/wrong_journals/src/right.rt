@@ -2,8 +2,8 @@
 ghost use Rattle.std.specs.Prelude.{◌≡◌, [], ◌∷◌};
 ghost use Rattle.ble_base.specs.declared.roles.Side.TheVariants.{A, B};
 ghost use Rattle.ble_base.specs.declared.verdicts.Verdict.TheVariants.{Good, Missed};
-ghost use Rattle.controller_model.specs.Rows.{advertisement_ending, advertising_octets};
-ghost use Rattle.controller_model.specs.Rows.{scanning_octets};
+ghost use Rattle.journal_pdus.specs.controller_model.Rows.{advertisement_ending, advertising_octets};
+ghost use Rattle.journal_pdus.specs.controller_model.Rows.{scanning_octets};
 ghost use Rattle.journal.specs.declared.entries.Entry.TheVariants.{Air, Up};
 ghost use Rattle.journal.specs.declared.entries.Mark.TheVariants.{Lost as WasLost, Pass as Passed};
 ghost use Rattle.journal_pdus.specs.Lawful.{IsLawful};

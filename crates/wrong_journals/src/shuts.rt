@@ -1,7 +1,7 @@
 //! Links that are shut for a reason that the lines before do not give.
 ghost use Rattle.ble_base.specs.declared.roles.Side.TheVariants.{A};
-ghost use Rattle.journal_acks.specs.Shut.{CompletesReset, HasTimedOut};
-ghost use Rattle.journal_acks.specs.Shut.{IsNotEstablished, IsShutWithReason};
+ghost use Rattle.journal_pdus.specs.journal_acks.Shut.{CompletesReset, HasTimedOut};
+ghost use Rattle.journal_pdus.specs.journal_acks.Shut.{IsNotEstablished, IsShutWithReason};
 ghost use Rattle.journal_pdus.specs.InTime.{EndsLater, NoneIsOverdue};
 ghost use Rattle.wrong_journals.specs.Resetting.{reset_now};
 ghost use Rattle.wrong_journals.specs.Shuts.{before_failing, before_silent, failing, heard_once};

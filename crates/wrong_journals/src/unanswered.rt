@@ -1,5 +1,5 @@
 //! Commands of a host that are not answered once.
-ghost use Rattle.journal_hosts.specs.Answered.{AllAreAnswered};
+ghost use Rattle.journal_pdus.specs.journal_hosts.Answered.{AllAreAnswered};
 ghost use Rattle.wrong_journals.specs.Unanswered.{answered_from_nothing, answered_late};
 ghost use Rattle.wrong_journals.specs.Unanswered.{answered_otherwise, answered_twice};
 ghost use Rattle.wrong_journals.specs.Unanswered.{never_answered};

@@ -7,7 +7,7 @@ use Rattle.frame_bits.specs.Crc.{crc, crc_octets, crc_of_bits, remainder}
 use Rattle.frame_bits.specs.Whitening.{mask_of, next_mask, whitening_bit, whitening_of}
 use Rattle.controller_model.specs.Packets.{pdu_heard}
 use Rattle.wire_fields.specs.Field.{little_endian}
-use Rattle.journal_links.specs.Begun.{links_begun}
+use Rattle.journal_packets.specs.journal_links.Begun.{links_begun}
 use Rattle.journal_packets.specs.Belonging.{is_answer, link_of_packet}
 use Rattle.journal_acks.specs.Carried.{sent_line_of}
 use Rattle.journal_acks.specs.Exchange.{exchange_of}

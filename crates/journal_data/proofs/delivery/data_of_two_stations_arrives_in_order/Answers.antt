@@ -1,5 +1,5 @@
 -- Proof of `delivery::data_of_two_stations_arrives_in_order`.
-use Rattle.journal_links.proofs.OfTwo.{are_distinct}
+use Rattle.journal_acks.proofs.journal_links.OfTwo.{are_distinct}
 use Rattle.journal_data.proofs.Law.{data_of_two}
 use Rattle.journal_data.proofs.delivery.data_of_two_stations_arrives_in_order.Goals as goal
 

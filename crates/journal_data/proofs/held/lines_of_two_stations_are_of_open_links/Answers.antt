@@ -1,5 +1,5 @@
 -- Proof of `held::lines_of_two_stations_are_of_open_links`.
-use Rattle.journal_links.proofs.OfTwo.{are_distinct}
+use Rattle.journal_acks.proofs.journal_links.OfTwo.{are_distinct}
 use Rattle.journal_data.proofs.HeldInRuns.{held_of_two}
 use Rattle.journal_data.proofs.held.lines_of_two_stations_are_of_open_links.Goals as goal
 

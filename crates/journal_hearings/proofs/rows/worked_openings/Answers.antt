@@ -13,9 +13,9 @@ use Rattle.journal_data.specs.Lines.{lines_of}
 use Rattle.h4_frames.specs.Frames.{frames}
 use Rattle.hci_cmd.specs.Command.{command_of, layout_of, layouts}
 use Rattle.journal.specs.declared.entries.Mark.TheVariants.{Pass as Passed}
-use Rattle.run_laws.specs.Rows.{one_event_fields}
-use Rattle.run_model.specs.Rows.{connect_packet}
-use Rattle.journal_links.specs.Begun.{links_begun}
+use Rattle.journal_data.specs.run_laws.Rows.{one_event_fields}
+use Rattle.journal_data.specs.run_model.Rows.{connect_packet}
+use Rattle.journal_data.specs.journal_links.Begun.{links_begun}
 use Rattle.journal_hearings.specs.Openings.{IsToOpen}
 use Rattle.journal_hearings.specs.Rows.{device_a, device_b, offered_journal}
 use Rattle.journal_hearings.proofs.rows.worked_openings.Goals as goal

@@ -1,5 +1,5 @@
 -- Proof of `credits::credits_of_a_turn_are_in_the_order_of_handles`.
-use Rattle.journal_links.proofs.OfTwo.{are_distinct}
+use Rattle.journal_data.proofs.journal_links.OfTwo.{are_distinct}
 use Rattle.journal_hosts.proofs.CreditsInRuns.{ascends}
 use Rattle.journal_hosts.proofs.credits.credits_of_a_turn_are_in_the_order_of_handles.Goals as goal
 

@@ -1,5 +1,5 @@
 -- Proof of `credits::each_early_credit_is_of_one_packet`.
-use Rattle.journal_links.proofs.OfTwo.{are_distinct}
+use Rattle.journal_data.proofs.journal_links.OfTwo.{are_distinct}
 use Rattle.journal_hosts.proofs.CreditsInRuns.{are_of_one, come_at_once}
 use Rattle.journal_hosts.proofs.credits.each_early_credit_is_of_one_packet.Goals as goal
 

@@ -5,7 +5,7 @@ use Rattle.ble_base.specs.declared.verdicts.Verdict.TheVariants.{Missed}
 use Rattle.journal.specs.declared.entries.Entry.TheVariants.{Air, Up}
 use Rattle.journal.specs.declared.entries.Mark.TheVariants.{Pass}
 use Rattle.run_model.specs.Rows.{one_event_journal}
-use Rattle.journal_acks.specs.Rows.{data_acknowledged}
+use Rattle.journal_data.specs.journal_acks.Rows.{data_acknowledged}
 use Rattle.journal_hosts.specs.CreditRows.{both_fed, both_taken, credit_of, data_arrived, data_up, other_fed}
 use Rattle.journal_hosts.specs.Credits.{is_being_fed}
 use Rattle.journal_hosts.proofs.rows.wrong_credits_are_refused.Goals as goal

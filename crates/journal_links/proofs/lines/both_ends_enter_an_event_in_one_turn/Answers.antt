@@ -1,9 +1,9 @@
 -- Proof of `lines::both_ends_enter_an_event_in_one_turn`.
 use Rattle.std.proofs.Common.{◌∷◌}
 use Rattle.journal.specs.declared.entries.Entry.TheVariants.{Enter}
-use Rattle.run_model.specs.Journal.{journal_of}
-use Rattle.run_model.specs.Pair.{given_of}
-use Rattle.run_model.specs.Run.{history_of, run_of}
+use Rattle.run_laws.specs.run_model.Journal.{journal_of}
+use Rattle.run_laws.specs.run_model.Pair.{given_of}
+use Rattle.run_laws.specs.run_model.Run.{history_of, run_of}
 use Rattle.journal_links.proofs.EnterLines.{enter_in_time, in_one_turn}
 use Rattle.journal_links.proofs.lines.both_ends_enter_an_event_in_one_turn.Goals as goal
 

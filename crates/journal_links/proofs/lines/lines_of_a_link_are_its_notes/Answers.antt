@@ -1,11 +1,10 @@
 -- Proof of `lines::lines_of_a_link_are_its_notes`.
-use Rattle.std.proofs.Common.{◌≡◌, ℕ, [], ◌∷◌, append-nil, refl, sym, subst}
-use Rattle.run_model.specs.Feeding.{AreDistinct}
-use Rattle.run_model.specs.Run.{Given, history_of, run_of}
-use Rattle.run_model.proofs.Notes.{NotedBefore, run_noted}
-use Rattle.run_model.proofs.Numbers.{numbered_at, numbered_last}
-use Rattle.run_model.proofs.Places.{each_at}
-use Rattle.run_model.proofs.Stations.{contains_in}
+use Rattle.std.proofs.Common.{[], ◌∷◌, append-nil, sym}
+use Rattle.run_laws.specs.run_model.Run.{history_of, run_of}
+use Rattle.run_laws.proofs.run_model.Notes.{NotedBefore, run_noted}
+use Rattle.run_laws.proofs.run_model.Numbers.{numbered_at, numbered_last}
+use Rattle.run_laws.proofs.run_model.Places.{each_at}
+use Rattle.run_laws.proofs.run_model.Stations.{contains_in}
 use Rattle.journal_links.proofs.LineNotes.{lines_are_notes, lines_of_end, open_was_opened}
 use Rattle.journal_links.proofs.OfTwo.{are_distinct, two_apart}
 use Rattle.journal_links.proofs.lines.lines_of_a_link_are_its_notes.Goals as goal

@@ -1,7 +1,6 @@
 -- Proof of `lines::no_line_names_a_procedure`.
-use Rattle.run_model.specs.Pair.{given_of}
 use Rattle.journal_links.proofs.NoProcedures.{none_names}
 use Rattle.journal_links.proofs.lines.no_line_names_a_procedure.Goals as goal
 
 pub returns : goal.returns
-returns c = λ a b script. none_names (given_of a b script)
+returns c = none_names

@@ -1,7 +1,7 @@
 -- Proof of `senders::each_packet_is_of_its_senders_link`.
 use Rattle.std.proofs.Common.{refl}
-use Rattle.run_model.specs.Pair.{given_of}
-use Rattle.run_model.proofs.LinkEnds.{pair_addresses}
+use Rattle.journal_links.specs.run_model.Pair.{given_of}
+use Rattle.journal_links.proofs.run_model.LinkEnds.{pair_addresses}
 use Rattle.journal_packets.proofs.SoFar.{of_senders_link}
 use Rattle.journal_packets.proofs.senders.each_packet_is_of_its_senders_link.Goals as goal
 

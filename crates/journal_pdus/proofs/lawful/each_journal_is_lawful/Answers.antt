@@ -35,7 +35,7 @@ returns-clause-lawful c = λ a b script six six_too. record {
   in_time = journal_in_time c.packet_tells_its_pdu.ensures.heard c.a_pdu_is_understood.ensures.says c.connections_are_taken.ensures.taken
       c.searches_give_each_valid_address.ensures.valid c.searches_give_each_valid_address.ensures.distinct a b script six six_too;
   resets = c.a_reset_leaves_no_link.ensures (given_of a b script) refl (pair_addresses a b script six six_too) (pair_links a b script).links (eight_of a b script);
-  procedures = c.no_line_names_a_procedure.ensures a b script;
+  procedures = c.no_line_names_a_procedure.ensures a b script six six_too;
   answered = c.each_answer_on_a_link_is_heard.ensures (given_of a b script) refl (pair_addresses a b script six six_too);
   requested = c.each_request_is_heard.ensures (given_of a b script) refl (pair_addresses a b script six six_too);
   commands = c.each_command_is_answered.ensures a b script;
@@ -46,7 +46,7 @@ returns-clause-lawful c = λ a b script six six_too. record {
     at_once = c.each_complete_packet_is_reported_at_once.ensures (given_of a b script) refl (pair_addresses a b script six six_too)
         (pair_links a b script).links (eight_of a b script);
     ascend = c.credits_of_a_turn_are_in_the_order_of_handles.ensures (given_of a b script) refl (pair_links a b script).links;
-    late = c.each_late_credit_comes_as_its_turn_ends.ensures (given_of a b script) refl;
+    late = c.each_late_credit_comes_as_its_turn_ends.ensures (given_of a b script) refl (pair_addresses a b script six six_too);
   };
   due = journal_due c.packet_tells_its_pdu.ensures.heard c.a_pdu_is_understood.ensures.says c.connections_are_taken.ensures.taken
       c.searches_give_each_valid_address.ensures.valid c.searches_give_each_valid_address.ensures.distinct a b script six six_too

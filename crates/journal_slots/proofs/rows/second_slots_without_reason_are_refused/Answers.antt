@@ -10,10 +10,10 @@ use Rattle.frame_bits.specs.Crc.{crc, crc_octets, crc_of_bits, remainder}
 use Rattle.frame_bits.specs.Whitening.{mask_of, next_mask, whitening_bit, whitening_of}
 use Rattle.controller_model.specs.Packets.{pdu_heard}
 use Rattle.wire_fields.specs.Field.{little_endian}
-use Rattle.journal_links.specs.Begun.{links_begun}
-use Rattle.journal_links.specs.Entered.{anchor_in}
-use Rattle.journal_links.specs.Rows.{one_link}
-use Rattle.journal_packets.specs.Belonging.{is_answer, link_of_packet}
+use Rattle.journal_acks.specs.journal_links.Begun.{links_begun}
+use Rattle.journal_acks.specs.journal_links.Entered.{anchor_in}
+use Rattle.journal_acks.specs.journal_links.Rows.{one_link}
+use Rattle.journal_acks.specs.journal_packets.Belonging.{is_answer, link_of_packet}
 use Rattle.journal_acks.specs.EventOrder.{entered_on}
 use Rattle.journal_acks.specs.Rows.{more_packet}
 use Rattle.journal_slots.specs.Rows.{next_packet, none_is_heard, none_says_more}

@@ -11,11 +11,11 @@ use Rattle.frame_bits.specs.Crc.{crc, crc_octets, crc_of_bits, remainder}
 use Rattle.frame_bits.specs.Whitening.{mask_of, next_mask, whitening_bit, whitening_of}
 use Rattle.controller_model.specs.Packets.{pdu_heard}
 use Rattle.wire_fields.specs.Field.{little_endian}
-use Rattle.journal_links.specs.Begun.{links_begun}
-use Rattle.journal_links.specs.Rows.{one_link}
-use Rattle.journal_packets.specs.Belonging.{is_answer, link_of_packet}
+use Rattle.journal_acks.specs.journal_links.Begun.{links_begun}
+use Rattle.journal_acks.specs.journal_links.Rows.{one_link}
+use Rattle.journal_acks.specs.journal_packets.Belonging.{is_answer, link_of_packet}
 use Rattle.journal_acks.specs.EventOrder.{entered_on}
-use Rattle.run_model.specs.Rows.{first_packet, first_reply, turn_entry}
+use Rattle.journal_acks.specs.run_model.Rows.{first_packet, first_reply, turn_entry}
 use Rattle.journal_acks.specs.Rows.{data_heard, data_packet, data_sent, given_to, more_packet, more_reply, reply_packet}
 use Rattle.journal_slots.specs.Rows.{next_packet, peripheral_says_more}
 use Rattle.journal_slots.proofs.Refusals.{continued_as}

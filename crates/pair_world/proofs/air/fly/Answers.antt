@@ -1,7 +1,7 @@
 -- Proof of `air::fly`.
 use Rattle.ble_base.specs.Side.{other_side}
-use Rattle.run_model.specs.History.{past_of}
-use Rattle.run_model.specs.Run.{setup_at}
+use Rattle.journal_pdus.specs.run_model.History.{past_of}
+use Rattle.journal_pdus.specs.run_model.Run.{setup_at}
 use Rattle.pair_world.specs.Stations.{number_of}
 use Rattle.pair_world.proofs.Flying.{flies, flies_not, flight_stops}
 use Rattle.pair_world.proofs.Outcomes.{if_err_two, if_ok_two}

@@ -4,7 +4,7 @@ use Rattle.std.specs.Option.{option_and_then}
 use Rattle.adv_pdu.specs.Reading.{read_of}
 use Rattle.air_frame.specs.declared.Heard.{Heard}
 use Rattle.controller_model.specs.Packets.{pdu_by, pdu_heard}
-use Rattle.run_model.specs.Links.{is_connect_ind}
+use Rattle.journal_pdus.specs.run_model.Links.{is_connect_ind}
 use Rattle.pair_world.proofs.connect_inds.has_connect_ind.Goals as goal
 
 pub returns-in-Whole : goal.returns-in-Whole

@@ -1,6 +1,6 @@
 -- Proof of `run::run_pair`.
 use Rattle.std.proofs.Common.{refl}
-use Rattle.run_model.specs.Pair.{given_of}
+use Rattle.journal_pdus.specs.run_model.Pair.{given_of}
 use Rattle.pair_world.proofs.Lawful.{all_lawful, due_at_fault, is_whole, lawful_so_far}
 use Rattle.pair_world.proofs.Outcomes.{if_err_more, if_ok_more}
 use Rattle.pair_world.proofs.run.run_pair.Goals as goal

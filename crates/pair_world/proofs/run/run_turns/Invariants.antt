@@ -1,6 +1,6 @@
 -- Invariants of `run::run_turns`.
 use Rattle.std.proofs.Common.{◌≡◌, ◌*◌, ◌≤◌, []}
-use Rattle.run_model.specs.Run.{Given}
+use Rattle.journal_pdus.specs.run_model.Run.{Given}
 use Rattle.pair_world.specs.Logs.{first_log}
 use Rattle.pair_world.specs.Order.{MayBothBegin}
 use Rattle.pair_world.specs.Turns.{HasPlans, PairIsUpTo}

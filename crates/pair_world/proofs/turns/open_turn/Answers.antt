@@ -1,5 +1,5 @@
 -- Proof of `turns::open_turn`.
-use Rattle.run_model.specs.Pair.{plan_of}
+use Rattle.journal_pdus.specs.run_model.Pair.{plan_of}
 use Rattle.pair_world.specs.Turns.{after_feeding}
 use Rattle.pair_world.proofs.Outcomes.{on_ok_more}
 use Rattle.pair_world.proofs.WholeTurns.{opened}

@@ -1,6 +1,6 @@
 -- Proof of `turns::run_turn`.
-use Rattle.run_model.specs.Pair.{plan_of}
-use Rattle.run_model.specs.Run.{after_opening}
+use Rattle.journal_pdus.specs.run_model.Pair.{plan_of}
+use Rattle.journal_pdus.specs.run_model.Run.{after_opening}
 use Rattle.pair_world.proofs.Outcomes.{handed_on}
 use Rattle.pair_world.proofs.WholeTurns.{turn_done, turn_stops}
 use Rattle.pair_world.proofs.turns.run_turn.Goals as goal

@@ -13,14 +13,14 @@ use Rattle.frame_bits.specs.Crc.{crc, crc_octets, crc_of_bits, remainder}
 use Rattle.frame_bits.specs.Whitening.{mask_of, next_mask, whitening_bit, whitening_of}
 use Rattle.h4_frames.specs.Frames.{frames}
 use Rattle.journal.specs.declared.entries.Entry.TheVariants.{Applied, Began}
-use Rattle.controller_model.specs.Packets.{pdu_heard}
+use Rattle.journal_pdus.specs.controller_model.Packets.{pdu_heard}
 use Rattle.wire_fields.specs.Field.{little_endian}
-use Rattle.journal_links.specs.Begun.{links_begun}
-use Rattle.journal_links.specs.Rows.{hopping_link, one_link}
-use Rattle.journal_packets.specs.Belonging.{is_answer, is_side, link_of_packet}
-use Rattle.journal_acks.specs.Carried.{channel_entered, sent_line_of}
-use Rattle.journal_acks.specs.Exchange.{exchange_of}
-use Rattle.journal_data.specs.Lines.{lines_of}
+use Rattle.journal_pdus.specs.journal_links.Begun.{links_begun}
+use Rattle.journal_pdus.specs.journal_links.Rows.{hopping_link, one_link}
+use Rattle.journal_pdus.specs.journal_packets.Belonging.{is_answer, is_side, link_of_packet}
+use Rattle.journal_pdus.specs.journal_acks.Carried.{channel_entered, sent_line_of}
+use Rattle.journal_pdus.specs.journal_acks.Exchange.{exchange_of}
+use Rattle.journal_pdus.specs.journal_data.Lines.{lines_of}
 use Rattle.journal_pdus.specs.Announced.{announced_pdu}
 use Rattle.journal_pdus.specs.Pending.{pending_pdu}
 use Rattle.run_model.specs.Rows.{one_connection_journal, turn_entry}

@@ -2,7 +2,7 @@
 use Rattle.std.proofs.Common.{[], ◌∷◌, ◌++◌, refl}
 use Rattle.ble_base.specs.declared.roles.Side.TheVariants.{A}
 use Rattle.journal.specs.declared.entries.Entry.TheVariants.{Enter}
-use Rattle.journal_acks.specs.EventOrder.{entered_on}
+use Rattle.journal_pdus.specs.journal_acks.EventOrder.{entered_on}
 use Rattle.wrong_journals.specs.Events.{turns_before_first, turns_before_second, turns_of_other}
 use Rattle.wrong_journals.proofs.Differing.{numbers_differ}
 use Rattle.wrong_journals.proofs.events.wrong_orders_of_events_are_refused.Goals as goal

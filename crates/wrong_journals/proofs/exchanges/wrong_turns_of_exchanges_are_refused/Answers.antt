@@ -10,16 +10,16 @@ use Rattle.air_frame.specs.Hearing.{heard_in}
 use Rattle.frame_bits.specs.Crc.{crc, crc_octets, crc_of_bits, remainder}
 use Rattle.frame_bits.specs.Whitening.{mask_of, next_mask, whitening_bit, whitening_of}
 use Rattle.h4_frames.specs.Frames.{frames}
-use Rattle.controller_model.specs.Packets.{pdu_heard}
+use Rattle.journal_pdus.specs.controller_model.Packets.{pdu_heard}
 use Rattle.wire_fields.specs.Field.{little_endian}
-use Rattle.journal_links.specs.Begun.{links_begun}
-use Rattle.journal_packets.specs.Belonging.{is_answer, link_of_packet}
-use Rattle.journal_acks.specs.Carried.{sent_line_of}
-use Rattle.journal_acks.specs.Exchange.{exchange_of}
-use Rattle.journal_data.specs.Lines.{PduLine, lines_of}
+use Rattle.journal_pdus.specs.journal_links.Begun.{links_begun}
+use Rattle.journal_pdus.specs.journal_packets.Belonging.{is_answer, link_of_packet}
+use Rattle.journal_pdus.specs.journal_acks.Carried.{sent_line_of}
+use Rattle.journal_pdus.specs.journal_acks.Exchange.{exchange_of}
+use Rattle.journal_pdus.specs.journal_data.Lines.{PduLine, lines_of}
 use Rattle.journal_pdus.specs.Announced.{announced_pdu}
 use Rattle.journal_pdus.specs.Pending.{pending_pdu}
-use Rattle.journal_acks.specs.Rows.{data_heard, data_packet}
+use Rattle.journal_pdus.specs.journal_acks.Rows.{data_heard, data_packet}
 use Rattle.wrong_journals.specs.Exchanges.{sent_in_first_slot}
 use Rattle.wrong_journals.proofs.Differing.{truths_differ}
 use Rattle.wrong_journals.proofs.exchanges.wrong_turns_of_exchanges_are_refused.Goals as goal

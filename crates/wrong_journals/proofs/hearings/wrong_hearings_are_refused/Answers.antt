@@ -10,15 +10,15 @@ use Rattle.ble_base.specs.declared.roles.Side.TheVariants.{A, B}
 use Rattle.ble_base.specs.declared.verdicts.Verdict.TheVariants.{Missed}
 use Rattle.frame_bits.specs.Crc.{crc, crc_octets, crc_of_bits, remainder}
 use Rattle.frame_bits.specs.Whitening.{mask_of, next_mask, whitening_bit, whitening_of}
-use Rattle.controller_model.specs.Packets.{pdu_heard}
+use Rattle.journal_pdus.specs.controller_model.Packets.{pdu_heard}
 use Rattle.h4_frames.specs.Frames.{frames}
 use Rattle.hci_cmd.specs.Command.{command_of, layout_of, layouts}
 use Rattle.journal.specs.declared.entries.Entry.TheVariants.{Opened}
 use Rattle.journal.specs.declared.entries.Mark.TheVariants.{Pass}
-use Rattle.journal_data.specs.Lines.{lines_of}
-use Rattle.journal_hearings.specs.Rows.{device_a, device_b, offered_journal}
-use Rattle.journal_links.specs.Begun.{links_begun}
-use Rattle.run_laws.specs.Rows.{one_event_fields}
+use Rattle.journal_pdus.specs.journal_data.Lines.{lines_of}
+use Rattle.journal_pdus.specs.journal_hearings.Rows.{device_a, device_b, offered_journal}
+use Rattle.journal_pdus.specs.journal_links.Begun.{links_begun}
+use Rattle.journal_pdus.specs.run_laws.Rows.{one_event_fields}
 use Rattle.run_model.specs.History.{is_good}
 use Rattle.run_model.specs.Rows.{connect_packet}
 use Rattle.wire_fields.specs.Field.{little_endian}

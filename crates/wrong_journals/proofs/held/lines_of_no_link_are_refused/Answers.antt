@@ -3,7 +3,7 @@ use Rattle.std.proofs.Common.{[], ◌∷◌, is_some, refl, sym, ap, arith}
 use Rattle.ble_base.specs.declared.roles.Role.TheVariants.{Central, Peripheral}
 use Rattle.ble_base.specs.declared.roles.Side.TheVariants.{A, B}
 use Rattle.journal.specs.declared.entries.Entry.TheVariants.{Opened}
-use Rattle.journal_data.specs.Lines.{lines_of}
+use Rattle.journal_pdus.specs.journal_data.Lines.{lines_of}
 use Rattle.run_model.specs.Rows.{one_connection_journal}
 use Rattle.wrong_journals.specs.Hearings.{passed_connect}
 use Rattle.wrong_journals.specs.Held.{anchor_of_other, opened_at_other, two_connected}

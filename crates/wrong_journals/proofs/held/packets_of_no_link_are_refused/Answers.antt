@@ -1,10 +1,10 @@
 -- A packet to the host that does not name one open link, or with a wrong length.
 use Rattle.std.proofs.Common.{[], ◌∷◌, refl, sym}
 use Rattle.ble_base.specs.declared.roles.Side.TheVariants.{A, B}
-use Rattle.journal_data.specs.Lines.{lines_of}
+use Rattle.journal_pdus.specs.journal_data.Lines.{lines_of}
 use Rattle.run_model.specs.Rows.{one_connection_journal}
 use Rattle.wrong_journals.specs.Held.{before_credits}
-use Rattle.journal_acks.specs.Rows.{data_acknowledged}
+use Rattle.journal_pdus.specs.journal_acks.Rows.{data_acknowledged}
 use Rattle.wrong_journals.proofs.Differing.{numbers_differ, truths_differ}
 use Rattle.wrong_journals.proofs.held.packets_of_no_link_are_refused.Goals as goal
 

@@ -2,7 +2,7 @@
 use Rattle.std.proofs.Common.{[], ap, length, refl}
 use Rattle.ble_base.specs.declared.roles.Side.TheVariants.{A}
 use Rattle.run_model.specs.Rows.{reset_answer}
-use Rattle.journal_data.specs.Lines.{lines_of}
+use Rattle.journal_pdus.specs.journal_data.Lines.{lines_of}
 use Rattle.wrong_journals.specs.Resetting.{other_shut, reset_now}
 use Rattle.wrong_journals.proofs.Differing.{numbers_differ}
 use Rattle.wrong_journals.proofs.resets.links_left_by_a_reset_are_refused.Goals as goal

@@ -1,6 +1,6 @@
 -- Proof of `right::right_journals_are_lawful`.
 use Rattle.std.proofs.Common.{[], ◌∷◌, refl, subst}
-use Rattle.controller_model.specs.Rows.{advertising_octets, scanning_octets}
+use Rattle.journal_pdus.specs.controller_model.Rows.{advertising_octets, scanning_octets}
 use Rattle.journal_pdus.specs.Lawful.{IsLawful}
 use Rattle.radio_replay.specs.declared.fates.Fate.TheVariants.{Lost}
 use Rattle.run_model.specs.Rows.{connecting_octets, enabling_octets, reset}

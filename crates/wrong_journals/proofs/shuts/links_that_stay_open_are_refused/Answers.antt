@@ -7,13 +7,13 @@ use Rattle.adv_pdu.specs.Reading.{read_of}
 use Rattle.air_frame.specs.Hearing.{heard_in}
 use Rattle.frame_bits.specs.Crc.{crc, crc_octets, crc_of_bits, remainder}
 use Rattle.frame_bits.specs.Whitening.{mask_of, next_mask, whitening_bit, whitening_of}
-use Rattle.controller_model.specs.Packets.{pdu_heard}
+use Rattle.journal_pdus.specs.controller_model.Packets.{pdu_heard}
 use Rattle.wire_fields.specs.Field.{little_endian}
-use Rattle.journal_links.specs.Begun.{LinkBegun, links_begun}
-use Rattle.journal_links.specs.Rows.{one_link}
-use Rattle.journal_packets.specs.Belonging.{is_answer, link_of_packet}
-use Rattle.journal_acks.specs.Shut.{end_slot, last_heard}
-use Rattle.journal_data.specs.Lines.{lines_of}
+use Rattle.journal_pdus.specs.journal_links.Begun.{LinkBegun, links_begun}
+use Rattle.journal_pdus.specs.journal_links.Rows.{one_link}
+use Rattle.journal_pdus.specs.journal_packets.Belonging.{is_answer, link_of_packet}
+use Rattle.journal_pdus.specs.journal_acks.Shut.{end_slot, last_heard}
+use Rattle.journal_pdus.specs.journal_data.Lines.{lines_of}
 use Rattle.wrong_journals.proofs.Packets.{some_is}
 use Rattle.wrong_journals.proofs.shuts.links_that_stay_open_are_refused.Goals as goal
 

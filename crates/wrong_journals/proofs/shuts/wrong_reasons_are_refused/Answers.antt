@@ -8,13 +8,13 @@ use Rattle.air_frame.specs.Hearing.{heard_in}
 use Rattle.frame_bits.specs.Crc.{crc, crc_octets, crc_of_bits, remainder}
 use Rattle.frame_bits.specs.Whitening.{mask_of, next_mask, whitening_bit, whitening_of}
 use Rattle.h4_frames.specs.Frames.{frames}
-use Rattle.controller_model.specs.Packets.{pdu_heard}
-use Rattle.controller_model.specs.Side.{result_of}
+use Rattle.journal_pdus.specs.controller_model.Packets.{pdu_heard}
+use Rattle.journal_pdus.specs.controller_model.Side.{result_of}
 use Rattle.wire_fields.specs.Field.{little_endian}
-use Rattle.journal_links.specs.Begun.{LinkBegun, links_begun}
-use Rattle.journal_links.specs.Rows.{one_link}
-use Rattle.journal_packets.specs.Belonging.{is_answer, link_of_packet}
-use Rattle.journal_acks.specs.Shut.{last_heard}
+use Rattle.journal_pdus.specs.journal_links.Begun.{LinkBegun, links_begun}
+use Rattle.journal_pdus.specs.journal_links.Rows.{one_link}
+use Rattle.journal_pdus.specs.journal_packets.Belonging.{is_answer, link_of_packet}
+use Rattle.journal_pdus.specs.journal_acks.Shut.{last_heard}
 use Rattle.run_model.specs.Rows.{one_connection_journal, reset, turn_entry}
 use Rattle.wrong_journals.specs.Shuts.{failing}
 use Rattle.wrong_journals.proofs.Differing.{numbers_differ, truths_differ}

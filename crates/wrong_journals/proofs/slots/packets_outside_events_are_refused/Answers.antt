@@ -8,15 +8,15 @@ use Rattle.adv_pdu.specs.Reading.{read_of}
 use Rattle.air_frame.specs.Hearing.{heard_in}
 use Rattle.frame_bits.specs.Crc.{crc, crc_octets, crc_of_bits, remainder}
 use Rattle.frame_bits.specs.Whitening.{mask_of, next_mask, whitening_bit, whitening_of}
-use Rattle.controller_model.specs.Packets.{pdu_heard}
+use Rattle.journal_pdus.specs.controller_model.Packets.{pdu_heard}
 use Rattle.run_model.specs.Rows.{first_packet}
 use Rattle.wire_fields.specs.Field.{little_endian}
-use Rattle.journal_links.specs.Begun.{links_begun}
-use Rattle.journal_links.specs.Entered.{anchor_in}
-use Rattle.journal_links.specs.Rows.{one_link}
-use Rattle.journal_packets.specs.Belonging.{is_answer, link_of_packet}
-use Rattle.journal_acks.specs.EventOrder.{entered_on}
-use Rattle.journal_slots.specs.Rows.{next_packet}
+use Rattle.journal_pdus.specs.journal_links.Begun.{links_begun}
+use Rattle.journal_pdus.specs.journal_links.Entered.{anchor_in}
+use Rattle.journal_pdus.specs.journal_links.Rows.{one_link}
+use Rattle.journal_pdus.specs.journal_packets.Belonging.{is_answer, link_of_packet}
+use Rattle.journal_pdus.specs.journal_acks.EventOrder.{entered_on}
+use Rattle.journal_pdus.specs.journal_slots.Rows.{next_packet}
 use Rattle.wrong_journals.specs.InEvent.{only_other_entered, two_turns_after}
 use Rattle.wrong_journals.proofs.InEvents.{in_event_as}
 use Rattle.wrong_journals.proofs.slots.packets_outside_events_are_refused.Goals as goal

@@ -4,7 +4,7 @@ use Rattle.std.specs.Prelude.{length}
 use Rattle.ble_base.specs.declared.roles.Side.TheVariants.{A, B}
 use Rattle.h4_frames.specs.Frames.{frames}
 use Rattle.journal.specs.declared.entries.Entry.TheVariants.{Up}
-use Rattle.journal_hosts.specs.Answered.{IsAnsweredBy}
+use Rattle.journal_pdus.specs.journal_hosts.Answered.{IsAnsweredBy}
 use Rattle.run_model.specs.Rows.{reset_answer}
 use Rattle.wrong_journals.specs.Unanswered.{answered_from_nothing, answered_otherwise, answered_twice, never_answered}
 use Rattle.wrong_journals.proofs.Differing.{numbers_differ}

@@ -1,7 +1,7 @@
 -- Proof of `stations::Station::take_octet`.
 use Rattle.controller_model.specs.Step.{HostOctet}
-use Rattle.run_model.specs.Run.{setup_at}
-use Rattle.run_model.specs.History.{past_of}
+use Rattle.journal_pdus.specs.run_model.Run.{setup_at}
+use Rattle.journal_pdus.specs.run_model.History.{past_of}
 use Rattle.pair_world.specs.Stations.{number_of}
 use Rattle.pair_world.proofs.Keeping.{called}
 use Rattle.pair_world.proofs.Outcomes.{on_ok_two}

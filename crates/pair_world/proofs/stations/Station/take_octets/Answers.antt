@@ -1,8 +1,8 @@
 -- Proof of `stations::Station::take_octets`.
 use Rattle.std.proofs.Common.{take, get_or, List, ℕ, subst, sym, ap, ◌∙◌, arith}
 use Rattle.std.proofs.lemmas.List.{take_more}
-use Rattle.run_model.specs.History.{Event}
-use Rattle.run_model.specs.Run.{after_octets}
+use Rattle.journal_pdus.specs.run_model.History.{Event}
+use Rattle.journal_pdus.specs.run_model.Run.{after_octets}
 use Rattle.pair_world.specs.Stations.{StationIsUpTo, number_of}
 use Rattle.pair_world.proofs.Feeding.{octets_one_more, take_whole}
 use Rattle.pair_world.proofs.stations.Station.take_octets.Goals as goal

@@ -1,8 +1,8 @@
 -- Invariants of `stations::Station::take_octets`.
 use Rattle.std.proofs.Common.{◌≡◌, ℕ, List, [], take}
 use Rattle.controller.specs.Order.{MayBegin}
-use Rattle.run_model.specs.History.{Event}
-use Rattle.run_model.specs.Run.{Given, after_octets}
+use Rattle.journal_pdus.specs.run_model.History.{Event}
+use Rattle.journal_pdus.specs.run_model.Run.{Given, after_octets}
 use Rattle.pair_world.specs.Stations.{StationIsUpTo, number_of}
 use Rattle.pair_world.proofs.stations.Station.take_octets.Given as goal
 
