@@ -16,6 +16,8 @@ mod data_tests;
 #[cfg(test)]
 mod link_tests;
 #[cfg(test)]
+mod procedure_tests;
+#[cfg(test)]
 mod scanning_tests;
 #[cfg(test)]
 mod scripts;

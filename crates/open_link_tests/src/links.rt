@@ -17,6 +17,18 @@ a has 2 = no
 a central 2 0 1 0
 a has 2 = yes
 a free = none
+a places = 3
+new
+# Before its first event a link sends and receives nothing.
+a central 0 0 11 0
+a has_entered 0 = no
+a has_entered 1 = none
+a enter 1 = nobody
+a send 0 1 = none
+a hear 0 1 = none
+a enter 2 = 0 enter 0 0 25
+a has_entered 0 = yes
+a send 0 2 = 9
 new
 # Links are between addresses.
 # The own address is that of number 10. Link 1 is to number 1, and link 2 to number 2.
@@ -66,7 +78,7 @@ b judge 1 = none
 b hear 0 2 = yes
 b send 0 2 = 9
 a hear 1 2 = no
-a shape 1 = 25 24 no
+a shape 1 = 25 24 72 2 no
 b enter 26 = nobody enter 0 1 20
 b enter 50 = 0 enter 0 2 6
 new

@@ -1,9 +1,15 @@
 //! Scripts: calls on the open links of three controllers, each with what it gives.
-use crate::sides::{Side, sample_setup, setup};
-use ble_base::Role;
+ghost use Rattle.std.specs.Prelude.{◌<◌, ◌^◌};
+
+use crate::hosts::{ask_named, code_of, few_channels, update};
+use crate::setups::{sample_setup, setup};
+use crate::sides::Side;
+use ble_base::{Role, SlotNo};
 use std::alloc::{AllocError, Global};
 use std::process::Abort;
-use test_words::{Call, TakesCalls, first_wrong, number, octet, octets_of, put_octets, slot};
+use test_words::{
+    Call, TakesCalls, first_wrong, number, octet, octets_of, put_number, put_octets, slot,
+};
 
 /// Octets that one buffer does not hold.
 const LONG: [u8; 252] = [7; 252];
@@ -96,8 +102,6 @@ impl Side {
             "peripheral" => self.begin(Role::Peripheral, call.words),
             "sample" => self.open(sample_setup(first == "two", second == "nine"), 0),
             "channels" => self.channels(number(first), told),
-            "serve" => self.serve(number(first), slot(second)),
-            "shut" => self.shut(number(first)),
             _ => self.with_host(call, told),
         }
     }
@@ -109,7 +113,7 @@ impl Side {
         self.open(setup, slot(opened))
     }
 
-    /// Makes a call of the host, or asks.
+    /// Makes a call that has to do with the data of the host, or with the end of a link.
     fn with_host(&mut self, call: Call<'_>, told: &mut String) -> Result<(), AllocError> {
         let [first, second, ..] = call.words;
         match call.name {
@@ -118,10 +122,40 @@ impl Side {
             "receive" => self.hand_up(told),
             "shut_all" => self.shut_all(told),
             "shut_due" => self.shut_due(slot(first), told),
-            "free" => self.free_handle(told),
-            "has" => self.has_setup(number(first), told),
-            "between" => self.is_between(octet(first), octet(second), told),
+            "shut_ended" => self.shut_ended(told),
+            _ => self.act(call, told),
+        }
+    }
+
+    /// Makes a call that gives nothing.
+    fn act(&mut self, call: Call<'_>, told: &mut String) -> Result<(), AllocError> {
+        let [first, second, third, ..] = call.words;
+        let handle = number(first);
+        match call.name {
+            "serve" => self.links.serve(handle, slot_no(second)),
+            "shut" => self.links.shut(handle),
+            "ask" => self.links.ask(handle, ask_named(second)),
+            "ask_map" => self.links.ask_map(few_channels()),
+            "grant" => self.links.answer(handle, Ok(update())),
+            "refuse" => self.links.answer(handle, Err(code_of(told, second))),
+            "end" => self
+                .links
+                .end(handle, code_of(told, second), slot_no(third)),
+            _ => return self.look(call, told),
+        }
+        Ok(())
+    }
+
+    /// Writes what is known of links.
+    fn look(&self, call: Call<'_>, told: &mut String) -> Result<(), AllocError> {
+        let [first, second, ..] = call.words;
+        match call.name {
+            "peer" => self.peer(number(first), told),
             "shape" => self.shape(number(first), told),
+            "free" => self.free_handle(told),
+            "between" => self.is_between(octet(first), octet(second), told),
+            "places" => put_number(told, u64::from(self.links.places())),
+            "may_ask" | "awaits_host" | "has_entered" | "has" => self.ask_whether(call, told),
             _ => told.push_str(" which call?"),
         }
     }
@@ -142,6 +176,13 @@ impl Side {
         let body = octets_of(*told.allocator(), word);
         self.give(handle, body.as_slice(), told)
     }
+}
+
+/// The slot that a word spells.
+fn slot_no(word: &str) -> SlotNo
+    ensures { result.0 < 2 ^ 32 }
+{
+    SlotNo(u64::from(slot(word)))
 }
 
 /// Changes the least significant bit of an octet of a packet.

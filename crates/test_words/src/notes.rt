@@ -1,6 +1,6 @@
 //! What a controller notes and judges, as words.
-use crate::writing::{put_number, put_octets};
-use ble_base::{Address, Note, Outbox, Role, Verdict};
+use crate::writing::{put_number, put_octets, put_value};
+use ble_base::{Address, Kind, Note, Outbox, Role, Verdict};
 use std::alloc::AllocError;
 
 /// Writes a verdict.
@@ -56,6 +56,24 @@ fn put_change(told: &mut String, note: &Note) -> Result<(), AllocError> {
             event,
             channel,
         } => put_entered(told, *handle, event.0, *channel),
+        _ => put_procedure(told, note),
+    }
+}
+
+/// Writes a note of a control procedure.
+fn put_procedure(told: &mut String, note: &Note) -> Result<(), AllocError> {
+    match note {
+        Note::Applied {
+            handle,
+            number,
+            event,
+        } => put_applied(told, *handle, *number, event.0),
+        Note::Began { handle, kind } => put_kind(told, " began", *handle, *kind),
+        Note::Done { handle, kind } => put_kind(told, " done", *handle, *kind),
+        Note::Refused { handle, kind, code } => {
+            put_kind(told, " refused", *handle, *kind)?;
+            put_octets(told, &[code.0])
+        }
         _ => told.push_str(" another"),
     }
 }
@@ -116,4 +134,19 @@ fn put_entered(told: &mut String, handle: u16, event: u64, channel: u8) -> Resul
     put_number(told, u64::from(handle))?;
     put_number(told, event)?;
     put_number(told, u64::from(channel))
+}
+
+/// Writes the number of an indication, and the event from which on it is in force.
+fn put_applied(told: &mut String, handle: u16, number: u64, event: u64) -> Result<(), AllocError> {
+    told.push_str(" applied")?;
+    put_number(told, u64::from(handle))?;
+    put_number(told, number)?;
+    put_number(told, event)
+}
+
+/// Writes a name, the handle of a link and the kind of a procedure on it.
+fn put_kind(told: &mut String, name: &str, handle: u16, kind: Kind) -> Result<(), AllocError> {
+    told.push_str(name)?;
+    put_number(told, u64::from(handle))?;
+    put_value(told, &kind)
 }

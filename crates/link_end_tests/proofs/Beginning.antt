@@ -4,10 +4,10 @@ use Rattle.std.specs.Prelude.{IsTrue}
 use Rattle.instants.specs.Track.{next_anchor_of}
 use Rattle.control_end.specs.Answers.{goes_on}
 use Rattle.link_model.specs.Setup.{Setup}
-use Rattle.controlled_link.specs.End.{facts_of}
-use Rattle.controlled_end.specs.Held.{Held}
-use Rattle.controlled_end.specs.Knowing.{Knows}
-use Rattle.controlled_end.proofs.Keeping.{held_is}
+use Rattle.link_model.specs.End.{facts_of}
+use Rattle.link_end.specs.Held.{Held}
+use Rattle.link_end.specs.Knowing.{Knows}
+use Rattle.link_end.proofs.Keeping.{held_is}
 
 -- none of its procedures has ended the link
 pub new_goes_on : (setup : Setup) (held : Held) → Knows setup held [] → IsTrue (goes_on held.control)

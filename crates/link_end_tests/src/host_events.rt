@@ -1,12 +1,12 @@
 //! The events that a host gets for what control procedures did, as the octets of their packets.
-ghost use Rattle.procedure_events.specs.Events.{HasPayloadLengths};
+ghost use Rattle.link_model.specs.Receiving.{HasPayloadLengths};
 
 use crate::calls::code_of;
 use crate::pairs::check;
 use ble_base::{ChannelMap, ErrCode, Kind};
-use controlled_link::{PeerFacts, PeerVersion};
 use hci_evt::{Event, write};
 use instants::Params;
+use link_model::{PeerFacts, PeerVersion};
 use procedure_events::{
     ReceptionEvents, event_known, event_of_done, event_of_effect, event_of_entry, event_of_refusal,
     events_of_reception,

@@ -7,13 +7,13 @@ ghost use Rattle.adv_pdu.specs.Ranges.{IsInRange};
 ghost use Rattle.instants.specs.Track.{next_anchor_of};
 ghost use Rattle.procedure_values.specs.Wants.{IsAsk};
 ghost use Rattle.control_end.specs.Answers.{goes_on};
-ghost use Rattle.controlled_end.specs.Tied.{IsTied};
+ghost use Rattle.link_end.specs.Tied.{IsTied};
 
 use acl_banks::{RxBank, TxBank};
 use adv_pdu::ConnectFields;
 use arrayvec::ArrayVec;
 use ble_base::{AIR_PACKET_OCTETS, Address, ChannelMap, ErrCode, Outbox, Role, SlotNo};
-use controlled_end::{LinkEnd, LinkSetup, LinkStep};
+use link_end::{LinkEnd, LinkSetup, LinkStep};
 use procedures::{Ask, Effect};
 use std::alloc::{AllocError, Global};
 use std::marker::Model;
@@ -46,7 +46,7 @@ pub(crate) struct End {
 
 impl Model for End {
     ghost use Rattle.std.specs.Prelude.{◌≤◌, ℕ};
-    ghost use Rattle.controlled_end.specs.Tied.{IsBefore, IsTied};
+    ghost use Rattle.link_end.specs.Tied.{IsBefore, IsTied};
 
     ghost Value = { ℕ };
 
@@ -189,7 +189,7 @@ impl End {
     }
 
     /// Takes octets in this slot, if it took none since.
-    #[tactic(auto, using(controlled_end::proofs::Tying::credited_tied, controlled_end::proofs::Tying::before_later))]
+    #[tactic(auto, using(link_end::proofs::Tying::credited_tied, link_end::proofs::Tying::before_later))]
     pub(crate) fn hear(&mut self, octets: &[u8], slot: u32) {
         let slot = u64::from(slot);
         if slot < self.next {
@@ -244,7 +244,7 @@ impl End {
     }
 
     /// The host gives the start of a message. False where it has no octet, or the bank is full.
-    #[tactic(auto, using(controlled_end::proofs::Tying::offer_tied))]
+    #[tactic(auto, using(link_end::proofs::Tying::offer_tied))]
     pub(crate) fn give(&mut self, body: &[u8]) -> bool {
         let handle = self.link.setup().handle;
         !body.is_empty() && self.tx.offer(handle, true, body).is_ok()

@@ -1,0 +1,166 @@
+//! Control procedures of a link, call by call: control PDUs of the peer, as worked out by hand, and
+//! what the host receives.
+use crate::scripts::check;
+use std::alloc::AllocError;
+
+const PROCEDURES: &str = "\
+start 1d123456
+# The peer ends the link.
+# A central takes LL_TERMINATE_IND, and ends the link as the turn ends in which it acknowledges it.
+a host 01010c08ffffffffff1f0020 = up 040e0401010c00
+a host 010d20196000600000000b0000eeffc000180018000000480000000000 = up 040f0400010d20
+a begin 0 = listen 37
+a hear d6be898eadd45ca13d499970ede427 = send 37 \
+    d6be898ea8f05da13d4999707e3111a669b7d1a23098aad09e5233d8a2980824833b038e5c0b4a6dc6c387
+a unheard = idle open 0 central public 0a0000eeffc0 public 0b0000eeffc0 up \
+    043e130100000000000b0000eeffc018000000480000
+a unheard = idle
+a end
+a turns 1 2 =
+a begin 2 = send 25 2941767150fa1ee550 enter 0 0 25
+a unheard = listen 25
+a hear 2941767156f828a77cf369 = idle took 0 1 3 0213
+a unheard = idle
+a end
+a turns 3 26 =
+a begin 26 = send 20 29417671f95529951e enter 0 1 20
+a unheard = listen 20
+a unheard = idle
+a end = shut 0 13 up 04050400000013
+a host 013020020000 = up 040e080130200200000000
+start 1d123456
+# A peripheral answers the packet first.
+b host 01010c08ffffffffff1f0020 = up 040e0401010c00
+b host 010a200101 = up 040e04010a2000
+b begin 0 = send 37 d6be898eadd45ca13d499970ede427
+b unheard = listen 37
+b hear d6be898ea8f05da13d4999707e3111a669b7d1a23098aad09e5233d8a2980824833b038e5c0b4a6dc6c387 = \
+    idle open 0 peripheral public 0b0000eeffc0 public 0a0000eeffc0 up \
+    043e130100000001000a0000eeffc018000000480000
+b unheard = idle
+b end
+b turns 1 2 =
+b begin 2 = listen 25 enter 0 0 25
+b hear 2941767152f828a73dd701 = send 25 2941767154facde350 took 0 1 3 0213
+b unheard = idle
+b unheard = idle
+b end = shut 0 13 up 04050400000013
+start 1d123456
+# A request of the peripheral.
+# The mask of LE events withholds it, so that it is refused with 1A.
+a host 01010c08ffffffffff1f0020 = up 040e0401010c00
+a host 010d20196000600000000b0000eeffc000180018000000480000000000 = up 040f0400010d20
+a begin 0 = listen 37
+a hear d6be898eadd45ca13d499970ede427 = send 37 \
+    d6be898ea8f05da13d4999707e3111a669b7d1a23098aad09e5233d8a2980824833b038e5c0b4a6dc6c387
+a unheard = idle open 0 central public 0a0000eeffc0 public 0b0000eeffc0 up \
+    043e130100000000000b0000eeffc018000000480000
+a unheard = idle
+a end
+a turns 1 2 =
+a begin 2 = send 25 2941767150fa1ee550 enter 0 0 25
+a unheard = listen 25
+a hear 2941767156e22594e7f40cb62e6e02c9f20e8023d782ea258c95f9a4e8ec8cfb88 = idle took 0 1 3 \
+    0f2000200000004800000000ffffffffffffffffffffffff
+a unheard = idle
+a end
+a turns 3 26 =
+a begin 26 = send 20 29417671fb5679c0b3f6d8e8 enter 0 1 20 sent 0 1 3 110f1a
+start 1d123456
+# It is asked where the mask lets it through.
+a host 01010c08ffffffffff1f0020 = up 040e0401010c00
+a host 010d20196000600000000b0000eeffc000180018000000480000000000 = up 040f0400010d20
+a begin 0 = listen 37
+a hear d6be898eadd45ca13d499970ede427 = send 37 \
+    d6be898ea8f05da13d4999707e3111a669b7d1a23098aad09e5233d8a2980824833b038e5c0b4a6dc6c387
+a unheard = idle open 0 central public 0a0000eeffc0 public 0b0000eeffc0 up \
+    043e130100000000000b0000eeffc018000000480000
+a unheard = idle
+a end
+a turns 1 2 =
+a host 010120083f00000000000000 = up 040e0401012000
+a begin 2 = send 25 2941767150fa1ee550 enter 0 0 25
+a unheard = listen 25
+a hear 2941767156e22594e7f40cb62e6e02c9f20e8023d782ea258c95f9a4e8ec8cfb88 = idle took 0 1 3 \
+    0f2000200000004800000000ffffffffffffffffffffffff up 043e0b0600002000200000004800
+a unheard = idle
+a end
+a turns 3 26 =
+a begin 26 = send 20 29417671f95529951e enter 0 1 20
+start 1d123456
+# Lengths.
+# LL_LENGTH_REQ of the peer is answered, and the host hears of the lengths. The next event holds \
+    the radio for four slots.
+b host 01010c08ffffffffff1f0020 = up 040e0401010c00
+b host 010a200101 = up 040e04010a2000
+b begin 0 = send 37 d6be898eadd45ca13d499970ede427
+b unheard = listen 37
+b hear d6be898ea8f05da13d4999707e3111a669b7d1a23098aad09e5233d8a2980824833b038e5c0b4a6dc6c387 = \
+    idle open 0 peripheral public 0b0000eeffc0 public 0a0000eeffc0 up \
+    043e130100000001000a0000eeffc018000000480000
+b unheard = idle
+b end
+b turns 1 2 =
+b host 010120085f00000000000000 = up 040e0401012000
+b begin 2 = listen 25 enter 0 0 25
+b hear 2941767152f33e4fe79c044d2e6e0abd930e = send 25 2941767154facde350 took 0 1 3 \
+    14fb004808fb004808 up 043e0b0700001b004801fb004808
+b unheard = idle
+b unheard = idle
+b end
+b turns 3 26 =
+b begin 26 = listen 20 enter 0 1 20
+b hear 29417671f95529951e = send 20 29417671ff5c7d34a95164464c4c9313989f sent 0 1 3 \
+    15fb0048081b004801
+start 1d123456
+# An update of the parameters.
+# It holds from its Instant on, and the host hears of that before the packets of the event.
+b host 01010c08ffffffffff1f0020 = up 040e0401010c00
+b host 010a200101 = up 040e04010a2000
+b begin 0 = send 37 d6be898eadd45ca13d499970ede427
+b unheard = listen 37
+b hear d6be898ea8f05da13d4999707e3111a669b7d1a23098aad09e5233d8a2980824833b038e5c0b4a6dc6c387 = \
+    idle open 0 peripheral public 0b0000eeffc0 public 0a0000eeffc0 up \
+    043e130100000001000a0000eeffc018000000480000
+b unheard = idle
+b end
+b turns 1 2 =
+b begin 2 = listen 25 enter 0 0 25
+b hear 2941767152f62ab5e7d414b62e2666c9f00ed7a751 = send 25 2941767154facde350 took 0 1 3 \
+    000100001800000064000200
+b unheard = idle
+b unheard = idle
+b end
+b turns 3 26 =
+b begin 26 = listen 20 enter 0 1 20
+b hear 29417671f95529951e = send 20 29417671fd55fa931e
+b unheard = idle
+b unheard = idle
+b end
+b turns 27 60 = 50 listen 6 applied 0 1 2 enter 0 2 6 up 043e0a03000000180000006400 idle idle idle
+start 1d123456
+# The version of the peer.
+b host 01010c08ffffffffff1f0020 = up 040e0401010c00
+b host 010a200101 = up 040e04010a2000
+b begin 0 = send 37 d6be898eadd45ca13d499970ede427
+b unheard = listen 37
+b hear d6be898ea8f05da13d4999707e3111a669b7d1a23098aad09e5233d8a2980824833b038e5c0b4a6dc6c387 = \
+    idle open 0 peripheral public 0b0000eeffc0 public 0a0000eeffc0 up \
+    043e130100000001000a0000eeffc018000000480000
+b unheard = idle
+b end
+b turns 1 2 =
+b begin 2 = listen 25 enter 0 0 25
+b hear 2941767152fc26be182b0eb658d8f2 = send 25 2941767154facde350 took 0 1 3 0c0affff0200
+b unheard = idle
+b unheard = idle
+b end
+b turns 3 26 =
+b begin 26 = listen 20 enter 0 1 20
+b hear 29417671f95529951e = send 20 29417671ff5364c456e66d5d2a339c sent 0 1 3 0c0bffff0100
+";
+
+#[test]
+fn procedures(rt: HostRuntime) -> Result<(), AllocError> {
+    check(&rt, rt.alloc(), PROCEDURES)
+}
