@@ -32,7 +32,7 @@ abbrev pub is_cipher : Draft → Bool
 is_cipher (Cipher ctrl) = true
 is_cipher other = false
 
--- the same of a PDU that goes next, or is out
+-- a PDU that goes next, or is out, was queued by the layer above
 abbrev pub is_cipher_out : Outgoing → Bool
 is_cipher_out (Other draft) = is_cipher draft
 is_cipher_out other = false
