@@ -1,5 +1,5 @@
-//! Tests of one end of a link that carries control procedures, of both ends, and of the events that
-//! a host gets.
+//! Tests of one end of a link with its control procedures, of both ends, and of the events that a
+//! host gets.
 #![tactic(auto)]
 
 #[cfg(test)]

@@ -1,5 +1,5 @@
--- What one end of a link holds that carries control procedures: plain facts of its procedures and parameters, of its
--- events, of acknowledgement, of data and of how the link is to end (our choice).
+-- What one end of a link holds: plain facts of its procedures and parameters, of its events, of acknowledgement, of data
+-- and of how the link is to end (our choice).
 use Rattle.std.specs.Prelude.{Bool, false, Option, None}
 use Rattle.ble_base.specs.Limits.{first_payload_octets}
 use Rattle.instants.specs.declared.indications.Params.{Params}

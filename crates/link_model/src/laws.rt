@@ -1,5 +1,5 @@
-//! Laws of one end of a link that carries control procedures. The bodies only call the laws that
-//! they rest on: the contracts are the laws.
+//! Laws of one end of a link. The bodies only call the laws that they rest on: the contracts are
+//! the laws.
 ghost use Rattle.std.specs.Prelude.{◌≡◌, ◌<◌, ◌≤◌, ◌+◌, ◌-◌, ℕ, nat_lt, Bool, true, false, List};
 ghost use Rattle.std.specs.Prelude.{[], ◌∷◌, ◌++◌, length, take, Some, None, slice_get};
 ghost use Rattle.std.specs.Prelude.{◌&&◌, not, is_some};

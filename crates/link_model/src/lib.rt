@@ -1,6 +1,5 @@
-//! Definitions of one end of a link that carries control procedures: what it holds and what it
-//! notes, by what happens to it; and the laws of one end and of both ends of a link. None of them
-//! names code.
+//! Definitions of one end of a link: what it holds and what it notes, by what happens to it; and the
+//! laws of one end and of both ends of a link. None of them names code.
 #![tactic(auto)]
 
 mod events;

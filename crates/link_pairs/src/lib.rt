@@ -1,6 +1,6 @@
-//! Laws of both ends of a link that carries control procedures, call by call: whatever their hosts
-//! ask for and whatever is lost between them, they are a joint run as long as the link goes on. The
-//! definitions are in `specs`; no code is here.
+//! Laws of both ends of a link, call by call: whatever their hosts ask for and whatever is lost
+//! between them, they are a joint run as long as the link goes on. The definitions are in `specs`;
+//! no code is here.
 #![tactic(auto)]
 
 mod laws;

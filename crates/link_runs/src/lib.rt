@@ -1,6 +1,5 @@
-//! Laws of both ends of a link that carries control procedures, over whole runs turn by turn:
-//! whatever their hosts do, whichever end has the radio, and whatever is lost between them. The
-//! definitions are in `specs`; no code is here.
+//! Laws of both ends of a link over whole runs, turn by turn: whatever their hosts do, whichever end
+//! has the radio, and whatever is lost between them. The definitions are in `specs`; no code is here.
 #![tactic(auto)]
 
 mod laws;

@@ -1,5 +1,4 @@
--- The open links of a controller that carry control procedures, each under its handle (Core 5.2, volume 4 part E,
--- section 5.3.1).
+-- The open links of a controller, each under its handle (Core 5.2, volume 4 part E, section 5.3.1).
 use Rattle.std.specs.Prelude.{◌≡◌, ℕ, ◌+◌, ◌<◌, ◌≤◌, ◌==◌, ◌&&◌, nat_lt, Bool, false, List, [], ◌∷◌, ◌++◌, length, map, Option, Some, None, IsSome, ⊤, if◌then◌else◌}
 use Rattle.std.specs.List.{list_any}
 use Rattle.std.specs.Option.{option_map}

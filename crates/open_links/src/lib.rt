@@ -1,6 +1,6 @@
-//! The open links of a controller that carry control procedures, each under its handle: which of
-//! them end, which enter an event, which want the radio, what happens to each of them, what their
-//! host asks for, and what waits of their data.
+//! The open links of a controller, each under its handle: which of them end, which enter an event,
+//! which want the radio, what happens to each of them, what their host asks for, and what waits of
+//! their data.
 #![tactic(auto)]
 
 mod ended;
