@@ -6,3 +6,5 @@ pub mod Kept
 pub mod Reaching
 pub mod Room
 pub mod Sendable
+-- what the crates above use of those below
+pub use Rattle.control_model.proofs as control_model

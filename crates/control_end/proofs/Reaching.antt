@@ -9,11 +9,11 @@ use Rattle.ble_base.specs.declared.roles.Role.TheVariants.{Central, Peripheral}
 use Rattle.instants.specs.declared.indications.Indication.{Indication}
 use Rattle.instants.specs.declared.indications.Params.{Params}
 use Rattle.instants.specs.Track.{event_of, next_number, track_after_take}
-use Rattle.procedure_values.specs.Drafts.{is_out}
-use Rattle.procedure_stages.specs.Closing.{is_open}
-use Rattle.procedure_stages.specs.InProgress.{is_host_asked}
-use Rattle.procedure_stages.specs.Kinds.{role_of}
-use Rattle.procedure_stages.specs.Queue.{waiting_in}
+use Rattle.procedures.specs.procedure_values.Drafts.{is_out}
+use Rattle.procedures.specs.procedure_stages.Closing.{is_open}
+use Rattle.procedures.specs.procedure_stages.InProgress.{is_host_asked}
+use Rattle.procedures.specs.procedure_stages.Kinds.{role_of}
+use Rattle.procedures.specs.procedure_stages.Queue.{waiting_in}
 use Rattle.procedures.specs.Calls.{asks, begins_one, disconnects, enters, host_answers, is_acked, sends, takes}
 use Rattle.procedures.specs.Going.{is_answer}
 use Rattle.procedures.specs.Table.{TableFacts}

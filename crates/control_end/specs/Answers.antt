@@ -11,12 +11,12 @@ use Rattle.instants.specs.declared.indications.Indication.{Indication}
 use Rattle.instants.specs.declared.indications.Indication.TheVariants.{Map, Update}
 use Rattle.instants.specs.declared.track.Change.{Change}
 use Rattle.instants.specs.Track.{next_number}
-use Rattle.procedure_values.specs.Drafts.{is_out}
-use Rattle.procedure_stages.specs.declared.steps.Effect.{Effect}
-use Rattle.procedure_stages.specs.declared.steps.Effect.TheVariants.{Nothing, Indicated}
-use Rattle.procedure_stages.specs.declared.steps.Step.{Step as TableStep}
-use Rattle.procedure_stages.specs.InProgress.{is_host_asked}
-use Rattle.procedure_stages.specs.Kinds.{role_of}
+use Rattle.procedures.specs.procedure_values.Drafts.{is_out}
+use Rattle.procedures.specs.procedure_stages.declared.steps.Effect.{Effect}
+use Rattle.procedures.specs.procedure_stages.declared.steps.Effect.TheVariants.{Nothing, Indicated}
+use Rattle.procedures.specs.procedure_stages.declared.steps.Step.{Step as TableStep}
+use Rattle.procedures.specs.procedure_stages.InProgress.{is_host_asked}
+use Rattle.procedures.specs.procedure_stages.Kinds.{role_of}
 use Rattle.procedures.specs.Table.{TableFacts}
 use Rattle.procedures.specs.Beginning.{begin_step, may_ask_of}
 use Rattle.procedures.specs.Going.{entered_step, tick_of}

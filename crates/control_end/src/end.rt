@@ -1,10 +1,10 @@
 //! The control part of one end of a link.
 ghost use Rattle.std.specs.Prelude.{◌≡◌, ◌≤◌, ◌<◌, ◌^◌, not};
 ghost use Rattle.instants.specs.Track.{event_of, next_anchor_of};
-ghost use Rattle.procedure_values.specs.Limits.{rx_of, tx_of};
-ghost use Rattle.procedure_values.specs.Values.{IsPayloadMax};
-ghost use Rattle.procedure_stages.specs.Closing.{is_open};
-ghost use Rattle.procedure_stages.specs.Queue.{waiting_in};
+ghost use Rattle.procedures.specs.procedure_values.Limits.{rx_of, tx_of};
+ghost use Rattle.procedures.specs.procedure_values.Values.{IsPayloadMax};
+ghost use Rattle.procedures.specs.procedure_stages.Closing.{is_open};
+ghost use Rattle.procedures.specs.procedure_stages.Queue.{waiting_in};
 ghost use Rattle.control_model.specs.Control.{Step, first_control};
 ghost use Rattle.control_end.specs.Answers.{entry_of, goes_on, timeout_of};
 ghost use Rattle.control_end.specs.Held.{held_after, held_of};

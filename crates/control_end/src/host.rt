@@ -1,8 +1,8 @@
 //! What the host of an end asks, answers and ends.
 ghost use Rattle.std.specs.Prelude.{◌≡◌, ◌<◌};
 ghost use Rattle.std.specs.Result.{ForOk};
-ghost use Rattle.procedure_values.specs.Wants.{IsAsk};
-ghost use Rattle.procedure_stages.specs.Queue.{waiting_in};
+ghost use Rattle.procedures.specs.procedure_values.Wants.{IsAsk};
+ghost use Rattle.procedures.specs.procedure_stages.Queue.{waiting_in};
 ghost use Rattle.procedures.specs.Going.{is_answer};
 ghost use Rattle.control_model.specs.Control.{Step};
 ghost use Rattle.control_end.specs.Answers.{awaits_host, may_ask};

@@ -1,8 +1,8 @@
 //! What the layer above reads of an end: whether anything goes on, and what is to come.
 ghost use Rattle.std.specs.Prelude.{◌≡◌, nat_lt};
 ghost use Rattle.instants.specs.Track.{is_free};
-ghost use Rattle.procedure_stages.specs.Closing.{is_disconnecting};
-ghost use Rattle.procedure_stages.specs.InProgress.{is_busy};
+ghost use Rattle.procedures.specs.procedure_stages.Closing.{is_disconnecting};
+ghost use Rattle.procedures.specs.procedure_stages.InProgress.{is_busy};
 
 use crate::end::ControlEnd;
 use instants::Change;

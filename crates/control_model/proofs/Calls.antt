@@ -3,21 +3,21 @@ use Rattle.std.proofs.Common.{◌≡◌, ℕ, Bool, true, false, if◌then◌els
 use Rattle.ble_base.specs.declared.error_codes.ErrCode.{ErrCode}
 use Rattle.data_pdu.specs.declared.ctrl.Ctrl.{Ctrl}
 use Rattle.data_pdu.specs.declared.ctrl.CtrlRead.{CtrlRead}
-use Rattle.procedure_values.specs.declared.asks.Ask.{Ask}
-use Rattle.procedure_values.specs.declared.asks.Ask.TheVariants.{Update as ask_update}
-use Rattle.procedure_values.specs.declared.drafts.Outgoing.{Outgoing}
-use Rattle.procedure_values.specs.declared.drafts.Outgoing.TheVariants.{Other}
+use Rattle.procedures.specs.procedure_values.declared.asks.Ask.{Ask}
+use Rattle.procedures.specs.procedure_values.declared.asks.Ask.TheVariants.{Update as ask_update}
+use Rattle.procedures.specs.procedure_values.declared.drafts.Outgoing.{Outgoing}
+use Rattle.procedures.specs.procedure_values.declared.drafts.Outgoing.TheVariants.{Other}
 use Rattle.exclusive_stages.specs.declared.stages.PeerAtCentral.{PeerAtCentral}
-use Rattle.procedure_stages.specs.declared.stages.Progress.{Progress}
-use Rattle.procedure_stages.specs.declared.stages.Progress.TheVariants.{Central as central, Peripheral as peripheral}
-use Rattle.procedure_stages.specs.declared.steps.Step.{Step}
-use Rattle.procedure_stages.specs.Acked.{central_acked, peripheral_acked, progress_acked}
-use Rattle.procedure_stages.specs.Begun.{progress_begun}
-use Rattle.procedure_stages.specs.Held.{progress_held}
-use Rattle.procedure_stages.specs.InProgress.{peer_becomes}
-use Rattle.procedure_stages.specs.Kinds.{role_of}
-use Rattle.procedure_stages.specs.Sent.{progress_after_sending}
-use Rattle.procedure_stages.specs.Exclusive.{pdu_of_outgoing}
+use Rattle.procedures.specs.procedure_stages.declared.stages.Progress.{Progress}
+use Rattle.procedures.specs.procedure_stages.declared.stages.Progress.TheVariants.{Central as central, Peripheral as peripheral}
+use Rattle.procedures.specs.procedure_stages.declared.steps.Step.{Step}
+use Rattle.procedures.specs.procedure_stages.Acked.{central_acked, peripheral_acked, progress_acked}
+use Rattle.procedures.specs.procedure_stages.Begun.{progress_begun}
+use Rattle.procedures.specs.procedure_stages.Held.{progress_held}
+use Rattle.procedures.specs.procedure_stages.InProgress.{peer_becomes}
+use Rattle.procedures.specs.procedure_stages.Kinds.{role_of}
+use Rattle.procedures.specs.procedure_stages.Sent.{progress_after_sending}
+use Rattle.procedures.specs.procedure_stages.Exclusive.{pdu_of_outgoing}
 use Rattle.exclusive_stages.specs.declared.pdus.Pdu.{Pdu}
 use Rattle.procedures.specs.Beginning.{begin_at, begin_step, place_to_begin, ask_at}
 use Rattle.procedures.specs.Encryption.{is_rejection, progress_given}

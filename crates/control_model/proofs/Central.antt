@@ -10,19 +10,19 @@ use Rattle.instants.specs.declared.indications.Indication.{Indication}
 use Rattle.instants.specs.declared.track.Change.{Change}
 use Rattle.instants.specs.Parameters.{win_offset_of}
 use Rattle.instants.specs.Track.{event_of}
-use Rattle.procedure_values.specs.declared.drafts.Draft.{Draft}
-use Rattle.procedure_values.specs.declared.drafts.Outgoing.TheVariants.{Other}
-use Rattle.procedure_values.specs.Drafts.{is_out, waits_for_instant}
+use Rattle.procedures.specs.procedure_values.declared.drafts.Draft.{Draft}
+use Rattle.procedures.specs.procedure_values.declared.drafts.Outgoing.TheVariants.{Other}
+use Rattle.procedures.specs.procedure_values.Drafts.{is_out, waits_for_instant}
 use Rattle.procedures.specs.Queue.{next_of}
 use Rattle.two_tracks.specs.TwoEnds.{MayIndicateIf, TwoEnds}
-use Rattle.procedure_values.specs.declared.asks.Ask.{Ask}
-use Rattle.procedure_values.specs.declared.asks.Ask.TheVariants.{Update as ask_update}
-use Rattle.procedure_values.specs.Asks.{kind_of_ask}
-use Rattle.procedure_values.specs.Wants.{IsAsk, place_of, without_place}
+use Rattle.procedures.specs.procedure_values.declared.asks.Ask.{Ask}
+use Rattle.procedures.specs.procedure_values.declared.asks.Ask.TheVariants.{Update as ask_update}
+use Rattle.procedures.specs.procedure_values.Asks.{kind_of_ask}
+use Rattle.procedures.specs.procedure_values.Wants.{IsAsk, place_of, without_place}
 use Rattle.ble_base.specs.declared.procedure_kinds.Kind.TheVariants.{Version}
-use Rattle.procedure_stages.specs.Closing.{is_open}
-use Rattle.procedure_stages.specs.InProgress.{is_host_asked}
-use Rattle.procedure_stages.specs.Steps.{is_version_effect}
+use Rattle.procedures.specs.procedure_stages.Closing.{is_open}
+use Rattle.procedures.specs.procedure_stages.InProgress.{is_host_asked}
+use Rattle.procedures.specs.procedure_stages.Steps.{is_version_effect}
 use Rattle.procedures.specs.declared.outcome.Outcome.{Outcome}
 use Rattle.procedures.specs.Going.{host_answer_step, is_answer, terminate_step}
 use Rattle.procedures.specs.Table.{TableFacts}

@@ -14,22 +14,22 @@ use Rattle.instants.specs.declared.indications.Indication.TheVariants.{Update as
 use Rattle.instants.specs.declared.track.Change.{Change}
 use Rattle.instants.specs.Parameters.{params_after}
 use Rattle.instants.specs.Track.{TrackFacts, event_of, is_due, track_changed, track_unchanged}
-use Rattle.procedure_values.specs.declared.asks.Ask.{Ask}
-use Rattle.procedure_values.specs.declared.asks.Ask.TheVariants.{Update as ask_update, Features as ask_features, Version as ask_version, Encrypt as ask_encrypt}
-use Rattle.procedure_values.specs.declared.drafts.Draft.{Draft}
-use Rattle.procedure_values.specs.declared.drafts.Draft.TheVariants.{Update, Grant}
-use Rattle.procedure_values.specs.declared.drafts.Rejection.{Rejection as TheRejection}
-use Rattle.procedure_values.specs.Drafts.{waits_for_instant}
-use Rattle.procedure_values.specs.Values.{IsParams}
-use Rattle.procedure_values.specs.Wants.{IsAsk, wanted_at, without_place}
-use Rattle.procedure_stages.specs.declared.closing.Closing.{Closing}
-use Rattle.procedure_stages.specs.declared.reply.Reply.{Reply}
-use Rattle.procedure_stages.specs.declared.reply.Reply.TheVariants.{Nothing as no_reply, Reject, Answer}
-use Rattle.procedure_stages.specs.Begun.{draft_begun, feature_draft}
-use Rattle.procedure_stages.specs.Closing.{is_open}
-use Rattle.procedure_stages.specs.Held.{progress_held}
-use Rattle.procedure_stages.specs.Kinds.{role_of}
-use Rattle.procedure_stages.specs.Queue.{QueueFacts, with_reply}
+use Rattle.procedures.specs.procedure_values.declared.asks.Ask.{Ask}
+use Rattle.procedures.specs.procedure_values.declared.asks.Ask.TheVariants.{Update as ask_update, Features as ask_features, Version as ask_version, Encrypt as ask_encrypt}
+use Rattle.procedures.specs.procedure_values.declared.drafts.Draft.{Draft}
+use Rattle.procedures.specs.procedure_values.declared.drafts.Draft.TheVariants.{Update, Grant}
+use Rattle.procedures.specs.procedure_values.declared.drafts.Rejection.{Rejection as TheRejection}
+use Rattle.procedures.specs.procedure_values.Drafts.{waits_for_instant}
+use Rattle.procedures.specs.procedure_values.Values.{IsParams}
+use Rattle.procedures.specs.procedure_values.Wants.{IsAsk, wanted_at, without_place}
+use Rattle.procedures.specs.procedure_stages.declared.closing.Closing.{Closing}
+use Rattle.procedures.specs.procedure_stages.declared.reply.Reply.{Reply}
+use Rattle.procedures.specs.procedure_stages.declared.reply.Reply.TheVariants.{Nothing as no_reply, Reject, Answer}
+use Rattle.procedures.specs.procedure_stages.Begun.{draft_begun, feature_draft}
+use Rattle.procedures.specs.procedure_stages.Closing.{is_open}
+use Rattle.procedures.specs.procedure_stages.Held.{progress_held}
+use Rattle.procedures.specs.procedure_stages.Kinds.{role_of}
+use Rattle.procedures.specs.procedure_stages.Queue.{QueueFacts, with_reply}
 use Rattle.procedures.specs.Beginning.{ask_at, begin_at, begin_step, first_draft, place_to_begin, with_first_draft}
 use Rattle.procedures.specs.Table.{TableFacts}
 use Rattle.control_model.specs.Control.{Control, ended, entered, table_if}

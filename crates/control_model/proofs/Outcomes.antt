@@ -11,23 +11,23 @@ use Rattle.data_pdu.specs.declared.ctrl.CtrlRead.{CtrlRead}
 use Rattle.data_pdu.specs.declared.ctrl.CtrlRead.TheVariants.{Known, Unknown, Bare}
 use Rattle.instants.specs.declared.indications.Indication.{Indication}
 use Rattle.instants.specs.declared.indications.Indication.TheVariants.{Update as update_indication}
-use Rattle.procedure_values.specs.Drafts.{waits_for_instant}
-use Rattle.procedure_stages.specs.declared.reply.Reply.{Reply}
-use Rattle.procedure_stages.specs.declared.reply.Reply.TheVariants.{Answer}
-use Rattle.procedure_stages.specs.declared.stages.Ahead.{Ahead}
-use Rattle.procedure_stages.specs.declared.stages.Ahead.TheVariants.{Nothing, Update as update_ahead, Map as map_ahead}
-use Rattle.procedure_stages.specs.declared.stages.Central.{Central}
-use Rattle.procedure_stages.specs.declared.stages.Peripheral.{Peripheral}
-use Rattle.procedure_stages.specs.declared.stages.Progress.{Progress}
-use Rattle.procedure_stages.specs.declared.stages.Progress.TheVariants.{Central as central, Peripheral as peripheral}
+use Rattle.procedures.specs.procedure_values.Drafts.{waits_for_instant}
+use Rattle.procedures.specs.procedure_stages.declared.reply.Reply.{Reply}
+use Rattle.procedures.specs.procedure_stages.declared.reply.Reply.TheVariants.{Answer}
+use Rattle.procedures.specs.procedure_stages.declared.stages.Ahead.{Ahead}
+use Rattle.procedures.specs.procedure_stages.declared.stages.Ahead.TheVariants.{Nothing, Update as update_ahead, Map as map_ahead}
+use Rattle.procedures.specs.procedure_stages.declared.stages.Central.{Central}
+use Rattle.procedures.specs.procedure_stages.declared.stages.Peripheral.{Peripheral}
+use Rattle.procedures.specs.procedure_stages.declared.stages.Progress.{Progress}
+use Rattle.procedures.specs.procedure_stages.declared.stages.Progress.TheVariants.{Central as central, Peripheral as peripheral}
 use Rattle.exclusive_stages.specs.Awaited.{awaits_phy_ind, awaits_phy_rsp, central_answered, has_phy_of_central, peer_answered, reads_as_answer}
-use Rattle.procedure_stages.specs.Exclusive.{central_stage, peripheral_stage}
-use Rattle.procedure_stages.specs.Awaited.{awaits_features, awaits_lengths, is_own_encryption, is_version}
-use Rattle.procedure_stages.specs.Collisions.{collision}
-use Rattle.procedure_stages.specs.Foreign.{is_foreign}
-use Rattle.procedure_stages.specs.Kinds.{kind_at_central, kind_at_peripheral, own_exchange, role_of, without_own}
-use Rattle.procedure_stages.specs.Opcodes.{connection_param_req_opcode, first_opcode, later_opcode, is_opcode, phy_req_opcode}
-use Rattle.procedure_values.specs.Values.{are_valid}
+use Rattle.procedures.specs.procedure_stages.Exclusive.{central_stage, peripheral_stage}
+use Rattle.procedures.specs.procedure_stages.Awaited.{awaits_features, awaits_lengths, is_own_encryption, is_version}
+use Rattle.procedures.specs.procedure_stages.Collisions.{collision}
+use Rattle.procedures.specs.procedure_stages.Foreign.{is_foreign}
+use Rattle.procedures.specs.procedure_stages.Kinds.{kind_at_central, kind_at_peripheral, own_exchange, role_of, without_own}
+use Rattle.procedures.specs.procedure_stages.Opcodes.{connection_param_req_opcode, first_opcode, later_opcode, is_opcode, phy_req_opcode}
+use Rattle.procedures.specs.procedure_values.Values.{are_valid}
 use Rattle.procedures.specs.declared.outcome.Outcome.{Outcome}
 use Rattle.procedures.specs.Encryption.{cipher_at_central, start_rsp_at_central}
 use Rattle.procedures.specs.Features.{features_taken}

@@ -10,21 +10,21 @@ use Rattle.instants.specs.declared.indications.Indication.TheVariants.{Update as
 use Rattle.instants.specs.declared.track.Change.{Change}
 use Rattle.instants.specs.Parameters.{instant_of, win_offset_of}
 use Rattle.instants.specs.Track.{event_of, gap_ahead, track_after_take}
-use Rattle.procedure_values.specs.declared.drafts.Draft.{Draft}
-use Rattle.procedure_values.specs.declared.drafts.Draft.TheVariants.{Update, Grant, Map}
-use Rattle.procedure_values.specs.declared.drafts.Rejection.{Rejection as TheRejection}
-use Rattle.procedure_values.specs.declared.drafts.Outgoing.{Outgoing}
-use Rattle.procedure_values.specs.declared.drafts.Outgoing.TheVariants.{Nothing, Rejection, Disconnect, Other}
-use Rattle.procedure_values.specs.Drafts.{indication_of, instant_at, instant_event, waits_for_instant}
-use Rattle.procedure_values.specs.Values.{IsParams}
-use Rattle.procedure_values.specs.Wants.{IsAsk}
-use Rattle.procedure_stages.specs.declared.stages.Central.{Central}
-use Rattle.procedure_stages.specs.declared.stages.Progress.{Progress}
-use Rattle.procedure_stages.specs.declared.stages.Progress.TheVariants.{Central as central, Peripheral as peripheral}
-use Rattle.procedure_stages.specs.Closing.{is_disconnecting}
-use Rattle.procedure_stages.specs.Kinds.{role_of}
-use Rattle.procedure_stages.specs.Queue.{QueueFacts, is_after_instant, is_past_instant, next_by, next_disconnect, next_draft, without_next}
-use Rattle.procedure_stages.specs.Sent.{progress_after_sending}
+use Rattle.procedures.specs.procedure_values.declared.drafts.Draft.{Draft}
+use Rattle.procedures.specs.procedure_values.declared.drafts.Draft.TheVariants.{Update, Grant, Map}
+use Rattle.procedures.specs.procedure_values.declared.drafts.Rejection.{Rejection as TheRejection}
+use Rattle.procedures.specs.procedure_values.declared.drafts.Outgoing.{Outgoing}
+use Rattle.procedures.specs.procedure_values.declared.drafts.Outgoing.TheVariants.{Nothing, Rejection, Disconnect, Other}
+use Rattle.procedures.specs.procedure_values.Drafts.{indication_of, instant_at, instant_event, waits_for_instant}
+use Rattle.procedures.specs.procedure_values.Values.{IsParams}
+use Rattle.procedures.specs.procedure_values.Wants.{IsAsk}
+use Rattle.procedures.specs.procedure_stages.declared.stages.Central.{Central}
+use Rattle.procedures.specs.procedure_stages.declared.stages.Progress.{Progress}
+use Rattle.procedures.specs.procedure_stages.declared.stages.Progress.TheVariants.{Central as central, Peripheral as peripheral}
+use Rattle.procedures.specs.procedure_stages.Closing.{is_disconnecting}
+use Rattle.procedures.specs.procedure_stages.Kinds.{role_of}
+use Rattle.procedures.specs.procedure_stages.Queue.{QueueFacts, is_after_instant, is_past_instant, next_by, next_disconnect, next_draft, without_next}
+use Rattle.procedures.specs.procedure_stages.Sent.{progress_after_sending}
 use Rattle.procedures.specs.Queue.{next_of}
 use Rattle.procedures.specs.Sending.{facts_sent}
 use Rattle.procedures.specs.Table.{TableFacts}

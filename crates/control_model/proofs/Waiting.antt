@@ -14,21 +14,21 @@ use Rattle.instants.specs.declared.indications.Params.{Params}
 use Rattle.instants.specs.declared.indications.Indication.{Indication}
 use Rattle.instants.specs.declared.track.Change.{Change}
 use Rattle.instants.specs.Track.{TrackFacts, event_of, is_due, next_number, number_if_due, track_in_next, track_after_take, track_changed, track_unchanged}
-use Rattle.procedure_values.specs.Drafts.{is_out}
-use Rattle.procedure_stages.specs.declared.stages.Ahead.{Ahead}
-use Rattle.procedure_stages.specs.declared.stages.Ahead.TheVariants.{Nothing, Update as update_ahead, Map as map_ahead}
-use Rattle.procedure_stages.specs.declared.stages.Peripheral.{Peripheral}
-use Rattle.procedure_stages.specs.declared.stages.Progress.{Progress}
-use Rattle.procedure_stages.specs.declared.stages.Progress.TheVariants.{Central as central, Peripheral as peripheral}
-use Rattle.procedure_stages.specs.declared.steps.Step.{Step as TableStep}
+use Rattle.procedures.specs.procedure_values.Drafts.{is_out}
+use Rattle.procedures.specs.procedure_stages.declared.stages.Ahead.{Ahead}
+use Rattle.procedures.specs.procedure_stages.declared.stages.Ahead.TheVariants.{Nothing, Update as update_ahead, Map as map_ahead}
+use Rattle.procedures.specs.procedure_stages.declared.stages.Peripheral.{Peripheral}
+use Rattle.procedures.specs.procedure_stages.declared.stages.Progress.{Progress}
+use Rattle.procedures.specs.procedure_stages.declared.stages.Progress.TheVariants.{Central as central, Peripheral as peripheral}
+use Rattle.procedures.specs.procedure_stages.declared.steps.Step.{Step as TableStep}
 use Rattle.exclusive_stages.specs.Awaited.{central_answered}
-use Rattle.procedure_stages.specs.Exclusive.{peripheral_stage}
-use Rattle.procedure_stages.specs.Collisions.{collision, collision_code}
-use Rattle.procedure_stages.specs.Queue.{waiting_in}
-use Rattle.procedure_stages.specs.Held.{progress_held}
-use Rattle.procedure_stages.specs.InProgress.{is_host_asked}
-use Rattle.procedure_stages.specs.Closing.{is_open}
-use Rattle.procedure_stages.specs.Kinds.{kind_at_peripheral, role_of}
+use Rattle.procedures.specs.procedure_stages.Exclusive.{peripheral_stage}
+use Rattle.procedures.specs.procedure_stages.Collisions.{collision, collision_code}
+use Rattle.procedures.specs.procedure_stages.Queue.{waiting_in}
+use Rattle.procedures.specs.procedure_stages.Held.{progress_held}
+use Rattle.procedures.specs.procedure_stages.InProgress.{is_host_asked}
+use Rattle.procedures.specs.procedure_stages.Closing.{is_open}
+use Rattle.procedures.specs.procedure_stages.Kinds.{kind_at_peripheral, role_of}
 use Rattle.procedures.specs.Beginning.{begin_step}
 use Rattle.procedures.specs.Going.{is_answer, terminate_step}
 use Rattle.procedures.specs.Outcomes

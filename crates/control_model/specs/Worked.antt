@@ -5,7 +5,7 @@ use Rattle.ble_base.specs.declared.roles.Role.TheVariants.{Central, Peripheral}
 use Rattle.data_pdu.specs.declared.ctrl.Ctrl.TheVariants.{ConnectionUpdateInd, ChannelMapInd}
 use Rattle.data_pdu.specs.declared.ctrl.CtrlRead.TheVariants.{Known}
 use Rattle.instants.specs.declared.indications.Params.{Params}
-use Rattle.procedure_values.specs.declared.asks.Ask.TheVariants.{Update as ask_update, Map as ask_map}
+use Rattle.procedures.specs.procedure_values.declared.asks.Ask.TheVariants.{Update as ask_update, Map as ask_map}
 use Rattle.control_model.specs.Control.{Control, Step, Enters, Asks, Sends, Takes, after_all, first_control}
 
 -- an interval of 6 slots, no latency, a timeout of 1 s

@@ -7,7 +7,7 @@ ghost use Rattle.instants.specs.declared.indications.Indication.{Indication};
 ghost use Rattle.instants.specs.declared.indications.Params.{Params};
 ghost use Rattle.instants.specs.declared.track.Change.{Change};
 ghost use Rattle.instants.specs.Track.{event_of};
-ghost use Rattle.procedure_stages.specs.Kinds.{own_kind};
+ghost use Rattle.procedures.specs.procedure_stages.Kinds.{own_kind};
 ghost use Rattle.control_model.specs.Control.{Step, after_all, first_control, went};
 ghost use Rattle.control_model.specs.Waits.{AreInRange, kind_awaited, kind_waiting};
 ghost use Rattle.control_model.specs.Worked.{central_after, entries, peripheral_after};

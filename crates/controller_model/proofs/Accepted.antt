@@ -10,7 +10,7 @@ use Rattle.host_view.specs.View.{View}
 use Rattle.host_view.specs.Changes.{after_counts, view_after}
 use Rattle.host_view.specs.Status.{are_intervals}
 use Rattle.host_view.specs.Unbuilt.{or_unbuilt, status_of}
-use Rattle.scan_init.specs.Windows.{slots_of}
+use Rattle.host_view.specs.scan_init.Windows.{slots_of}
 
 pub table_accepts : (table unbuilt : ℕ) → or_unbuilt table unbuilt ≡ 0 → table ≡ 0
 table_accepts table unbuilt is =

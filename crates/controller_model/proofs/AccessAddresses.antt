@@ -13,12 +13,12 @@ use Rattle.host_view.specs.View.{View}
 use Rattle.host_view.specs.Changes.{view_after}
 use Rattle.host_view.specs.Unbuilt.{status_of}
 use Rattle.host_view.proofs.TakenCommands.{connection_has_address}
-use Rattle.scan_init.specs.Access.{access_at, bit_count, is_valid_access, next_access_of, nth_access, valid_count}
-use Rattle.scan_init.specs.Initiating.{InitiatorFacts}
-use Rattle.scan_init.specs.Reports.{does_ask, scan_answer}
+use Rattle.host_view.specs.scan_init.Access.{access_at, bit_count, is_valid_access, next_access_of, nth_access, valid_count}
+use Rattle.host_view.specs.scan_init.Initiating.{InitiatorFacts}
+use Rattle.host_view.specs.scan_init.Reports.{does_ask, scan_answer}
 use Rattle.open_links.specs.OpenLinks.{link_at}
 use Rattle.std.proofs.lemmas.Bool.{eqb-true}
-use Rattle.scan_init.proofs.Numbers.{none_passed}
+use Rattle.host_view.proofs.scan_init.Numbers.{none_passed}
 use Rattle.link_model.specs.declared.setup.LinkSetup.{LinkSetup}
 use Rattle.ble_base.specs.declared.roles.Role.{Role}
 use Rattle.ble_base.specs.declared.roles.Role.TheVariants.{Central}

@@ -21,8 +21,8 @@ use Rattle.hci_evt.specs.Event.{mask_bit_of, written}
 use Rattle.host_view.specs.View.{View}
 use Rattle.host_view.specs.Unbuilt.{status_of}
 use Rattle.adv_pdu.specs.declared.pdu.AdvPdu.{AdvPdu}
-use Rattle.scan_init.specs.declared.reports.ReportKind.{ReportKind}
-use Rattle.scan_init.specs.Reports.{ScannerFacts, does_ask, kind_of, scan_answer}
+use Rattle.host_view.specs.scan_init.declared.reports.ReportKind.{ReportKind}
+use Rattle.host_view.specs.scan_init.Reports.{ScannerFacts, does_ask, kind_of, scan_answer}
 use Rattle.open_links.specs.OpenLinks.{OpenLink, link_at}
 use Rattle.open_links.specs.Turns.{due_in}
 use Rattle.controller_model.specs.declared.doing.Doing.{Doing}

@@ -19,9 +19,9 @@ use Rattle.host_view.specs.declared.links.Link.{Link as ViewLink}
 use Rattle.host_view.specs.declared.view.Advertising.{Advertising as ViewAdvertising}
 use Rattle.host_view.specs.Noted.{opened_link, stopped_by, view_noted}
 use Rattle.host_view.specs.Unbuilt.{status_of}
-use Rattle.scan_init.specs.Initiating.{InitiatorFacts}
-use Rattle.scan_init.specs.Reports.{ScannerFacts}
-use Rattle.scan_init.specs.Windows.{slots_of}
+use Rattle.host_view.specs.scan_init.Initiating.{InitiatorFacts}
+use Rattle.host_view.specs.scan_init.Reports.{ScannerFacts}
+use Rattle.host_view.specs.scan_init.Windows.{slots_of}
 use Rattle.slot_plan.specs.declared.Activity.{Activity}
 use Rattle.slot_plan.specs.declared.Activity.TheVariants.{Link, Advertise, Scan, Initiate}
 use Rattle.slot_plan.specs.Holding.{is_held_in, winner_of}

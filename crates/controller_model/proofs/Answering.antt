@@ -3,8 +3,8 @@ use Rattle.std.proofs.Common.{◌≡◌, ℕ, ◌≤◌, Bool, true, false, Opti
 use Rattle.std.specs.Prelude.{is_some, IsSome}
 use Rattle.adv_pdu.specs.declared.pdu.AdvPdu.{AdvPdu}
 use Rattle.adv_pdu.specs.Ranges.{is_in_range}
-use Rattle.scan_init.specs.Access.{nth_access}
-use Rattle.scan_init.specs.Initiating.{InitiatorFacts}
+use Rattle.host_view.specs.scan_init.Access.{nth_access}
+use Rattle.host_view.specs.scan_init.Initiating.{InitiatorFacts}
 use Rattle.link_model.specs.declared.setup.LinkSetup.{LinkSetup}
 use Rattle.open_links.specs.OpenLinks.{free_from}
 use Rattle.controller_model.specs.declared.doing.Doing.TheVariants.{Initiates}

@@ -16,7 +16,7 @@ use Rattle.hci_cmd.specs.Command.{command_of}
 use Rattle.hci_evt.specs.declared.event.Event.TheVariants.{BufferOverflow, HardwareError}
 use Rattle.host_view.specs.Unbuilt.{status_of}
 use Rattle.adv_pdu.specs.declared.pdu.AdvPdu.{AdvPdu}
-use Rattle.scan_init.specs.Reports.{ScannerFacts, does_ask, scan_answer}
+use Rattle.host_view.specs.scan_init.Reports.{ScannerFacts, does_ask, scan_answer}
 use Rattle.slot_plan.specs.declared.Activity.{Activity}
 use Rattle.slot_plan.specs.declared.Activity.TheVariants.{Link, Advertise, Scan, Initiate}
 use Rattle.link_model.specs.declared.setup.LinkSetup.{LinkSetup}

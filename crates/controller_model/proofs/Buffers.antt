@@ -9,7 +9,7 @@ use Rattle.acl_banks.specs.declared.pieces.Piece.{Piece}
 use Rattle.acl_banks.specs.Packets.{new_packet, packet_after_acked, packet_after_went, with_first, without_first}
 use Rattle.data_pdu.specs.Header.{header_in}
 use Rattle.ble_base.specs.declared.roles.Role.{Role}
-use Rattle.procedure_stages.specs.Queue.{waiting_in}
+use Rattle.link_model.specs.procedure_stages.Queue.{waiting_in}
 use Rattle.open_links.proofs.Unmoved.{LeavesData, asked_leaves, entered_leaves}
 use Rattle.hci_cmd.specs.declared.command.Command.{Command}
 use Rattle.hci_cmd.specs.declared.command.Command.TheVariants.{Reset}
@@ -29,7 +29,7 @@ use Rattle.link_model.specs.Sending.{control_gone_if, facts_sent, takes_leave}
 use Rattle.link_model.specs.Kept.{kept_from}
 use Rattle.link_model.specs.Pieces.{kept_if as piece_if}
 use Rattle.link_model.proofs.Pasts.{grows}
-use Rattle.scan_init.specs.Reports.{does_ask, scan_answer}
+use Rattle.host_view.specs.scan_init.Reports.{does_ask, scan_answer}
 use Rattle.slot_plan.specs.declared.Activity.{Activity}
 use Rattle.slot_plan.specs.declared.Activity.TheVariants.{Link, Advertise, Scan, Initiate}
 use Rattle.open_links.specs.declared.ended.LinkEnded.{LinkEnded}

@@ -15,7 +15,7 @@ use Rattle.chan_select.specs.PseudoRandom.{channel_identifier, prn}
 use Rattle.ble_base.specs.declared.roles.Role.{Role}
 use Rattle.data_pdu.specs.Header.{header_in}
 use Rattle.instants.specs.Track.{event_of}
-use Rattle.procedure_values.specs.declared.asks.Ask.{Ask}
+use Rattle.link_model.specs.procedure_values.declared.asks.Ask.{Ask}
 use Rattle.link_model.specs.Setup.{Setup, algorithm_of}
 use Rattle.link_model.specs.Acknowledgement.{Pdu}
 use Rattle.link_model.specs.Data.{is_control}

@@ -8,10 +8,10 @@ use Rattle.ble_base.specs.declared.notes.Note.TheVariants.{Applied, Began, Done,
 use Rattle.ble_base.specs.declared.procedure_kinds.Kind.{Kind}
 use Rattle.data_pdu.specs.declared.header.DataHeader.{DataHeader}
 use Rattle.data_pdu.specs.Header.{header_in}
-use Rattle.control_end.specs.declared.answers.Entry.{Entry}
-use Rattle.control_end.specs.declared.answers.Taken.{Taken}
-use Rattle.control_end.specs.Answers.{entry_of}
-use Rattle.control_end.specs.Held.{held_of}
+use Rattle.link_model.specs.control_end.declared.answers.Entry.{Entry}
+use Rattle.link_model.specs.control_end.declared.answers.Taken.{Taken}
+use Rattle.link_model.specs.control_end.Answers.{entry_of}
+use Rattle.link_model.specs.control_end.Held.{held_of}
 use Rattle.link_model.specs.declared.events.ConnectionEvent.{ConnectionEvent}
 use Rattle.link_model.specs.Acknowledgement.{Pdu, is_acked}
 use Rattle.link_model.specs.Data.{is_empty, numbered}

@@ -20,9 +20,9 @@ use Rattle.host_view.specs.Unbuilt.{status_of}
 use Rattle.host_view.specs.View.{View}
 use Rattle.link_model.specs.Step.{EventEntered}
 use Rattle.link_model.specs.Facts.{Facts as EndFacts}
-use Rattle.control_end.specs.Answers.{entry_of as entry_of_end}
-use Rattle.control_end.specs.Held.{held_of}
-use Rattle.control_model.proofs.Moving.{enters_track}
+use Rattle.link_model.specs.control_end.Answers.{entry_of as entry_of_end}
+use Rattle.link_model.specs.control_end.Held.{held_of}
+use Rattle.link_model.proofs.control_model.Moving.{enters_track}
 use Rattle.instants.specs.Track.{TrackFacts, event_of}
 use Rattle.link_model.specs.Events.{applied_notes}
 use Rattle.link_model.proofs.Pasts.{grows}

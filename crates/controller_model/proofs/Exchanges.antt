@@ -14,8 +14,8 @@ use Rattle.advertise.specs.Answers.{advertiser_answer}
 use Rattle.hci_cmd.specs.declared.command.Command.{Command}
 use Rattle.hci_cmd.specs.declared.command.Command.TheVariants.{Reset}
 use Rattle.link_model.specs.declared.setup.LinkSetup.{LinkSetup}
-use Rattle.scan_init.specs.Initiating.{InitiatorFacts}
-use Rattle.scan_init.specs.Reports.{ScannerFacts, does_ask, scan_answer}
+use Rattle.host_view.specs.scan_init.Initiating.{InitiatorFacts}
+use Rattle.host_view.specs.scan_init.Reports.{ScannerFacts, does_ask, scan_answer}
 use Rattle.slot_plan.specs.declared.Activity.{Activity}
 use Rattle.slot_plan.specs.declared.Activity.TheVariants.{Link, Advertise, Scan, Initiate}
 use Rattle.slot_plan.specs.Holding.{is_held_in}

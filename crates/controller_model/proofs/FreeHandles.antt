@@ -5,7 +5,7 @@ use Rattle.ble_base.specs.declared.roles.Role.TheVariants.{Central, Peripheral}
 use Rattle.ble_base.specs.declared.roles.Role.{Role}
 use Rattle.host_view.specs.declared.view.Advertising.{Advertising as ViewAdvertising}
 use Rattle.host_view.specs.Refusals.{count_if}
-use Rattle.scan_init.specs.Initiating.{InitiatorFacts}
+use Rattle.host_view.specs.scan_init.Initiating.{InitiatorFacts}
 use Rattle.link_model.specs.declared.setup.LinkSetup.{LinkSetup}
 use Rattle.open_links.specs.OpenLinks.{free_from}
 use Rattle.controller_model.specs.Step.{Step, HostOctet, TurnBegins, PacketHeard, NothingHeard, TurnEnds}

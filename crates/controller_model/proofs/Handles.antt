@@ -8,7 +8,7 @@ use Rattle.hci_cmd.specs.declared.command.Command.{Command}
 use Rattle.hci_cmd.specs.declared.command.Command.TheVariants.{Reset}
 use Rattle.adv_pdu.specs.declared.pdu.AdvPdu.{AdvPdu}
 use Rattle.adv_pdu.specs.Pdu.{sender_of}
-use Rattle.scan_init.specs.Reports.{does_ask, scan_answer}
+use Rattle.host_view.specs.scan_init.Reports.{does_ask, scan_answer}
 use Rattle.link_model.specs.declared.setup.LinkSetup.{LinkSetup}
 use Rattle.link_model.specs.Setup.{Setup as EndSetup}
 use Rattle.link_model.specs.Step.{DataGiven, DataReported, PduFixed, PacketSent, PacketReceived}

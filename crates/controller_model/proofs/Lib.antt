@@ -56,6 +56,6 @@ pub mod PlainEntries
 pub mod Shuts
 pub mod Resets
 -- what the crates above use of those below
-pub use Rattle.control_model.proofs as control_model
+pub use Rattle.link_model.proofs.control_model as control_model
 pub use Rattle.link_model.proofs as link_model
 pub use Rattle.open_links.proofs as open_links

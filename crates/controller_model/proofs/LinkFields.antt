@@ -10,9 +10,9 @@ use Rattle.adv_pdu.specs.declared.pdu.AdvPdu.TheVariants.{Connect}
 use Rattle.adv_pdu.specs.declared.pdu.ConnectFields.{ConnectFields}
 use Rattle.adv_pdu.specs.Pdu.{IsPdu}
 use Rattle.adv_pdu.specs.Ranges.{IsInRange, is_in_range}
-use Rattle.scan_init.specs.Access.{IsNthAccess, access_at, nth_access}
-use Rattle.scan_init.specs.Initiating.{InitiatorFacts}
-use Rattle.scan_init.proofs.Numbers.{each_valid}
+use Rattle.host_view.specs.scan_init.Access.{IsNthAccess, access_at, nth_access}
+use Rattle.host_view.specs.scan_init.Initiating.{InitiatorFacts}
+use Rattle.host_view.proofs.scan_init.Numbers.{each_valid}
 use Rattle.controller_model.specs.Facts.{Setup, Facts}
 use Rattle.controller_model.specs.Heard.{access_found, fields_sent, next_access_of}
 

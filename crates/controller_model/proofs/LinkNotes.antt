@@ -16,7 +16,7 @@ use Rattle.hci_evt.specs.Event.{mask_bit_of, written}
 use Rattle.host_view.specs.View.{View}
 use Rattle.link_model.specs.declared.setup.LinkSetup.{LinkSetup}
 use Rattle.link_model.specs.Packets.{good_pdu}
-use Rattle.scan_init.specs.Reports.{scan_answer}
+use Rattle.host_view.specs.scan_init.Reports.{scan_answer}
 use Rattle.open_links.specs.declared.ended.LinkEnded.{LinkEnded}
 use Rattle.open_links.specs.Data.{completed_from}
 use Rattle.link_model.specs.End.{notes_after as end_notes}

@@ -20,9 +20,9 @@ use Rattle.host_view.specs.Noted.{acl_handle, two_octets}
 use Rattle.host_view.specs.View.{View}
 use Rattle.host_view.specs.Unbuilt.{status_of}
 use Rattle.adv_pdu.specs.declared.pdu.AdvPdu.{AdvPdu}
-use Rattle.scan_init.specs.declared.reports.ReportKind.{ReportKind}
-use Rattle.scan_init.specs.declared.scanner.ScanAnswer.{ScanAnswer}
-use Rattle.scan_init.specs.Reports.{kind_of}
+use Rattle.host_view.specs.scan_init.declared.reports.ReportKind.{ReportKind}
+use Rattle.host_view.specs.scan_init.declared.scanner.ScanAnswer.{ScanAnswer}
+use Rattle.host_view.specs.scan_init.Reports.{kind_of}
 use Rattle.link_model.specs.declared.setup.LinkSetup.{LinkSetup}
 use Rattle.open_links.specs.declared.ended.LinkEnded.{LinkEnded}
 use Rattle.open_links.specs.OpenLinks.{Links, OpenLink, facts_in, handles_from}

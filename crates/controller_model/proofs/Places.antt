@@ -5,7 +5,7 @@ use Rattle.std.specs.Prelude.{Err}
 use Rattle.std.proofs.lemmas.Bool.{eq-eqb, eqb-true}
 use Rattle.ble_base.specs.declared.error_codes.ErrCode.{ErrCode}
 use Rattle.ble_base.specs.ErrorCodes.{unsupported_remote_feature}
-use Rattle.procedure_values.specs.declared.asks.Ask.{Ask}
+use Rattle.link_model.specs.procedure_values.declared.asks.Ask.{Ask}
 use Rattle.link_model.specs.Step.{PacketReceived, RequestAnswered}
 use Rattle.open_links.specs.OpenLinks.{Links, OpenLink, link_after, link_at, with_change, with_change_from}
 use Rattle.open_links.proofs.Handles.{changed_is, other_stays}

@@ -12,8 +12,8 @@ use Rattle.wire_fields.specs.Field.{little_endian}
 use Rattle.acl_banks.specs.declared.pieces.Piece.{Piece}
 use Rattle.link_model.specs.Acknowledgement.{Pdu, is_acked}
 use Rattle.ble_base.specs.declared.roles.Role.{Role}
-use Rattle.procedure_stages.specs.Queue.{waiting_in}
-use Rattle.procedure_values.specs.declared.asks.Ask.{Ask}
+use Rattle.link_model.specs.procedure_stages.Queue.{waiting_in}
+use Rattle.link_model.specs.procedure_values.declared.asks.Ask.{Ask}
 use Rattle.link_model.specs.Data.{Data, data_acked_if, data_given, data_sent_if, is_control, is_data}
 use Rattle.link_model.specs.Controls.{goes_on, is_procedure_pdu, next_control}
 use Rattle.link_model.specs.Entering.{facts_entered_if}

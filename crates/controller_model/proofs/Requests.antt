@@ -15,7 +15,7 @@ use Rattle.host_view.specs.Changes.{view_after}
 use Rattle.host_view.specs.InRange.{IsLinkRequest}
 use Rattle.host_view.specs.Unbuilt.{status_of}
 use Rattle.host_view.proofs.TakenCommands.{connection_parameters, takes_map}
-use Rattle.scan_init.specs.Initiating.{InitiatorFacts}
+use Rattle.host_view.specs.scan_init.Initiating.{InitiatorFacts}
 use Rattle.controller_model.specs.Step.{Step}
 use Rattle.controller_model.specs.Facts.{Setup, Facts}
 use Rattle.controller_model.specs.Commands.{initiator_after}

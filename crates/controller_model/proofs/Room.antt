@@ -13,7 +13,7 @@ use Rattle.host_view.specs.Status.{advertising_on_rows, if_turned_on}
 use Rattle.host_view.specs.Refusals.{first_refusal}
 use Rattle.host_view.specs.Unbuilt.{status_of}
 use Rattle.host_view.proofs.TakenCommands.{connection_has_room}
-use Rattle.scan_init.specs.Initiating.{InitiatorFacts}
+use Rattle.host_view.specs.scan_init.Initiating.{InitiatorFacts}
 use Rattle.controller_model.specs.Facts.{Setup}
 use Rattle.controller_model.specs.Commands.{initiator_after}
 use Rattle.controller_model.proofs.Accepted.{row_passes, same_after_counts, set_while_off, table_accepts}

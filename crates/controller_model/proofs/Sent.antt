@@ -16,9 +16,9 @@ use Rattle.host_view.specs.Changes.{view_after}
 use Rattle.host_view.specs.Unbuilt.{status_of}
 use Rattle.advertise.specs.declared.params.AdvParams.{AdvParams}
 use Rattle.advertise.specs.Advertising.{AdvertiserFacts, advertisement}
-use Rattle.scan_init.specs.declared.scanner.ScanParams.{ScanParams}
-use Rattle.scan_init.specs.Initiating.{InitiatorFacts}
-use Rattle.scan_init.specs.Reports.{ScannerFacts, does_ask, scan_answer}
+use Rattle.host_view.specs.scan_init.declared.scanner.ScanParams.{ScanParams}
+use Rattle.host_view.specs.scan_init.Initiating.{InitiatorFacts}
+use Rattle.host_view.specs.scan_init.Reports.{ScannerFacts, does_ask, scan_answer}
 use Rattle.link_model.specs.declared.setup.LinkSetup.{LinkSetup}
 use Rattle.link_model.specs.Step.{Step as EndStep, DataGiven, PduFixed, PacketSent}
 use Rattle.slot_plan.specs.declared.Activity.{Activity}

@@ -20,8 +20,8 @@ use Rattle.hci_cmd.specs.Command.{command_of}
 use Rattle.hci_evt.specs.declared.event.Event.TheVariants.{HardwareError}
 use Rattle.host_view.specs.Unbuilt.{status_of}
 use Rattle.host_view.specs.View.{View}
-use Rattle.control_end.specs.Answers.{timeout_of}
-use Rattle.control_end.specs.Held.{held_of}
+use Rattle.link_model.specs.control_end.Answers.{timeout_of}
+use Rattle.link_model.specs.control_end.Held.{held_of}
 use Rattle.link_model.specs.declared.events.Reception.{Reception}
 use Rattle.link_model.specs.Lost.{has_failed, has_timed_out, reason_due}
 use Rattle.link_model.specs.declared.state.Leaving.{Leaving}

@@ -14,9 +14,9 @@ use Rattle.hci_evt.specs.Event.{mask_bit_of, written}
 use Rattle.host_view.specs.View.{View}
 use Rattle.link_model.specs.declared.setup.LinkSetup.{LinkSetup}
 use Rattle.link_model.specs.Packets.{good_pdu}
-use Rattle.scan_init.specs.declared.reports.ReportKind.{ReportKind}
-use Rattle.scan_init.specs.declared.scanner.ScanAnswer.{ScanAnswer}
-use Rattle.scan_init.specs.Reports.{does_ask, kind_of, scan_answer}
+use Rattle.host_view.specs.scan_init.declared.reports.ReportKind.{ReportKind}
+use Rattle.host_view.specs.scan_init.declared.scanner.ScanAnswer.{ScanAnswer}
+use Rattle.host_view.specs.scan_init.Reports.{does_ask, kind_of, scan_answer}
 use Rattle.open_links.specs.declared.ended.LinkEnded.{LinkEnded}
 use Rattle.open_links.specs.declared.offers.Completed.{Completed}
 use Rattle.open_links.specs.Data.{completed_from, link_reported, links_reported}

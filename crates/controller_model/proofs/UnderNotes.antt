@@ -24,7 +24,7 @@ use Rattle.hci_evt.specs.declared.event.Event.TheVariants.{BufferOverflow, Compl
 use Rattle.hci_evt.specs.Event.{mask_bit_of, written}
 use Rattle.host_view.specs.View.{View}
 use Rattle.host_view.specs.Unbuilt.{status_of}
-use Rattle.scan_init.specs.Reports.{ScannerFacts, does_ask, scan_answer}
+use Rattle.host_view.specs.scan_init.Reports.{ScannerFacts, does_ask, scan_answer}
 use Rattle.slot_plan.specs.declared.Activity.{Activity}
 use Rattle.slot_plan.specs.declared.Activity.TheVariants.{Link, Advertise, Scan, Initiate}
 use Rattle.link_model.specs.declared.setup.LinkSetup.{LinkSetup}

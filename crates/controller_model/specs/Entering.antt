@@ -8,7 +8,7 @@ use Rattle.host_view.specs.View.{View}
 use Rattle.instants.specs.declared.indications.Params.{Params}
 use Rattle.instants.specs.Track.{next_anchor_of}
 use Rattle.slot_plan.specs.declared.Want.{Want}
-use Rattle.control_end.specs.declared.answers.Entry.{Entry}
+use Rattle.link_model.specs.control_end.declared.answers.Entry.{Entry}
 use Rattle.link_model.specs.Controls.{goes_on}
 use Rattle.link_model.specs.Facts.{params_of}
 use Rattle.open_links.specs.OpenLinks.{Links, OpenLink, facts_in, has_entered, link_at}

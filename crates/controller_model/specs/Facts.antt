@@ -7,8 +7,8 @@ use Rattle.host_view.specs.View.{View, first_view}
 use Rattle.advertise.specs.declared.params.AdvParams.{AdvParams}
 use Rattle.advertise.specs.Advertising.{AdvertiserFacts}
 use Rattle.advertise.specs.Defaults.{first_params}
-use Rattle.scan_init.specs.Initiating.{InitiatorFacts}
-use Rattle.scan_init.specs.Reports.{ScannerFacts}
+use Rattle.host_view.specs.scan_init.Initiating.{InitiatorFacts}
+use Rattle.host_view.specs.scan_init.Reports.{ScannerFacts}
 use Rattle.slot_plan.specs.declared.Activity.{Activity}
 use Rattle.slot_plan.specs.declared.Activity.TheVariants.{Scan}
 use Rattle.slot_plan.specs.declared.plan.Hold.{Hold}

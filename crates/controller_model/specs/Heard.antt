@@ -25,17 +25,17 @@ use Rattle.link_model.specs.End.{notes_after as end_notes}
 use Rattle.link_model.specs.Facts.{params_of}
 use Rattle.link_model.specs.Receiving.{effect_of, replies_of}
 use Rattle.link_model.specs.Kept.{kept_of}
-use Rattle.scan_init.specs.declared.reports.ReportKind.{ReportKind}
-use Rattle.scan_init.specs.declared.scanner.ScanAnswer.{ScanAnswer}
-use Rattle.scan_init.specs.declared.scanner.ScanAnswer.TheVariants.{Ignore as Ignores, Report, Ask, ReportAndAsk}
-use Rattle.scan_init.specs.Access.{nth_access}
-use Rattle.scan_init.specs.Initiating.{InitiatorFacts, connect_fields, is_accepted}
-use Rattle.scan_init.specs.Reports.{ScannerFacts, does_ask, event_type, kind_of, last_16, reports_after, scan_answer}
+use Rattle.host_view.specs.scan_init.declared.reports.ReportKind.{ReportKind}
+use Rattle.host_view.specs.scan_init.declared.scanner.ScanAnswer.{ScanAnswer}
+use Rattle.host_view.specs.scan_init.declared.scanner.ScanAnswer.TheVariants.{Ignore as Ignores, Report, Ask, ReportAndAsk}
+use Rattle.host_view.specs.scan_init.Access.{nth_access}
+use Rattle.host_view.specs.scan_init.Initiating.{InitiatorFacts, connect_fields, is_accepted}
+use Rattle.host_view.specs.scan_init.Reports.{ScannerFacts, does_ask, event_type, kind_of, last_16, reports_after, scan_answer}
 use Rattle.open_links.specs.OpenLinks.{Links, OpenLink, facts_in, free_from, has_link_between, link_after, link_at, with_change}
-use Rattle.link_end.specs.Answers.{acked_of, given_of}
+use Rattle.plain_links.specs.link_end.Answers.{acked_of, given_of}
 use Rattle.open_links.specs.Hosts.{links_answered}
-use Rattle.procedure_stages.specs.declared.steps.Effect.{Effect}
-use Rattle.procedure_stages.specs.declared.steps.Effect.TheVariants.{AskHost, Nothing}
+use Rattle.link_model.specs.procedure_stages.declared.steps.Effect.{Effect}
+use Rattle.link_model.specs.procedure_stages.declared.steps.Effect.TheVariants.{AskHost, Nothing}
 use Rattle.procedure_events.specs.Calls.{events_of_reception}
 use Rattle.controller_model.specs.declared.doing.Doing.{Doing}
 use Rattle.controller_model.specs.declared.doing.Doing.TheVariants.{Advertises, AwaitsRequest, Responds, Scans, Requests, AwaitsResponse, Initiates, Connects, CentralSends, CentralListens, PeripheralListens, PeripheralSends, Rests}

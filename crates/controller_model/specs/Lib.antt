@@ -23,9 +23,9 @@ pub mod Rows
 pub mod Entering
 pub mod Shutting
 -- what the crates above use of those below
-pub use Rattle.control_end.specs as control_end
-pub use Rattle.link_end.specs as link_end
+pub use Rattle.link_model.specs.control_end as control_end
+pub use Rattle.plain_links.specs.link_end as link_end
 pub use Rattle.link_model.specs as link_model
 pub use Rattle.open_links.specs as open_links
-pub use Rattle.procedure_stages.specs as procedure_stages
-pub use Rattle.procedure_values.specs as procedure_values
+pub use Rattle.link_model.specs.procedure_stages as procedure_stages
+pub use Rattle.link_model.specs.procedure_values as procedure_values

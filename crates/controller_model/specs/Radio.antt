@@ -6,9 +6,9 @@ use Rattle.ble_base.specs.declared.roles.Role.TheVariants.{Central, Peripheral}
 use Rattle.ble_base.specs.declared.notes.Note.{Note}
 use Rattle.advertise.specs.Advertising.{AdvertiserFacts, due_after, event_channel}
 use Rattle.link_model.specs.Times.{has_second_exchange, span_of}
-use Rattle.scan_init.specs.Initiating.{InitiatorFacts}
-use Rattle.scan_init.specs.Reports.{ScannerFacts}
-use Rattle.scan_init.specs.Windows.{scan_channel}
+use Rattle.host_view.specs.scan_init.Initiating.{InitiatorFacts}
+use Rattle.host_view.specs.scan_init.Reports.{ScannerFacts}
+use Rattle.host_view.specs.scan_init.Windows.{scan_channel}
 use Rattle.slot_plan.specs.declared.Activity.{Activity}
 use Rattle.slot_plan.specs.declared.Activity.TheVariants.{Link, Advertise, Scan, Initiate}
 use Rattle.slot_plan.specs.declared.Want.{Want}

@@ -4,8 +4,8 @@ use Rattle.std.specs.Prelude.{◌≡◌, ℕ, ◌+◌, ◌*◌, ◌≤◌, Bool,
 use Rattle.ble_base.specs.ErrorCodes.{success, connection_timeout, connection_not_established, terminated_by_local_host}
 use Rattle.ble_base.specs.declared.error_codes.ErrCode.{ErrCode}
 use Rattle.hci_cmd.specs.declared.command.Command.TheVariants.{Reset}
-use Rattle.control_end.specs.Answers.{timeout_of}
-use Rattle.control_end.specs.Held.{held_of}
+use Rattle.link_model.specs.control_end.Answers.{timeout_of}
+use Rattle.link_model.specs.control_end.Held.{held_of}
 use Rattle.link_model.specs.declared.events.Reception.{Reception}
 use Rattle.link_model.specs.Lost.{reason_due}
 use Rattle.link_model.specs.Facts.{params_of}

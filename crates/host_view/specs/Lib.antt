@@ -7,3 +7,5 @@ pub mod Unbuilt
 pub mod Changes
 pub mod Noted
 pub mod InRange
+-- what the crates above use of those below
+pub use Rattle.scan_init.specs as scan_init

@@ -2,7 +2,7 @@
 use Rattle.std.proofs.Common.{◌≡◌, ℕ, Bool, true, false, List, [], ◌∷◌, ◌++◌, refl, ap, sym, subst, ◌∙◌, ◌≤◌, if◌then◌else◌}
 use Rattle.ble_base.specs.declared.notes.Note.{Note}
 use Rattle.acl_banks.specs.Banks.{Bank}
-use Rattle.control_model.specs.Control.{Enters}
+use Rattle.control_end.specs.control_model.Control.{Enters}
 use Rattle.control_end.specs.declared.answers.Entry.{Entry}
 use Rattle.control_end.specs.Answers.{entry_of, goes_on}
 use Rattle.control_end.specs.Held.{held_of as control_held}

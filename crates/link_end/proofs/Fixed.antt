@@ -2,8 +2,8 @@
 use Rattle.std.proofs.Common.{◌≡◌, ℕ, nat_lt, Bool, true, false, List, [], ◌∷◌, ◌++◌, length, Option, is_some, refl, ap, ◌∙◌, if◌then◌else◌}
 use Rattle.acl_banks.specs.declared.pieces.Piece.{Piece}
 use Rattle.acl_banks.specs.Banks.{Bank, next_length, next_piece as bank_next, unsent_of as bank_unsent}
-use Rattle.procedure_stages.specs.Queue.{waiting_in}
-use Rattle.procedure_values.specs.Limits.{tx_of}
+use Rattle.procedures.specs.procedure_stages.Queue.{waiting_in}
+use Rattle.procedures.specs.procedure_values.Limits.{tx_of}
 use Rattle.link_model.specs.Setup.{Setup}
 use Rattle.link_model.specs.Data.{Data, is_control, next_piece, pdu_with, unsent_of}
 use Rattle.link_model.specs.Controls.{next_control}

@@ -10,7 +10,7 @@ use Rattle.acl_banks.specs.declared.pieces.Piece.{Piece}
 use Rattle.acl_banks.specs.Banks.{Bank}
 use Rattle.air_frame.specs.Hearing.{heard_in}
 use Rattle.data_pdu.specs.Header.{header_in}
-use Rattle.procedure_stages.specs.declared.steps.Effect.{Effect}
+use Rattle.procedures.specs.procedure_stages.declared.steps.Effect.{Effect}
 use Rattle.control_end.specs.declared.answers.Taken.{Taken}
 use Rattle.link_model.specs.Setup.{Setup}
 use Rattle.link_model.specs.Acknowledgement.{Pdu}

@@ -2,9 +2,9 @@
 use Rattle.std.proofs.Common.{◌≡◌, ℕ, Bool, true, false, List, [], ◌∷◌, ◌++◌, Result, refl, ap, sym, subst, ◌∙◌}
 use Rattle.ble_base.specs.declared.error_codes.ErrCode.{ErrCode}
 use Rattle.acl_banks.specs.Banks.{Bank}
-use Rattle.procedure_values.specs.declared.asks.Ask.{Ask}
-use Rattle.procedure_values.specs.declared.asks.Ask.TheVariants.{Map}
-use Rattle.control_model.specs.Control.{Answers, Asks, Disconnects}
+use Rattle.procedures.specs.procedure_values.declared.asks.Ask.{Ask}
+use Rattle.procedures.specs.procedure_values.declared.asks.Ask.TheVariants.{Map}
+use Rattle.control_end.specs.control_model.Control.{Answers, Asks, Disconnects}
 use Rattle.control_end.specs.Held.{held_of as control_held}
 use Rattle.control_end.proofs.Depending.{step_held}
 use Rattle.link_model.specs.Setup.{Setup}

@@ -16,29 +16,29 @@ use Rattle.data_pdu.specs.declared.ctrl.CtrlRead.TheVariants.{Known, Unknown, Ba
 use Rattle.instants.specs.declared.indications.Indication.{Indication}
 use Rattle.instants.specs.Track.{next_number}
 use Rattle.exclusive_stages.specs.Awaited.{awaits_phy_ind, awaits_phy_rsp, central_answered, has_phy_of_central, peer_answered, reads_as_answer}
-use Rattle.procedure_values.specs.declared.asks.Ask.{Ask}
-use Rattle.procedure_values.specs.declared.asks.Ask.TheVariants.{Length as ask_length, Update as ask_update}
-use Rattle.procedure_values.specs.Drafts.{is_out}
-use Rattle.procedure_values.specs.Limits.{lengths_asked, rx_of, tx_of, with_peer}
-use Rattle.procedure_values.specs.Values.{are_valid}
-use Rattle.procedure_values.specs.Wants.{IsAsk}
-use Rattle.procedure_stages.specs.declared.stages.Ahead.{Ahead}
-use Rattle.procedure_stages.specs.declared.stages.Ahead.TheVariants.{Nothing, Update as update_ahead, Map as map_ahead}
-use Rattle.procedure_stages.specs.declared.stages.Central.{Central}
-use Rattle.procedure_stages.specs.declared.stages.Peripheral.{Peripheral}
-use Rattle.procedure_stages.specs.declared.stages.Progress.{Progress}
-use Rattle.procedure_stages.specs.declared.stages.Progress.TheVariants.{Central as central, Peripheral as peripheral}
-use Rattle.procedure_stages.specs.declared.steps.Effect.{Effect}
-use Rattle.procedure_stages.specs.declared.steps.Effect.TheVariants.{Indicated as indicated, Lengths as effective}
-use Rattle.procedure_stages.specs.declared.steps.Step.{Step as TableStep}
-use Rattle.procedure_stages.specs.Awaited.{awaits_features, awaits_lengths, is_own_encryption}
-use Rattle.procedure_stages.specs.Closing.{is_open}
-use Rattle.procedure_stages.specs.Collisions.{collision}
-use Rattle.procedure_stages.specs.Exclusive.{central_stage, peripheral_stage}
-use Rattle.procedure_stages.specs.Foreign.{is_foreign}
-use Rattle.procedure_stages.specs.InProgress.{is_host_asked}
-use Rattle.procedure_stages.specs.Kinds.{kind_at_central, kind_at_peripheral, own_exchange, role_of}
-use Rattle.procedure_stages.specs.Opcodes.{first_opcode, is_opcode, later_opcode}
+use Rattle.procedures.specs.procedure_values.declared.asks.Ask.{Ask}
+use Rattle.procedures.specs.procedure_values.declared.asks.Ask.TheVariants.{Length as ask_length, Update as ask_update}
+use Rattle.procedures.specs.procedure_values.Drafts.{is_out}
+use Rattle.procedures.specs.procedure_values.Limits.{lengths_asked, rx_of, tx_of, with_peer}
+use Rattle.procedures.specs.procedure_values.Values.{are_valid}
+use Rattle.procedures.specs.procedure_values.Wants.{IsAsk}
+use Rattle.procedures.specs.procedure_stages.declared.stages.Ahead.{Ahead}
+use Rattle.procedures.specs.procedure_stages.declared.stages.Ahead.TheVariants.{Nothing, Update as update_ahead, Map as map_ahead}
+use Rattle.procedures.specs.procedure_stages.declared.stages.Central.{Central}
+use Rattle.procedures.specs.procedure_stages.declared.stages.Peripheral.{Peripheral}
+use Rattle.procedures.specs.procedure_stages.declared.stages.Progress.{Progress}
+use Rattle.procedures.specs.procedure_stages.declared.stages.Progress.TheVariants.{Central as central, Peripheral as peripheral}
+use Rattle.procedures.specs.procedure_stages.declared.steps.Effect.{Effect}
+use Rattle.procedures.specs.procedure_stages.declared.steps.Effect.TheVariants.{Indicated as indicated, Lengths as effective}
+use Rattle.procedures.specs.procedure_stages.declared.steps.Step.{Step as TableStep}
+use Rattle.procedures.specs.procedure_stages.Awaited.{awaits_features, awaits_lengths, is_own_encryption}
+use Rattle.procedures.specs.procedure_stages.Closing.{is_open}
+use Rattle.procedures.specs.procedure_stages.Collisions.{collision}
+use Rattle.procedures.specs.procedure_stages.Exclusive.{central_stage, peripheral_stage}
+use Rattle.procedures.specs.procedure_stages.Foreign.{is_foreign}
+use Rattle.procedures.specs.procedure_stages.InProgress.{is_host_asked}
+use Rattle.procedures.specs.procedure_stages.Kinds.{kind_at_central, kind_at_peripheral, own_exchange, role_of}
+use Rattle.procedures.specs.procedure_stages.Opcodes.{first_opcode, is_opcode, later_opcode}
 use Rattle.procedures.specs.declared.outcome.Outcome.{Outcome}
 use Rattle.procedures.specs.Beginning.{ask_at, begin_at, place_to_begin}
 use Rattle.procedures.specs.Going.{entered_step, host_answer_step, is_answer}
@@ -46,7 +46,7 @@ use Rattle.procedures.specs.Request.{after_grant, against_central, collided, out
 use Rattle.procedures.specs.Table.{TableFacts}
 use Rattle.procedures.specs.Taking.{facts_with, lacks_room, no_room, outcome_of, taken_by_central, taken_by_either, taken_by_peripheral, taken_by_role, took_step}
 use Rattle.procedures.specs.Update.{follow}
-use Rattle.control_model.specs.Control.{Control, Step, Answers, Asks, Disconnects, Enters, Owes, SeesAcknowledged, Sends, Takes, after, following, goes_out, indicated_by, is_to_come, moved, table_if, taken, went}
+use Rattle.control_end.specs.control_model.Control.{Control, Step, Answers, Asks, Disconnects, Enters, Owes, SeesAcknowledged, Sends, Takes, after, following, goes_out, indicated_by, is_to_come, moved, table_if, taken, went}
 use Rattle.control_end.specs.declared.answers.Taken.{Taken}
 use Rattle.control_end.specs.Answers.{effect_shown, goes_on, nothing_taken, step_shown, taken_of}
 use Rattle.control_end.specs.Held.{Held, held_after}

@@ -13,3 +13,6 @@ pub mod Receptions
 pub mod Sent
 pub mod Sounds
 pub mod Tying
+-- what the crates above use of those below
+pub use Rattle.link_model.proofs as link_model
+pub use Rattle.link_model.proofs.control_model as control_model

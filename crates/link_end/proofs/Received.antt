@@ -8,7 +8,7 @@ use Rattle.ack_bit.specs.AckBits.{acknowledges, is_odd}
 use Rattle.ack_bit.proofs.Directions.{odd-next}
 use Rattle.data_pdu.specs.declared.header.DataHeader.{DataHeader}
 use Rattle.data_pdu.specs.Header.{header_in}
-use Rattle.control_model.specs.Control.{Control, SeesAcknowledged, Takes}
+use Rattle.control_end.specs.control_model.Control.{Control, SeesAcknowledged, Takes}
 use Rattle.control_end.specs.Answers.{goes_on}
 use Rattle.control_end.specs.Held.{held_of as control_held}
 use Rattle.control_end.proofs.Depending.{step_held}

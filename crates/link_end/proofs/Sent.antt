@@ -5,7 +5,7 @@ use Rattle.ack_bit.specs.AckBits.{header_of}
 use Rattle.acl_banks.specs.Banks.{Bank}
 use Rattle.air_frame.specs.Packet.{on_air}
 use Rattle.data_pdu.specs.Header.{octets_of}
-use Rattle.control_model.specs.Control.{Sends}
+use Rattle.control_end.specs.control_model.Control.{Sends}
 use Rattle.control_end.specs.Answers.{next_ctrl}
 use Rattle.control_end.specs.Held.{Held as Control, held_after}
 use Rattle.control_end.proofs.Depending.{step_held}

@@ -11,12 +11,12 @@ use Rattle.data_pdu.specs.Ranges.{IsInRange}
 use Rattle.data_pdu.specs.Reading.{IfKnown}
 use Rattle.data_pdu.specs.declared.ctrl.CtrlRead.{CtrlRead}
 use Rattle.instants.specs.declared.indications.Params.{Params}
-use Rattle.procedure_values.specs.declared.asks.Ask.{Ask}
-use Rattle.procedure_values.specs.Limits.{tx_of}
-use Rattle.procedure_values.specs.Wants.{IsAsk}
-use Rattle.procedure_stages.specs.Queue.{waiting_in}
-use Rattle.control_model.specs.Control.{Step, Answers, Asks, Disconnects, Enters, Owes, SeesAcknowledged, Sends, Takes, first_control}
-use Rattle.control_model.specs.Waits.{IsInRange as IsStepInRange}
+use Rattle.procedures.specs.procedure_values.declared.asks.Ask.{Ask}
+use Rattle.procedures.specs.procedure_values.Limits.{tx_of}
+use Rattle.procedures.specs.procedure_values.Wants.{IsAsk}
+use Rattle.procedures.specs.procedure_stages.Queue.{waiting_in}
+use Rattle.control_end.specs.control_model.Control.{Step, Answers, Asks, Disconnects, Enters, Owes, SeesAcknowledged, Sends, Takes, first_control}
+use Rattle.control_end.specs.control_model.Waits.{IsInRange as IsStepInRange}
 use Rattle.control_end.specs.Answers.{indication_next}
 use Rattle.control_end.specs.Following.{CanFollow}
 use Rattle.control_end.specs.Held.{Held, control_of, held_after, held_of}

@@ -1,7 +1,7 @@
 -- What an end holds and notes as it enters an event (Core 5.2, volume 6 part B, sections 4.5.1 and 5.5).
 use Rattle.std.specs.Prelude.{ℕ, Bool, false, List, [], if◌then◌else◌}
 use Rattle.ble_base.specs.declared.notes.Note.{Note}
-use Rattle.control_model.specs.Control.{Enters}
+use Rattle.control_end.specs.control_model.Control.{Enters}
 use Rattle.control_end.specs.Answers.{entry_of, goes_on}
 use Rattle.control_end.specs.Held.{Held as Control, held_after}
 use Rattle.link_model.specs.Events.{event_entered}

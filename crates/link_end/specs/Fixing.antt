@@ -1,9 +1,9 @@
 -- What an end holds as it fixes the PDU that it sends next (Core 5.2, volume 6 part B, sections 2.4 and 4.5.6).
 use Rattle.std.specs.Prelude.{ℕ, nat_lt, ◌||◌, Bool, false, not, Option, is_some, if◌then◌else◌}
 use Rattle.acl_banks.specs.declared.pieces.Piece.{Piece}
-use Rattle.procedure_stages.specs.Closing.{is_disconnecting}
-use Rattle.procedure_stages.specs.Queue.{waiting_in}
-use Rattle.procedure_values.specs.Limits.{tx_of}
+use Rattle.procedures.specs.procedure_stages.Closing.{is_disconnecting}
+use Rattle.procedures.specs.procedure_stages.Queue.{waiting_in}
+use Rattle.procedures.specs.procedure_values.Limits.{tx_of}
 use Rattle.control_end.specs.Answers.{next_ctrl}
 use Rattle.link_model.specs.Acknowledgement.{Pdu, empty_pdu}
 use Rattle.link_model.specs.Data.{is_control, pdu_with}

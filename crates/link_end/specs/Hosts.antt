@@ -3,9 +3,9 @@
 use Rattle.std.specs.Prelude.{ℕ, ◌==◌, Bool, false, Some, Result, if◌then◌else◌}
 use Rattle.ble_base.specs.declared.channel_map.ChannelMap.{ChannelMap}
 use Rattle.ble_base.specs.declared.error_codes.ErrCode.{ErrCode}
-use Rattle.procedure_values.specs.declared.asks.Ask.{Ask}
-use Rattle.procedure_values.specs.declared.asks.Ask.TheVariants.{Map}
-use Rattle.control_model.specs.Control.{Answers, Asks, Disconnects}
+use Rattle.procedures.specs.procedure_values.declared.asks.Ask.{Ask}
+use Rattle.procedures.specs.procedure_values.declared.asks.Ask.TheVariants.{Map}
+use Rattle.control_end.specs.control_model.Control.{Answers, Asks, Disconnects}
 use Rattle.control_end.specs.Held.{Held as Control, held_after}
 use Rattle.link_model.specs.Hosts.{map_queued, map_waiting, map_wanted, or_else}
 use Rattle.link_model.specs.Receiving.{lengths_seen}

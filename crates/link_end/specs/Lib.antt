@@ -11,3 +11,10 @@ pub mod Times
 pub mod Knowing
 pub mod Answers
 pub mod Tied
+-- what the crates above use of those below
+pub use Rattle.link_model.specs as link_model
+pub use Rattle.control_end.specs as control_end
+pub use Rattle.link_model.specs.control_model as control_model
+pub use Rattle.procedures.specs as procedures
+pub use Rattle.link_model.specs.procedure_stages as procedure_stages
+pub use Rattle.link_model.specs.procedure_values as procedure_values

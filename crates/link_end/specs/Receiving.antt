@@ -8,7 +8,7 @@ use Rattle.ble_base.specs.declared.roles.Role.TheVariants.{Central, Peripheral}
 use Rattle.ack_bit.specs.AckBits.{AckBits, acknowledges, is_new}
 use Rattle.acl_banks.specs.declared.pieces.Piece.{Piece}
 use Rattle.data_pdu.specs.declared.header.DataHeader.{DataHeader}
-use Rattle.control_model.specs.Control.{SeesAcknowledged, Takes}
+use Rattle.control_end.specs.control_model.Control.{SeesAcknowledged, Takes}
 use Rattle.control_end.specs.declared.answers.Taken.{Taken}
 use Rattle.control_end.specs.Answers.{done_by_acknowledgement, goes_on, nothing_taken, taken_of}
 use Rattle.control_end.specs.Held.{Held as Control, held_after}

@@ -1,7 +1,7 @@
 -- What an end holds and notes as it sends its packet (Core 5.2, volume 6 part B, section 4.5.9).
 use Rattle.std.specs.Prelude.{ℕ, ◌&&◌, not, Bool, false, List, if◌then◌else◌}
 use Rattle.ble_base.specs.declared.notes.Note.{Note}
-use Rattle.control_model.specs.Control.{Sends}
+use Rattle.control_end.specs.control_model.Control.{Sends}
 use Rattle.control_end.specs.Answers.{next_ctrl}
 use Rattle.control_end.specs.Held.{held_after}
 use Rattle.link_model.specs.Acknowledgement.{Pdu, empty_pdu}

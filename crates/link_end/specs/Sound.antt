@@ -4,9 +4,9 @@ use Rattle.std.specs.Prelude.{◌≤◌, ⊤, Ok}
 use Rattle.ble_base.specs.Limits.{payload_octets}
 use Rattle.data_pdu.specs.Ranges.{IsInRange}
 use Rattle.data_pdu.specs.Reading.{IfKnown}
-use Rattle.procedure_values.specs.Wants.{IsAsk}
-use Rattle.procedure_values.specs.declared.lengths.Lengths.{Lengths}
-use Rattle.control_model.specs.Control.{Step, Answers, Asks, Owes, Takes}
+use Rattle.procedures.specs.procedure_values.Wants.{IsAsk}
+use Rattle.procedures.specs.procedure_values.declared.lengths.Lengths.{Lengths}
+use Rattle.control_end.specs.control_model.Control.{Step, Answers, Asks, Owes, Takes}
 use Rattle.control_end.specs.Held.{Held as Control}
 use Rattle.control_end.specs.Reached.{IsReached}
 

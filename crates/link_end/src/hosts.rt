@@ -1,7 +1,7 @@
 //! What the host of an end asks for, answers and ends.
 ghost use Rattle.std.specs.Prelude.{◌≡◌, ◌≤◌, ◌<◌, ◌^◌, ◌==◌, ◌&&◌, ◌||◌, not};
 ghost use Rattle.std.specs.Result.{ForOk};
-ghost use Rattle.procedure_values.specs.Wants.{IsAsk};
+ghost use Rattle.procedures.specs.procedure_values.Wants.{IsAsk};
 ghost use Rattle.link_model.specs.Hosts.{map_indicated, map_queued, map_waiting, map_wanted};
 ghost use Rattle.link_model.specs.Hosts.{or_else};
 ghost use Rattle.link_end.specs.Hosts.{held_answered, held_asked, held_asked_unless};

@@ -3,7 +3,7 @@ ghost use Rattle.std.specs.Prelude.{◌≡◌, ◌+◌, ◌<◌, ◌≤◌, ◌=
 ghost use Rattle.std.specs.Prelude.{Some, None, Option, IfSome};
 ghost use Rattle.data_pdu.specs.Ranges.{IsInRange};
 ghost use Rattle.data_pdu.specs.Reading.{IfKnown};
-ghost use Rattle.control_model.specs.Supported.{read_supported};
+ghost use Rattle.control_end.specs.control_model.Supported.{read_supported};
 ghost use Rattle.link_model.specs.Acknowledgement.{empty_pdu};
 ghost use Rattle.link_model.specs.Data.{is_control, is_data, is_empty, llid_of, pdu_with};
 ghost use Rattle.link_model.specs.Controls.{begins_with, is_procedure_pdu, is_terminate};

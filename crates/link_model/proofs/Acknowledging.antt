@@ -2,7 +2,7 @@
 use Rattle.std.proofs.Common.{◌≡◌, ℕ, ◌&&◌, Bool, true, false, refl, ap, sym, ◌∙◌, if◌then◌else◌}
 use Rattle.ble_base.specs.declared.roles.Role.{Role}
 use Rattle.data_pdu.specs.declared.header.DataHeader.{DataHeader}
-use Rattle.procedure_values.specs.declared.asks.Ask.{Ask}
+use Rattle.control_end.specs.procedure_values.declared.asks.Ask.{Ask}
 use Rattle.link_model.specs.Setup.{Setup}
 use Rattle.link_model.specs.Acknowledgement.{Pdu, after_sending, is_acked, next_sent, received_by, with_accepted}
 use Rattle.link_model.specs.Facts.{Facts}

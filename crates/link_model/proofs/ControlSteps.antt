@@ -8,11 +8,11 @@ use Rattle.ble_base.specs.declared.roles.Role.{Role}
 use Rattle.data_pdu.specs.declared.ctrl.CtrlRead.{CtrlRead}
 use Rattle.data_pdu.specs.declared.header.DataHeader.{DataHeader}
 use Rattle.data_pdu.specs.Header.{header_in}
-use Rattle.procedure_values.specs.declared.asks.Ask.{Ask}
-use Rattle.procedure_stages.specs.Kinds.{role_of}
-use Rattle.control_model.specs.Control.{Control, Step as ControlStep, Answers, Asks, Disconnects, Enters, SeesAcknowledged, Sends, Takes, after, after_all, first_control}
-use Rattle.control_model.specs.Waits.{AreInRange, IsInRange}
-use Rattle.control_model.proofs.Moving.{role_after}
+use Rattle.control_end.specs.procedure_values.declared.asks.Ask.{Ask}
+use Rattle.control_end.specs.procedure_stages.Kinds.{role_of}
+use Rattle.control_end.specs.control_model.Control.{Control, Step as ControlStep, Answers, Asks, Disconnects, Enters, SeesAcknowledged, Sends, Takes, after, after_all, first_control}
+use Rattle.control_end.specs.control_model.Waits.{AreInRange, IsInRange}
+use Rattle.control_end.proofs.control_model.Moving.{role_after}
 use Rattle.link_model.specs.Setup.{Setup, first_anchor, first_params}
 use Rattle.link_model.specs.Acknowledgement.{Pdu}
 use Rattle.link_model.specs.Data.{is_control}

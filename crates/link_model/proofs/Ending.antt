@@ -7,7 +7,7 @@ use Rattle.ble_base.specs.declared.roles.Role.{Role}
 use Rattle.ack_bit.specs.Nonempty.{nonempty}
 use Rattle.data_pdu.specs.declared.header.DataHeader.{DataHeader}
 use Rattle.data_pdu.specs.Header.{header_in}
-use Rattle.procedure_values.specs.declared.asks.Ask.{Ask}
+use Rattle.control_end.specs.procedure_values.declared.asks.Ask.{Ask}
 use Rattle.link_model.specs.Setup.{Setup}
 use Rattle.link_model.specs.Acknowledgement.{Acknowledgement, Pdu}
 use Rattle.link_model.specs.Data.{is_control, is_empty}

@@ -10,21 +10,21 @@ use Rattle.data_pdu.specs.declared.header.DataHeader.{DataHeader}
 use Rattle.data_pdu.specs.Header.{header_in}
 use Rattle.instants.specs.declared.indications.Indication.{Indication}
 use Rattle.instants.specs.Track.{next_number}
-use Rattle.procedure_values.specs.Limits.{first_lengths, rx_of, tx_of}
-use Rattle.procedure_values.specs.declared.lengths.Lengths.{Lengths}
-use Rattle.procedure_values.specs.Drafts.{is_out}
-use Rattle.procedure_values.specs.declared.asks.Ask.{Ask}
-use Rattle.procedure_values.specs.declared.asks.Ask.TheVariants.{Update}
-use Rattle.procedure_stages.specs.declared.steps.Effect.{Effect}
-use Rattle.procedure_stages.specs.declared.steps.Effect.TheVariants.{Lengths as new_lengths}
-use Rattle.procedure_stages.specs.Closing.{is_open}
-use Rattle.procedure_stages.specs.InProgress.{is_host_asked}
-use Rattle.procedure_stages.specs.Kinds.{role_of}
-use Rattle.procedures.specs.Beginning.{ask_at, begin_at, place_to_begin}
-use Rattle.procedures.specs.Going.{entered_step, host_answer_step, is_answer, terminate_step}
-use Rattle.procedures.specs.Sending.{acked_step}
-use Rattle.procedures.specs.Table.{TableFacts}
-use Rattle.control_model.specs.Control.{Control, Step, Answers, Disconnects, Enters, SeesAcknowledged, Sends, after, following, goes_out, moved, table_if, went}
+use Rattle.control_end.specs.procedure_values.Limits.{first_lengths, rx_of, tx_of}
+use Rattle.control_end.specs.procedure_values.declared.lengths.Lengths.{Lengths}
+use Rattle.control_end.specs.procedure_values.Drafts.{is_out}
+use Rattle.control_end.specs.procedure_values.declared.asks.Ask.{Ask}
+use Rattle.control_end.specs.procedure_values.declared.asks.Ask.TheVariants.{Update}
+use Rattle.control_end.specs.procedure_stages.declared.steps.Effect.{Effect}
+use Rattle.control_end.specs.procedure_stages.declared.steps.Effect.TheVariants.{Lengths as new_lengths}
+use Rattle.control_end.specs.procedure_stages.Closing.{is_open}
+use Rattle.control_end.specs.procedure_stages.InProgress.{is_host_asked}
+use Rattle.control_end.specs.procedure_stages.Kinds.{role_of}
+use Rattle.control_end.specs.procedures.Beginning.{ask_at, begin_at, place_to_begin}
+use Rattle.control_end.specs.procedures.Going.{entered_step, host_answer_step, is_answer, terminate_step}
+use Rattle.control_end.specs.procedures.Sending.{acked_step}
+use Rattle.control_end.specs.procedures.Table.{TableFacts}
+use Rattle.control_end.specs.control_model.Control.{Control, Step, Answers, Disconnects, Enters, SeesAcknowledged, Sends, after, following, goes_out, moved, table_if, went}
 use Rattle.link_model.specs.Setup.{Setup}
 use Rattle.link_model.specs.Acknowledgement.{Pdu}
 use Rattle.link_model.specs.Data.{is_control}

@@ -18,3 +18,5 @@ pub mod Agreeing
 pub mod Pieces
 pub mod Pasts
 pub mod Received
+-- what the crates above use of those below
+pub use Rattle.control_end.proofs.control_model as control_model

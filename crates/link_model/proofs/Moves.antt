@@ -7,8 +7,8 @@ use Rattle.ack_bit.specs.AckBits.{acknowledges}
 use Rattle.data_pdu.specs.declared.ctrl.Ctrl.{Ctrl}
 use Rattle.data_pdu.specs.declared.header.DataHeader.{DataHeader}
 use Rattle.data_pdu.specs.Header.{header_in}
-use Rattle.procedure_values.specs.declared.asks.Ask.{Ask}
-use Rattle.procedure_stages.specs.Queue.{waiting_in}
+use Rattle.control_end.specs.procedure_values.declared.asks.Ask.{Ask}
+use Rattle.control_end.specs.procedure_stages.Queue.{waiting_in}
 use Rattle.link_model.specs.Setup.{Setup}
 use Rattle.link_model.specs.Acknowledgement.{Acknowledgement, Pdu, after_sending, bits_of, first_acknowledgement, is_acked, with_accepted, with_acked}
 use Rattle.link_model.specs.Data.{Data, data_acked_if, data_given, data_reported, data_sent_if, first_data, is_control, is_data}

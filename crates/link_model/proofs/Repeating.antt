@@ -3,8 +3,8 @@ use Rattle.std.proofs.Common.{◌≡◌, ℕ, ◌&&◌, Bool, true, false, List,
 use Rattle.ble_base.specs.declared.roles.Role.{Role}
 use Rattle.data_pdu.specs.declared.header.DataHeader.{DataHeader}
 use Rattle.data_pdu.specs.Header.{header_in}
-use Rattle.procedure_values.specs.declared.asks.Ask.{Ask}
-use Rattle.procedure_stages.specs.Queue.{waiting_in}
+use Rattle.control_end.specs.procedure_values.declared.asks.Ask.{Ask}
+use Rattle.control_end.specs.procedure_stages.Queue.{waiting_in}
 use Rattle.link_model.specs.Setup.{Setup}
 use Rattle.link_model.specs.Acknowledgement.{Acknowledgement, Pdu, is_acked, next_sent}
 use Rattle.link_model.specs.Data.{Data, data_acked_if, data_given, data_sent_if, is_control, is_data}

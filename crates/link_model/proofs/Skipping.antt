@@ -5,8 +5,8 @@ use Rattle.std.proofs.lemmas.Bool.Decides.{nat_tests}
 use Rattle.ble_base.specs.declared.roles.Role.{Role}
 use Rattle.ble_base.specs.declared.roles.Role.TheVariants.{Central, Peripheral}
 use Rattle.instants.specs.Track.{is_free}
-use Rattle.procedure_stages.specs.InProgress.{is_busy}
-use Rattle.procedure_stages.specs.Queue.{waiting_in}
+use Rattle.control_end.specs.procedure_stages.InProgress.{is_busy}
+use Rattle.control_end.specs.procedure_stages.Queue.{waiting_in}
 use Rattle.link_model.specs.Setup.{Setup}
 use Rattle.link_model.specs.declared.events.ConnectionEvent.{ConnectionEvent}
 use Rattle.link_model.specs.declared.events.Reception.{Reception}

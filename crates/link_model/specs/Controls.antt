@@ -8,9 +8,9 @@ use Rattle.data_pdu.specs.declared.ctrl.CtrlRead.TheVariants.{Known, Unknown}
 use Rattle.data_pdu.specs.Layouts.{written}
 use Rattle.data_pdu.specs.Reading.{ctrl_of, opcode_of}
 use Rattle.ble_base.specs.Limits.{first_payload_octets}
-use Rattle.procedure_values.specs.declared.lengths.Lengths.{Lengths}
-use Rattle.procedure_values.specs.Limits.{rx_of, tx_of}
-use Rattle.control_model.specs.Supported.{read_supported}
+use Rattle.control_end.specs.procedure_values.declared.lengths.Lengths.{Lengths}
+use Rattle.control_end.specs.procedure_values.Limits.{rx_of, tx_of}
+use Rattle.control_end.specs.control_model.Supported.{read_supported}
 use Rattle.control_end.specs.Answers.{next_ctrl}
 use Rattle.control_end.specs.Held.{held_of}
 use Rattle.link_model.specs.Acknowledgement.{Pdu, empty_pdu}

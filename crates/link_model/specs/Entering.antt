@@ -3,7 +3,7 @@ use Rattle.std.specs.Prelude.{ℕ, Bool, false, List, [], ◌∷◌, ◌++◌, O
 use Rattle.ble_base.specs.declared.notes.Note.{Note}
 use Rattle.ble_base.specs.declared.notes.Note.TheVariants.{Began, Done, Enter}
 use Rattle.ble_base.specs.declared.procedure_kinds.Kind.{Kind}
-use Rattle.control_model.specs.Control.{Control, Enters, after}
+use Rattle.control_end.specs.control_model.Control.{Control, Enters, after}
 use Rattle.control_end.specs.declared.answers.Entry.{Entry}
 use Rattle.control_end.specs.Answers.{entry_of}
 use Rattle.control_end.specs.Held.{held_of}

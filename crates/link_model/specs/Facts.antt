@@ -3,7 +3,7 @@
 use Rattle.std.specs.Prelude.{Bool, false, Option, None}
 use Rattle.ble_base.specs.Limits.{first_payload_octets}
 use Rattle.instants.specs.declared.indications.Params.{Params}
-use Rattle.control_model.specs.Control.{Control, first_control}
+use Rattle.control_end.specs.control_model.Control.{Control, first_control}
 use Rattle.link_model.specs.declared.events.ConnectionEvent.{ConnectionEvent}
 use Rattle.link_model.specs.declared.events.Reception.{Reception}
 use Rattle.link_model.specs.Setup.{Setup, first_anchor, first_params}

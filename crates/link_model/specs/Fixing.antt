@@ -1,9 +1,9 @@
 -- As a turn begins, an end fixes the PDU that it sends next (Core 5.2, volume 6 part B, sections 2.4 and 4.5.6; the order
 -- is our choice).
 use Rattle.std.specs.Prelude.{ℕ, nat_lt, ◌||◌, Bool, false, not, [], is_some, if◌then◌else◌}
-use Rattle.procedure_stages.specs.Closing.{is_disconnecting}
-use Rattle.procedure_stages.specs.Queue.{waiting_in}
-use Rattle.procedure_values.specs.Limits.{tx_of}
+use Rattle.control_end.specs.procedure_stages.Closing.{is_disconnecting}
+use Rattle.control_end.specs.procedure_stages.Queue.{waiting_in}
+use Rattle.control_end.specs.procedure_values.Limits.{tx_of}
 use Rattle.link_model.specs.Acknowledgement.{empty_pdu}
 use Rattle.link_model.specs.Data.{Data, data_fixed, is_control, next_piece}
 use Rattle.link_model.specs.Facts.{Facts}

@@ -5,11 +5,11 @@ use Rattle.ble_base.specs.declared.error_codes.ErrCode.{ErrCode}
 use Rattle.instants.specs.declared.indications.Indication.{Indication}
 use Rattle.instants.specs.declared.indications.Indication.TheVariants.{Map as map_indication}
 use Rattle.instants.specs.declared.track.Change.{Change}
-use Rattle.procedure_values.specs.declared.asks.Ask.{Ask}
-use Rattle.procedure_values.specs.declared.asks.Ask.TheVariants.{Map as map_ask}
-use Rattle.procedure_values.specs.declared.drafts.Draft.{Draft}
-use Rattle.procedure_values.specs.declared.drafts.Draft.TheVariants.{Map as map_draft}
-use Rattle.control_model.specs.Control.{Answers, Asks, Disconnects, after}
+use Rattle.control_end.specs.procedure_values.declared.asks.Ask.{Ask}
+use Rattle.control_end.specs.procedure_values.declared.asks.Ask.TheVariants.{Map as map_ask}
+use Rattle.control_end.specs.procedure_values.declared.drafts.Draft.{Draft}
+use Rattle.control_end.specs.procedure_values.declared.drafts.Draft.TheVariants.{Map as map_draft}
+use Rattle.control_end.specs.control_model.Control.{Answers, Asks, Disconnects, after}
 use Rattle.link_model.specs.Facts.{Facts, params_of}
 use Rattle.link_model.specs.Receiving.{lengths_seen}
 

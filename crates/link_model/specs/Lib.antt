@@ -25,3 +25,8 @@ pub mod End
 pub mod Kept
 pub mod ControlSteps
 pub mod Delivery
+-- what the crates above use of those below
+pub use Rattle.control_end.specs.control_model as control_model
+pub use Rattle.control_end.specs.procedure_stages as procedure_stages
+pub use Rattle.control_end.specs.procedure_values as procedure_values
+pub use Rattle.control_end.specs as control_end

@@ -13,10 +13,10 @@ use Rattle.data_pdu.specs.declared.ctrl.CtrlRead.{CtrlRead}
 use Rattle.data_pdu.specs.declared.ctrl.CtrlRead.TheVariants.{Known}
 use Rattle.data_pdu.specs.declared.header.DataHeader.{DataHeader}
 use Rattle.data_pdu.specs.Header.{header_in}
-use Rattle.procedure_stages.specs.declared.steps.Effect.{Effect}
-use Rattle.procedure_stages.specs.declared.steps.Effect.TheVariants.{Lengths as new_lengths, Nothing, PeerEnds}
-use Rattle.procedure_values.specs.declared.lengths.Lengths.{Lengths}
-use Rattle.control_model.specs.Control.{Control, SeesAcknowledged, Takes, after}
+use Rattle.control_end.specs.procedure_stages.declared.steps.Effect.{Effect}
+use Rattle.control_end.specs.procedure_stages.declared.steps.Effect.TheVariants.{Lengths as new_lengths, Nothing, PeerEnds}
+use Rattle.control_end.specs.procedure_values.declared.lengths.Lengths.{Lengths}
+use Rattle.control_end.specs.control_model.Control.{Control, SeesAcknowledged, Takes, after}
 use Rattle.control_end.specs.declared.answers.Taken.{Taken}
 use Rattle.control_end.specs.Answers.{done_by_acknowledgement, nothing_taken, taken_of}
 use Rattle.control_end.specs.Held.{held_of}

@@ -2,7 +2,7 @@
 use Rattle.std.specs.Prelude.{ℕ, ◌+◌, ◌&&◌, ◌||◌, not, Bool, false, List, [], ◌∷◌, is_some, if◌then◌else◌}
 use Rattle.ble_base.specs.declared.notes.Note.{Note}
 use Rattle.ble_base.specs.declared.notes.Note.TheVariants.{Sent}
-use Rattle.control_model.specs.Control.{Sends, after}
+use Rattle.control_end.specs.control_model.Control.{Sends, after}
 use Rattle.link_model.specs.Setup.{Setup}
 use Rattle.link_model.specs.Acknowledgement.{Pdu, after_sending, is_acked}
 use Rattle.link_model.specs.Data.{data_sent_if, is_empty, numbered}

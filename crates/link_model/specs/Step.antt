@@ -1,7 +1,7 @@
 -- What happens to one end of a link, step by step (our choice).
 use Rattle.std.specs.Prelude.{ℕ, Bool, List, Result}
 use Rattle.ble_base.specs.declared.error_codes.ErrCode.{ErrCode}
-use Rattle.procedure_values.specs.declared.asks.Ask.{Ask}
+use Rattle.control_end.specs.procedure_values.declared.asks.Ask.{Ask}
 
 pub data Step : Type 0 where
   -- its host gives it a packet of data: the start of a message, or a continuation

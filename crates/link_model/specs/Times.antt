@@ -6,8 +6,8 @@ use Rattle.ble_base.specs.ErrorCodes.{terminated_by_local_host}
 use Rattle.ble_base.specs.declared.error_codes.ErrCode.{ErrCode}
 use Rattle.instants.specs.declared.indications.Params.{Params}
 use Rattle.instants.specs.Track.{is_free}
-use Rattle.procedure_stages.specs.Queue.{waiting_in}
-use Rattle.procedure_stages.specs.InProgress.{is_busy}
+use Rattle.control_end.specs.procedure_stages.Queue.{waiting_in}
+use Rattle.control_end.specs.procedure_stages.InProgress.{is_busy}
 use Rattle.control_end.specs.Answers.{timeout_of}
 use Rattle.control_end.specs.Held.{held_of}
 use Rattle.link_model.specs.Setup.{Setup}

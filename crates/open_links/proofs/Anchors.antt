@@ -12,30 +12,30 @@ use Rattle.instants.specs.Parameters.{params_after}
 use Rattle.instants.specs.declared.indications.Indication.{Indication}
 use Rattle.instants.specs.declared.indications.Params.{Params}
 use Rattle.instants.specs.declared.track.Change.{Change}
-use Rattle.procedure_values.specs.Drafts.{is_out}
-use Rattle.procedure_stages.specs.Closing.{is_open}
-use Rattle.procedure_stages.specs.InProgress.{is_host_asked}
-use Rattle.procedure_stages.specs.Kinds.{role_of}
+use Rattle.procedures.specs.procedure_values.Drafts.{is_out}
+use Rattle.procedures.specs.procedure_stages.Closing.{is_open}
+use Rattle.procedures.specs.procedure_stages.InProgress.{is_host_asked}
+use Rattle.procedures.specs.procedure_stages.Kinds.{role_of}
 use Rattle.procedures.specs.Going.{is_answer}
 use Rattle.procedures.specs.Table.{TableFacts}
 use Rattle.procedures.specs.Taking.{took_step}
 use Rattle.two_tracks.specs.TwoEnds.{HasSlots, MayIndicate, MayIndicateIf, TwoEnds, beginning, change_of}
-use Rattle.control_model.specs.Control.{Control, Step as ControlStep, Answers, Asks, Disconnects, Enters, Owes, SeesAcknowledged, Sends, Takes, after, after_all, following, goes_out, indicated_by, is_to_come, moved, table_if, taken, went}
-use Rattle.control_model.proofs.Calls.{any_step, either_way}
-use Rattle.control_model.proofs.Indicating.{Indicates}
-use Rattle.control_model.proofs.Sending.{may_of, own_of, owned}
-use Rattle.link_model.specs.Verdicts.{pdu_of}
-use Rattle.link_model.specs.Setup.{Setup}
-use Rattle.link_model.specs.Facts.{Facts}
-use Rattle.link_model.specs.Controls.{goes_on, is_procedure_pdu, is_quiet_now, read_of}
-use Rattle.link_model.specs.ControlSteps.{control_steps_in, step_if, steps_received}
-use Rattle.link_model.specs.End.{facts_after}
-use Rattle.link_model.specs.Hosts.{is_to_come as is_map_to_come}
-use Rattle.link_model.specs.Packets.{good_pdu}
-use Rattle.link_model.specs.Receiving.{accepts, acknowledged_if, acks_control, answers_with_control, facts_before_taking, has_acknowledged, heard_in_slot}
-use Rattle.link_model.specs.Sending.{takes_leave}
-use Rattle.link_model.specs.Step.{Step, DataGiven, DataReported, Disconnected, EventEntered, PacketReceived, PacketSent, PduFixed, ProcedureAsked, RequestAnswered}
-use Rattle.link_model.proofs.ControlSteps.{one_step}
+use Rattle.link_end.specs.control_model.Control.{Control, Step as ControlStep, Answers, Asks, Disconnects, Enters, Owes, SeesAcknowledged, Sends, Takes, after, after_all, following, goes_out, indicated_by, is_to_come, moved, table_if, taken, went}
+use Rattle.link_end.proofs.control_model.Calls.{any_step, either_way}
+use Rattle.link_end.proofs.control_model.Indicating.{Indicates}
+use Rattle.link_end.proofs.control_model.Sending.{may_of, own_of, owned}
+use Rattle.link_end.specs.link_model.Verdicts.{pdu_of}
+use Rattle.link_end.specs.link_model.Setup.{Setup}
+use Rattle.link_end.specs.link_model.Facts.{Facts}
+use Rattle.link_end.specs.link_model.Controls.{goes_on, is_procedure_pdu, is_quiet_now, read_of}
+use Rattle.link_end.specs.link_model.ControlSteps.{control_steps_in, step_if, steps_received}
+use Rattle.link_end.specs.link_model.End.{facts_after}
+use Rattle.link_end.specs.link_model.Hosts.{is_to_come as is_map_to_come}
+use Rattle.link_end.specs.link_model.Packets.{good_pdu}
+use Rattle.link_end.specs.link_model.Receiving.{accepts, acknowledged_if, acks_control, answers_with_control, facts_before_taking, has_acknowledged, heard_in_slot}
+use Rattle.link_end.specs.link_model.Sending.{takes_leave}
+use Rattle.link_end.specs.link_model.Step.{Step, DataGiven, DataReported, Disconnected, EventEntered, PacketReceived, PacketSent, PduFixed, ProcedureAsked, RequestAnswered}
+use Rattle.link_end.proofs.link_model.ControlSteps.{one_step}
 use Rattle.open_links.proofs.Intervals.{HasIntervals, changed_interval, enters_track}
 
 -- ---- the next anchor is at least 6 slots after the last one

@@ -1,7 +1,7 @@
 -- How many places there are, before and after a change.
 use Rattle.std.proofs.Common.{◌≡◌, ℕ, suc, zero, ◌+◌, ◌==◌, Bool, true, false, List, [], ◌∷◌, length, replicate, Option, if◌then◌else◌, refl, ap}
 use Rattle.std.proofs.lemmas.List.{length-map}
-use Rattle.link_model.specs.Setup.{Setup}
+use Rattle.link_end.specs.link_model.Setup.{Setup}
 use Rattle.open_links.specs.Data.{links_reported}
 use Rattle.open_links.specs.OpenLinks.{Links, OpenLink, with_change, with_change_from, with_link, without_link, without_links}
 use Rattle.ble_base.specs.declared.channel_map.ChannelMap.{ChannelMap}

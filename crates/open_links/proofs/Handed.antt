@@ -13,20 +13,20 @@ use Rattle.data_pdu.specs.declared.ctrl.Ctrl.TheVariants.{TerminateInd, UnknownR
 use Rattle.data_pdu.specs.declared.ctrl.CtrlRead.{CtrlRead}
 use Rattle.data_pdu.specs.declared.ctrl.CtrlRead.TheVariants.{Known, Unknown, Bare}
 use Rattle.data_pdu.proofs.RangeTests.{range_is_tested}
-use Rattle.procedure_values.specs.Values.{are_valid}
-use Rattle.procedure_stages.specs.Awaited.{awaits_features, awaits_lengths}
-use Rattle.procedure_stages.specs.Collisions.{collision}
-use Rattle.procedure_stages.specs.Exclusive.{central_stage, peripheral_stage}
-use Rattle.procedure_stages.specs.Foreign.{is_foreign}
-use Rattle.procedure_stages.specs.Kinds.{kind_at_central, kind_at_peripheral, own_exchange, role_of}
-use Rattle.procedure_stages.specs.Opcodes.{connection_param_req_opcode, first_opcode, later_opcode, is_opcode, phy_req_opcode}
-use Rattle.procedure_stages.specs.declared.stages.Ahead.{Ahead}
-use Rattle.procedure_stages.specs.declared.stages.Ahead.TheVariants.{Nothing, Update as update_ahead, Map as map_ahead}
-use Rattle.procedure_stages.specs.declared.stages.Central.{Central}
-use Rattle.procedure_stages.specs.declared.stages.Peripheral.{Peripheral}
-use Rattle.procedure_stages.specs.declared.stages.Progress.{Progress}
-use Rattle.procedure_stages.specs.declared.stages.Progress.TheVariants.{Central as central, Peripheral as peripheral}
-use Rattle.procedure_stages.specs.declared.steps.Step.{Step}
+use Rattle.procedures.specs.procedure_values.Values.{are_valid}
+use Rattle.procedures.specs.procedure_stages.Awaited.{awaits_features, awaits_lengths}
+use Rattle.procedures.specs.procedure_stages.Collisions.{collision}
+use Rattle.procedures.specs.procedure_stages.Exclusive.{central_stage, peripheral_stage}
+use Rattle.procedures.specs.procedure_stages.Foreign.{is_foreign}
+use Rattle.procedures.specs.procedure_stages.Kinds.{kind_at_central, kind_at_peripheral, own_exchange, role_of}
+use Rattle.procedures.specs.procedure_stages.Opcodes.{connection_param_req_opcode, first_opcode, later_opcode, is_opcode, phy_req_opcode}
+use Rattle.procedures.specs.procedure_stages.declared.stages.Ahead.{Ahead}
+use Rattle.procedures.specs.procedure_stages.declared.stages.Ahead.TheVariants.{Nothing, Update as update_ahead, Map as map_ahead}
+use Rattle.procedures.specs.procedure_stages.declared.stages.Central.{Central}
+use Rattle.procedures.specs.procedure_stages.declared.stages.Peripheral.{Peripheral}
+use Rattle.procedures.specs.procedure_stages.declared.stages.Progress.{Progress}
+use Rattle.procedures.specs.procedure_stages.declared.stages.Progress.TheVariants.{Central as central, Peripheral as peripheral}
+use Rattle.procedures.specs.procedure_stages.declared.steps.Step.{Step}
 use Rattle.exclusive_stages.specs.Awaited.{awaits_phy_ind, awaits_phy_rsp, central_answered, has_phy_of_central, peer_answered, reads_as_answer}
 use Rattle.procedures.specs.declared.outcome.Outcome.{Outcome}
 use Rattle.procedures.specs.Encryption.{start_rsp_at_central}
@@ -36,10 +36,10 @@ use Rattle.procedures.specs.Table.{TableFacts}
 use Rattle.procedures.specs.Taking.{facts_with, lacks_room, no_room, outcome_of, taken_by_role, taken_by_central, taken_by_either, taken_by_peripheral, took_step}
 use Rattle.procedures.specs.Update.{follow}
 use Rattle.two_tracks.specs.TwoEnds.{HasSlots}
-use Rattle.control_model.specs.Control.{indicated_by}
-use Rattle.control_model.specs.Supported.{begins_encryption, read_supported}
-use Rattle.link_model.specs.Acknowledgement.{Pdu}
-use Rattle.link_model.specs.Controls.{read_of}
+use Rattle.link_end.specs.control_model.Control.{indicated_by}
+use Rattle.link_end.specs.control_model.Supported.{begins_encryption, read_supported}
+use Rattle.link_end.specs.link_model.Acknowledgement.{Pdu}
+use Rattle.link_end.specs.link_model.Controls.{read_of}
 
 -- ---- what is read of a body is in its range
 

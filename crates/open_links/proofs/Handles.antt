@@ -2,7 +2,7 @@
 use Rattle.std.proofs.Common.{◌≡◌, ◌≢◌, ℕ, zero, suc, ◌+◌, ◌<◌, ◌≤◌, ◌==◌, Bool, true, false, [], ◌∷◌, length, replicate, Option, Some, None, IsSome, if◌then◌else◌, refl, sym, ◌∙◌, subst, arith, rules}
 use Rattle.std.proofs.lemmas.Bool.{eq-eqb, eqb-true}
 use Rattle.std.specs.Option.{option_map}
-use Rattle.link_model.specs.Setup.{Setup}
+use Rattle.link_end.specs.link_model.Setup.{Setup}
 use Rattle.open_links.specs.OpenLinks.{Links, OpenLink, HasHandle, HaveHandles, IsFreeHandle, free_from, link_at, link_from, new_link, with_change, with_change_from, with_link, without_link}
 
 apart : (a b : ℕ) → a ≢ b → (a == b) ≡ false

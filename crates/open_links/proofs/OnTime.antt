@@ -5,23 +5,23 @@ use Rattle.ble_base.specs.declared.error_codes.ErrCode.{ErrCode}
 use Rattle.adv_pdu.specs.Ranges.{IsInRange}
 use Rattle.instants.specs.Track.{TrackFacts, next_anchor_of, track_after_enter}
 use Rattle.ble_base.specs.declared.roles.Role.TheVariants.{Central}
-use Rattle.procedure_stages.specs.Kinds.{role_of}
-use Rattle.procedure_values.specs.declared.asks.Ask.{Ask}
-use Rattle.control_model.specs.Control.{Answers, Asks, Disconnects}
-use Rattle.control_model.proofs.Indicating.{Indicates}
-use Rattle.control_model.proofs.Moving.{enters_track as moves_track, table_alone}
-use Rattle.link_model.specs.Data.{is_control}
-use Rattle.link_model.specs.Setup.{Setup}
-use Rattle.link_model.specs.Facts.{Facts}
-use Rattle.link_model.specs.Controls.{goes_on, is_quiet_now}
-use Rattle.link_model.specs.ControlSteps.{AreAsksInRange, IsAskInRange}
-use Rattle.link_model.specs.End.{facts_after, facts_of}
-use Rattle.link_model.specs.Entering.{facts_entered_if}
-use Rattle.link_model.specs.Fixing.{fixed_anew}
-use Rattle.link_model.specs.Hosts.{asked_unless, is_to_come}
-use Rattle.link_model.specs.Sending.{control_gone_if, takes_leave}
-use Rattle.link_model.specs.Step.{Step, DataGiven, DataReported, Disconnected, EventEntered, PacketReceived, PacketSent, PduFixed, ProcedureAsked, RequestAnswered}
-use Rattle.link_model.proofs.Pasts.{grows}
+use Rattle.procedures.specs.procedure_stages.Kinds.{role_of}
+use Rattle.procedures.specs.procedure_values.declared.asks.Ask.{Ask}
+use Rattle.link_end.specs.control_model.Control.{Answers, Asks, Disconnects}
+use Rattle.link_end.proofs.control_model.Indicating.{Indicates}
+use Rattle.link_end.proofs.control_model.Moving.{enters_track as moves_track, table_alone}
+use Rattle.link_end.specs.link_model.Data.{is_control}
+use Rattle.link_end.specs.link_model.Setup.{Setup}
+use Rattle.link_end.specs.link_model.Facts.{Facts}
+use Rattle.link_end.specs.link_model.Controls.{goes_on, is_quiet_now}
+use Rattle.link_end.specs.link_model.ControlSteps.{AreAsksInRange, IsAskInRange}
+use Rattle.link_end.specs.link_model.End.{facts_after, facts_of}
+use Rattle.link_end.specs.link_model.Entering.{facts_entered_if}
+use Rattle.link_end.specs.link_model.Fixing.{fixed_anew}
+use Rattle.link_end.specs.link_model.Hosts.{asked_unless, is_to_come}
+use Rattle.link_end.specs.link_model.Sending.{control_gone_if, takes_leave}
+use Rattle.link_end.specs.link_model.Step.{Step, DataGiven, DataReported, Disconnected, EventEntered, PacketReceived, PacketSent, PduFixed, ProcedureAsked, RequestAnswered}
+use Rattle.link_end.proofs.link_model.Pasts.{grows}
 use Rattle.open_links.specs.OpenLinks.{OpenLink, facts_in, has_entered, link_after, new_link}
 use Rattle.open_links.specs.Slots.{Exchange, Given, Asked, Answered, Ended, Fixes, Sends, Hears, Reports, IsInReach, IsOnTime, MayExchange, MayGoThrough, link_exchanging, link_through, step_of}
 use Rattle.open_links.specs.Turns.{enters_in, entered_if, is_anchor, link_entered}

@@ -5,8 +5,8 @@ use Rattle.ble_base.specs.declared.channel_map.ChannelMap.{ChannelMap}
 use Rattle.acl_banks.specs.declared.pieces.Piece.{Piece}
 use Rattle.acl_banks.specs.Packets.{new_packet}
 use Rattle.acl_banks.specs.Banks.{Bank, bank_after_credited, bank_after_drop, bank_after_offer, taken_buffers}
-use Rattle.link_model.specs.Setup.{Setup}
-use Rattle.link_model.specs.Step.{Step, DataGiven, DataReported, EventEntered}
+use Rattle.link_end.specs.link_model.Setup.{Setup}
+use Rattle.link_end.specs.link_model.Step.{Step, DataGiven, DataReported, EventEntered}
 use Rattle.link_end.specs.Tied.{HoldsData}
 use Rattle.link_end.proofs.Banked.{drop_leaves, offer_leaves}
 use Rattle.link_end.proofs.Keeping.{begun, given_holds}

@@ -5,10 +5,10 @@ use Rattle.std.proofs.lemmas.Bool.{eqb-true}
 use Rattle.ble_base.specs.declared.channel_map.ChannelMap.{ChannelMap}
 use Rattle.ble_base.specs.declared.roles.Role.{Role}
 use Rattle.ble_base.specs.declared.roles.Role.TheVariants.{Central, Peripheral}
-use Rattle.procedure_values.specs.declared.asks.Ask.TheVariants.{Map as map_ask}
+use Rattle.procedures.specs.procedure_values.declared.asks.Ask.TheVariants.{Map as map_ask}
 use Rattle.acl_banks.specs.Banks.{Bank, bank_after_credited, bank_after_drop}
-use Rattle.link_model.specs.Step.{DataReported, ProcedureAsked}
-use Rattle.link_model.proofs.Pasts.{grows}
+use Rattle.link_end.specs.link_model.Step.{DataReported, ProcedureAsked}
+use Rattle.link_end.proofs.link_model.Pasts.{grows}
 use Rattle.link_end.specs.Tied.{HoldsData, LeavesOthers}
 use Rattle.link_end.proofs.Banked.{credited_leaves, drop_leaves, holds_reported}
 use Rattle.open_links.specs.declared.ended.LinkEnded.{LinkEnded}

@@ -1,9 +1,9 @@
 -- What is held under each handle, and the links that it knows.
 use Rattle.std.proofs.Common.{◌≡◌, ℕ, ◌+◌, ◌<◌, ◌≤◌, ◌==◌, Bool, true, false, nat_lt, List, [], ◌∷◌, ◌++◌, map, Option, Some, None, IfSome, is_some, if◌then◌else◌, refl, ap, sym, ◌∙◌, subst, arith}
 use Rattle.std.specs.Option.{option_map}
-use Rattle.link_model.specs.Step.{Step, DataGiven, DataReported}
-use Rattle.link_model.specs.End.{facts_of}
-use Rattle.link_model.specs.declared.events.Reception.{Reception}
+use Rattle.link_end.specs.link_model.Step.{Step, DataGiven, DataReported}
+use Rattle.link_end.specs.link_model.End.{facts_of}
+use Rattle.link_end.specs.link_model.declared.events.Reception.{Reception}
 use Rattle.acl_banks.specs.Banks.{Bank, credits_of}
 use Rattle.link_end.specs.Held.{Held}
 use Rattle.link_end.specs.Tied.{HoldsData, LeavesOthers}

@@ -5,17 +5,17 @@ use Rattle.ble_base.specs.declared.error_codes.ErrCode.{ErrCode}
 use Rattle.ble_base.specs.declared.roles.Role.{Role}
 use Rattle.ble_base.specs.declared.roles.Role.TheVariants.{Central, Peripheral}
 use Rattle.acl_banks.specs.Banks.{Bank}
-use Rattle.procedure_values.specs.declared.asks.Ask.{Ask}
-use Rattle.link_model.specs.Data.{Data}
-use Rattle.link_model.specs.Setup.{Setup}
-use Rattle.link_model.specs.declared.events.Reception.{Reception}
-use Rattle.link_model.specs.Controls.{goes_on}
-use Rattle.link_model.specs.Entering.{facts_entered_if}
-use Rattle.link_model.specs.Facts.{Facts}
-use Rattle.link_model.specs.Hosts.{asked_unless, is_to_come}
-use Rattle.link_model.specs.Step.{Step, Disconnected, EventEntered, ProcedureAsked, RequestAnswered}
-use Rattle.link_model.specs.End.{facts_after}
-use Rattle.link_model.proofs.Pasts.{grows}
+use Rattle.procedures.specs.procedure_values.declared.asks.Ask.{Ask}
+use Rattle.link_end.specs.link_model.Data.{Data}
+use Rattle.link_end.specs.link_model.Setup.{Setup}
+use Rattle.link_end.specs.link_model.declared.events.Reception.{Reception}
+use Rattle.link_end.specs.link_model.Controls.{goes_on}
+use Rattle.link_end.specs.link_model.Entering.{facts_entered_if}
+use Rattle.link_end.specs.link_model.Facts.{Facts}
+use Rattle.link_end.specs.link_model.Hosts.{asked_unless, is_to_come}
+use Rattle.link_end.specs.link_model.Step.{Step, Disconnected, EventEntered, ProcedureAsked, RequestAnswered}
+use Rattle.link_end.specs.link_model.End.{facts_after}
+use Rattle.link_end.proofs.link_model.Pasts.{grows}
 use Rattle.link_end.specs.Tied.{HoldsData}
 use Rattle.open_links.proofs.Dropping.{LeavesAt}
 use Rattle.open_links.specs.OpenLinks.{OpenLink, facts_in, has_entered, link_after, link_after_in_event}

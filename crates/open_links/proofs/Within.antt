@@ -5,23 +5,23 @@ use Rattle.std.proofs.lemmas.Bool.{eqb-true, eqb-false}
 use Rattle.ble_base.specs.declared.channel_map.ChannelMap.{ChannelMap}
 use Rattle.ble_base.specs.declared.roles.Role.{Role}
 use Rattle.ble_base.specs.declared.roles.Role.TheVariants.{Central, Peripheral}
-use Rattle.procedure_values.specs.declared.asks.Ask.TheVariants.{Map as map_ask}
+use Rattle.procedures.specs.procedure_values.declared.asks.Ask.TheVariants.{Map as map_ask}
 use Rattle.data_pdu.specs.declared.header.DataHeader.{DataHeader}
 use Rattle.data_pdu.specs.Header.{header_in}
-use Rattle.link_model.specs.Setup.{Setup}
-use Rattle.link_model.specs.Acknowledgement.{Pdu, is_acked}
-use Rattle.link_model.specs.Data.{Data, data_acked_if, data_completed, data_given, data_sent_if, is_control, is_data}
-use Rattle.link_model.specs.Verdicts.{pdu_of}
-use Rattle.link_model.specs.declared.events.Reception.{Reception}
-use Rattle.link_model.specs.Facts.{Facts}
-use Rattle.link_model.specs.Controls.{is_procedure_pdu}
-use Rattle.link_model.specs.Fixing.{data_cut, data_fixed_by, data_goes, fixed_anew}
-use Rattle.link_model.specs.Packets.{good_pdu}
-use Rattle.link_model.specs.Receiving.{accepted_if, accepts, acknowledged_if, answers_with_control, facts_before_taking, facts_hearing, facts_received, has_acknowledged, heard_in_slot, procedures_take_if}
-use Rattle.link_model.specs.Sending.{control_gone_if, takes_leave}
-use Rattle.link_model.specs.Step.{Step, DataGiven, DataReported, EventEntered, PacketReceived, PacketSent, PduFixed, ProcedureAsked}
-use Rattle.link_model.specs.End.{facts_after, facts_of}
-use Rattle.link_model.proofs.Pasts.{grows}
+use Rattle.link_end.specs.link_model.Setup.{Setup}
+use Rattle.link_end.specs.link_model.Acknowledgement.{Pdu, is_acked}
+use Rattle.link_end.specs.link_model.Data.{Data, data_acked_if, data_completed, data_given, data_sent_if, is_control, is_data}
+use Rattle.link_end.specs.link_model.Verdicts.{pdu_of}
+use Rattle.link_end.specs.link_model.declared.events.Reception.{Reception}
+use Rattle.link_end.specs.link_model.Facts.{Facts}
+use Rattle.link_end.specs.link_model.Controls.{is_procedure_pdu}
+use Rattle.link_end.specs.link_model.Fixing.{data_cut, data_fixed_by, data_goes, fixed_anew}
+use Rattle.link_end.specs.link_model.Packets.{good_pdu}
+use Rattle.link_end.specs.link_model.Receiving.{accepted_if, accepts, acknowledged_if, answers_with_control, facts_before_taking, facts_hearing, facts_received, has_acknowledged, heard_in_slot, procedures_take_if}
+use Rattle.link_end.specs.link_model.Sending.{control_gone_if, takes_leave}
+use Rattle.link_end.specs.link_model.Step.{Step, DataGiven, DataReported, EventEntered, PacketReceived, PacketSent, PduFixed, ProcedureAsked}
+use Rattle.link_end.specs.link_model.End.{facts_after, facts_of}
+use Rattle.link_end.proofs.link_model.Pasts.{grows}
 use Rattle.open_links.specs.declared.offers.Offer.{Offer}
 use Rattle.open_links.specs.declared.offers.Offer.TheVariants.{NoLink, Empty, Overflow, Kept}
 use Rattle.open_links.specs.OpenLinks.{Links, OpenLink, facts_in, has_entered, link_after, link_after_in_event, link_at, link_from, new_link, with_change, with_change_from}

@@ -10,9 +10,9 @@ use Rattle.open_links.specs.declared.offers.Offer.{Offer}
 use Rattle.open_links.specs.declared.offers.Offer.TheVariants.{NoLink, Empty, Overflow, Kept}
 use Rattle.open_links.specs.Offered.{buffer_octets, completed_by}
 use Rattle.open_links.specs.Ended.{received_without}
-use Rattle.link_model.specs.Step.{Step, DataGiven, DataReported, PduFixed}
-use Rattle.link_model.specs.End.{notes_after}
-use Rattle.link_model.specs.Kept.{kept_of}
+use Rattle.link_end.specs.link_model.Step.{Step, DataGiven, DataReported, PduFixed}
+use Rattle.link_end.specs.link_model.End.{notes_after}
+use Rattle.link_end.specs.link_model.Kept.{kept_of}
 use Rattle.open_links.specs.OpenLinks.{Links, OpenLink, facts_in, link_after, link_after_in_event, link_at, with_change}
 
 -- the host gives a packet to a link (volume 4 part E, section 5.4.2)

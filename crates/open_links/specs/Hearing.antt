@@ -1,7 +1,7 @@
 -- What a link makes of octets that reach it in a slot (Core 5.2, volume 6 part B, sections 4.5.6, 4.5.9 and 5.1).
 use Rattle.std.specs.Prelude.{ℕ, Bool, List, Option}
 use Rattle.std.specs.Option.{option_map}
-use Rattle.link_model.specs.Receiving.{effect_of, replies_of}
+use Rattle.link_end.specs.link_model.Receiving.{effect_of, replies_of}
 use Rattle.link_end.specs.declared.ends.LinkStep.{LinkStep}
 use Rattle.link_end.specs.Answers.{acked_of, given_of}
 use Rattle.open_links.specs.OpenLinks.{OpenLink, facts_in, in_event}

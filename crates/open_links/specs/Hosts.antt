@@ -7,11 +7,11 @@ use Rattle.ble_base.specs.declared.error_codes.ErrCode.{ErrCode}
 use Rattle.ble_base.specs.declared.procedure_kinds.Kind.{Kind}
 use Rattle.ble_base.specs.declared.roles.Role.{Role}
 use Rattle.ble_base.specs.declared.roles.Role.TheVariants.{Central, Peripheral}
-use Rattle.procedure_values.specs.declared.asks.Ask.{Ask}
-use Rattle.procedure_values.specs.declared.asks.Ask.TheVariants.{Map as map_ask}
-use Rattle.control_end.specs.Answers.{awaits_host, may_ask}
-use Rattle.control_end.specs.Held.{held_of}
-use Rattle.link_model.specs.Step.{Disconnected, ProcedureAsked, RequestAnswered}
+use Rattle.procedures.specs.procedure_values.declared.asks.Ask.{Ask}
+use Rattle.procedures.specs.procedure_values.declared.asks.Ask.TheVariants.{Map as map_ask}
+use Rattle.link_end.specs.control_end.Answers.{awaits_host, may_ask}
+use Rattle.link_end.specs.control_end.Held.{held_of}
+use Rattle.link_end.specs.link_model.Step.{Disconnected, ProcedureAsked, RequestAnswered}
 use Rattle.open_links.specs.OpenLinks.{Links, OpenLink, facts_in, link_after, with_change}
 
 -- ---- on one link

@@ -5,7 +5,7 @@ use Rattle.ble_base.specs.declared.notes.Note.{Note}
 use Rattle.acl_banks.specs.declared.pieces.Piece.{Piece}
 use Rattle.acl_banks.specs.Banks.{Bank, credits_of}
 use Rattle.slot_plan.specs.declared.Want.{Want}
-use Rattle.control_end.specs.declared.answers.Entry.{Entry}
+use Rattle.link_end.specs.control_end.declared.answers.Entry.{Entry}
 use Rattle.open_links.specs.Ended.{HasNone}
 use Rattle.link_end.specs.Held.{Held}
 use Rattle.link_end.specs.Knowing.{Knows as KnowsEnd}

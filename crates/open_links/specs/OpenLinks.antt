@@ -4,10 +4,10 @@ use Rattle.std.specs.List.{list_any}
 use Rattle.std.specs.Option.{option_map}
 use Rattle.ble_base.specs.declared.addresses.Address.{Address}
 use Rattle.scan_init.specs.Addresses.{is_same_address}
-use Rattle.link_model.specs.Setup.{Setup}
-use Rattle.link_model.specs.Step.{Step}
-use Rattle.link_model.specs.Facts.{Facts}
-use Rattle.link_model.specs.End.{facts_of}
+use Rattle.link_end.specs.link_model.Setup.{Setup}
+use Rattle.link_end.specs.link_model.Step.{Step}
+use Rattle.link_end.specs.link_model.Facts.{Facts}
+use Rattle.link_end.specs.link_model.End.{facts_of}
 
 -- an open link, by what happened to it (our choice)
 pub record OpenLink : Type 0 where

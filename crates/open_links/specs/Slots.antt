@@ -1,11 +1,11 @@
 -- A link slot after slot (Core 5.2, volume 6 part B, sections 4.5.1 and 4.5.6).
 use Rattle.std.specs.Prelude.{◌≡◌, ℕ, ◌+◌, ◌≤◌, Bool, true, List, [], ◌∷◌, Result, ⊤}
 use Rattle.ble_base.specs.declared.error_codes.ErrCode.{ErrCode}
-use Rattle.procedure_values.specs.declared.asks.Ask.{Ask}
+use Rattle.procedures.specs.procedure_values.declared.asks.Ask.{Ask}
 use Rattle.instants.specs.Track.{next_anchor_of}
-use Rattle.link_model.specs.Controls.{goes_on}
-use Rattle.link_model.specs.ControlSteps.{IsAskInRange}
-use Rattle.link_model.specs.Step.{Step, DataGiven, DataReported, Disconnected, PacketReceived, PacketSent, PduFixed, ProcedureAsked, RequestAnswered}
+use Rattle.link_end.specs.link_model.Controls.{goes_on}
+use Rattle.link_end.specs.link_model.ControlSteps.{IsAskInRange}
+use Rattle.link_end.specs.link_model.Step.{Step, DataGiven, DataReported, Disconnected, PacketReceived, PacketSent, PduFixed, ProcedureAsked, RequestAnswered}
 use Rattle.open_links.specs.OpenLinks.{OpenLink, facts_in, link_after}
 use Rattle.open_links.specs.Turns.{link_entered}
 

@@ -6,16 +6,16 @@ use Rattle.ble_base.specs.declared.error_codes.ErrCode.{ErrCode}
 use Rattle.ble_base.specs.declared.notes.Note.{Note}
 use Rattle.slot_plan.specs.declared.Want.{Want}
 use Rattle.instants.specs.Track.{next_anchor_of}
-use Rattle.control_end.specs.declared.answers.Entry.{Entry}
-use Rattle.control_end.specs.Answers.{entry_of}
-use Rattle.control_end.specs.Held.{held_of}
+use Rattle.link_end.specs.control_end.declared.answers.Entry.{Entry}
+use Rattle.link_end.specs.control_end.Answers.{entry_of}
+use Rattle.link_end.specs.control_end.Held.{held_of}
 use Rattle.open_links.specs.declared.ended.LinkEnded.{LinkEnded}
 use Rattle.open_links.specs.Ended.{end_by}
 use Rattle.open_links.specs.Wants.{want_if}
-use Rattle.link_model.specs.Controls.{goes_on, is_quiet_now}
-use Rattle.link_model.specs.End.{notes_after}
-use Rattle.link_model.specs.Step.{EventEntered}
-use Rattle.link_model.specs.Times.{due_of, ending_of, wants_of}
+use Rattle.link_end.specs.link_model.Controls.{goes_on, is_quiet_now}
+use Rattle.link_end.specs.link_model.End.{notes_after}
+use Rattle.link_end.specs.link_model.Step.{EventEntered}
+use Rattle.link_end.specs.link_model.Times.{due_of, ending_of, wants_of}
 use Rattle.open_links.specs.OpenLinks.{Links, OpenLink, facts_in, link_after, with_change}
 
 -- ---- links that end for a reason, which some links have

@@ -3,8 +3,8 @@
 ghost use Rattle.std.specs.Prelude.{◌≡◌, ◌<◌, ◌+◌, ◌^◌, Option, length};
 ghost use Rattle.std.specs.Option.{option_map};
 ghost use Rattle.std.specs.Result.{ForOk};
-ghost use Rattle.procedure_values.specs.Wants.{IsAsk};
-ghost use Rattle.link_model.specs.Step.{Disconnected, ProcedureAsked, RequestAnswered};
+ghost use Rattle.procedures.specs.procedure_values.Wants.{IsAsk};
+ghost use Rattle.link_end.specs.link_model.Step.{Disconnected, ProcedureAsked, RequestAnswered};
 ghost use Rattle.open_links.specs.Hosts.{link_asked_map, links_asked_map};
 ghost use Rattle.open_links.specs.OpenLinks.{Links, OpenLink, link_after, with_change_from};
 ghost use Rattle.open_links.specs.Knowing.{KnowsLink, KnowsPlace, KnowsPlaces};

@@ -5,7 +5,7 @@ ghost use Rattle.std.specs.Prelude.{◌≡◌, ◌<◌, ◌^◌, List, ℕ};
 ghost use Rattle.std.specs.Option.{option_map};
 ghost use Rattle.std.specs.Result.{ForOk};
 ghost use Rattle.acl_banks.specs.declared.pieces.Piece.{Piece};
-ghost use Rattle.procedure_values.specs.Wants.{IsAsk};
+ghost use Rattle.procedures.specs.procedure_values.Wants.{IsAsk};
 ghost use Rattle.open_links.specs.Hosts.{awaits_host_in, links_answered, links_asked};
 ghost use Rattle.open_links.specs.Hosts.{links_asked_map, links_disconnected, may_ask_in};
 ghost use Rattle.open_links.specs.OpenLinks.{Links, facts_in, link_at};

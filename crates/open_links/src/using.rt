@@ -3,9 +3,9 @@ ghost use Rattle.std.specs.Prelude.{◌≡◌, ◌<◌, ◌≤◌, ◌+◌, ◌^
 ghost use Rattle.std.specs.Prelude.{nat_lt};
 ghost use Rattle.std.specs.Option.{option_map};
 ghost use Rattle.arrayvec.specs.ArrayVec.{array_vec_len};
-ghost use Rattle.link_model.specs.Packets.{packet_sent};
-ghost use Rattle.link_model.specs.Receiving.{HasPayloadLengths};
-ghost use Rattle.link_model.specs.Step.{PacketReceived, PacketSent, PduFixed};
+ghost use Rattle.link_end.specs.link_model.Packets.{packet_sent};
+ghost use Rattle.link_end.specs.link_model.Receiving.{HasPayloadLengths};
+ghost use Rattle.link_end.specs.link_model.Step.{PacketReceived, PacketSent, PduFixed};
 ghost use Rattle.open_links.specs.Data.{kept_at, notes_at};
 ghost use Rattle.open_links.specs.Hearing.{step_at};
 ghost use Rattle.open_links.specs.OpenLinks.{Links, OpenLink, facts_in, in_event};

@@ -1,9 +1,9 @@
 -- A plain past with more steps.
 use Rattle.std.proofs.Common.{List, [], ◌∷◌, ◌++◌, fold}
-use Rattle.link_model.specs.Setup.{Setup}
-use Rattle.link_model.specs.Facts.{Facts, first_facts}
-use Rattle.link_model.specs.Step.{Step}
-use Rattle.link_model.specs.End.{facts_after, facts_of}
+use Rattle.link_end.specs.link_model.Setup.{Setup}
+use Rattle.link_end.specs.link_model.Facts.{Facts, first_facts}
+use Rattle.link_end.specs.link_model.Step.{Step}
+use Rattle.link_end.specs.link_model.End.{facts_after, facts_of}
 use Rattle.plain_links.specs.Plain.{ArePlain, ArePlainFrom, IsPlain}
 
 parted : (setup : Setup) (facts : Facts) (past more : List Step) → ArePlainFrom setup facts (past ++ more)

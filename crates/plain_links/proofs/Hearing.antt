@@ -1,15 +1,15 @@
 -- What an end on a plain link sends is no control PDU at the other end.
 use Rattle.std.proofs.Common.{◌≡◌, ◌≤◌, ℕ, Bool, false, List, sym, subst, ap, ◌∙◌}
-use Rattle.link_model.specs.Setup.{Setup}
-use Rattle.link_model.specs.Data.{is_control}
-use Rattle.link_model.specs.OneLink.{AreOneLink}
-use Rattle.link_model.proofs.Hearing.{IsHeardWhole}
-use Rattle.link_model.specs.Facts.{Facts}
-use Rattle.link_model.specs.Step.{Step, PacketReceived}
-use Rattle.link_model.specs.Hearing.{IsUnderstood}
-use Rattle.link_model.specs.Packets.{packet_sent, pdu_sent}
-use Rattle.link_model.specs.End.{facts_of}
-use Rattle.link_model.proofs.Received.{heard_good, pdu_read}
+use Rattle.link_end.specs.link_model.Setup.{Setup}
+use Rattle.link_end.specs.link_model.Data.{is_control}
+use Rattle.link_end.specs.link_model.OneLink.{AreOneLink}
+use Rattle.link_end.proofs.link_model.Hearing.{IsHeardWhole}
+use Rattle.link_end.specs.link_model.Facts.{Facts}
+use Rattle.link_end.specs.link_model.Step.{Step, PacketReceived}
+use Rattle.link_end.specs.link_model.Hearing.{IsUnderstood}
+use Rattle.link_end.specs.link_model.Packets.{packet_sent, pdu_sent}
+use Rattle.link_end.specs.link_model.End.{facts_of}
+use Rattle.link_end.proofs.link_model.Received.{heard_good, pdu_read}
 use Rattle.plain_links.specs.Plain.{ArePlain, IsNoControl, IsPlain}
 use Rattle.plain_links.proofs.Payloads.{past_understood}
 use Rattle.plain_links.proofs.Pieces.{sent_no_control}

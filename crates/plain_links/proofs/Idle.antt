@@ -4,17 +4,17 @@ use Rattle.ble_base.specs.Limits.{first_payload_octets}
 use Rattle.data_pdu.specs.Header.{header_in}
 use Rattle.acl_banks.specs.declared.pieces.Piece.{Piece}
 use Rattle.instants.specs.Track.{TrackFacts, track_after_enter, track_in_next, track_unchanged}
-use Rattle.link_model.specs.Setup.{Setup, first_params}
-use Rattle.link_model.specs.declared.events.ConnectionEvent.{ConnectionEvent}
-use Rattle.link_model.specs.declared.events.Reception.{Reception}
-use Rattle.link_model.specs.Acknowledgement.{Acknowledgement, Pdu, is_acked}
-use Rattle.link_model.specs.Data.{Data, data_acked_if, data_fixed, data_given, data_reported, data_sent_if, is_control, is_data, llid_of, next_piece, pdu_with}
-use Rattle.link_model.specs.Verdicts.{pdu_of}
-use Rattle.link_model.specs.Facts.{Facts, first_facts}
-use Rattle.link_model.specs.Step.{Step, DataGiven, DataReported, Disconnected, EventEntered, PacketReceived, PacketSent, PduFixed, ProcedureAsked, RequestAnswered}
-use Rattle.link_model.specs.Packets.{good_pdu}
-use Rattle.link_model.specs.Receiving.{has_acknowledged}
-use Rattle.link_model.specs.End.{facts_after, facts_of}
+use Rattle.link_end.specs.link_model.Setup.{Setup, first_params}
+use Rattle.link_end.specs.link_model.declared.events.ConnectionEvent.{ConnectionEvent}
+use Rattle.link_end.specs.link_model.declared.events.Reception.{Reception}
+use Rattle.link_end.specs.link_model.Acknowledgement.{Acknowledgement, Pdu, is_acked}
+use Rattle.link_end.specs.link_model.Data.{Data, data_acked_if, data_fixed, data_given, data_reported, data_sent_if, is_control, is_data, llid_of, next_piece, pdu_with}
+use Rattle.link_end.specs.link_model.Verdicts.{pdu_of}
+use Rattle.link_end.specs.link_model.Facts.{Facts, first_facts}
+use Rattle.link_end.specs.link_model.Step.{Step, DataGiven, DataReported, Disconnected, EventEntered, PacketReceived, PacketSent, PduFixed, ProcedureAsked, RequestAnswered}
+use Rattle.link_end.specs.link_model.Packets.{good_pdu}
+use Rattle.link_end.specs.link_model.Receiving.{has_acknowledged}
+use Rattle.link_end.specs.link_model.End.{facts_after, facts_of}
 use Rattle.plain_links.specs.Plain.{ArePlain, ArePlainFrom, IsPlain}
 use Rattle.plain_links.specs.Steps.{plain_after, plain_entered, plain_heard, plain_received, plain_sent}
 use Rattle.plain_links.specs.Idle.{IsIdle}

@@ -3,12 +3,12 @@ use Rattle.std.proofs.Common.{◌≡◌, ℕ, zero, suc, ◌+◌, ◌-◌, ◌==
 use Rattle.chan_select.specs.Channel.{channel_of}
 use Rattle.instants.specs.declared.indications.Params.{Params}
 use Rattle.instants.specs.Track.{TrackFacts, event_of, next_anchor_of, track_after_enter}
-use Rattle.link_model.specs.Setup.{Setup, algorithm_of, first_params}
-use Rattle.link_model.specs.OneLink.{AreOneLink}
-use Rattle.link_model.specs.Facts.{Facts, first_facts}
-use Rattle.link_model.specs.Step.{Step, DataGiven, DataReported, Disconnected, EventEntered, PacketReceived, PacketSent, PduFixed, ProcedureAsked, RequestAnswered}
-use Rattle.link_model.specs.Packets.{good_pdu}
-use Rattle.link_model.specs.End.{facts_after, facts_of}
+use Rattle.link_end.specs.link_model.Setup.{Setup, algorithm_of, first_params}
+use Rattle.link_end.specs.link_model.OneLink.{AreOneLink}
+use Rattle.link_end.specs.link_model.Facts.{Facts, first_facts}
+use Rattle.link_end.specs.link_model.Step.{Step, DataGiven, DataReported, Disconnected, EventEntered, PacketReceived, PacketSent, PduFixed, ProcedureAsked, RequestAnswered}
+use Rattle.link_end.specs.link_model.Packets.{good_pdu}
+use Rattle.link_end.specs.link_model.End.{facts_after, facts_of}
 use Rattle.plain_links.specs.Plain.{ArePlain, ArePlainFrom, IsPlain}
 use Rattle.plain_links.specs.Steps.{plain_after, plain_entered, plain_received}
 use Rattle.plain_links.specs.Idle.{IsIdle}

@@ -3,15 +3,15 @@ use Rattle.std.proofs.Common.{◌≡◌, ℕ, ◌&&◌, not, Bool, true, false, 
 use Rattle.ble_base.specs.Limits.{first_payload_octets}
 use Rattle.ack_bit.specs.AckBits.{acknowledges}
 use Rattle.data_pdu.specs.Header.{header_in}
-use Rattle.link_model.specs.Setup.{Setup}
-use Rattle.link_model.specs.Acknowledgement.{Acknowledgement, Pdu, after_sending, bits_of, first_acknowledgement, is_acked, received_by}
-use Rattle.link_model.specs.Data.{Data, data_acked_if, data_fixed, data_given, data_reported, data_sent_if, first_data, is_control, is_data}
-use Rattle.link_model.specs.Verdicts.{pdu_of}
-use Rattle.link_model.specs.Facts.{Facts}
-use Rattle.link_model.specs.Step.{Step, DataGiven, DataReported, Disconnected, EventEntered, PacketReceived, PacketSent, PduFixed, ProcedureAsked, RequestAnswered}
-use Rattle.link_model.specs.Packets.{good_pdu}
-use Rattle.link_model.specs.Receiving.{has_acknowledged}
-use Rattle.link_model.specs.End.{facts_after, facts_of}
+use Rattle.link_end.specs.link_model.Setup.{Setup}
+use Rattle.link_end.specs.link_model.Acknowledgement.{Acknowledgement, Pdu, after_sending, bits_of, first_acknowledgement, is_acked, received_by}
+use Rattle.link_end.specs.link_model.Data.{Data, data_acked_if, data_fixed, data_given, data_reported, data_sent_if, first_data, is_control, is_data}
+use Rattle.link_end.specs.link_model.Verdicts.{pdu_of}
+use Rattle.link_end.specs.link_model.Facts.{Facts}
+use Rattle.link_end.specs.link_model.Step.{Step, DataGiven, DataReported, Disconnected, EventEntered, PacketReceived, PacketSent, PduFixed, ProcedureAsked, RequestAnswered}
+use Rattle.link_end.specs.link_model.Packets.{good_pdu}
+use Rattle.link_end.specs.link_model.Receiving.{has_acknowledged}
+use Rattle.link_end.specs.link_model.End.{facts_after, facts_of}
 use Rattle.plain_links.specs.Plain.{ArePlain, IsNoControl, IsPlain}
 use Rattle.plain_links.specs.Steps.{plain_accepts, plain_after, plain_received}
 use Rattle.plain_links.specs.Idle.{IsIdle}

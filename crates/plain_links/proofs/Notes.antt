@@ -3,17 +3,17 @@ use Rattle.std.proofs.Common.{ℕ, ◌&&◌, not, Bool, true, false, List, [], �
 use Rattle.std.specs.List.{AllByRecursion}
 use Rattle.ble_base.specs.declared.notes.Note.{Note}
 use Rattle.data_pdu.specs.Header.{header_in}
-use Rattle.link_model.specs.Setup.{Setup}
-use Rattle.link_model.specs.Acknowledgement.{Pdu, is_acked}
-use Rattle.link_model.specs.Data.{is_empty, numbered}
-use Rattle.link_model.specs.Verdicts.{pdu_of}
-use Rattle.link_model.specs.Facts.{Facts, first_facts}
-use Rattle.link_model.specs.Step.{Step, DataGiven, DataReported, Disconnected, EventEntered, PacketReceived, PacketSent, PduFixed, ProcedureAsked, RequestAnswered}
-use Rattle.link_model.specs.Controls.{pdu_fixed}
-use Rattle.link_model.specs.Packets.{good_pdu}
-use Rattle.link_model.specs.Sending.{sent_notes_if}
-use Rattle.link_model.specs.Receiving.{took_notes_if}
-use Rattle.link_model.specs.End.{facts_after, notes_after, notes_from, notes_of}
+use Rattle.link_end.specs.link_model.Setup.{Setup}
+use Rattle.link_end.specs.link_model.Acknowledgement.{Pdu, is_acked}
+use Rattle.link_end.specs.link_model.Data.{is_empty, numbered}
+use Rattle.link_end.specs.link_model.Verdicts.{pdu_of}
+use Rattle.link_end.specs.link_model.Facts.{Facts, first_facts}
+use Rattle.link_end.specs.link_model.Step.{Step, DataGiven, DataReported, Disconnected, EventEntered, PacketReceived, PacketSent, PduFixed, ProcedureAsked, RequestAnswered}
+use Rattle.link_end.specs.link_model.Controls.{pdu_fixed}
+use Rattle.link_end.specs.link_model.Packets.{good_pdu}
+use Rattle.link_end.specs.link_model.Sending.{sent_notes_if}
+use Rattle.link_end.specs.link_model.Receiving.{took_notes_if}
+use Rattle.link_end.specs.link_model.End.{facts_after, notes_after, notes_from, notes_of}
 use Rattle.plain_links.specs.Plain.{ArePlain, ArePlainFrom, IsPlain}
 use Rattle.plain_links.specs.Steps.{plain_accepts, plain_took}
 use Rattle.plain_links.specs.Idle.{IsIdle}

@@ -1,16 +1,16 @@
 -- The PDUs that an end on a plain link sends have short payloads and an LLID of data.
 use Rattle.std.proofs.Common.{◌≡◌, inl, ◌⊎◌, ◌<◌, ◌≤◌, List, length, ap, arith}
-use Rattle.link_model.specs.Setup.{Setup}
-use Rattle.link_model.specs.Acknowledgement.{Pdu}
-use Rattle.link_model.specs.OneLink.{AreOneLink}
-use Rattle.link_model.specs.Payload.{opened_of}
-use Rattle.link_model.specs.Facts.{Facts}
-use Rattle.link_model.specs.Step.{Step}
-use Rattle.link_model.specs.Hearing.{IsUnderstood}
-use Rattle.link_model.specs.Packets.{FitsReceiver, payload_sent, pdu_sent}
-use Rattle.link_model.specs.End.{facts_of}
-use Rattle.link_model.proofs.Llids.{past_llid}
-use Rattle.link_model.proofs.Repeating.{past_payload}
+use Rattle.link_end.specs.link_model.Setup.{Setup}
+use Rattle.link_end.specs.link_model.Acknowledgement.{Pdu}
+use Rattle.link_end.specs.link_model.OneLink.{AreOneLink}
+use Rattle.link_end.specs.link_model.Payload.{opened_of}
+use Rattle.link_end.specs.link_model.Facts.{Facts}
+use Rattle.link_end.specs.link_model.Step.{Step}
+use Rattle.link_end.specs.link_model.Hearing.{IsUnderstood}
+use Rattle.link_end.specs.link_model.Packets.{FitsReceiver, payload_sent, pdu_sent}
+use Rattle.link_end.specs.link_model.End.{facts_of}
+use Rattle.link_end.proofs.link_model.Llids.{past_llid}
+use Rattle.link_end.proofs.link_model.Repeating.{past_payload}
 use Rattle.plain_links.specs.Plain.{ArePlain}
 use Rattle.plain_links.proofs.Pieces.{IsPiece, no_piece, past_piece_sent, some_piece}
 

@@ -7,12 +7,12 @@ use Rattle.std.proofs.lemmas.Bool.Decides.{nat_tests}
 use Rattle.acl_banks.specs.Packets.{DataPacket, piece_of, sent_length}
 use Rattle.acl_banks.proofs.Octets.{length-piece_of, length-unsent_octets}
 use Rattle.acl_banks.proofs.Order.{is_left-head}
-use Rattle.link_model.specs.Setup.{Setup}
-use Rattle.link_model.specs.Acknowledgement.{Acknowledgement, Pdu, empty_pdu, is_acked, next_sent, received_by}
-use Rattle.link_model.specs.Data.{Data, data_acked_if, data_fixed, data_given, data_sent_if, is_control, is_data, is_unsent, llid_of, pdu_with}
-use Rattle.link_model.specs.Step.{Step}
-use Rattle.link_model.specs.Packets.{pdu_sent}
-use Rattle.link_model.specs.End.{facts_of}
+use Rattle.link_end.specs.link_model.Setup.{Setup}
+use Rattle.link_end.specs.link_model.Acknowledgement.{Acknowledgement, Pdu, empty_pdu, is_acked, next_sent, received_by}
+use Rattle.link_end.specs.link_model.Data.{Data, data_acked_if, data_fixed, data_given, data_sent_if, is_control, is_data, is_unsent, llid_of, pdu_with}
+use Rattle.link_end.specs.link_model.Step.{Step}
+use Rattle.link_end.specs.link_model.Packets.{pdu_sent}
+use Rattle.link_end.specs.link_model.End.{facts_of}
 use Rattle.plain_links.specs.Plain.{ArePlain}
 use Rattle.plain_links.proofs.Idle.{fixed_acked, past_idle}
 use Rattle.plain_links.proofs.Moves.{EachPlainMoveKeeps, past_keeps}

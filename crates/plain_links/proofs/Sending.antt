@@ -5,15 +5,15 @@ use Rattle.std.specs.Option.{option_map}
 use Rattle.std.proofs.lemmas.Bool.Decides.{nat_tests}
 use Rattle.acl_banks.specs.Packets.{DataPacket, piece_of}
 use Rattle.acl_banks.proofs.OneLink.{IsKept, all_counted, all_octets}
-use Rattle.link_model.specs.Setup.{Setup}
-use Rattle.link_model.specs.Acknowledgement.{Acknowledgement, Pdu, empty_pdu}
-use Rattle.link_model.specs.Data.{Data, is_data, is_unsent, pdu_with}
-use Rattle.link_model.proofs.Outgoing.{EndsIn}
-use Rattle.link_model.specs.Facts.{Facts}
-use Rattle.link_model.specs.Step.{Step}
-use Rattle.link_model.specs.Delivery.{IsInOrder}
-use Rattle.link_model.specs.End.{facts_of}
-use Rattle.link_model.proofs.Sending.{IsNext as IsNextPiece, past_of, past_together}
+use Rattle.link_end.specs.link_model.Setup.{Setup}
+use Rattle.link_end.specs.link_model.Acknowledgement.{Acknowledgement, Pdu, empty_pdu}
+use Rattle.link_end.specs.link_model.Data.{Data, is_data, is_unsent, pdu_with}
+use Rattle.link_end.proofs.link_model.Outgoing.{EndsIn}
+use Rattle.link_end.specs.link_model.Facts.{Facts}
+use Rattle.link_end.specs.link_model.Step.{Step}
+use Rattle.link_end.specs.link_model.Delivery.{IsInOrder}
+use Rattle.link_end.specs.link_model.End.{facts_of}
+use Rattle.link_end.proofs.link_model.Sending.{IsNext as IsNextPiece, past_of, past_together}
 use Rattle.plain_links.specs.Plain.{ArePlain}
 use Rattle.plain_links.proofs.Idle.{past_idle}
 use Rattle.plain_links.proofs.Pieces.{IsPiece, no_piece, past_pieces, some_piece}

@@ -13,41 +13,41 @@ use Rattle.data_pdu.specs.declared.header.DataHeader.{DataHeader}
 use Rattle.data_pdu.specs.Header.{header_in}
 use Rattle.instants.specs.declared.track.Change.{Change}
 use Rattle.instants.specs.Track.{TrackFacts, event_of, number_if_due, track_after_enter}
-use Rattle.procedure_values.specs.Limits.{first_lengths, tx_of}
-use Rattle.procedure_stages.specs.declared.steps.Effect.TheVariants.{Nothing}
-use Rattle.procedure_stages.specs.Closing.{is_disconnecting}
-use Rattle.procedure_stages.specs.InProgress.{first_progress, is_busy}
-use Rattle.procedure_stages.specs.Kinds.{is_timed, own_kind}
-use Rattle.procedure_stages.specs.Queue.{waiting_in}
-use Rattle.procedures.specs.Table.{TableFacts}
-use Rattle.procedures.specs.Beginning.{begin_step}
-use Rattle.procedures.specs.Going.{entered_step, is_over, tick_of}
-use Rattle.procedures.specs.Sending.{next_ctrl_of}
-use Rattle.control_model.specs.Control.{entered}
-use Rattle.control_end.specs.declared.answers.Entry.{Entry}
-use Rattle.control_end.specs.declared.answers.Taken.{Taken}
-use Rattle.control_end.specs.Answers.{entry_of, is_update_waiting, no_entry, nothing_taken, timeout_of}
-use Rattle.control_end.specs.Held.{held_of}
-use Rattle.link_model.specs.Setup.{Setup, first_params}
-use Rattle.link_model.specs.Acknowledgement.{Pdu, is_acked, with_acked}
-use Rattle.link_model.specs.Data.{data_acked_if, data_fixed, is_control, is_data, is_empty, next_piece, numbered, pdu_with, unsent_of}
-use Rattle.link_model.specs.Events.{event_entered, event_heard}
-use Rattle.link_model.specs.Pieces.{kept_if}
-use Rattle.link_model.specs.Verdicts.{pdu_of}
-use Rattle.link_model.specs.Lost.{reason_due, skips_by}
-use Rattle.link_model.specs.declared.state.KnownLengths.{KnownLengths}
-use Rattle.link_model.specs.declared.state.Leaving.{Leaving}
-use Rattle.link_model.specs.Facts.{Facts, params_of}
-use Rattle.link_model.specs.Step.{Step, DataGiven, DataReported, Disconnected, EventEntered, PacketReceived, PacketSent, PduFixed, ProcedureAsked, RequestAnswered}
-use Rattle.link_model.specs.Controls.{begins_with, goes_on, is_long, is_procedure_pdu, is_terminate, next_control, pdu_fixed, pdu_of_control}
-use Rattle.link_model.specs.Entering.{control_entered, done_notes, entry_notes, event_notes, facts_entered, facts_entered_if}
-use Rattle.link_model.specs.Fixing.{data_cut, data_fixed_by, data_goes, facts_fixed, fixed_anew}
-use Rattle.link_model.specs.Kept.{kept_from, kept_of}
-use Rattle.link_model.specs.Packets.{good_pdu, more_sent, pdu_sent}
-use Rattle.link_model.specs.Sending.{control_gone_if, facts_sent, fixed_sent, leaving_sent, sent_notes, sent_notes_if, takes_leave}
-use Rattle.link_model.specs.Receiving.{accepted_if, accepts, acked_kind, acknowledged_if, acks_control, answers_with_control, control_acked_if, effect_of, effect_received, effect_unless_known, facts_before_taking, facts_hearing, facts_received, given_if, given_notes, has_acknowledged, has_ended, heard_in_slot, leaving_acked_if, notes_hearing, procedures_take_if, received_notes, replies_by, replies_of, taken_if, took_notes_if}
-use Rattle.link_model.specs.Times.{due_of, ending_of, first_of, has_second_exchange, span_of, termination_due, wants_of}
-use Rattle.link_model.specs.End.{facts_after}
+use Rattle.link_end.specs.procedure_values.Limits.{first_lengths, tx_of}
+use Rattle.link_end.specs.procedure_stages.declared.steps.Effect.TheVariants.{Nothing}
+use Rattle.link_end.specs.procedure_stages.Closing.{is_disconnecting}
+use Rattle.link_end.specs.procedure_stages.InProgress.{first_progress, is_busy}
+use Rattle.link_end.specs.procedure_stages.Kinds.{is_timed, own_kind}
+use Rattle.link_end.specs.procedure_stages.Queue.{waiting_in}
+use Rattle.link_end.specs.procedures.Table.{TableFacts}
+use Rattle.link_end.specs.procedures.Beginning.{begin_step}
+use Rattle.link_end.specs.procedures.Going.{entered_step, is_over, tick_of}
+use Rattle.link_end.specs.procedures.Sending.{next_ctrl_of}
+use Rattle.link_end.specs.control_model.Control.{entered}
+use Rattle.link_end.specs.control_end.declared.answers.Entry.{Entry}
+use Rattle.link_end.specs.control_end.declared.answers.Taken.{Taken}
+use Rattle.link_end.specs.control_end.Answers.{entry_of, is_update_waiting, no_entry, nothing_taken, timeout_of}
+use Rattle.link_end.specs.control_end.Held.{held_of}
+use Rattle.link_end.specs.link_model.Setup.{Setup, first_params}
+use Rattle.link_end.specs.link_model.Acknowledgement.{Pdu, is_acked, with_acked}
+use Rattle.link_end.specs.link_model.Data.{data_acked_if, data_fixed, is_control, is_data, is_empty, next_piece, numbered, pdu_with, unsent_of}
+use Rattle.link_end.specs.link_model.Events.{event_entered, event_heard}
+use Rattle.link_end.specs.link_model.Pieces.{kept_if}
+use Rattle.link_end.specs.link_model.Verdicts.{pdu_of}
+use Rattle.link_end.specs.link_model.Lost.{reason_due, skips_by}
+use Rattle.link_end.specs.link_model.declared.state.KnownLengths.{KnownLengths}
+use Rattle.link_end.specs.link_model.declared.state.Leaving.{Leaving}
+use Rattle.link_end.specs.link_model.Facts.{Facts, params_of}
+use Rattle.link_end.specs.link_model.Step.{Step, DataGiven, DataReported, Disconnected, EventEntered, PacketReceived, PacketSent, PduFixed, ProcedureAsked, RequestAnswered}
+use Rattle.link_end.specs.link_model.Controls.{begins_with, goes_on, is_long, is_procedure_pdu, is_terminate, next_control, pdu_fixed, pdu_of_control}
+use Rattle.link_end.specs.link_model.Entering.{control_entered, done_notes, entry_notes, event_notes, facts_entered, facts_entered_if}
+use Rattle.link_end.specs.link_model.Fixing.{data_cut, data_fixed_by, data_goes, facts_fixed, fixed_anew}
+use Rattle.link_end.specs.link_model.Kept.{kept_from, kept_of}
+use Rattle.link_end.specs.link_model.Packets.{good_pdu, more_sent, pdu_sent}
+use Rattle.link_end.specs.link_model.Sending.{control_gone_if, facts_sent, fixed_sent, leaving_sent, sent_notes, sent_notes_if, takes_leave}
+use Rattle.link_end.specs.link_model.Receiving.{accepted_if, accepts, acked_kind, acknowledged_if, acks_control, answers_with_control, control_acked_if, effect_of, effect_received, effect_unless_known, facts_before_taking, facts_hearing, facts_received, given_if, given_notes, has_acknowledged, has_ended, heard_in_slot, leaving_acked_if, notes_hearing, procedures_take_if, received_notes, replies_by, replies_of, taken_if, took_notes_if}
+use Rattle.link_end.specs.link_model.Times.{due_of, ending_of, first_of, has_second_exchange, span_of, termination_due, wants_of}
+use Rattle.link_end.specs.link_model.End.{facts_after}
 use Rattle.link_end.specs.Answers.{acked_of, acked_received, given_of, given_received}
 use Rattle.plain_links.specs.Plain.{IsNoControl, IsPlain}
 use Rattle.plain_links.specs.Steps.{plain_accepts, plain_after, plain_entered, plain_fixed, plain_heard, plain_idle, plain_kept, plain_md, plain_received, plain_replies, plain_sent, plain_took, plain_took_by}

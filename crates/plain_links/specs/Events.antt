@@ -4,9 +4,9 @@ use Rattle.std.specs.Prelude.{◌≡◌, ℕ, zero, suc, ◌+◌, ◌*◌, ◌-�
 use Rattle.chan_select.specs.Channel.{channel_of}
 use Rattle.instants.specs.Follows.{AreTogether}
 use Rattle.instants.specs.Track.{next_anchor_of}
-use Rattle.link_model.specs.Setup.{Setup, algorithm_of, first_anchor, first_params}
-use Rattle.link_model.specs.Step.{Step, EventEntered}
-use Rattle.link_model.specs.Facts.{Facts}
+use Rattle.link_end.specs.link_model.Setup.{Setup, algorithm_of, first_anchor, first_params}
+use Rattle.link_end.specs.link_model.Step.{Step, EventEntered}
+use Rattle.link_end.specs.link_model.Facts.{Facts}
 
 abbrev pub count_entry : ℕ → Step → ℕ
 count_entry count (EventEntered slot) = count + 1

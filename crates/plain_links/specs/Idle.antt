@@ -1,9 +1,9 @@
 -- An end on a plain link: no control procedure of it runs or waits, and neither end ends the link.
 use Rattle.std.specs.Prelude.{◌≡◌, false, [], None}
 use Rattle.ble_base.specs.Limits.{first_payload_octets}
-use Rattle.link_model.specs.Setup.{Setup, first_params}
-use Rattle.link_model.specs.Data.{is_control}
-use Rattle.link_model.specs.Facts.{Facts, first_facts, no_lengths, no_peer, params_of, stays}
+use Rattle.link_end.specs.link_model.Setup.{Setup, first_params}
+use Rattle.link_end.specs.link_model.Data.{is_control}
+use Rattle.link_end.specs.link_model.Facts.{Facts, first_facts, no_lengths, no_peer, params_of, stays}
 
 pub record IsIdle (setup : Setup) (facts : Facts) : Type 0 where
   -- its table of procedures is that of a new link; it sent no indication, and none of its procedures ended the link

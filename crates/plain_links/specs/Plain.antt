@@ -1,12 +1,12 @@
 -- A link on which no control procedure runs: what happens to an end of it.
 use Rattle.std.specs.Prelude.{◌≡◌, ℕ, false, List, [], ◌∷◌, Option, Some, None, ⊤}
-use Rattle.link_model.specs.Setup.{Setup}
-use Rattle.link_model.specs.Data.{is_control}
-use Rattle.link_model.specs.Verdicts.{pdu_of}
-use Rattle.link_model.specs.Facts.{Facts, first_facts}
-use Rattle.link_model.specs.Step.{Step, Disconnected, PacketReceived, ProcedureAsked, RequestAnswered}
-use Rattle.link_model.specs.Packets.{good_pdu}
-use Rattle.link_model.specs.End.{facts_after}
+use Rattle.link_end.specs.link_model.Setup.{Setup}
+use Rattle.link_end.specs.link_model.Data.{is_control}
+use Rattle.link_end.specs.link_model.Verdicts.{pdu_of}
+use Rattle.link_end.specs.link_model.Facts.{Facts, first_facts}
+use Rattle.link_end.specs.link_model.Step.{Step, Disconnected, PacketReceived, ProcedureAsked, RequestAnswered}
+use Rattle.link_end.specs.link_model.Packets.{good_pdu}
+use Rattle.link_end.specs.link_model.End.{facts_after}
 
 -- the PDU in these octets, where there is one, is no control PDU
 abbrev pub IsNoControl : Option (List ℕ) → Type 0

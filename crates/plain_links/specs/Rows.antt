@@ -2,10 +2,10 @@
 use Rattle.std.specs.Prelude.{ℕ, true, false, List, [], ◌∷◌, ◌++◌}
 use Rattle.air_frame.specs.Packet.{on_air}
 use Rattle.data_pdu.specs.Header.{octets_of}
-use Rattle.link_model.specs.Rows.{central_with, peripheral_with}
-use Rattle.link_model.specs.Packets.{packet_sent}
-use Rattle.link_model.specs.Step.{Step, EventEntered, PacketReceived}
-use Rattle.link_model.specs.End.{facts_of}
+use Rattle.link_end.specs.link_model.Rows.{central_with, peripheral_with}
+use Rattle.link_end.specs.link_model.Packets.{packet_sent}
+use Rattle.link_end.specs.link_model.Step.{Step, EventEntered, PacketReceived}
+use Rattle.link_end.specs.link_model.End.{facts_of}
 
 -- the first packet of a central, and one with LL_TERMINATE_IND in its place, on the channel of event 0
 abbrev pub first_packet : List ℕ

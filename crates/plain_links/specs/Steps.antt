@@ -8,17 +8,17 @@ use Rattle.ble_base.specs.declared.roles.Role.TheVariants.{Central, Peripheral}
 use Rattle.data_pdu.specs.declared.header.DataHeader.{DataHeader}
 use Rattle.data_pdu.specs.Header.{header_in}
 use Rattle.instants.specs.Track.{track_after_enter}
-use Rattle.link_model.specs.Setup.{Setup}
-use Rattle.link_model.specs.Acknowledgement.{Pdu, after_sending, is_acked, received_by}
-use Rattle.link_model.specs.Data.{data_acked_if, data_fixed, data_given, data_reported, data_sent_if, is_data, is_empty, unsent_of}
-use Rattle.link_model.specs.Events.{event_entered, event_heard, event_sent}
-use Rattle.link_model.specs.Data.{is_accepted}
-use Rattle.link_model.specs.Pieces.{kept_if}
-use Rattle.link_model.specs.Verdicts.{pdu_of}
-use Rattle.link_model.specs.Facts.{Facts, params_of}
-use Rattle.link_model.specs.Step.{Step, DataGiven, DataReported, EventEntered, PacketReceived, PacketSent, PduFixed}
-use Rattle.link_model.specs.Packets.{good_pdu, more_sent}
-use Rattle.link_model.specs.Receiving.{has_acknowledged, has_new_pdu, took_notes_if}
+use Rattle.link_end.specs.link_model.Setup.{Setup}
+use Rattle.link_end.specs.link_model.Acknowledgement.{Pdu, after_sending, is_acked, received_by}
+use Rattle.link_end.specs.link_model.Data.{data_acked_if, data_fixed, data_given, data_reported, data_sent_if, is_data, is_empty, unsent_of}
+use Rattle.link_end.specs.link_model.Events.{event_entered, event_heard, event_sent}
+use Rattle.link_end.specs.link_model.Data.{is_accepted}
+use Rattle.link_end.specs.link_model.Pieces.{kept_if}
+use Rattle.link_end.specs.link_model.Verdicts.{pdu_of}
+use Rattle.link_end.specs.link_model.Facts.{Facts, params_of}
+use Rattle.link_end.specs.link_model.Step.{Step, DataGiven, DataReported, EventEntered, PacketReceived, PacketSent, PduFixed}
+use Rattle.link_end.specs.link_model.Packets.{good_pdu, more_sent}
+use Rattle.link_end.specs.link_model.Receiving.{has_acknowledged, has_new_pdu, took_notes_if}
 
 -- ---- what it holds after a step
 

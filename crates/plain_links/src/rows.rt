@@ -1,7 +1,7 @@
 //! Worked examples, which the definitions compute.
 ghost use Rattle.std.specs.Prelude.{◌≡◌, Some};
-ghost use Rattle.link_model.specs.Rows.{peripheral_with};
-ghost use Rattle.link_model.specs.End.{facts_of};
+ghost use Rattle.link_end.specs.link_model.Rows.{peripheral_with};
+ghost use Rattle.link_end.specs.link_model.End.{facts_of};
 ghost use Rattle.plain_links.specs.Plain.{ArePlain};
 ghost use Rattle.plain_links.specs.Rows.{first_packet, last_packet, with_packet};
 

@@ -10,7 +10,7 @@ use Rattle.hci_evt.specs.declared.event.Event.TheVariants.{EncryptionChange, Len
 use Rattle.instants.specs.declared.indications.Params.{Params}
 use Rattle.procedure_stages.specs.declared.steps.Effect.{Effect}
 use Rattle.procedure_stages.specs.declared.steps.Effect.TheVariants.{AskHost, Lengths}
-use Rattle.procedure_values.specs.Drafts.{time_of}
+use Rattle.procedure_stages.specs.procedure_values.Drafts.{time_of}
 use Rattle.link_model.specs.declared.state.PeerFacts.{PeerFacts}
 use Rattle.link_model.specs.declared.state.PeerVersion.{PeerVersion}
 

@@ -1,6 +1,6 @@
 //! The event for one thing that a control procedure of a link did.
 ghost use Rattle.std.specs.Prelude.{◌≡◌, ◌≤◌};
-ghost use Rattle.procedure_values.specs.Drafts.{time_of};
+ghost use Rattle.procedure_stages.specs.procedure_values.Drafts.{time_of};
 ghost use Rattle.link_model.specs.Receiving.{HasPayloadLengths};
 ghost use Rattle.procedure_events.specs.Events.{event_of_done, event_of_effect};
 ghost use Rattle.procedure_events.specs.Events.{event_of_refusal, features_event, length_event};

@@ -13,3 +13,5 @@ pub mod Sent
 pub mod Acked
 pub mod Held
 pub mod Awaited
+-- what the crates above use of those below
+pub use Rattle.procedure_values.specs as procedure_values

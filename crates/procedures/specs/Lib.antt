@@ -18,3 +18,6 @@ pub mod Beginning
 pub mod Going
 pub mod Calls
 pub mod Laws
+-- what the crates above use of those below
+pub use Rattle.procedure_stages.specs as procedure_stages
+pub use Rattle.procedure_values.specs as procedure_values

@@ -4,28 +4,28 @@ use Rattle.std.proofs.lemmas.Bool.{and_parts}
 use Rattle.std.proofs.lemmas.List.Quantifiers.{position-Some}
 use Rattle.std.proofs.lemmas.Option.{get_or_from_slice_get}
 use Rattle.ble_base.specs.declared.roles.Role.TheVariants.{Central as central_role, Peripheral as peripheral_role}
-use Rattle.procedure_values.specs.declared.asks.Ask.{Ask}
-use Rattle.procedure_values.specs.declared.asks.Ask.TheVariants.{Update as ask_update, Request as ask_request, Map as ask_map, Phy as ask_phy, Features as ask_features, Version as ask_version, Length as ask_length, Encrypt as ask_encrypt}
-use Rattle.procedure_values.specs.declared.drafts.Draft.{Draft}
-use Rattle.procedure_values.specs.declared.drafts.Draft.TheVariants.{VersionInd}
-use Rattle.procedure_stages.specs.declared.stages.OwnCentral.{OwnCentral}
-use Rattle.procedure_stages.specs.declared.stages.OwnCentral.TheVariants.{Exclusive as exclusive}
+use Rattle.procedures.specs.procedure_values.declared.asks.Ask.{Ask}
+use Rattle.procedures.specs.procedure_values.declared.asks.Ask.TheVariants.{Update as ask_update, Request as ask_request, Map as ask_map, Phy as ask_phy, Features as ask_features, Version as ask_version, Length as ask_length, Encrypt as ask_encrypt}
+use Rattle.procedures.specs.procedure_values.declared.drafts.Draft.{Draft}
+use Rattle.procedures.specs.procedure_values.declared.drafts.Draft.TheVariants.{VersionInd}
+use Rattle.procedures.specs.procedure_stages.declared.stages.OwnCentral.{OwnCentral}
+use Rattle.procedures.specs.procedure_stages.declared.stages.OwnCentral.TheVariants.{Exclusive as exclusive}
 use Rattle.exclusive_stages.specs.declared.stages.CentralStage.TheVariants.{Idle}
-use Rattle.procedure_stages.specs.declared.stages.OwnPeripheral.{OwnPeripheral}
-use Rattle.procedure_stages.specs.declared.stages.OwnPeripheral.TheVariants.{Exclusive as exclusive_p}
+use Rattle.procedures.specs.procedure_stages.declared.stages.OwnPeripheral.{OwnPeripheral}
+use Rattle.procedures.specs.procedure_stages.declared.stages.OwnPeripheral.TheVariants.{Exclusive as exclusive_p}
 use Rattle.exclusive_stages.specs.declared.stages.PeripheralStage.TheVariants.{Idle as idle}
-use Rattle.procedure_stages.specs.declared.stages.Central.{Central}
-use Rattle.procedure_stages.specs.declared.stages.Peripheral.{Peripheral}
-use Rattle.procedure_stages.specs.declared.stages.Progress.{Progress}
-use Rattle.procedure_stages.specs.declared.stages.Progress.TheVariants.{Central as central, Peripheral as peripheral}
-use Rattle.procedure_stages.specs.declared.closing.Closing.{Closing}
-use Rattle.procedure_stages.specs.declared.closing.Closing.TheVariants.{Open, Closed, Disconnecting}
-use Rattle.procedure_stages.specs.Kinds.{begins, kind_at_central, kind_at_peripheral, own_kind, role_of}
-use Rattle.procedure_values.specs.Asks.{kind_of_ask}
+use Rattle.procedures.specs.procedure_stages.declared.stages.Central.{Central}
+use Rattle.procedures.specs.procedure_stages.declared.stages.Peripheral.{Peripheral}
+use Rattle.procedures.specs.procedure_stages.declared.stages.Progress.{Progress}
+use Rattle.procedures.specs.procedure_stages.declared.stages.Progress.TheVariants.{Central as central, Peripheral as peripheral}
+use Rattle.procedures.specs.procedure_stages.declared.closing.Closing.{Closing}
+use Rattle.procedures.specs.procedure_stages.declared.closing.Closing.TheVariants.{Open, Closed, Disconnecting}
+use Rattle.procedures.specs.procedure_stages.Kinds.{begins, kind_at_central, kind_at_peripheral, own_kind, role_of}
+use Rattle.procedures.specs.procedure_values.Asks.{kind_of_ask}
 use Rattle.procedures.specs.Table.{TableFacts}
-use Rattle.procedure_stages.specs.Closing.{is_open}
+use Rattle.procedures.specs.procedure_stages.Closing.{is_open}
 use Rattle.procedures.specs.Beginning.{ask_at, begin_at, facts_begun, is_ready, may_begin, place_to_begin}
-use Rattle.procedure_stages.specs.Collisions.{peer_lets}
+use Rattle.procedures.specs.procedure_stages.Collisions.{peer_lets}
 use Rattle.table_laws.specs.Waiting.{asked, is_own_request, is_terminate, is_version_ind, count_if}
 use Rattle.table_laws.proofs.Numbers.{Counts, same, with_one}
 use Rattle.table_laws.proofs.Outcomes.{own_room, room_at_central, room_at_peripheral}

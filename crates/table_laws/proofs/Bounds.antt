@@ -2,10 +2,10 @@
 use Rattle.std.proofs.Common.{◌≡◌, ℕ, ◌+◌, ◌≤◌, Bool, true, false, not, List, [], ◌∷◌, None, refl, arith}
 use Rattle.ble_base.specs.declared.roles.Role.{Role}
 use Rattle.ble_base.specs.declared.roles.Role.TheVariants.{Central as central_role, Peripheral as peripheral_role}
-use Rattle.procedure_stages.specs.Kinds.{own_kind}
+use Rattle.procedures.specs.procedure_stages.Kinds.{own_kind}
 use Rattle.procedures.specs.Table.{TableFacts, first_facts}
-use Rattle.procedure_stages.specs.Closing.{is_open}
-use Rattle.procedure_stages.specs.Queue.{waiting_in}
+use Rattle.procedures.specs.procedure_stages.Closing.{is_open}
+use Rattle.procedures.specs.procedure_stages.Queue.{waiting_in}
 use Rattle.procedures.specs.Calls.{Call, asks, begins_one, takes, sends, is_acked, enters, host_answers, disconnects, is_given, after_call, after_calls}
 use Rattle.table_laws.specs.Waiting.{asked, end_waiting, own_waiting, version_waiting}
 use Rattle.table_laws.specs.Pasts.{May, MayAll, is_key_asked, key_after_call, key_after_calls}

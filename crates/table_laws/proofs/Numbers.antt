@@ -1,15 +1,15 @@
 -- How many control PDUs of each sort wait, as one is queued or sent.
 use Rattle.std.proofs.Common.{◌≡◌, ℕ, ◌+◌, Bool, true, false, not, ◌&&◌, List, [], ◌∷◌, ◌++◌, length, Option, Some, None, if◌then◌else◌, refl, arith}
 use Rattle.ble_base.specs.declared.error_codes.ErrCode.{ErrCode}
-use Rattle.procedure_values.specs.declared.drafts.Draft.{Draft}
-use Rattle.procedure_values.specs.declared.drafts.Rejection.{Rejection as TheRejection}
-use Rattle.procedure_values.specs.declared.drafts.Outgoing.{Outgoing}
-use Rattle.procedure_values.specs.declared.drafts.Outgoing.TheVariants.{Nothing, Disconnect, Other}
-use Rattle.procedure_stages.specs.declared.stages.Progress.{Progress}
-use Rattle.procedure_stages.specs.Queue.{QueueFacts, waiting_in, count_of_disconnect, is_past_instant, next_draft, next_disconnect, next_by, without_next}
+use Rattle.procedures.specs.procedure_values.declared.drafts.Draft.{Draft}
+use Rattle.procedures.specs.procedure_values.declared.drafts.Rejection.{Rejection as TheRejection}
+use Rattle.procedures.specs.procedure_values.declared.drafts.Outgoing.{Outgoing}
+use Rattle.procedures.specs.procedure_values.declared.drafts.Outgoing.TheVariants.{Nothing, Disconnect, Other}
+use Rattle.procedures.specs.procedure_stages.declared.stages.Progress.{Progress}
+use Rattle.procedures.specs.procedure_stages.Queue.{QueueFacts, waiting_in, count_of_disconnect, is_past_instant, next_draft, next_disconnect, next_by, without_next}
 use Rattle.procedures.specs.Table.{TableFacts}
-use Rattle.procedure_stages.specs.Closing.{is_disconnecting}
-use Rattle.procedure_values.specs.Drafts.{waits_for_instant}
+use Rattle.procedures.specs.procedure_stages.Closing.{is_disconnecting}
+use Rattle.procedures.specs.procedure_values.Drafts.{waits_for_instant}
 use Rattle.procedures.specs.Queue.{next_of}
 use Rattle.table_laws.specs.Waiting.{count_if, number_of, is_own_request, is_version_ind, is_terminate}
 

@@ -7,43 +7,43 @@ use Rattle.ble_base.specs.declared.procedure_kinds.Kind.{Kind}
 use Rattle.data_pdu.specs.declared.ctrl.Ctrl.{Ctrl}
 use Rattle.data_pdu.specs.declared.ctrl.CtrlRead.{CtrlRead}
 use Rattle.data_pdu.specs.declared.ctrl.CtrlRead.TheVariants.{Known, Unknown, Bare}
-use Rattle.procedure_values.specs.declared.asks.Ask.{Ask}
-use Rattle.procedure_values.specs.declared.asks.Ask.TheVariants.{Update as ask_update, Request as ask_request, Map as ask_map, Phy as ask_phy, Features as ask_features, Version as ask_version, Length as ask_length, Encrypt as ask_encrypt}
-use Rattle.procedure_values.specs.declared.drafts.Draft.{Draft}
-use Rattle.procedure_values.specs.declared.drafts.Draft.TheVariants.{Update, Grant, Map, Request as request_draft, PhyReq, PhyRsp, PhyInd, FeatureReq, PeripheralFeatureReq, FeatureRsp, VersionInd, LengthReq, LengthRsp, UnknownRsp, Cipher}
-use Rattle.procedure_values.specs.declared.drafts.Rejection.{Rejection as TheRejection}
-use Rattle.procedure_values.specs.declared.drafts.Outgoing.{Outgoing}
-use Rattle.procedure_values.specs.declared.drafts.Outgoing.TheVariants.{Nothing, Rejection, Disconnect, Other}
+use Rattle.procedures.specs.procedure_values.declared.asks.Ask.{Ask}
+use Rattle.procedures.specs.procedure_values.declared.asks.Ask.TheVariants.{Update as ask_update, Request as ask_request, Map as ask_map, Phy as ask_phy, Features as ask_features, Version as ask_version, Length as ask_length, Encrypt as ask_encrypt}
+use Rattle.procedures.specs.procedure_values.declared.drafts.Draft.{Draft}
+use Rattle.procedures.specs.procedure_values.declared.drafts.Draft.TheVariants.{Update, Grant, Map, Request as request_draft, PhyReq, PhyRsp, PhyInd, FeatureReq, PeripheralFeatureReq, FeatureRsp, VersionInd, LengthReq, LengthRsp, UnknownRsp, Cipher}
+use Rattle.procedures.specs.procedure_values.declared.drafts.Rejection.{Rejection as TheRejection}
+use Rattle.procedures.specs.procedure_values.declared.drafts.Outgoing.{Outgoing}
+use Rattle.procedures.specs.procedure_values.declared.drafts.Outgoing.TheVariants.{Nothing, Rejection, Disconnect, Other}
 use Rattle.procedures.specs.declared.outcome.Outcome.{Outcome}
-use Rattle.procedure_stages.specs.declared.reply.Reply.{Reply}
-use Rattle.procedure_stages.specs.declared.reply.Reply.TheVariants.{Nothing as no_reply, Reject, Answer}
-use Rattle.procedure_stages.specs.declared.stages.Exchange.TheVariants.{FeaturesUnsent, FeaturesSent, VersionUnsent, VersionSent, LengthUnsent, LengthSent}
-use Rattle.procedure_stages.specs.declared.stages.OwnCentral.{OwnCentral}
-use Rattle.procedure_stages.specs.declared.stages.OwnCentral.TheVariants.{Exclusive as exclusive, Exchange as exchange, EncryptUnsent, EncryptSent}
+use Rattle.procedures.specs.procedure_stages.declared.reply.Reply.{Reply}
+use Rattle.procedures.specs.procedure_stages.declared.reply.Reply.TheVariants.{Nothing as no_reply, Reject, Answer}
+use Rattle.procedures.specs.procedure_stages.declared.stages.Exchange.TheVariants.{FeaturesUnsent, FeaturesSent, VersionUnsent, VersionSent, LengthUnsent, LengthSent}
+use Rattle.procedures.specs.procedure_stages.declared.stages.OwnCentral.{OwnCentral}
+use Rattle.procedures.specs.procedure_stages.declared.stages.OwnCentral.TheVariants.{Exclusive as exclusive, Exchange as exchange, EncryptUnsent, EncryptSent}
 use Rattle.exclusive_stages.specs.declared.stages.CentralStage.TheVariants.{Idle, UpdateUnsent, UpdateSent, MapUnsent, MapSent, PhyUnsent, PhyAnswered, PhyIndicated}
 use Rattle.exclusive_stages.specs.declared.stages.PeerAtCentral.{PeerAtCentral}
 use Rattle.exclusive_stages.specs.declared.stages.PeerAtCentral.TheVariants.{Absent, HostAsked, GrantUnsent, GrantSent, PhyIndUnsent, PhyIndSent}
 use Rattle.exclusive_stages.specs.declared.stages.PeerAtPeripheral.{PeerAtPeripheral}
 use Rattle.exclusive_stages.specs.declared.stages.PeerAtPeripheral.TheVariants.{Absent as absent, UpdateTaken, MapTaken, PhyRspUnsent, PhyRspSent}
-use Rattle.procedure_stages.specs.declared.stages.Central.{Central}
-use Rattle.procedure_stages.specs.declared.stages.Peripheral.{Peripheral}
-use Rattle.procedure_stages.specs.declared.stages.Progress.{Progress}
-use Rattle.procedure_stages.specs.declared.stages.Progress.TheVariants.{Central as central, Peripheral as peripheral}
-use Rattle.procedure_stages.specs.declared.steps.Step.{Step}
-use Rattle.procedure_stages.specs.declared.closing.Closing.{Closing}
-use Rattle.procedure_stages.specs.Kinds.{begins, kind_at_central, own_kind, role_of}
-use Rattle.procedure_values.specs.Asks.{kind_of_ask}
-use Rattle.procedure_stages.specs.Collisions.{is_exclusive, is_encrypt, peer_lets}
-use Rattle.procedure_stages.specs.Opcodes.{connection_param_req_opcode}
-use Rattle.procedure_stages.specs.Queue.{QueueFacts, is_past_instant, next_by, next_disconnect, next_draft, with_draft, with_reply, without_next}
+use Rattle.procedures.specs.procedure_stages.declared.stages.Central.{Central}
+use Rattle.procedures.specs.procedure_stages.declared.stages.Peripheral.{Peripheral}
+use Rattle.procedures.specs.procedure_stages.declared.stages.Progress.{Progress}
+use Rattle.procedures.specs.procedure_stages.declared.stages.Progress.TheVariants.{Central as central, Peripheral as peripheral}
+use Rattle.procedures.specs.procedure_stages.declared.steps.Step.{Step}
+use Rattle.procedures.specs.procedure_stages.declared.closing.Closing.{Closing}
+use Rattle.procedures.specs.procedure_stages.Kinds.{begins, kind_at_central, own_kind, role_of}
+use Rattle.procedures.specs.procedure_values.Asks.{kind_of_ask}
+use Rattle.procedures.specs.procedure_stages.Collisions.{is_exclusive, is_encrypt, peer_lets}
+use Rattle.procedures.specs.procedure_stages.Opcodes.{connection_param_req_opcode}
+use Rattle.procedures.specs.procedure_stages.Queue.{QueueFacts, is_past_instant, next_by, next_disconnect, next_draft, with_draft, with_reply, without_next}
 use Rattle.procedures.specs.Table.{TableFacts, first_facts}
-use Rattle.procedure_stages.specs.Closing.{is_disconnecting, is_open}
-use Rattle.procedure_stages.specs.InProgress.{has_peer, is_encrypting, is_host_asked}
+use Rattle.procedures.specs.procedure_stages.Closing.{is_disconnecting, is_open}
+use Rattle.procedures.specs.procedure_stages.InProgress.{has_peer, is_encrypting, is_host_asked}
 use Rattle.exclusive_stages.specs.Kinds.{has_peer_at_central, has_peer_at_peripheral, is_host_asked_at_central}
-use Rattle.procedure_values.specs.Drafts.{waits_for_instant}
+use Rattle.procedures.specs.procedure_values.Drafts.{waits_for_instant}
 use Rattle.procedures.specs.Queue.{next_of}
 use Rattle.exclusive_stages.specs.Awaited.{has_phy_of_central}
-use Rattle.procedure_stages.specs.Acked.{central_acked, peripheral_acked, progress_acked}
+use Rattle.procedures.specs.procedure_stages.Acked.{central_acked, peripheral_acked, progress_acked}
 use Rattle.exclusive_stages.specs.Acked.{own_acked_at_central, peer_acked_at_central}
 use Rattle.exclusive_stages.specs.declared.pdus.Pdu.{Pdu}
 use Rattle.exclusive_stages.specs.declared.pdus.Pdu.TheVariants.{PhyInd as PhyIndPdu}
@@ -51,9 +51,9 @@ use Rattle.procedures.specs.Encryption.{is_rejection}
 use Rattle.procedures.specs.Taking.{facts_with, lacks_room, outcome_of, took_step}
 use Rattle.procedures.specs.Beginning.{ask_at, begin_at, facts_begun, place_to_begin}
 use Rattle.procedures.specs.Sending.{facts_sent}
-use Rattle.procedure_stages.specs.Sent.{own_draft_sent_by_central, peer_draft_sent_by_central, peer_draft_sent_by_peripheral, progress_after_sending}
+use Rattle.procedures.specs.procedure_stages.Sent.{own_draft_sent_by_central, peer_draft_sent_by_central, peer_draft_sent_by_peripheral, progress_after_sending}
 use Rattle.procedures.specs.Going.{host_answer_step}
-use Rattle.procedure_stages.specs.Held.{progress_held}
+use Rattle.procedures.specs.procedure_stages.Held.{progress_held}
 use Rattle.exclusive_stages.specs.Held.{own_held_at_central, peer_held_at_central, peer_held_at_peripheral}
 use Rattle.procedures.specs.Calls.{Call, asks, begins_one, takes, sends, is_acked, enters, host_answers, disconnects, is_given, after_call, after_calls}
 use Rattle.table_laws.specs.Waiting.{number_of, count_if}
@@ -63,7 +63,7 @@ use Rattle.table_laws.proofs.Numbers.{number-push}
 use Rattle.table_laws.proofs.Begun.{begins_of}
 use Rattle.table_laws.proofs.Roles.{role_after}
 use Rattle.table_laws.proofs.OneProcedure.{AloneHere, Fits, IsAlone, MayTake, TookOne, excludes, is_indication, of_reply, room_of_own, room_of_peer, took_one}
-use Rattle.procedure_stages.specs.Exclusive.{on_central_stage, pdu_of_draft, pdu_of_outgoing}
+use Rattle.procedures.specs.procedure_stages.Exclusive.{on_central_stage, pdu_of_draft, pdu_of_outgoing}
 
 pub record One (f : TableFacts) : Type 0 where
   pub alone : IsAlone f.progress

@@ -10,48 +10,48 @@ use Rattle.data_pdu.specs.declared.ctrl.CtrlRead.{CtrlRead}
 use Rattle.data_pdu.specs.declared.ctrl.CtrlRead.TheVariants.{Known, Unknown, Bare}
 use Rattle.instants.specs.declared.indications.Indication.{Indication}
 use Rattle.instants.specs.declared.indications.Indication.TheVariants.{Update as update_indication, Map as map_indication}
-use Rattle.procedure_values.specs.declared.drafts.Draft.TheVariants.{PhyRsp}
+use Rattle.procedures.specs.procedure_values.declared.drafts.Draft.TheVariants.{PhyRsp}
 use Rattle.procedures.specs.declared.outcome.Outcome.{Outcome}
-use Rattle.procedure_stages.specs.declared.reply.Reply.{Reply}
-use Rattle.procedure_stages.specs.declared.reply.Reply.TheVariants.{Answer}
-use Rattle.procedure_stages.specs.declared.stages.Ahead.{Ahead}
-use Rattle.procedure_stages.specs.declared.stages.Ahead.TheVariants.{Nothing as nothing_ahead, Update as update_ahead, Map as map_ahead}
-use Rattle.procedure_stages.specs.declared.stages.Exchange.TheVariants.{FeaturesUnsent, FeaturesSent, VersionUnsent, VersionSent, LengthUnsent, LengthSent}
-use Rattle.procedure_stages.specs.declared.stages.OwnCentral.{OwnCentral}
-use Rattle.procedure_stages.specs.declared.stages.OwnCentral.TheVariants.{Exclusive as exclusive, Exchange as exchange, EncryptUnsent, EncryptSent}
+use Rattle.procedures.specs.procedure_stages.declared.reply.Reply.{Reply}
+use Rattle.procedures.specs.procedure_stages.declared.reply.Reply.TheVariants.{Answer}
+use Rattle.procedures.specs.procedure_stages.declared.stages.Ahead.{Ahead}
+use Rattle.procedures.specs.procedure_stages.declared.stages.Ahead.TheVariants.{Nothing as nothing_ahead, Update as update_ahead, Map as map_ahead}
+use Rattle.procedures.specs.procedure_stages.declared.stages.Exchange.TheVariants.{FeaturesUnsent, FeaturesSent, VersionUnsent, VersionSent, LengthUnsent, LengthSent}
+use Rattle.procedures.specs.procedure_stages.declared.stages.OwnCentral.{OwnCentral}
+use Rattle.procedures.specs.procedure_stages.declared.stages.OwnCentral.TheVariants.{Exclusive as exclusive, Exchange as exchange, EncryptUnsent, EncryptSent}
 use Rattle.exclusive_stages.specs.declared.stages.CentralStage.TheVariants.{Idle, UpdateUnsent, UpdateSent, MapUnsent, MapSent, PhyUnsent, PhySent, PhyAnswered, PhyIndicated}
-use Rattle.procedure_stages.specs.declared.stages.OwnPeripheral.{OwnPeripheral}
-use Rattle.procedure_stages.specs.declared.stages.OwnPeripheral.TheVariants.{Exclusive as exclusive_p}
+use Rattle.procedures.specs.procedure_stages.declared.stages.OwnPeripheral.{OwnPeripheral}
+use Rattle.procedures.specs.procedure_stages.declared.stages.OwnPeripheral.TheVariants.{Exclusive as exclusive_p}
 use Rattle.exclusive_stages.specs.declared.stages.PeripheralStage.TheVariants.{Idle as idle}
 use Rattle.exclusive_stages.specs.declared.stages.PeerAtCentral.{PeerAtCentral}
 use Rattle.exclusive_stages.specs.declared.stages.PeerAtCentral.TheVariants.{Absent, HostAsked, GrantUnsent, PhyIndUnsent}
 use Rattle.exclusive_stages.specs.declared.stages.PeerAtPeripheral.{PeerAtPeripheral}
 use Rattle.exclusive_stages.specs.declared.stages.PeerAtPeripheral.TheVariants.{Absent as absent, UpdateTaken, MapTaken, PhyRspUnsent}
-use Rattle.procedure_stages.specs.declared.stages.Central.{Central}
-use Rattle.procedure_stages.specs.declared.stages.Peripheral.{Peripheral}
-use Rattle.procedure_stages.specs.declared.stages.Progress.{Progress}
-use Rattle.procedure_stages.specs.declared.stages.Progress.TheVariants.{Central as central, Peripheral as peripheral}
-use Rattle.procedure_stages.specs.declared.steps.Effect.TheVariants.{PeerFeatures, AskHost, Cipher as cipher_effect}
-use Rattle.procedure_stages.specs.Kinds.{exchange_at_central, kind_at_peripheral, own_exchange, without_own}
-use Rattle.procedure_stages.specs.Collisions.{collision}
-use Rattle.procedure_values.specs.Limits.{with_peer}
+use Rattle.procedures.specs.procedure_stages.declared.stages.Central.{Central}
+use Rattle.procedures.specs.procedure_stages.declared.stages.Peripheral.{Peripheral}
+use Rattle.procedures.specs.procedure_stages.declared.stages.Progress.{Progress}
+use Rattle.procedures.specs.procedure_stages.declared.stages.Progress.TheVariants.{Central as central, Peripheral as peripheral}
+use Rattle.procedures.specs.procedure_stages.declared.steps.Effect.TheVariants.{PeerFeatures, AskHost, Cipher as cipher_effect}
+use Rattle.procedures.specs.procedure_stages.Kinds.{exchange_at_central, kind_at_peripheral, own_exchange, without_own}
+use Rattle.procedures.specs.procedure_stages.Collisions.{collision}
+use Rattle.procedures.specs.procedure_values.Limits.{with_peer}
 use Rattle.procedures.specs.Table.{TableFacts}
 use Rattle.procedures.specs.Outcomes.{unchanged, moved, moved_and_answered, rejected, with_effect, with_done}
 use Rattle.procedures.specs.Update.{follow, followed, granted, update_begun}
-use Rattle.procedure_stages.specs.Awaited.{awaits_features, awaits_lengths, is_own_encryption, is_version}
+use Rattle.procedures.specs.procedure_stages.Awaited.{awaits_features, awaits_lengths, is_own_encryption, is_version}
 use Rattle.exclusive_stages.specs.Awaited.{reads_as_answer, peer_answered, central_answered, awaits_phy_rsp, has_phy_of_central, awaits_phy_ind}
 use Rattle.procedures.specs.Request.{outlived, request_judged, request_taken}
-use Rattle.procedure_values.specs.Values.{are_valid}
+use Rattle.procedures.specs.procedure_values.Values.{are_valid}
 use Rattle.procedures.specs.Phy.{phy_answered, phy_req_at_central}
 use Rattle.procedures.specs.Length.{with_lengths}
-use Rattle.procedure_stages.specs.Opcodes.{first_opcode, is_opcode, later_opcode, opcode_at_central, connection_param_req_opcode}
+use Rattle.procedures.specs.procedure_stages.Opcodes.{first_opcode, is_opcode, later_opcode, opcode_at_central, connection_param_req_opcode}
 use Rattle.procedures.specs.Refusals.{refused_if}
 use Rattle.procedures.specs.Version.{version_reply}
 use Rattle.procedures.specs.Taking.{outcome_of, taken_by}
 use Rattle.table_laws.specs.Waiting.{count_if}
 use Rattle.table_laws.specs.Exclusive.{PeerMayBegin, MayComeTo, MayComeToCentral, MayComeToPeripheral, has_indication, is_of_exclusive}
 use Rattle.table_laws.proofs.Outcomes.{named, named_either}
-use Rattle.procedure_stages.specs.Exclusive.{central_stage, peripheral_stage}
+use Rattle.procedures.specs.procedure_stages.Exclusive.{central_stage, peripheral_stage}
 
 -- ---- the stages in which a PDU of such a procedure waits at a central
 

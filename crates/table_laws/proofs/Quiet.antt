@@ -9,51 +9,51 @@ use Rattle.data_pdu.specs.declared.ctrl.Ctrl.{Ctrl}
 use Rattle.data_pdu.specs.declared.ctrl.Ctrl.TheVariants.{EncReq, EncRsp, PauseEncReq, PauseEncRsp, RejectExtInd, RejectInd, StartEncReq, StartEncRsp, TerminateInd, UnknownRsp}
 use Rattle.data_pdu.specs.declared.ctrl.CtrlRead.{CtrlRead}
 use Rattle.data_pdu.specs.declared.ctrl.CtrlRead.TheVariants.{Known, Unknown, Bare}
-use Rattle.procedure_values.specs.declared.asks.Ask.{Ask}
-use Rattle.procedure_values.specs.declared.asks.Ask.TheVariants.{Update as ask_update, Request as ask_request, Map as ask_map, Phy as ask_phy, Features as ask_features, Version as ask_version, Length as ask_length, Encrypt as ask_encrypt}
-use Rattle.procedure_values.specs.declared.drafts.Draft.{Draft}
-use Rattle.procedure_values.specs.declared.drafts.Draft.TheVariants.{Cipher, FeatureReq, FeatureRsp, Grant, LengthReq, LengthRsp, Map, PeripheralFeatureReq, PhyInd, PhyReq, PhyRsp, Request, UnknownRsp as unknown_rsp, Update, VersionInd}
-use Rattle.procedure_values.specs.declared.drafts.Outgoing.{Outgoing}
-use Rattle.procedure_values.specs.declared.drafts.Outgoing.TheVariants.{Disconnect, Nothing, Other, Rejection}
-use Rattle.procedure_values.specs.declared.drafts.Rejection.{Rejection as TheRejection}
-use Rattle.procedure_values.specs.declared.values.NewParams.{NewParams}
-use Rattle.procedure_stages.specs.declared.closing.Closing.{Closing}
-use Rattle.procedure_stages.specs.declared.reply.Reply.{Reply}
-use Rattle.procedure_stages.specs.declared.reply.Reply.TheVariants.{Nothing as no_reply, Reject, Answer}
-use Rattle.procedure_stages.specs.Closing.{is_open}
-use Rattle.procedure_stages.specs.Kinds.{begins, kind_at_central, own_kind, role_of, without_own}
-use Rattle.procedure_values.specs.Asks.{kind_of_ask}
-use Rattle.procedure_stages.specs.Queue.{QueueFacts, with_reply, without_next}
+use Rattle.procedures.specs.procedure_values.declared.asks.Ask.{Ask}
+use Rattle.procedures.specs.procedure_values.declared.asks.Ask.TheVariants.{Update as ask_update, Request as ask_request, Map as ask_map, Phy as ask_phy, Features as ask_features, Version as ask_version, Length as ask_length, Encrypt as ask_encrypt}
+use Rattle.procedures.specs.procedure_values.declared.drafts.Draft.{Draft}
+use Rattle.procedures.specs.procedure_values.declared.drafts.Draft.TheVariants.{Cipher, FeatureReq, FeatureRsp, Grant, LengthReq, LengthRsp, Map, PeripheralFeatureReq, PhyInd, PhyReq, PhyRsp, Request, UnknownRsp as unknown_rsp, Update, VersionInd}
+use Rattle.procedures.specs.procedure_values.declared.drafts.Outgoing.{Outgoing}
+use Rattle.procedures.specs.procedure_values.declared.drafts.Outgoing.TheVariants.{Disconnect, Nothing, Other, Rejection}
+use Rattle.procedures.specs.procedure_values.declared.drafts.Rejection.{Rejection as TheRejection}
+use Rattle.procedures.specs.procedure_values.declared.values.NewParams.{NewParams}
+use Rattle.procedures.specs.procedure_stages.declared.closing.Closing.{Closing}
+use Rattle.procedures.specs.procedure_stages.declared.reply.Reply.{Reply}
+use Rattle.procedures.specs.procedure_stages.declared.reply.Reply.TheVariants.{Nothing as no_reply, Reject, Answer}
+use Rattle.procedures.specs.procedure_stages.Closing.{is_open}
+use Rattle.procedures.specs.procedure_stages.Kinds.{begins, kind_at_central, own_kind, role_of, without_own}
+use Rattle.procedures.specs.procedure_values.Asks.{kind_of_ask}
+use Rattle.procedures.specs.procedure_stages.Queue.{QueueFacts, with_reply, without_next}
 use Rattle.exclusive_stages.specs.declared.stages.PeerAtCentral.{PeerAtCentral}
 use Rattle.exclusive_stages.specs.declared.stages.PeerAtCentral.TheVariants.{Absent}
-use Rattle.procedure_stages.specs.declared.steps.Effect.TheVariants.{Cipher as CipherEffect}
+use Rattle.procedures.specs.procedure_stages.declared.steps.Effect.TheVariants.{Cipher as CipherEffect}
 use Rattle.procedures.specs.Encryption.{cipher_at_central, start_rsp_at_central}
 use Rattle.procedures.specs.Outcomes.{moved, unchanged, with_done, with_effect}
 use Rattle.procedures.specs.Refusals.{refused_if}
 use Rattle.procedures.specs.declared.outcome.Outcome.{Outcome}
-use Rattle.procedure_stages.specs.declared.stages.Central.{Central}
-use Rattle.procedure_stages.specs.declared.stages.OwnCentral.{OwnCentral}
-use Rattle.procedure_stages.specs.declared.stages.OwnCentral.TheVariants.{Exclusive as exclusive, EncryptSent, EncryptUnsent, Exchange as exchange}
+use Rattle.procedures.specs.procedure_stages.declared.stages.Central.{Central}
+use Rattle.procedures.specs.procedure_stages.declared.stages.OwnCentral.{OwnCentral}
+use Rattle.procedures.specs.procedure_stages.declared.stages.OwnCentral.TheVariants.{Exclusive as exclusive, EncryptSent, EncryptUnsent, Exchange as exchange}
 use Rattle.exclusive_stages.specs.declared.stages.CentralStage.TheVariants.{Idle}
-use Rattle.procedure_stages.specs.declared.stages.Progress.{Progress}
-use Rattle.procedure_stages.specs.declared.stages.Progress.TheVariants.{Central as central, Peripheral as peripheral}
-use Rattle.procedure_stages.specs.declared.steps.Step.{Step}
-use Rattle.procedure_stages.specs.Awaited.{is_own_encryption}
-use Rattle.procedure_stages.specs.Begun.{feature_draft, progress_begun, version_draft}
+use Rattle.procedures.specs.procedure_stages.declared.stages.Progress.{Progress}
+use Rattle.procedures.specs.procedure_stages.declared.stages.Progress.TheVariants.{Central as central, Peripheral as peripheral}
+use Rattle.procedures.specs.procedure_stages.declared.steps.Step.{Step}
+use Rattle.procedures.specs.procedure_stages.Awaited.{is_own_encryption}
+use Rattle.procedures.specs.procedure_stages.Begun.{feature_draft, progress_begun, version_draft}
 use Rattle.procedures.specs.Beginning.{ask_at, begin_at, begin_step, facts_begun, first_draft, place_to_begin, with_first_draft}
 use Rattle.procedures.specs.Calls.{Call, after_call, after_calls, asks, begins_one, disconnects, enters, host_answers, is_acked, is_given, sends, takes}
 use Rattle.procedures.specs.Going.{host_answer_step, owe_step}
 use Rattle.procedures.specs.Queue.{next_of}
 use Rattle.procedures.specs.Table.{TableFacts, first_facts}
-use Rattle.procedure_stages.specs.Acked.{central_acked, progress_acked}
+use Rattle.procedures.specs.procedure_stages.Acked.{central_acked, progress_acked}
 use Rattle.exclusive_stages.specs.Acked.{peer_acked_at_central}
 use Rattle.exclusive_stages.specs.declared.pdus.Pdu.{Pdu}
 use Rattle.exclusive_stages.specs.declared.pdus.Pdu.TheVariants.{PhyInd as PhyIndPdu}
-use Rattle.procedure_stages.specs.Held.{progress_held}
+use Rattle.procedures.specs.procedure_stages.Held.{progress_held}
 use Rattle.exclusive_stages.specs.Held.{peer_held_at_central}
-use Rattle.procedure_stages.specs.InProgress.{has_peer, is_host_asked}
+use Rattle.procedures.specs.procedure_stages.InProgress.{has_peer, is_host_asked}
 use Rattle.exclusive_stages.specs.Kinds.{has_peer_at_central, is_host_asked_at_central}
-use Rattle.procedure_stages.specs.Sent.{peer_draft_sent_by_central, progress_after_sending}
+use Rattle.procedures.specs.procedure_stages.Sent.{peer_draft_sent_by_central, progress_after_sending}
 use Rattle.procedures.specs.Encryption.{progress_given}
 use Rattle.procedures.specs.Taking.{facts_with, lacks_room, outcome_of, taken_by, took_step}
 use Rattle.table_laws.specs.Exclusive.{AllKeepRules}
@@ -69,7 +69,7 @@ use Rattle.table_laws.proofs.Encrypting.{begins_by}
 use Rattle.table_laws.proofs.Kept.{Kept}
 use Rattle.table_laws.proofs.Numbers.{number-push}
 use Rattle.table_laws.proofs.Outcomes.{is_answer, is_reply, took}
-use Rattle.procedure_stages.specs.Exclusive.{pdu_of_draft, pdu_of_outgoing}
+use Rattle.procedures.specs.procedure_stages.Exclusive.{pdu_of_draft, pdu_of_outgoing}
 
 -- ---- drafts that pass a test, in a queue that changes
 

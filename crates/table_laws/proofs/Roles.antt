@@ -7,38 +7,38 @@ use Rattle.ble_base.specs.declared.roles.Role.TheVariants.{Central as central_ro
 use Rattle.data_pdu.specs.declared.ctrl.Ctrl.{Ctrl}
 use Rattle.data_pdu.specs.declared.ctrl.Ctrl.TheVariants.{TerminateInd, EncReq, EncRsp, StartEncReq, StartEncRsp, PauseEncReq, PauseEncRsp, RejectExtInd}
 use Rattle.data_pdu.specs.declared.ctrl.CtrlRead.{CtrlRead}
-use Rattle.procedure_values.specs.declared.asks.Ask.{Ask}
-use Rattle.procedure_values.specs.declared.asks.Ask.TheVariants.{Update as ask_update, Request as ask_request, Map as ask_map, Phy as ask_phy, Features as ask_features, Version as ask_version, Length as ask_length, Encrypt as ask_encrypt}
-use Rattle.procedure_values.specs.declared.drafts.Draft.{Draft}
-use Rattle.procedure_values.specs.declared.drafts.Draft.TheVariants.{Grant, PhyRsp, PhyInd, FeatureReq, PeripheralFeatureReq, FeatureRsp, VersionInd, LengthRsp, UnknownRsp, Cipher}
-use Rattle.procedure_values.specs.declared.drafts.Rejection.{Rejection as TheRejection}
-use Rattle.procedure_values.specs.declared.drafts.Outgoing.{Outgoing}
-use Rattle.procedure_values.specs.declared.drafts.Outgoing.TheVariants.{Nothing, Rejection, Disconnect, Other}
+use Rattle.procedures.specs.procedure_values.declared.asks.Ask.{Ask}
+use Rattle.procedures.specs.procedure_values.declared.asks.Ask.TheVariants.{Update as ask_update, Request as ask_request, Map as ask_map, Phy as ask_phy, Features as ask_features, Version as ask_version, Length as ask_length, Encrypt as ask_encrypt}
+use Rattle.procedures.specs.procedure_values.declared.drafts.Draft.{Draft}
+use Rattle.procedures.specs.procedure_values.declared.drafts.Draft.TheVariants.{Grant, PhyRsp, PhyInd, FeatureReq, PeripheralFeatureReq, FeatureRsp, VersionInd, LengthRsp, UnknownRsp, Cipher}
+use Rattle.procedures.specs.procedure_values.declared.drafts.Rejection.{Rejection as TheRejection}
+use Rattle.procedures.specs.procedure_values.declared.drafts.Outgoing.{Outgoing}
+use Rattle.procedures.specs.procedure_values.declared.drafts.Outgoing.TheVariants.{Nothing, Rejection, Disconnect, Other}
 use Rattle.procedures.specs.declared.outcome.Outcome.{Outcome}
-use Rattle.procedure_stages.specs.declared.reply.Reply.{Reply}
-use Rattle.procedure_stages.specs.declared.reply.Reply.TheVariants.{Nothing as no_reply, Reject, Answer}
-use Rattle.procedure_stages.specs.declared.stages.Progress.{Progress}
-use Rattle.procedure_stages.specs.declared.stages.Progress.TheVariants.{Central as central, Peripheral as peripheral}
-use Rattle.procedure_stages.specs.declared.steps.Step.{Step}
-use Rattle.procedure_stages.specs.Kinds.{begins, role_of}
-use Rattle.procedure_values.specs.Asks.{kind_of_ask}
-use Rattle.procedure_stages.specs.Queue.{QueueFacts, is_past_instant, next_by, next_disconnect, next_draft, with_draft, with_rejection, with_reply, without_next}
+use Rattle.procedures.specs.procedure_stages.declared.reply.Reply.{Reply}
+use Rattle.procedures.specs.procedure_stages.declared.reply.Reply.TheVariants.{Nothing as no_reply, Reject, Answer}
+use Rattle.procedures.specs.procedure_stages.declared.stages.Progress.{Progress}
+use Rattle.procedures.specs.procedure_stages.declared.stages.Progress.TheVariants.{Central as central, Peripheral as peripheral}
+use Rattle.procedures.specs.procedure_stages.declared.steps.Step.{Step}
+use Rattle.procedures.specs.procedure_stages.Kinds.{begins, role_of}
+use Rattle.procedures.specs.procedure_values.Asks.{kind_of_ask}
+use Rattle.procedures.specs.procedure_stages.Queue.{QueueFacts, is_past_instant, next_by, next_disconnect, next_draft, with_draft, with_rejection, with_reply, without_next}
 use Rattle.procedures.specs.Table.{TableFacts, first_facts}
-use Rattle.procedure_stages.specs.Closing.{is_disconnecting, is_open}
-use Rattle.procedure_stages.specs.InProgress.{is_host_asked}
-use Rattle.procedure_values.specs.Drafts.{ctrl_of_draft, ctrl_of_outgoing, waits_for_instant}
+use Rattle.procedures.specs.procedure_stages.Closing.{is_disconnecting, is_open}
+use Rattle.procedures.specs.procedure_stages.InProgress.{is_host_asked}
+use Rattle.procedures.specs.procedure_values.Drafts.{ctrl_of_draft, ctrl_of_outgoing, waits_for_instant}
 use Rattle.procedures.specs.Queue.{next_of}
 use Rattle.procedures.specs.Encryption.{is_rejection, progress_given}
 use Rattle.procedures.specs.Taking.{facts_with, lacks_room, outcome_of, took_step}
 use Rattle.procedures.specs.Beginning.{ask_at, begin_at, facts_begun, first_draft, place_to_begin, with_first_draft}
-use Rattle.procedure_stages.specs.Begun.{progress_begun, version_draft}
+use Rattle.procedures.specs.procedure_stages.Begun.{progress_begun, version_draft}
 use Rattle.procedures.specs.Sending.{next_ctrl_of}
-use Rattle.procedure_stages.specs.Acked.{progress_acked}
-use Rattle.procedure_stages.specs.Sent.{progress_after_sending}
+use Rattle.procedures.specs.procedure_stages.Acked.{progress_acked}
+use Rattle.procedures.specs.procedure_stages.Sent.{progress_after_sending}
 use Rattle.procedures.specs.Going.{host_answer_step}
-use Rattle.procedure_stages.specs.Held.{progress_held}
+use Rattle.procedures.specs.procedure_stages.Held.{progress_held}
 use Rattle.procedures.specs.Calls.{Call, asks, begins_one, takes, sends, is_acked, enters, host_answers, disconnects, is_given, after_call, after_calls}
-use Rattle.procedure_stages.specs.Opcodes.{connection_param_req_opcode}
+use Rattle.procedures.specs.procedure_stages.Opcodes.{connection_param_req_opcode}
 use Rattle.table_laws.specs.Pasts.{May, MayAll, MayGive, key_after_call}
 use Rattle.table_laws.specs.Sent.{is_sent_by}
 use Rattle.table_laws.proofs.Outcomes.{Took, is_answer, is_reply, took}

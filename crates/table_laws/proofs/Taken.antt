@@ -3,30 +3,30 @@ use Rattle.std.proofs.Common.{◌≡◌, ℕ, zero, suc, ◌+◌, ◌≤◌, Boo
 use Rattle.ble_base.specs.declared.roles.Role.{Role}
 use Rattle.ble_base.specs.declared.procedure_kinds.Kind.TheVariants.{Encrypt}
 use Rattle.data_pdu.specs.declared.ctrl.CtrlRead.{CtrlRead}
-use Rattle.procedure_values.specs.declared.drafts.Draft.{Draft}
-use Rattle.procedure_values.specs.declared.drafts.Draft.TheVariants.{PhyRsp, PhyInd, FeatureRsp, VersionInd, LengthRsp, UnknownRsp}
+use Rattle.procedures.specs.procedure_values.declared.drafts.Draft.{Draft}
+use Rattle.procedures.specs.procedure_values.declared.drafts.Draft.TheVariants.{PhyRsp, PhyInd, FeatureRsp, VersionInd, LengthRsp, UnknownRsp}
 use Rattle.procedures.specs.declared.outcome.Outcome.{Outcome}
-use Rattle.procedure_stages.specs.declared.reply.Reply.{Reply}
-use Rattle.procedure_stages.specs.declared.reply.Reply.TheVariants.{Nothing as no_reply, Reject, Answer}
-use Rattle.procedure_stages.specs.declared.stages.Exchange.TheVariants.{FeaturesUnsent, FeaturesSent, VersionUnsent, VersionSent, LengthUnsent, LengthSent}
-use Rattle.procedure_stages.specs.declared.stages.OwnCentral.{OwnCentral}
+use Rattle.procedures.specs.procedure_stages.declared.reply.Reply.{Reply}
+use Rattle.procedures.specs.procedure_stages.declared.reply.Reply.TheVariants.{Nothing as no_reply, Reject, Answer}
+use Rattle.procedures.specs.procedure_stages.declared.stages.Exchange.TheVariants.{FeaturesUnsent, FeaturesSent, VersionUnsent, VersionSent, LengthUnsent, LengthSent}
+use Rattle.procedures.specs.procedure_stages.declared.stages.OwnCentral.{OwnCentral}
 use Rattle.exclusive_stages.specs.declared.stages.CentralStage.TheVariants.{Idle, UpdateUnsent, UpdateSent, MapUnsent, MapSent, PhyUnsent, PhySent, PhyAnswered, PhyIndicated}
 use Rattle.exclusive_stages.specs.declared.stages.PeripheralStage.TheVariants.{Idle as idle, RequestUnsent, RequestSent, RequestAcknowledged, RequestGranted, PhyUnsent as phy_unsent, PhySent as phy_sent}
-use Rattle.procedure_stages.specs.declared.stages.OwnCentral.TheVariants.{Exclusive as exclusive, Exchange as exchange, EncryptUnsent, EncryptSent}
-use Rattle.procedure_stages.specs.declared.stages.OwnPeripheral.{OwnPeripheral}
-use Rattle.procedure_stages.specs.declared.stages.OwnPeripheral.TheVariants.{Exclusive as exclusive_p, Exchange as exchange_p}
-use Rattle.procedure_stages.specs.declared.stages.Progress.{Progress}
-use Rattle.procedure_stages.specs.declared.stages.Progress.TheVariants.{Central as central, Peripheral as peripheral}
-use Rattle.procedure_stages.specs.declared.steps.Effect.{Effect}
-use Rattle.procedure_stages.specs.declared.steps.Effect.TheVariants.{PeerEnds}
-use Rattle.procedure_stages.specs.declared.steps.Step.{Step}
-use Rattle.procedure_stages.specs.declared.closing.Closing.{Closing}
-use Rattle.procedure_stages.specs.declared.closing.Closing.TheVariants.{Open, Closed, Disconnecting}
-use Rattle.procedure_stages.specs.Kinds.{kind_at_central, kind_at_peripheral, own_kind, role_of}
-use Rattle.procedure_stages.specs.Queue.{QueueFacts, waiting_in, with_reply, has_reply, is_version_reply}
+use Rattle.procedures.specs.procedure_stages.declared.stages.OwnCentral.TheVariants.{Exclusive as exclusive, Exchange as exchange, EncryptUnsent, EncryptSent}
+use Rattle.procedures.specs.procedure_stages.declared.stages.OwnPeripheral.{OwnPeripheral}
+use Rattle.procedures.specs.procedure_stages.declared.stages.OwnPeripheral.TheVariants.{Exclusive as exclusive_p, Exchange as exchange_p}
+use Rattle.procedures.specs.procedure_stages.declared.stages.Progress.{Progress}
+use Rattle.procedures.specs.procedure_stages.declared.stages.Progress.TheVariants.{Central as central, Peripheral as peripheral}
+use Rattle.procedures.specs.procedure_stages.declared.steps.Effect.{Effect}
+use Rattle.procedures.specs.procedure_stages.declared.steps.Effect.TheVariants.{PeerEnds}
+use Rattle.procedures.specs.procedure_stages.declared.steps.Step.{Step}
+use Rattle.procedures.specs.procedure_stages.declared.closing.Closing.{Closing}
+use Rattle.procedures.specs.procedure_stages.declared.closing.Closing.TheVariants.{Open, Closed, Disconnecting}
+use Rattle.procedures.specs.procedure_stages.Kinds.{kind_at_central, kind_at_peripheral, own_kind, role_of}
+use Rattle.procedures.specs.procedure_stages.Queue.{QueueFacts, waiting_in, with_reply, has_reply, is_version_reply}
 use Rattle.procedures.specs.Table.{TableFacts}
-use Rattle.procedure_stages.specs.Closing.{is_open}
-use Rattle.procedure_stages.specs.Steps.{asks_host, closing_after}
+use Rattle.procedures.specs.procedure_stages.Closing.{is_open}
+use Rattle.procedures.specs.procedure_stages.Steps.{asks_host, closing_after}
 use Rattle.procedures.specs.Taking.{facts_with, lacks_room, outcome_of, took_step}
 use Rattle.procedures.specs.Calls.{takes}
 use Rattle.table_laws.specs.Waiting.{end_waiting, is_asked, is_version_ind, count_if, own_waiting, version_waiting}

@@ -4,10 +4,10 @@ use Rattle.ble_base.specs.declared.procedure_kinds.Kind.{Kind}
 use Rattle.ble_base.specs.declared.procedure_kinds.Kind.TheVariants.{Encrypt}
 use Rattle.ble_base.specs.declared.roles.Role.{Role}
 use Rattle.ble_base.specs.declared.roles.Role.TheVariants.{Central}
-use Rattle.procedure_stages.specs.Kinds.{own_kind}
+use Rattle.procedures.specs.procedure_stages.Kinds.{own_kind}
 use Rattle.procedures.specs.Table.{TableFacts, first_facts}
-use Rattle.procedure_stages.specs.InProgress.{has_peer}
-use Rattle.procedure_stages.specs.Queue.{waiting_in}
+use Rattle.procedures.specs.procedure_stages.InProgress.{has_peer}
+use Rattle.procedures.specs.procedure_stages.Queue.{waiting_in}
 use Rattle.procedures.specs.Calls.{Call, after_calls}
 use Rattle.table_laws.specs.Pasts.{MayAll}
 use Rattle.table_laws.specs.Waiting.{version_waiting}

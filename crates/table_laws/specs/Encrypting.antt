@@ -4,11 +4,11 @@ use Rattle.std.specs.Prelude.{◌≡◌, Bool, true, false, ⊤}
 use Rattle.data_pdu.specs.declared.ctrl.Ctrl.{Ctrl}
 use Rattle.data_pdu.specs.declared.ctrl.Ctrl.TheVariants.{EncReq, StartEncRsp, PauseEncReq, UnknownRsp, RejectInd, RejectExtInd}
 use Rattle.data_pdu.specs.declared.ctrl.CtrlRead.TheVariants.{Known}
-use Rattle.procedure_stages.specs.declared.stages.Progress.{Progress}
-use Rattle.procedure_stages.specs.declared.stages.Progress.TheVariants.{Central, Peripheral}
-use Rattle.procedure_stages.specs.Awaited.{is_own_encryption}
+use Rattle.procedures.specs.procedure_stages.declared.stages.Progress.{Progress}
+use Rattle.procedures.specs.procedure_stages.declared.stages.Progress.TheVariants.{Central, Peripheral}
+use Rattle.procedures.specs.procedure_stages.Awaited.{is_own_encryption}
 use Rattle.procedures.specs.Calls.{Call, begins_one, takes, is_given}
-use Rattle.procedure_stages.specs.Opcodes.{enc_req_opcode}
+use Rattle.procedures.specs.procedure_stages.Opcodes.{enc_req_opcode}
 
 -- the central's own at the central, and the same at the peripheral
 abbrev pub has_encryption : Progress → Bool

@@ -1,9 +1,9 @@
 -- The last PDUs of an end whose host disconnects (Core 5.2, volume 6 part B, section 5.1.6): rejections of procedures
 -- of the peer, then LL_TERMINATE_IND (our choice).
 use Rattle.std.specs.Prelude.{List, [], ◌∷◌, ◌++◌, map}
-use Rattle.procedure_values.specs.declared.drafts.Outgoing.{Outgoing}
-use Rattle.procedure_values.specs.declared.drafts.Outgoing.TheVariants.{Rejection, Disconnect}
-use Rattle.procedure_stages.specs.Queue.{QueueFacts, disconnect_in_order}
+use Rattle.procedures.specs.procedure_values.declared.drafts.Outgoing.{Outgoing}
+use Rattle.procedures.specs.procedure_values.declared.drafts.Outgoing.TheVariants.{Rejection, Disconnect}
+use Rattle.procedures.specs.procedure_stages.Queue.{QueueFacts, disconnect_in_order}
 use Rattle.procedures.specs.Table.{TableFacts}
 use Rattle.procedures.specs.Calls.{Call, after_call, sent_by}
 

@@ -3,21 +3,21 @@ use Rattle.std.specs.Prelude.{◌≡◌, ℕ, Bool, true, false, List, [], ◌�
 use Rattle.data_pdu.specs.declared.ctrl.Ctrl.{Ctrl}
 use Rattle.data_pdu.specs.declared.ctrl.Ctrl.TheVariants.{EncReq, PauseEncReq, UnknownRsp, RejectInd, RejectExtInd, ConnectionParamReq, PhyReq as phy_req}
 use Rattle.data_pdu.specs.declared.ctrl.CtrlRead.TheVariants.{Known}
-use Rattle.procedure_values.specs.declared.drafts.Draft.{Draft}
-use Rattle.procedure_values.specs.declared.drafts.Draft.TheVariants.{Update, Grant, Map, PhyReq, PhyInd}
-use Rattle.procedure_stages.specs.declared.stages.Ahead.{Ahead}
-use Rattle.procedure_stages.specs.declared.stages.Ahead.TheVariants.{Nothing}
-use Rattle.procedure_stages.specs.declared.stages.Central.{Central}
+use Rattle.procedures.specs.procedure_values.declared.drafts.Draft.{Draft}
+use Rattle.procedures.specs.procedure_values.declared.drafts.Draft.TheVariants.{Update, Grant, Map, PhyReq, PhyInd}
+use Rattle.procedures.specs.procedure_stages.declared.stages.Ahead.{Ahead}
+use Rattle.procedures.specs.procedure_stages.declared.stages.Ahead.TheVariants.{Nothing}
+use Rattle.procedures.specs.procedure_stages.declared.stages.Central.{Central}
 use Rattle.exclusive_stages.specs.declared.stages.PeerAtCentral.TheVariants.{Absent}
-use Rattle.procedure_stages.specs.declared.stages.Peripheral.{Peripheral}
-use Rattle.procedure_stages.specs.declared.stages.Progress.{Progress}
-use Rattle.procedure_stages.specs.declared.stages.Progress.TheVariants.{Central as central, Peripheral as peripheral}
+use Rattle.procedures.specs.procedure_stages.declared.stages.Peripheral.{Peripheral}
+use Rattle.procedures.specs.procedure_stages.declared.stages.Progress.{Progress}
+use Rattle.procedures.specs.procedure_stages.declared.stages.Progress.TheVariants.{Central as central, Peripheral as peripheral}
 use Rattle.procedures.specs.Table.{TableFacts}
-use Rattle.procedure_stages.specs.Awaited.{is_own_encryption}
+use Rattle.procedures.specs.procedure_stages.Awaited.{is_own_encryption}
 use Rattle.exclusive_stages.specs.Awaited.{has_phy_of_central, peer_answered}
 use Rattle.procedures.specs.Calls.{Call, takes, after_call}
 use Rattle.table_laws.specs.Waiting.{number_of}
-use Rattle.procedure_stages.specs.Exclusive.{central_stage}
+use Rattle.procedures.specs.procedure_stages.Exclusive.{central_stage}
 
 -- ---- the PDUs of a central in these procedures
 

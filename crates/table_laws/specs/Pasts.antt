@@ -5,16 +5,16 @@ use Rattle.ble_base.specs.ErrorCodes.{pin_or_key_missing}
 use Rattle.ble_base.specs.declared.procedure_kinds.Kind.TheVariants.{Encrypt}
 use Rattle.data_pdu.specs.declared.ctrl.Ctrl.{Ctrl}
 use Rattle.data_pdu.specs.declared.ctrl.Ctrl.TheVariants.{TerminateInd, EncReq, EncRsp, StartEncReq, StartEncRsp, PauseEncReq, PauseEncRsp, RejectExtInd}
-use Rattle.procedure_stages.specs.declared.stages.Progress.{Progress}
-use Rattle.procedure_stages.specs.declared.stages.Progress.TheVariants.{Central, Peripheral}
-use Rattle.procedure_stages.specs.Kinds.{own_kind}
+use Rattle.procedures.specs.procedure_stages.declared.stages.Progress.{Progress}
+use Rattle.procedures.specs.procedure_stages.declared.stages.Progress.TheVariants.{Central, Peripheral}
+use Rattle.procedures.specs.procedure_stages.Kinds.{own_kind}
 use Rattle.procedures.specs.Table.{TableFacts}
-use Rattle.procedure_stages.specs.Closing.{is_open}
-use Rattle.procedure_stages.specs.InProgress.{is_host_asked}
-use Rattle.procedure_stages.specs.Queue.{waiting_in}
+use Rattle.procedures.specs.procedure_stages.Closing.{is_open}
+use Rattle.procedures.specs.procedure_stages.InProgress.{is_host_asked}
+use Rattle.procedures.specs.procedure_stages.Queue.{waiting_in}
 use Rattle.procedures.specs.Taking.{took_step}
 use Rattle.procedures.specs.Calls.{Call, takes, host_answers, is_given, after_call}
-use Rattle.procedure_stages.specs.Opcodes.{enc_req_opcode}
+use Rattle.procedures.specs.procedure_stages.Opcodes.{enc_req_opcode}
 use Rattle.table_laws.specs.Waiting.{own_waiting}
 
 -- ---- whether the host of a peripheral is asked for a key: from LL_ENC_RSP on until it answers

@@ -6,7 +6,7 @@ use Rattle.ble_base.specs.declared.roles.Role.{Role}
 use Rattle.ble_base.specs.declared.roles.Role.TheVariants.{Central, Peripheral}
 use Rattle.data_pdu.specs.declared.ctrl.Ctrl.{Ctrl}
 use Rattle.data_pdu.specs.declared.ctrl.Ctrl.TheVariants.{ConnectionUpdateInd, ChannelMapInd, TerminateInd, EncReq, EncRsp, StartEncReq, StartEncRsp, UnknownRsp, FeatureReq, FeatureRsp, PauseEncReq, PauseEncRsp, VersionInd, PeripheralFeatureReq, ConnectionParamReq, RejectExtInd, LengthReq, LengthRsp, PhyReq, PhyRsp, PhyUpdateInd}
-use Rattle.procedure_stages.specs.Opcodes.{enc_req_opcode, connection_param_req_opcode, phy_req_opcode}
+use Rattle.procedures.specs.procedure_stages.Opcodes.{enc_req_opcode, connection_param_req_opcode, phy_req_opcode}
 
 -- a central rejects the two procedures of a peripheral that exclude others
 abbrev pub is_sent_by_central : Ctrl → Bool

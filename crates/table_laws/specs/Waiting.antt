@@ -3,14 +3,14 @@
 use Rattle.std.specs.Prelude.{ℕ, ◌+◌, Bool, true, false, ◌&&◌, List, [], ◌∷◌, if◌then◌else◌}
 use Rattle.data_pdu.specs.declared.ctrl.Ctrl.{Ctrl}
 use Rattle.data_pdu.specs.declared.ctrl.Ctrl.TheVariants.{TerminateInd, EncReq, PauseEncReq}
-use Rattle.procedure_values.specs.declared.drafts.Draft.{Draft}
-use Rattle.procedure_values.specs.declared.drafts.Draft.TheVariants.{Update, Map, Request, PhyReq, FeatureReq, PeripheralFeatureReq, VersionInd, LengthReq, Cipher}
-use Rattle.procedure_stages.specs.declared.stages.Progress.{Progress}
-use Rattle.procedure_stages.specs.declared.stages.Progress.TheVariants.{Central, Peripheral}
+use Rattle.procedures.specs.procedure_values.declared.drafts.Draft.{Draft}
+use Rattle.procedures.specs.procedure_values.declared.drafts.Draft.TheVariants.{Update, Map, Request, PhyReq, FeatureReq, PeripheralFeatureReq, VersionInd, LengthReq, Cipher}
+use Rattle.procedures.specs.procedure_stages.declared.stages.Progress.{Progress}
+use Rattle.procedures.specs.procedure_stages.declared.stages.Progress.TheVariants.{Central, Peripheral}
 use Rattle.procedures.specs.Table.{TableFacts}
-use Rattle.procedure_stages.specs.Closing.{is_open}
+use Rattle.procedures.specs.procedure_stages.Closing.{is_open}
 use Rattle.exclusive_stages.specs.Kinds.{is_host_asked_at_central}
-use Rattle.procedure_stages.specs.Queue.{count_of_disconnect}
+use Rattle.procedures.specs.procedure_stages.Queue.{count_of_disconnect}
 
 abbrev pub count_if : Bool → ℕ
 count_if holds = (if holds then 1 else 0)

@@ -2,8 +2,8 @@
 use Rattle.std.specs.Prelude.{true, false, List, [], ◌∷◌, ◌++◌, Ok, replicate}
 use Rattle.data_pdu.specs.declared.ctrl.Ctrl.TheVariants.{ConnectionParamReq, EncReq, EncRsp, PhyReq, StartEncReq, StartEncRsp, VersionInd}
 use Rattle.data_pdu.specs.declared.ctrl.CtrlRead.TheVariants.{Known, Unknown}
-use Rattle.procedure_values.specs.declared.asks.Ask.TheVariants.{Encrypt, Update, Version, Length}
-use Rattle.procedure_values.specs.Drafts.{no_offsets}
+use Rattle.procedures.specs.procedure_values.declared.asks.Ask.TheVariants.{Encrypt, Update, Version, Length}
+use Rattle.procedures.specs.procedure_values.Drafts.{no_offsets}
 use Rattle.procedures.specs.Calls.{Call, asks, begins_one, takes, sends, is_acked, host_answers, disconnects, is_given}
 
 -- sixteen PDUs that are not known, each of which is answered

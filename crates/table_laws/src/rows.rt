@@ -1,10 +1,10 @@
 //! Worked lists of calls, and tables to which no calls lead.
 ghost use Rattle.std.specs.Prelude.{◌≡◌, ◌++◌, ℕ, true, false, List, None};
 ghost use Rattle.ble_base.specs.declared.roles.Role.{Role};
-ghost use Rattle.procedure_stages.specs.Kinds.{own_kind};
+ghost use Rattle.procedures.specs.procedure_stages.Kinds.{own_kind};
 ghost use Rattle.procedures.specs.Table.{first_facts};
-ghost use Rattle.procedure_stages.specs.InProgress.{has_peer, is_host_asked};
-ghost use Rattle.procedure_stages.specs.Queue.{waiting_in};
+ghost use Rattle.procedures.specs.procedure_stages.InProgress.{has_peer, is_host_asked};
+ghost use Rattle.procedures.specs.procedure_stages.Queue.{waiting_in};
 ghost use Rattle.procedures.specs.Calls.{Call, after_calls};
 ghost use Rattle.table_laws.specs.Waiting.{asked, end_waiting, version_waiting};
 ghost use Rattle.table_laws.specs.Pasts.{MayAll};

@@ -12,7 +12,7 @@ use Rattle.hci_cmd.specs.Command.{command_of, layout_of, layouts}
 use Rattle.host_view.specs.Changes.{view_after}
 use Rattle.host_view.specs.Noted.{view_noted}
 use Rattle.host_view.specs.Unbuilt.{status_of}
-use Rattle.scan_init.specs.Access.{bit_count, is_valid_access, next_access_of}
+use Rattle.host_view.specs.scan_init.Access.{bit_count, is_valid_access, next_access_of}
 use Rattle.chan_select.specs.Channel.{channel_of}
 use Rattle.chan_select.specs.PseudoRandom.{mam, perm, prn, reversed_octet, stage}
 use Rattle.link_model.specs.End.{facts_of as facts_of_end}

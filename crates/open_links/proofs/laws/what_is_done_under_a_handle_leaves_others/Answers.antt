@@ -1,7 +1,7 @@
 -- Answers of `laws::what_is_done_under_a_handle_leaves_others`.
 use Rattle.std.proofs.Common.{refl}
 use Rattle.std.specs.Option.{option_map}
-use Rattle.link_model.specs.Step.{DataGiven, Disconnected, PduFixed, ProcedureAsked, RequestAnswered}
+use Rattle.link_end.specs.link_model.Step.{DataGiven, Disconnected, PduFixed, ProcedureAsked, RequestAnswered}
 use Rattle.open_links.specs.OpenLinks.{link_after, link_after_in_event}
 use Rattle.open_links.specs.Data.{link_reported}
 use Rattle.open_links.specs.Hosts.{link_asked_map}

@@ -1,7 +1,7 @@
 -- Proof of `laws::a_plain_step_is_one_of_data`.
 use Rattle.plain_links.proofs.Idle.{step_idle}
 use Rattle.plain_links.proofs.Steps.{entry_notes_plain, fixes_piece, kept_plain, more_fixed, no_acked, no_effect, no_given, pdu_plain, received_notes_plain, replies_plain, step_plain}
-use Rattle.link_model.specs.Packets.{good_pdu}
+use Rattle.link_end.specs.link_model.Packets.{good_pdu}
 use Rattle.plain_links.proofs.laws.a_plain_step_is_one_of_data.Goals as goal
 
 pub returns-clause-facts : goal.returns-clause-facts

@@ -9,8 +9,8 @@ use Rattle.frame_bits.specs.Whitening.{mask_of, next_mask, whitening_bit, whiten
 use Rattle.air_frame.specs.Hearing.{heard_in}
 use Rattle.chan_select.specs.Channel.{channel_of}
 use Rattle.chan_select.specs.PseudoRandom.{mam, perm, prn, reversed_octet, stage}
-use Rattle.link_model.specs.End.{facts_of}
-use Rattle.link_model.specs.Packets.{good_pdu, packet_sent}
+use Rattle.link_end.specs.link_model.End.{facts_of}
+use Rattle.link_end.specs.link_model.Packets.{good_pdu, packet_sent}
 use Rattle.plain_links.specs.Plain.{ArePlain}
 use Rattle.plain_links.proofs.rows.worked_pasts.Goals as goal
 

@@ -1,6 +1,6 @@
 -- Proof of `ends::LinkEnd::lengths`.
 use Rattle.std.proofs.Common.{ap, ◌∙◌}
-use Rattle.procedure_values.specs.Limits.{rx_of, tx_of}
+use Rattle.procedures.specs.procedure_values.Limits.{rx_of, tx_of}
 use Rattle.link_end.specs.Held.{Held}
 use Rattle.link_end.proofs.Keeping.{held_is}
 use Rattle.link_end.proofs.ends.LinkEnd.lengths.Goals as goal

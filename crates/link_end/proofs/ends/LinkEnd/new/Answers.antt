@@ -1,6 +1,6 @@
 -- Proof of `ends::LinkEnd::new`.
 use Rattle.std.proofs.Common.{◌≡◌, ◌<◌, ◌^◌, IfSome, false, None, refl, arith, ◌∙◌, subst, sym, ap}
-use Rattle.control_model.specs.Control.{first_control}
+use Rattle.control_end.specs.control_model.Control.{first_control}
 use Rattle.control_end.specs.Held.{held_of as control_held}
 use Rattle.link_model.specs.declared.events.ConnectionEvent.{ConnectionEvent}
 use Rattle.link_model.specs.Acknowledgement.{Pdu}

@@ -1,6 +1,6 @@
 -- The answers of `OpenLinks::answer`.
 use Rattle.std.proofs.Common.{subst, sym, refl, arith}
-use Rattle.link_model.specs.Step.{RequestAnswered}
+use Rattle.link_end.specs.link_model.Step.{RequestAnswered}
 use Rattle.open_links.specs.OpenLinks.{link_after, link_at}
 use Rattle.open_links.specs.Knowing.{HeldLinks, Knows}
 use Rattle.open_links.proofs.Steps.{change_known, changed_sound, knows_pieces, knows_place, left_goes}

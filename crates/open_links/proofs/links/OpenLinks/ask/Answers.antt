@@ -1,6 +1,6 @@
 -- The answers of `OpenLinks::ask`.
 use Rattle.std.proofs.Common.{subst, sym, refl, arith}
-use Rattle.link_model.specs.Step.{ProcedureAsked}
+use Rattle.link_end.specs.link_model.Step.{ProcedureAsked}
 use Rattle.open_links.specs.OpenLinks.{link_after, link_at}
 use Rattle.open_links.specs.Knowing.{HeldLinks, Knows}
 use Rattle.open_links.proofs.Steps.{change_known, changed_sound, knows_pieces, knows_place, left_goes}

@@ -1,6 +1,6 @@
 -- The answers of `OpenLinks::heard`.
 use Rattle.std.proofs.Common.{rules, ◌≤◌, ◌<◌, ◌+◌, ◌++◌, length, nat_lt, subst, sym, arith}
-use Rattle.link_model.specs.Step.{PacketReceived}
+use Rattle.link_end.specs.link_model.Step.{PacketReceived}
 use Rattle.open_links.specs.OpenLinks.{in_event, link_after_in_event, link_at, with_change}
 use Rattle.open_links.specs.Data.{kept_at}
 use Rattle.open_links.specs.Knowing.{HeldLinks, Knows}

@@ -1,6 +1,6 @@
 -- The answers of `OpenLinks::open`.
 use Rattle.std.proofs.Common.{◌∙◌, Some, ap, subst, sym, refl}
-use Rattle.link_model.specs.Setup.{Setup}
+use Rattle.link_end.specs.link_model.Setup.{Setup}
 use Rattle.open_links.specs.OpenLinks.{link_at, new_link, with_link}
 use Rattle.open_links.specs.Data.{received_past}
 use Rattle.open_links.specs.Knowing.{HeldLinks, Knows}

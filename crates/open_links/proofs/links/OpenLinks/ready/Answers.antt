@@ -1,6 +1,6 @@
 -- The answers of `OpenLinks::ready`.
 use Rattle.std.proofs.Common.{rules, subst, sym, arith}
-use Rattle.link_model.specs.Step.{PduFixed}
+use Rattle.link_end.specs.link_model.Step.{PduFixed}
 use Rattle.open_links.specs.OpenLinks.{link_after_in_event}
 use Rattle.open_links.specs.Knowing.{HeldLinks, Knows}
 use Rattle.open_links.proofs.Steps.{change_known, changed_sound, holds_place, is_tied, knows_pieces, knows_place}

@@ -1,6 +1,6 @@
 -- The answers of `OpenLinks::to_send`.
 use Rattle.std.proofs.Common.{rules, subst, sym, arith}
-use Rattle.link_model.specs.Step.{PacketSent}
+use Rattle.link_end.specs.link_model.Step.{PacketSent}
 use Rattle.open_links.specs.OpenLinks.{link_after_in_event}
 use Rattle.open_links.specs.Knowing.{HeldLinks, Knows}
 use Rattle.open_links.proofs.Steps.{change_known, changed_sound, is_tied, knows_pieces, knows_place}

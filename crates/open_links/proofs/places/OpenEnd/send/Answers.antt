@@ -1,6 +1,6 @@
 -- The answer of `OpenEnd::send`.
 use Rattle.std.proofs.Common.{◌≡◌, true, rules, subst, sym, ◌∙◌}
-use Rattle.link_model.specs.Step.{PacketSent}
+use Rattle.link_end.specs.link_model.Step.{PacketSent}
 use Rattle.open_links.specs.Knowing.{HeldLink, KnowsLink}
 use Rattle.open_links.proofs.UnderHandles.{step_bank}
 use Rattle.open_links.proofs.Unmoved.{entered_bank}
