@@ -39,8 +39,12 @@ use Rattle.run_laws.proofs.run_model.Places.{each_at}
 use Rattle.run_laws.proofs.ChSel.{link_two}
 use Rattle.run_laws.proofs.PlainLinks.{links_plain}
 use Rattle.journal_links.specs.Begun.{LinkBegun, link_numbered}
+use Rattle.journal_links.specs.Changes.{changes_of}
 use Rattle.journal_links.specs.Entered.{IsEnteredInTime, anchor_in, channel_in}
 use Rattle.journal_links.proofs.LinksBegun.{number_stays}
+use Rattle.journal_links.specs.Procedures.{NoneNamesAProcedure}
+use Rattle.journal_links.proofs.NoChanges.{no_changes, none_before}
+use Rattle.journal_links.proofs.NoProcedures.{none_names}
 use Rattle.journal_links.proofs.Numbered.{IsLinkOf, link_of_number}
 
 -- ---- its call
@@ -97,13 +101,21 @@ module _ {journal : List Entry} {number station : ℕ} {end : Setup} (of : IsLin
   still_link front more is = ap (link_numbered number) is ∙ number_stays number journal more of.link of.is_link
 
   entered_in_time : (front : List Entry) (side : Side) (slot event channel : ℕ) → link_numbered number front ≡ Some of.link → length (turns_of front) ≡ slot + 1
-      → slot ≡ anchor_of end event → channel ≡ channel_after end (event + 1) → end.link.two ≡ true → IsEnteredInTime front side number event channel
-  entered_in_time front side slot event channel is_link turns at_anchor on_channel two = record {
+      → slot ≡ anchor_of end event → channel ≡ channel_after end (event + 1) → end.link.two ≡ true → changes_of number of.link side front ≡ []
+      → IsEnteredInTime front side number event channel
+  entered_in_time front side slot event channel is_link turns at_anchor on_channel two none = record {
     link = of.link;
     is_link = is_link;
-    in_turn = turns ∙ ap (λ n. n + 1) (at_anchor ∙ same_anchor event);
-    on_channel = on_channel ∙ same_channel event two;
+    in_turn = turns ∙ ap (λ n. n + 1) (at_anchor ∙ same_anchor event ∙ ap (λ changes. anchor_in of.link changes event) (sym none));
+    on_channel = on_channel ∙ same_channel event two ∙ ap (λ changes. channel_in of.link changes event) (sym none);
   }
+
+-- ---- no change is in force in a run so far
+
+pub none_in_runs : (a b : List ℕ) (script : Script) → length script.a.public ≡ 6 → length script.b.public ≡ 6 → (front rest : List Entry) (number : ℕ) (link : LinkBegun) (side : Side)
+    → journal_of (history_of (run_of (given_of a b script))) ≡ front ++ rest → changes_of number link side front ≡ []
+none_in_runs a b script six six_too front rest number link side is =
+    no_changes number link side front (none_before front rest (subst NoneNamesAProcedure is (none_names a b script six six_too)))
 
 -- ---- a line
 
@@ -142,7 +154,8 @@ module _ (understood : IsUnderstood) (taken : AreTaken) (a b : List ℕ) (script
       ∙ turns_called station call.step call.earlier base in
       subst (λ n. IsEnteredInTime front side n event channel) (number_then given front line call (ap ends_phase turn.is))
       (entered_in_time {end = entered.link.setup} of front side turn.slot event channel (still_link {end = entered.link.setup} of front (journal_from (links_of base) noted) front_more)
-      (turns ∙ due.slot_is) entry.at_anchor entry.on_its_channel two)
+      (turns ∙ due.slot_is) entry.at_anchor entry.on_its_channel two
+      (none_in_runs a b script six six_too front (Enter side number event channel ∷ rest) known of.link side is))
 
 -- ---- both lines
 
@@ -154,9 +167,13 @@ one_link number journal front later rest last one other is is_too here there =
 
 pub in_one_turn : (side far : Side) (number event channel too : ℕ) (journal front later rest last : List Entry) → journal ≡ front ++ rest → journal ≡ later ++ last
     → IsEnteredInTime front side number event channel → IsEnteredInTime later far number event too
+    → ((link : LinkBegun) → link_numbered number front ≡ Some link → changes_of number link side front ≡ changes_of number link far later)
     → (length (turns_of front) ≡ length (turns_of later)) × (channel ≡ too)
-in_one_turn side far number event channel too journal front later rest last is is_too one other =
-    let same = one_link number journal front later rest last one.link other.link is is_too one.is_link other.is_link in (
-      one.in_turn ∙ ap (λ link. anchor_in link [] event + 1) same ∙ sym other.in_turn,
-      one.on_channel ∙ ap (λ link. channel_in link [] event) same ∙ sym other.on_channel,
+in_one_turn side far number event channel too journal front later rest last is is_too one other agree =
+    let same = one_link number journal front later rest last one.link other.link is is_too one.is_link other.is_link in
+    let alike = agree one.link one.is_link in (
+      one.in_turn ∙ ap (λ changes. anchor_in one.link changes event + 1) alike
+          ∙ ap (λ link. anchor_in link (changes_of number link far later) event + 1) same ∙ sym other.in_turn,
+      one.on_channel ∙ ap (λ changes. channel_in one.link changes event) alike
+          ∙ ap (λ link. channel_in link (changes_of number link far later) event) same ∙ sym other.on_channel,
     )

@@ -5,6 +5,7 @@ pub mod Numbered
 pub mod EnterLines
 pub mod OpenedLines
 pub mod NoProcedures
+pub mod NoChanges
 pub mod LinkLines
 pub mod LineNotes
 pub mod OfTwo

@@ -9,8 +9,10 @@ use Rattle.journal.specs.declared.entries.Entry.{Entry}
 use Rattle.journal.specs.declared.entries.Entry.TheVariants.{Turn, Fed, Air}
 use Rattle.controller_model.specs.Notes.{IsOfNoProcedure}
 use Rattle.radio_replay.specs.Script.{Script}
+use Rattle.run_laws.specs.run_model.Feeding.{AreDistinct}
 use Rattle.run_laws.specs.run_model.History.{Called, Noted}
 use Rattle.run_laws.specs.run_model.Journal.{entry_of, journal_of, side_of}
+use Rattle.run_laws.specs.run_model.LinkEnds.{HaveAddresses}
 use Rattle.run_laws.specs.run_model.Links.{links_of}
 use Rattle.run_laws.specs.run_model.NoteLines.{is_note_line}
 use Rattle.run_laws.specs.run_model.Pair.{given_of}
@@ -39,12 +41,9 @@ line_of_note side link_of last (BeganNote handle kind) none = absurd none
 line_of_note side link_of last (RefusedNote handle kind code) none = absurd none
 line_of_note side link_of last (DoneNote handle kind) none = absurd none
 
--- ---- in a run of a pair
+-- ---- in a run
 
-module _ (a b : List ℕ) (script : Script) (six : length script.a.public ≡ 6) (six_too : length script.b.public ≡ 6) where
-  abbrev given : Given
-  given = given_of a b script
-
+module _ (given : Given) (addresses : HaveAddresses given) (distinct : AreDistinct given.stations) where
   noted : (front rest : List Entry) (entry : Entry) → journal_of (history_of (run_of given)) ≡ front ++ entry ∷ rest → is_note_line entry ≡ true → NamesNoProcedure entry
   noted front rest entry is says =
       let line = note_line given front rest entry is says in
@@ -58,10 +57,14 @@ module _ (a b : List ℕ) (script : Script) (six : length script.a.public ≡ 6)
       subst NamesNoProcedure line.entry_is (line_of_note (side_of station) (links.link_of station) (links.last_of station) line.note
       (one_of_all IsOfNoProcedure call.earlier line.note call.later
       (subst (All IsOfNoProcedure) call.notes_are
-      (notes_plain given (pair_addresses a b script six six_too) (pair_distinct a b script) call.base after station call.step called in_it))))
+      (notes_plain given addresses distinct call.base after station call.step called in_it))))
 
-  pub none_names : NoneNamesAProcedure (journal_of (history_of (run_of given)))
-  none_names front rest (Turn slot a b) is = tt
-  none_names front rest (Fed side octets) is = tt
-  none_names front rest (Air side channel octets fate verdict) is = tt
-  none_names front rest entry is = noted front rest entry is refl
+  pub none_named : NoneNamesAProcedure (journal_of (history_of (run_of given)))
+  none_named front rest (Turn slot a b) is = tt
+  none_named front rest (Fed side octets) is = tt
+  none_named front rest (Air side channel octets fate verdict) is = tt
+  none_named front rest entry is = noted front rest entry is refl
+
+pub none_names : (a b : List ℕ) (script : Script) → length script.a.public ≡ 6 → length script.b.public ≡ 6
+    → NoneNamesAProcedure (journal_of (history_of (run_of (given_of a b script))))
+none_names a b script six six_too = none_named (given_of a b script) (pair_addresses a b script six six_too) (pair_distinct a b script)

@@ -30,5 +30,5 @@ channel_in link changes event =
 pub record IsEnteredInTime (front : List Entry) (side : Side) (number event channel : ℕ) : Type 0 where
   pub link : LinkBegun
   pub is_link : link_numbered number front ≡ Some link
-  pub in_turn : length (turns_of front) ≡ anchor_in link (changes_of link side front) event + 1
-  pub on_channel : channel ≡ channel_in link (changes_of link side front) event
+  pub in_turn : length (turns_of front) ≡ anchor_in link (changes_of number link side front) event + 1
+  pub on_channel : channel ≡ channel_in link (changes_of number link side front) event

@@ -9,7 +9,8 @@ ghost use Rattle.chan_select.specs.declared.selection.Algorithm.TheVariants.{One
 ghost use Rattle.controller_model.specs.Since.{notes_opened_on, was_opened};
 ghost use Rattle.journal.specs.declared.entries.Entry.{Entry};
 ghost use Rattle.journal.specs.declared.entries.Entry.TheVariants.{Enter, Opened};
-ghost use Rattle.journal_links.specs.Begun.{LinkBegun};
+ghost use Rattle.journal_links.specs.Begun.{LinkBegun, link_numbered};
+ghost use Rattle.journal_links.specs.Changes.{changes_of};
 ghost use Rattle.journal_links.specs.Entered.{IsEnteredInTime, anchor_in, channel_in};
 ghost use Rattle.journal_links.specs.LinkLines.{AreLinesOf, IsOfItsNotes};
 ghost use Rattle.journal_links.specs.Opened.{IsOpenedInTime};
@@ -27,8 +28,9 @@ ghost use Rattle.run_laws.specs.run_model.Run.{Given, facts_at, history_of, run_
 
 /// Each line of an end that enters an event of a link is in the turn of the anchor of that
 /// event, and its channel is that of the event: both follow from the CONNECT_IND of the link, the
-/// advertisement that it answers and the changes of its parameters in force, of which there are none
-/// (Core 5.2, volume 6 part B, sections 4.5.1, 4.5.3 and 4.5.8).
+/// advertisement that it answers and the changes of its parameters in force at that end, by the
+/// lines of the end before this one (Core 5.2, volume 6 part B, sections 4.5.1, 4.5.3, 4.5.8, 5.1.1,
+/// 5.1.2 and 5.5).
 pub fn each_enter_line_is_at_its_anchor()
     ensures { (a b : List ℕ) (script : Script) (front rest : List Entry) (side : Side)
         (number event channel : ℕ)
@@ -54,10 +56,44 @@ pub fn without_changes_events_follow_the_connect_ind()
         link.fields.map }
 {}
 
-/// Where two lines say that an event of one link is entered, they are in one turn and name one
-/// channel: so it is where both ends of the link enter it (Core 5.2, volume 6 part B, sections
-/// 4.5.1 and 4.5.8).
+/// Where two lines say that an event of one link is entered, and the same changes of its parameters
+/// are in force at both, they are in one turn and name one channel: so it is where both ends of the
+/// link enter it (Core 5.2, volume 6 part B, sections 4.5.1, 4.5.8 and 5.5).
 pub fn both_ends_enter_an_event_in_one_turn()
+    ensures turn { (a b : List ℕ) (script : Script) (front rest later last : List Entry)
+        (side other : Side) (number event channel too : ℕ)
+        → length script.a.public ≡ 6 → length script.b.public ≡ 6
+        → journal_of (history_of (run_of (given_of a b script)))
+        ≡ front ++ Enter side number event channel ∷ rest
+        → journal_of (history_of (run_of (given_of a b script)))
+        ≡ later ++ Enter other number event too ∷ last
+        → ((link : LinkBegun) → link_numbered number front ≡ Some link
+        → changes_of number link side front ≡ changes_of number link other later)
+        → length (turns_of front) ≡ length (turns_of later) }
+    ensures channel { (a b : List ℕ) (script : Script) (front rest later last : List Entry)
+        (side other : Side) (number event channel too : ℕ)
+        → length script.a.public ≡ 6 → length script.b.public ≡ 6
+        → journal_of (history_of (run_of (given_of a b script)))
+        ≡ front ++ Enter side number event channel ∷ rest
+        → journal_of (history_of (run_of (given_of a b script)))
+        ≡ later ++ Enter other number event too ∷ last
+        → ((link : LinkBegun) → link_numbered number front ≡ Some link
+        → changes_of number link side front ≡ changes_of number link other later)
+        → channel ≡ too }
+{
+    controller_model::a_pdu_is_understood();
+    advertise::laws::connections_are_taken();
+}
+
+/// No change of parameters is in force at a line, as long as no line of a run names a procedure. So
+/// two lines that say that an event of one link is entered are in one turn and name one channel
+/// (Core 5.2, volume 6 part B, sections 4.5.1 and 4.5.8).
+pub fn without_procedures_both_ends_enter_an_event_in_one_turn()
+    ensures no_changes { (a b : List ℕ) (script : Script) (front rest : List Entry) (number : ℕ)
+        (link : LinkBegun) (side : Side)
+        → length script.a.public ≡ 6 → length script.b.public ≡ 6
+        → journal_of (history_of (run_of (given_of a b script))) ≡ front ++ rest
+        → changes_of number link side front ≡ [] }
     ensures turn { (a b : List ℕ) (script : Script) (front rest later last : List Entry)
         (side other : Side) (number event channel too : ℕ)
         → length script.a.public ≡ 6 → length script.b.public ≡ 6

@@ -31,8 +31,10 @@ use Rattle.run_model.proofs.Walk.{AtPackets, Place}
 use Rattle.journal_data.proofs.run_laws.DistinctAccess.{AreApart}
 use Rattle.journal_data.proofs.run_laws.Entering.{entering_in_run}
 use Rattle.journal_data.proofs.run_laws.TurnPlaces.{Within, at_stage, turned}
+use Rattle.journal_links.specs.Changes.{changes_of}
 use Rattle.journal_links.specs.Entered.{anchor_in}
 use Rattle.journal_links.proofs.EnterLines.{plain_anchors}
+use Rattle.journal_links.proofs.NoChanges.{no_changes_at}
 use Rattle.journal_links.proofs.OfTwo.{are_distinct}
 use Rattle.journal_packets.specs.Senders.{IsOfSendersLink}
 use Rattle.journal_packets.proofs.AccessOrder.{AreNth}
@@ -164,7 +166,9 @@ module _ (whole : IsHeardWhole) (understood : IsUnderstood) (taken : AreTaken) (
         is_link = is.begun.is_link;
         event = last.event;
         entered = is.count ∙ last.last;
-        in_turn = in_turn_of facts.turn.slot (length (turns_of (journal_of before))) (anchor_of own.setup last.event) (anchor_in is.begun.link [] last.event) last.in_slot turns anchor;
+        in_turn = in_turn_of facts.turn.slot (length (turns_of (journal_of before))) (anchor_of own.setup last.event)
+            (anchor_in is.begun.link (changes_of number is.begun.link (side_of station) (journal_of before)) last.event) last.in_slot turns
+            (ap (λ changes. anchor_in is.begun.link changes last.event) (no_changes_at given six distinct before rest at number is.begun.link (side_of station)) ∙ anchor);
       }
 
   pub packets_in_events : AllAreInEvents (journal_of (history_of (run_of given)))

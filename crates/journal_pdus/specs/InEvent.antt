@@ -23,8 +23,8 @@ pub record IsInEvent (front : List Entry) (side : Side) (octets : List ℕ) : Ty
   pub is_link : link_numbered number front ≡ Some link
   pub event : ℕ
   pub entered : entered_on side number front ≡ event + 1
-  pub in_turn : (length (turns_of front) ≡ anchor_in link (changes_of link side front) event + 1)
-      ⊎ (length (turns_of front) ≡ anchor_in link (changes_of link side front) event + 2)
+  pub in_turn : (length (turns_of front) ≡ anchor_in link (changes_of number link side front) event + 1)
+      ⊎ (length (turns_of front) ≡ anchor_in link (changes_of number link side front) event + 2)
 
 abbrev pub AllAreInEvents : List Entry → Type 0
 AllAreInEvents journal = (front rest : List Entry) (side : Side) (channel : ℕ) (octets : List ℕ) (fate : Mark)

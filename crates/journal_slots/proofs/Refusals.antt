@@ -10,6 +10,7 @@ use Rattle.journal_acks.specs.run_model.History.{is_good}
 use Rattle.journal_acks.specs.run_model.Links.{is_advertising}
 use Rattle.journal_acks.specs.run_model.Readers.{turns_of}
 use Rattle.journal_acks.specs.journal_links.Begun.{LinkBegun, link_numbered}
+use Rattle.journal_acks.specs.journal_links.Changes.{changes_of}
 use Rattle.journal_acks.specs.journal_links.Entered.{anchor_in}
 use Rattle.journal_acks.specs.journal_packets.Belonging.{is_side, link_of_packet}
 use Rattle.journal_acks.proofs.journal_packets.SendersLink.{same_side}
@@ -22,6 +23,8 @@ pub record IsKnownAs (front : List Entry) (side : Side) (octets : List ℕ) (num
   pub belongs : link_of_packet front side octets ≡ Some number
   pub is_link : link_numbered number front ≡ Some link
   pub entered : entered_on side number front ≡ event + 1
+  -- no change of its parameters is in force
+  pub unchanged : changes_of number link side front ≡ []
 
 one_event : (count one other : ℕ) → count ≡ one + 1 → count ≡ other + 1 → one ≡ other
 one_event count one other is is_too = omega (arith, is, is_too)
@@ -35,15 +38,19 @@ continued_as front side octets number event link known continues = λ other late
     let links : Some link ≡ Some one = sym known.is_link ∙ ap (λ n. link_numbered n front) same ∙ is_link in
     let alike : link ≡ one = cc in
     let events = one_event (entered_on side other front) event later (ap (λ n. entered_on side n front) (sym same) ∙ known.entered) entered in
-    subst (λ n. HasToContinue n (anchor_in one [] later) side front) same
+    let none : changes_of other one side front ≡ [] = (λ i. changes_of (sym same i) (sym alike i) side front) ∙ known.unchanged in
+    subst (λ changes. HasToContinue other (anchor_in one changes later) side front) (sym none)
+    (subst (λ n. HasToContinue n (anchor_in one [] later) side front) same
     (subst (λ (l : LinkBegun). HasToContinue number (anchor_in l [] later) side front) alike
     (subst (λ n. HasToContinue number (anchor_in link [] n) side front) events
-    (continues (in_turn ∙ sym (λ i. anchor_in (alike i) [] (events i) + 2)))))
+    (continues (in_turn ∙ ap (λ changes. anchor_in one changes later + 2) none ∙ sym (λ i. anchor_in (alike i) [] (events i) + 2))))))
 
 -- and what it says of it
 pub has_to_continue : (front : List Entry) (side : Side) (octets : List ℕ) (number event : ℕ) (link : LinkBegun) → IsKnownAs front side octets number event link
     → length (turns_of front) ≡ anchor_in link [] event + 2 → IsContinued front side octets → HasToContinue number (anchor_in link [] event) side front
-has_to_continue front side octets number event link known in_turn continued = continued number event link known.belongs known.is_link known.entered in_turn
+has_to_continue front side octets number event link known in_turn continued =
+    subst (λ changes. HasToContinue number (anchor_in link changes event) side front) known.unchanged
+    (continued number event link known.belongs known.is_link known.entered (in_turn ∙ ap (λ changes. anchor_in link changes event + 2) (sym known.unchanged)))
 
 -- ---- no packet says that more waits, or none is heard
 

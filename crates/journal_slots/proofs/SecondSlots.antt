@@ -21,7 +21,7 @@ use Rattle.controller_model.specs.Side.{facts_of}
 use Rattle.controller_model.specs.Step.{TurnBegins, TurnEnds}
 use Rattle.journal_acks.specs.run_model.Due.{packet_in}
 use Rattle.journal_acks.specs.run_model.Feeding.{AreDistinct}
-use Rattle.journal_acks.specs.run_model.History.{Event, TurnBegan, packet_received, past_of, turns_begun}
+use Rattle.journal_acks.specs.run_model.History.{Transmitted, Event, TurnBegan, packet_received, past_of, turns_begun}
 use Rattle.journal_acks.specs.run_model.Journal.{journal_of, side_of}
 use Rattle.journal_acks.specs.run_model.LinkEnds.{HaveAddresses}
 use Rattle.journal_acks.specs.run_model.Links.{is_advertising}
@@ -40,6 +40,7 @@ use Rattle.journal_acks.proofs.run_laws.TurnPlaces.{Between, Within, at_stage, t
 use Rattle.journal_acks.specs.journal_links.Begun.{LinkBegun, link_numbered}
 use Rattle.journal_acks.specs.journal_links.Entered.{anchor_in}
 use Rattle.journal_acks.proofs.journal_links.EnterLines.{plain_anchors}
+use Rattle.journal_acks.proofs.journal_links.NoChanges.{no_changes_at}
 use Rattle.journal_acks.proofs.journal_links.OfTwo.{are_distinct}
 use Rattle.journal_acks.specs.journal_packets.Senders.{IsOfSendersLink}
 use Rattle.journal_acks.proofs.journal_packets.AccessOrder.{AreNth}
@@ -269,8 +270,8 @@ module _ (whole : IsHeardWhole) (understood : IsUnderstood) (taken : AreTaken) (
   sees : IsSeen given P (λ history. ⊤) (IsInExchangeOn given)
   sees = record { turn = λ history is. tt; packet = sees_packet }
 
-  continued_at : (history : List Event) (station channel : ℕ) (octets : List ℕ) → IsInExchangeOf given history station channel octets → IsContinued (journal_of history) (side_of station) octets
-  continued_at history station channel octets is = λ number event link belongs is_link entered in_turn.
+  continued_at : (history rest : List Event) (station channel : ℕ) (octets : List ℕ) → history_of (run_of given) ≡ history ++ rest → IsInExchangeOf given history station channel octets → IsContinued (journal_of history) (side_of station) octets
+  continued_at history rest station channel octets at_front is = λ number event link belongs is_link entered in_turn.
       let own = link_after (PacketSent is.sent.slot) is.sent.link in
       let slot = (facts_at given station history).turn.slot in
       let side = side_of station in
@@ -286,10 +287,13 @@ module _ (whole : IsHeardWhole) (understood : IsUnderstood) (taken : AreTaken) (
       ∙ ap (λ n. n + 2 + own.setup.link.fields.win_offset + event * own.setup.link.fields.interval) is.begun.slot in
       let at = is.anchored event count in
       let turns = is.turns in
-      let later : slot ≡ (facts_in own).event.slot + 1 = omega (arith, turns, in_turn, anchor, at) in
-      subst (λ n. HasToContinue n (anchor_in link [] event) side (journal_of history)) same
+      let none = no_changes_at given six distinct history rest at_front number link side in
+      let now = in_turn ∙ ap (λ changes. anchor_in link changes event + 2) none in
+      let later : slot ≡ (facts_in own).event.slot + 1 = omega (arith, turns, now, anchor, at) in
+      subst (λ changes. HasToContinue number (anchor_in link changes event) side (journal_of history)) (sym none)
+      (subst (λ n. HasToContinue n (anchor_in link [] event) side (journal_of history)) same
       (subst (λ n. HasToContinue (number_at station is.sent.handle history) n side (journal_of history)) (at ∙ sym anchor)
-      (continued_by slot own (number_at station is.sent.handle history) side (journal_of history) later is.in_exchange is.on_air))
+      (continued_by slot own (number_at station is.sent.handle history) side (journal_of history) later is.in_exchange is.on_air)))
 
   pub packets_continued : AllAreContinued (journal_of (history_of (run_of given)))
   packets_continued = λ front rest side channel octets fate verdict is off.
@@ -297,4 +301,4 @@ module _ (whole : IsHeardWhole) (understood : IsUnderstood) (taken : AreTaken) (
       let seen = seen_packet given P (on_air_kept whole given (IsBelongingSoFar given) known pair six distinct) (λ history. ⊤) (IsInExchangeOn given) sees
       (on_air_first given) aired.before aired.after aired.station channel octets (aired.hearing ∷ aired.others) aired.is_at off in
       subst (λ xs. IsContinued xs side octets) (sym aired.front_is)
-      (subst (λ s. IsContinued (journal_of aired.before) s octets) (sym aired.side_is) (continued_at aired.before aired.station channel octets seen))
+      (subst (λ s. IsContinued (journal_of aired.before) s octets) (sym aired.side_is) (continued_at aired.before (Transmitted aired.station channel octets (aired.hearing ∷ aired.others) ∷ aired.after) aired.station channel octets aired.is_at seen))

@@ -48,8 +48,8 @@ pub record HasToContinue (number slot : ℕ) (side : Side) (front : List Entry) 
 abbrev pub IsContinued : List Entry → Side → List ℕ → Type 0
 IsContinued front side octets = (number event : ℕ) (link : LinkBegun) → link_of_packet front side octets ≡ Some number
     → link_numbered number front ≡ Some link → entered_on side number front ≡ event + 1
-    → length (turns_of front) ≡ anchor_in link (changes_of link side front) event + 2
-    → HasToContinue number (anchor_in link (changes_of link side front) event) side front
+    → length (turns_of front) ≡ anchor_in link (changes_of number link side front) event + 2
+    → HasToContinue number (anchor_in link (changes_of number link side front) event) side front
 
 abbrev pub AllAreContinued : List Entry → Type 0
 AllAreContinued journal = (front rest : List Entry) (side : Side) (channel : ℕ) (octets : List ℕ) (fate : Mark)

@@ -6,6 +6,7 @@ use Rattle.ble_base.specs.declared.roles.Side.{Side}
 use Rattle.journal.specs.declared.entries.Entry.{Entry}
 use Rattle.run_model.specs.Readers.{turns_of}
 use Rattle.journal_pdus.specs.journal_links.Begun.{LinkBegun, link_numbered}
+use Rattle.journal_pdus.specs.journal_links.Changes.{changes_of}
 use Rattle.journal_pdus.specs.journal_links.Entered.{IsEnteredInTime, anchor_in, channel_in}
 use Rattle.journal_pdus.specs.journal_links.Opened.{IsOpenedInTime, central_side}
 use Rattle.wrong_journals.proofs.Packets.{some_is}
@@ -40,11 +41,13 @@ pub record IsEnteredAs (front : List Entry) (event channel : ℕ) (link : LinkBe
   pub on : channel ≡ channel_in link [] event
 
 pub entered_as : (front : List Entry) (side : Side) (number event channel : ℕ) (link : LinkBegun)
-    → link_numbered number front ≡ Some link → IsEnteredInTime front side number event channel
+    → link_numbered number front ≡ Some link → changes_of number link side front ≡ [] → IsEnteredInTime front side number event channel
     → IsEnteredAs front event channel link
-entered_as front side number event channel link known entered =
+entered_as front side number event channel link known none entered =
     let same : entered.link ≡ link = some_is entered.link link (sym entered.is_link ∙ known) in
     record {
-      turn = entered.in_turn ∙ ap (λ (l : LinkBegun). anchor_in l [] event + 1) same;
-      on = entered.on_channel ∙ ap (λ (l : LinkBegun). channel_in l [] event) same;
+      turn = entered.in_turn ∙ ap (λ (l : LinkBegun). anchor_in l (changes_of number l side front) event + 1) same
+          ∙ ap (λ changes. anchor_in link changes event + 1) none;
+      on = entered.on_channel ∙ ap (λ (l : LinkBegun). channel_in l (changes_of number l side front) event) same
+          ∙ ap (λ changes. channel_in link changes event) none;
     }

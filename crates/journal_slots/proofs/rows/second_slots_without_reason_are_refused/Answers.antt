@@ -24,10 +24,10 @@ pub returns-clause-no_more : goal.returns-clause-no_more
 unfolding link_of_packet is_answer entered_on links_begun pdu_heard heard_in read_of kept_bits crc crc_octets crc_of_bits remainder mask_of next_mask whitening_bit whitening_of little_endian
 returns-clause-no_more c lawful =
     no_more_refutes 1 (anchor_in one_link [] 0) B none_says_more refl
-    (has_to_continue none_says_more B next_packet 1 0 one_link (record { belongs = refl; is_link = refl; entered = refl }) refl (lawful none_says_more [] B 25 next_packet Pass Good refl refl))
+    (has_to_continue none_says_more B next_packet 1 0 one_link (record { belongs = refl; is_link = refl; entered = refl; unchanged = refl }) refl (lawful none_says_more [] B 25 next_packet Pass Good refl refl))
 
 pub returns-clause-unheard : goal.returns-clause-unheard
 unfolding link_of_packet is_answer entered_on links_begun pdu_heard heard_in read_of kept_bits crc crc_octets crc_of_bits remainder mask_of next_mask whitening_bit whitening_of little_endian
 returns-clause-unheard c lawful =
     unheard_refutes 1 (anchor_in one_link [] 0) B none_is_heard refl
-    (has_to_continue none_is_heard B more_packet 1 0 one_link (record { belongs = refl; is_link = refl; entered = refl }) refl (lawful none_is_heard [] B 25 more_packet Pass Good refl refl))
+    (has_to_continue none_is_heard B more_packet 1 0 one_link (record { belongs = refl; is_link = refl; entered = refl; unchanged = refl }) refl (lawful none_is_heard [] B 25 more_packet Pass Good refl refl))

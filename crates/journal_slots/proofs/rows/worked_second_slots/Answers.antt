@@ -24,12 +24,12 @@ use Rattle.journal_slots.proofs.rows.worked_second_slots.Goals as goal
 pub returns-clause-first_slot : goal.returns-clause-first_slot
 unfolding link_of_packet is_answer entered_on links_begun pdu_heard heard_in read_of kept_bits crc crc_octets crc_of_bits remainder mask_of next_mask whitening_bit whitening_of little_endian
 returns-clause-first_slot c =
-    continued_as (given_to B) B more_packet 1 0 one_link (record { belongs = refl; is_link = refl; entered = refl }) (λ in_turn. absurd (let is : 3 ≡ 4 = in_turn in omega (arith, is)))
+    continued_as (given_to B) B more_packet 1 0 one_link (record { belongs = refl; is_link = refl; entered = refl; unchanged = refl }) (λ in_turn. absurd (let is : 3 ≡ 4 = in_turn in omega (arith, is)))
 
 pub returns-clause-central : goal.returns-clause-central
 unfolding link_of_packet is_answer entered_on links_begun pdu_heard heard_in read_of kept_bits crc crc_octets crc_of_bits remainder mask_of next_mask whitening_bit whitening_of little_endian
 returns-clause-central c =
-    continued_as data_sent B data_packet 1 0 one_link (record { belongs = refl; is_link = refl; entered = refl }) (λ in_turn. record {
+    continued_as data_sent B data_packet 1 0 one_link (record { belongs = refl; is_link = refl; entered = refl; unchanged = refl }) (λ in_turn. record {
       heard = record {
         before = given_to B ++ Air B 25 more_packet Pass Good ∷ [];
         channel = 25;
@@ -63,7 +63,7 @@ returns-clause-central c =
 pub returns-clause-peripheral : goal.returns-clause-peripheral
 unfolding link_of_packet is_answer entered_on links_begun pdu_heard heard_in read_of kept_bits crc crc_octets crc_of_bits remainder mask_of next_mask whitening_bit whitening_of little_endian
 returns-clause-peripheral c =
-    continued_as data_heard A reply_packet 1 0 one_link (record { belongs = refl; is_link = refl; entered = refl }) (λ in_turn. record {
+    continued_as data_heard A reply_packet 1 0 one_link (record { belongs = refl; is_link = refl; entered = refl; unchanged = refl }) (λ in_turn. record {
       heard = record {
         before = given_to B;
         channel = 25;
@@ -83,7 +83,7 @@ returns-clause-peripheral c =
 pub returns-clause-by_the_reply : goal.returns-clause-by_the_reply
 unfolding link_of_packet is_answer entered_on links_begun pdu_heard heard_in read_of kept_bits crc crc_octets crc_of_bits remainder mask_of next_mask whitening_bit whitening_of little_endian
 returns-clause-by_the_reply c =
-    continued_as peripheral_says_more B next_packet 1 0 one_link (record { belongs = refl; is_link = refl; entered = refl }) (λ in_turn. record {
+    continued_as peripheral_says_more B next_packet 1 0 one_link (record { belongs = refl; is_link = refl; entered = refl; unchanged = refl }) (λ in_turn. record {
       heard = record {
         before = given_to A ++ Air B 25 first_packet Pass Good ∷ [];
         channel = 25;

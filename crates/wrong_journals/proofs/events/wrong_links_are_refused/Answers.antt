@@ -51,30 +51,30 @@ pub returns-clause-another_turn : goal.returns-clause-another_turn
 unfolding announced_pdu pending_pdu channel_entered lines_of frames exchange_of sent_line_of link_of_packet is_answer links_begun pdu_heard heard_in read_of kept_bits crc crc_octets crc_of_bits remainder mask_of next_mask whitening_bit whitening_of little_endian data_channels used_channels reversed_octet perm mam stage prn channel_of
 returns-clause-another_turn c lawful =
     let front = one_connection_journal ++ turn_entry 1 ∷ turn_entry 2 ∷ turn_entry 3 ∷ [] in
-    numbers_differ 4 3 refl (entered_as front A 1 0 25 one_link refl (lawful front [] A 1 0 25 refl)).turn
+    numbers_differ 4 3 refl (entered_as front A 1 0 25 one_link refl refl (lawful front [] A 1 0 25 refl)).turn
 
 pub returns-clause-another_channel : goal.returns-clause-another_channel
 unfolding announced_pdu pending_pdu channel_entered lines_of frames exchange_of sent_line_of link_of_packet is_answer links_begun pdu_heard heard_in read_of kept_bits crc crc_octets crc_of_bits remainder mask_of next_mask whitening_bit whitening_of little_endian data_channels used_channels reversed_octet perm mam stage prn channel_of
 returns-clause-another_channel c lawful =
     let front = one_connection_journal ++ turn_entry 1 ∷ turn_entry 2 ∷ [] in
-    numbers_differ 24 25 refl (entered_as front A 1 0 24 one_link refl (lawful front [] A 1 0 24 refl)).on
+    numbers_differ 24 25 refl (entered_as front A 1 0 24 one_link refl refl (lawful front [] A 1 0 24 refl)).on
 
 pub returns-clause-hopping : goal.returns-clause-hopping
 unfolding announced_pdu pending_pdu channel_entered lines_of frames exchange_of sent_line_of link_of_packet is_answer links_begun pdu_heard heard_in read_of kept_bits crc crc_octets crc_of_bits remainder mask_of next_mask whitening_bit whitening_of little_endian data_channels used_channels reversed_octet perm mam stage prn channel_of
 returns-clause-hopping c lawful =
     let front = one_connection_journal ++ turn_entry 1 ∷ turn_entry 2 ∷ [] in
-    numbers_differ 5 25 refl (entered_as front A 1 0 5 one_link refl (lawful front [] A 1 0 5 refl)).on
+    numbers_differ 5 25 refl (entered_as front A 1 0 5 one_link refl refl (lawful front [] A 1 0 5 refl)).on
 
 pub returns-clause-unoffered : goal.returns-clause-unoffered
 unfolding announced_pdu pending_pdu channel_entered lines_of frames exchange_of sent_line_of link_of_packet is_answer links_begun pdu_heard heard_in read_of kept_bits crc crc_octets crc_of_bits remainder mask_of next_mask whitening_bit whitening_of little_endian data_channels used_channels reversed_octet perm mam stage prn channel_of
 returns-clause-unoffered c lawful =
-    numbers_differ 25 5 refl (entered_as unoffered_connection A 1 0 25 hopping_link refl (lawful unoffered_connection [] A 1 0 25 refl)).on
+    numbers_differ 25 5 refl (entered_as unoffered_connection A 1 0 25 hopping_link refl refl (lawful unoffered_connection [] A 1 0 25 refl)).on
 
 pub returns-clause-another_event : goal.returns-clause-another_event
 unfolding announced_pdu pending_pdu channel_entered lines_of frames exchange_of sent_line_of link_of_packet is_answer links_begun pdu_heard heard_in read_of kept_bits crc crc_octets crc_of_bits remainder mask_of next_mask whitening_bit whitening_of little_endian data_channels used_channels reversed_octet perm mam stage prn channel_of
 returns-clause-another_event c lawful =
     let front = one_connection_journal ++ turn_entry 1 ∷ turn_entry 2 ∷ [] in
-    numbers_differ 3 27 refl (entered_as front A 1 1 25 one_link refl (lawful front [] A 1 1 25 refl)).turn
+    numbers_differ 3 27 refl (entered_as front A 1 1 25 one_link refl refl (lawful front [] A 1 1 25 refl)).turn
 
 pub returns-clause-procedure : goal.returns-clause-procedure
 returns-clause-procedure c lawful = lawful one_connection_journal [] (Began A 1 Version) refl

@@ -43,11 +43,11 @@ returns-clause-next_turn c = record { number = 1; belongs = refl; link = one_lin
 pub returns-clause-late : goal.returns-clause-late
 unfolding link_of_packet is_answer entered_on links_begun pdu_heard heard_in read_of kept_bits crc crc_octets crc_of_bits remainder mask_of next_mask whitening_bit whitening_of little_endian
 returns-clause-late c lawful =
-    let is = in_event_as two_turns_after B next_packet 1 one_link 1 refl refl refl (lawful two_turns_after [] B 25 next_packet Pass Good refl refl) in
+    let is = in_event_as two_turns_after B next_packet 1 one_link 1 refl refl refl refl (lawful two_turns_after [] B 25 next_packet Pass Good refl refl) in
     not_so is.event 5 (anchor_in one_link [] is.event) is.in_turn refl (ap (anchor_in one_link []) (first_event is.event is.entered))
 
 pub returns-clause-before : goal.returns-clause-before
 unfolding link_of_packet is_answer entered_on links_begun pdu_heard heard_in read_of kept_bits crc crc_octets crc_of_bits remainder mask_of next_mask whitening_bit whitening_of little_endian
 returns-clause-before c lawful =
-    let is = in_event_as only_other_entered B first_packet 1 one_link 0 refl refl refl (lawful only_other_entered [] B 25 first_packet Pass Good refl refl) in
+    let is = in_event_as only_other_entered B first_packet 1 one_link 0 refl refl refl refl (lawful only_other_entered [] B 25 first_packet Pass Good refl refl) in
     no_event is.event is.entered
