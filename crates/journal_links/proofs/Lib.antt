@@ -6,6 +6,11 @@ pub mod EnterLines
 pub mod OpenedLines
 pub mod NoProcedures
 pub mod NoChanges
+pub mod Ranges
+pub mod SaidLines
+pub mod CallNotes
+pub mod ChangesAt
+pub mod EntriesNoted
 pub mod LinkLines
 pub mod LineNotes
 pub mod OfTwo

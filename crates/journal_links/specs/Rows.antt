@@ -3,10 +3,11 @@ use Rattle.std.specs.Prelude.{true, false, ℕ, List, [], ◌∷◌}
 use Rattle.ble_base.specs.declared.roles.Side.TheVariants.{A, B}
 use Rattle.ble_base.specs.declared.verdicts.Verdict.TheVariants.{Good}
 use Rattle.journal.specs.declared.entries.Entry.{Entry}
-use Rattle.journal.specs.declared.entries.Entry.TheVariants.{Air}
+use Rattle.journal.specs.declared.entries.Entry.TheVariants.{Air, Applied, Enter, Sent, Took}
 use Rattle.journal.specs.declared.entries.Mark.TheVariants.{Pass as Passed}
 use Rattle.run_laws.specs.Rows.{one_event_fields}
 use Rattle.run_laws.specs.run_model.Rows.{connect_packet, connectable_packet, turn_entry}
+use Rattle.link_changes.specs.Worked.{update_octets}
 use Rattle.journal_links.specs.Begun.{LinkBegun}
 
 -- B sent its CONNECT_IND in turn 0, and both sides offer channel selection algorithm #2
@@ -44,3 +45,9 @@ abbrev pub offered_once : List Entry
 offered_once =
     turn_entry 0 ∷ Air A 37 connectable_packet Passed Good ∷ Air A 37 unoffered_packet Passed Good
     ∷ Air B 37 connect_packet Passed Good ∷ []
+
+-- B sends an update whose Instant is event 6 in event 0 of link 1, and A takes it; B lets it hold from event 6 on
+abbrev pub update_in_force : List Entry
+update_in_force =
+    Enter A 1 0 25 ∷ Enter B 1 0 25 ∷ Sent B 1 1 3 (update_octets 6) ∷ Took A 1 1 3 (update_octets 6)
+    ∷ Enter A 1 5 9 ∷ Enter B 1 5 9 ∷ Applied B 1 1 6 ∷ []

@@ -11,4 +11,4 @@ pub use crate::lines::{
     without_changes_events_follow_the_connect_ind,
     without_procedures_both_ends_enter_an_event_in_one_turn,
 };
-pub use crate::rows::{worked_algorithms, worked_links};
+pub use crate::rows::{worked_algorithms, worked_changes, worked_links};

@@ -1,6 +1,9 @@
 //! Worked examples, which the definitions compute.
-ghost use Rattle.std.specs.Prelude.{◌≡◌, [], ◌∷◌, Some, None};
+ghost use Rattle.std.specs.Prelude.{◌≡◌, ◌+◌, ◌*◌, [], ◌∷◌, ◌++◌, Some, None};
+ghost use Rattle.ble_base.specs.declared.roles.Side.TheVariants.{A, B};
+ghost use Rattle.journal.specs.declared.entries.Entry.TheVariants.{Applied};
 ghost use Rattle.journal_links.specs.Begun.{link_numbered, links_begun};
+ghost use Rattle.journal_links.specs.Changes.{changes_of};
 ghost use Rattle.journal_links.specs.Entered.{anchor_in, channel_in};
 ghost use Rattle.journal_links.specs.Rows.{
   answered_by,
@@ -10,7 +13,9 @@ ghost use Rattle.journal_links.specs.Rows.{
   one_link,
   unaccepted_packet,
   unoffered_packet,
+  update_in_force,
 };
+ghost use Rattle.link_changes.specs.Worked.{update_at};
 ghost use Rattle.run_laws.specs.run_model.Rows.{connect_packet, connectable_packet, one_event_journal};
 
 /// A journal with one CONNECT_IND has one link. Its first event is two slots after that, and its
@@ -35,4 +40,15 @@ pub fn worked_algorithms()
     ensures last { links_begun offered_once ≡ hopping_link ∷ [] }
     ensures first { (anchor_in hopping_link [] 0 ≡ 2) × (channel_in hopping_link [] 0 ≡ 5) }
     ensures second { (anchor_in hopping_link [] 1 ≡ 26) × (channel_in hopping_link [] 1 ≡ 10) }
+{}
+
+/// An update that the central sends holds at the central from the line on that says so; at the
+/// peripheral that took it, before such a line, it does not, and on another link there is none.
+pub fn worked_changes()
+    ensures central { changes_of 1 one_link B update_in_force ≡ update_at 6 6 ∷ [] }
+    ensures peripheral { changes_of 1 one_link A update_in_force ≡ [] }
+    ensures taken { changes_of 1 one_link A (update_in_force ++ Applied A 1 1 6 ∷ [])
+        ≡ update_at 6 6 ∷ [] }
+    ensures other { changes_of 2 one_link B update_in_force ≡ [] }
+    ensures interval { anchor_in one_link (changes_of 1 one_link B update_in_force) 7 ≡ 2 + 6 * 24 + 8 }
 {}

@@ -32,7 +32,7 @@ use Rattle.link_changes.proofs.Steps.{entry_when, notes_when, past_known}
 
 -- ---- where in the notes of an event its own note is
 
-is_enter : Note → Bool
+abbrev pub is_enter : Note → Bool
 is_enter (Enter handle event channel) = true
 is_enter other = false
 
@@ -43,7 +43,6 @@ counted test before later note is =
     omega (arith, parts, one)
 
 no_enter : (handle : ℕ) (done began : Option Kind) → length (filter is_enter (done_notes handle done ++ began_notes handle began)) ≡ 0
-unfolding is_enter
 no_enter handle None None = refl
 no_enter handle None (Some kind) = refl
 no_enter handle (Some kind) None = refl
@@ -64,30 +63,31 @@ pub record IsEnter (handle : ℕ) (event : EventNo) (channel : ℕ) (applied : O
   pub number_is : number ≡ event
   pub channel_is : own ≡ channel
 
-module _ (handle : ℕ) (event : EventNo) (channel : ℕ) (done began : Option Kind) where
-  not_later : (before later : List Note) (own_handle own : ℕ) (number : EventNo) → done_notes handle done ++ began_notes handle began ≡ before ++ Enter own_handle number own ∷ later → ⊥
-  unfolding is_enter
+-- the first note of an event, where no other one comes after it
+module _ (handle : ℕ) (event : EventNo) (channel : ℕ) (more : List Note) (none : length (filter is_enter more) ≡ 0) where
+  not_later : (before later : List Note) (own_handle own : ℕ) (number : EventNo) → more ≡ before ++ Enter own_handle number own ∷ later → ⊥
   not_later before later own_handle own number is =
       let some = counted is_enter before later (Enter own_handle number own) refl in
-      let none = no_enter handle done began in
       let same = ap (λ (all : List Note). length (filter is_enter all)) is in
       omega (arith, some, none, same)
 
-  applied_not_later : (before later : List Note) (own_handle own : ℕ) (number : EventNo) → done_notes handle done ++ began_notes handle began ≡ before ++ Applied own_handle own number ∷ later → ⊥
-  applied_not_later before later own_handle own number is =
-      let some = counted is_applied_note before later (Applied own_handle own number) refl in
-      let none = no_applied handle done began in
-      let same = ap (λ (all : List Note). length (filter is_applied_note all)) is in
-      omega (arith, some, none, same)
-
-  find_enter : (applied : Option ℕ) (before later : List Note) (own_handle own : ℕ) (number : EventNo)
-      → entry_of handle event channel applied done began ≡ before ++ Enter own_handle number own ∷ later → IsEnter handle event channel applied before number own
+  pub find_enter : (applied : Option ℕ) (before later : List Note) (own_handle own : ℕ) (number : EventNo)
+      → applied_notes handle event.0 applied ++ Enter handle event channel ∷ more ≡ before ++ Enter own_handle number own ∷ later
+      → IsEnter handle event channel applied before number own
   find_enter None [] later own_handle own number is = record { before_is = refl; number_is = cc; channel_is = cc }
   find_enter None (note ∷ before) later own_handle own number is = absurd (not_later before later own_handle own number (cc))
   find_enter (Some n) [] later own_handle own number is = absurd (cc)
   find_enter (Some n) (note ∷ []) later own_handle own number is =
       let first : note ≡ Applied handle n event = cc in record { before_is = ap (λ (note : Note). note ∷ []) first; number_is = cc; channel_is = cc }
   find_enter (Some n) (note ∷ other ∷ before) later own_handle own number is = absurd (not_later before later own_handle own number (cc))
+
+module _ (handle : ℕ) (event : EventNo) (channel : ℕ) (done began : Option Kind) where
+  applied_not_later : (before later : List Note) (own_handle own : ℕ) (number : EventNo) → done_notes handle done ++ began_notes handle began ≡ before ++ Applied own_handle own number ∷ later → ⊥
+  applied_not_later before later own_handle own number is =
+      let some = counted is_applied_note before later (Applied own_handle own number) refl in
+      let none = no_applied handle done began in
+      let same = ap (λ (all : List Note). length (filter is_applied_note all)) is in
+      omega (arith, some, none, same)
 
   pub record IsApplied (applied : Option ℕ) (before later : List Note) (own_handle own : ℕ) (number : EventNo) : Type 0 where
     pub before_is : before ≡ []
@@ -175,12 +175,30 @@ module _ (setup : Setup) (past : List Step) (slot : ℕ) (ranges : setup.link.ro
       ∙ changes_before setup.link.role (notes_of setup past ++ applied) setup.link.handle own_channel own_event)
       (follows_now setup.link.role (first_params setup.link.fields) (first_anchor setup) (notes_of setup past ++ (applied ++ note ∷ [])) true u after (omega (arith, more)))
 
+  -- the notes of an end that goes on
+  pub entry_are : is_none c.ends ≡ true → let entry = entry_when setup slot c true in
+      notes_after setup (facts_of setup past) (EventEntered slot)
+      ≡ applied_notes setup.link.handle (event_of u) (next_number t) ++ Enter setup.link.handle own_event own_channel
+      ∷ (done_notes setup.link.handle entry.done ++ began_notes setup.link.handle entry.began)
+  entry_are is =
+      let entry = entry_when setup slot c true in
+      let done = done_notes setup.link.handle entry.done in
+      let began = began_notes setup.link.handle entry.began in
+      let applied = applied_notes setup.link.handle (event_of u) (next_number t) in
+      let note = Enter setup.link.handle own_event own_channel in
+      ap (λ b. notes_when setup slot skips c b) is ∙ append_assoc (applied ++ note ∷ []) done began ∙ append_assoc applied (note ∷ []) (done ++ began)
+
   entered_by : (b : Bool) → is_none c.ends ≡ b → (before later : List Note) (handle : ℕ) (event : EventNo) (channel : ℕ)
       → notes_when setup slot skips c b ≡ before ++ Enter handle event channel ∷ later → IsEnteredBy setup past (notes_of setup past ++ before) event.0 channel
   entered_by false is before later handle event channel same = absurd (none_noted before later (Enter handle event channel) same)
   entered_by true is before later handle event channel same =
       let entry = entry_when setup slot c true in
-      let found = find_enter setup.link.handle own_event own_channel entry.done entry.began (next_number t) before later handle channel event same in
+      let done = done_notes setup.link.handle entry.done in
+      let began = began_notes setup.link.handle entry.began in
+      let applied = applied_notes setup.link.handle (event_of u) (next_number t) in
+      let note = Enter setup.link.handle own_event own_channel in
+      let found = find_enter setup.link.handle own_event own_channel (done ++ began) (no_enter setup.link.handle entry.done entry.began) (next_number t) before later handle channel event
+      (sym (append_assoc (applied ++ note ∷ []) done began ∙ append_assoc applied (note ∷ []) (done ++ began)) ∙ same) in
       let follows = subst (λ (some : List Note). Follows (first_params setup.link.fields) (first_anchor setup) (changes_noted setup.link.role (notes_of setup past ++ some)) u)
       (sym found.before_is) (follows_then is) in
       let number : event.0 ≡ event_of u = ap (λ (e : EventNo). e.0) found.number_is in record {

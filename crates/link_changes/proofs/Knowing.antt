@@ -50,7 +50,7 @@ pub enter_says_none : (role : Role) (handle channel : ℕ) (event : EventNo) →
 enter_says_none Central handle channel event = refl
 enter_says_none Peripheral handle channel event = refl
 
-applied_says_none : (role : Role) (handle number : ℕ) (event : EventNo) → indication_noted role (Applied handle number event) ≡ None
+pub applied_says_none : (role : Role) (handle number : ℕ) (event : EventNo) → indication_noted role (Applied handle number event) ≡ None
 applied_says_none Central handle number event = refl
 applied_says_none Peripheral handle number event = refl
 

@@ -1,5 +1,6 @@
 -- The lemmas of this crate.
 pub mod Notes
+pub mod Alike
 pub mod Entries
 pub mod Steps
 pub mod Parts

@@ -2,3 +2,5 @@
 pub mod Noted
 pub mod InForce
 pub mod Worked
+-- what the crates above use of those below
+pub use Rattle.data_pdu.specs as data_pdu
