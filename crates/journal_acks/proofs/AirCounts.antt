@@ -53,8 +53,8 @@ use Rattle.journal_acks.proofs.Acks.{IsTold, hears_counted, told}
 use Rattle.journal_acks.proofs.Counting.{AreCountedSo, AreKnown, AreToTake, IsBegun, IsEndCounted, IsToTake, ahead_if, apart_numbers, facts_event, moved, none_to_take, one_begun, plain, taking_if}
 use Rattle.journal_acks.proofs.Exchanging.{exchange_at, number_at, number_sent}
 use Rattle.journal_acks.proofs.FirstCounts.{IsFirst, first_event_at, first_old}
-use Rattle.journal_acks.proofs.LinkPhases.{IsPhased}
-use Rattle.journal_acks.proofs.LinkUses.{listens_under, sends_under}
+use Rattle.link_calls.proofs.LinkPhases.{IsPhased}
+use Rattle.link_calls.specs.Uses.{listens_under, sends_under}
 use Rattle.journal_acks.proofs.SentLines.{air_line}
 use Rattle.journal_acks.proofs.Standing.{AreOne, listener_role, listener_sends, listens_wanted, one_listened, other_listens, other_sends, phased_at, sender_role, sends_on, sends_other}
 use Rattle.journal_acks.proofs.TwoStations.{IsListening, IsOfTwo, after_air, air_of_link, air_quiet, good_begins, hearing_of, judged, link_listens, one_hearing, other_is, other_of, other_received, own_differs, own_received, same_number, sent_empty, side_differs, side_other, side_same, unchanged}

@@ -34,7 +34,7 @@ use Rattle.journal_packets.specs.Senders.{IsOfSendersLink}
 use Rattle.journal_acks.specs.Counted.{IsCounted}
 use Rattle.journal_acks.specs.Exchange.{Exchanged, with_sent}
 use Rattle.journal_acks.proofs.Exchanging.{exchange_at, exchange_other, exchange_same, number_at, number_other}
-use Rattle.journal_acks.proofs.LinkUses.{listens_under, sends_under}
+use Rattle.link_calls.specs.Uses.{listens_under, sends_under}
 use Rattle.journal_acks.proofs.TwoStations.{IsOfTwo, other_apart}
 use Rattle.std.proofs.Math.Bool.{and-false}
 use Rattle.std.proofs.lemmas.Bool.{eqb-true, eqb-false, false_from_ne_true}

@@ -32,13 +32,16 @@ use Rattle.run_model.specs.Run.{Given, facts_at, setup_at, step_of}
 use Rattle.journal_packets.specs.run_laws.Plainness.{IsPlainLink}
 use Rattle.journal_packets.proofs.run_laws.LinkPasses.{is_on_link}
 use Rattle.journal_packets.specs.journal_links.Begun.{LinkBegun, link_numbered}
-use Rattle.journal_acks.proofs.CallNotes.{HasNoData, all_more, begin_noted, events_noted, no_data, notes_starting, start_noted}
-use Rattle.journal_acks.proofs.Exchanging.{OpensNone, number_at, opening_none}
+use Rattle.link_calls.proofs.CallNotes.{HasNoData, all_more, begin_noted, events_noted, no_data, notes_starting, start_noted}
+use Rattle.link_calls.proofs.CallNotes.{OpensNone, opening_none}
+use Rattle.journal_acks.proofs.Exchanging.{number_at}
 use Rattle.journal_acks.proofs.FirstCounts.{IsCallOf, IsOnly, OfLink, OfNone}
-use Rattle.journal_acks.proofs.LinkCalls.{begins_under, received_quiet, receiving_setup, takes_plain}
-use Rattle.journal_acks.proofs.LinkUses.{listens_under, sends_under}
+use Rattle.link_calls.proofs.LinkCalls.{begins_under, received_quiet, receiving_setup}
+use Rattle.journal_acks.proofs.PlainCalls.{takes_plain}
+use Rattle.link_calls.specs.Uses.{listens_under, sends_under}
 use Rattle.journal_acks.proofs.PhaseNotes.{IsOnLink, IsPhaseOf, IsPlainPhase, SendsFrom, SendsNothing, SendsOne, sends_from}
-use Rattle.journal_acks.proofs.UnderHandles.{change_by, sent_if}
+use Rattle.link_calls.proofs.UnderHandles.{change_by}
+use Rattle.link_calls.specs.Turns.{sent_if}
 use Rattle.journal_acks.proofs.TwoStations.{same_number}
 
 -- the link with a number began before this turn

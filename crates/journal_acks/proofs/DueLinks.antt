@@ -41,10 +41,14 @@ use Rattle.journal_packets.proofs.run_laws.PlainTurns.{plain_due}
 use Rattle.journal_packets.proofs.run_laws.TurnPlaces.{Between, IsTurned, Stage, Within}
 use Rattle.journal_packets.proofs.run_laws.TurnSteps.{MakesWell}
 use Rattle.journal_acks.proofs.GoodLinks.{good_alike, good_base, good_of, good_sent, slot_of}
-use Rattle.journal_acks.proofs.HeardSteps.{received_same}
-use Rattle.journal_acks.proofs.LinkCalls.{HasPassed, IsNew, Stays, Takes, begins_under, begun_plain, fixed_if, new_good, passes_under, receiving_good, receiving_setup, takes_plain}
-use Rattle.journal_acks.proofs.LinkUses.{sends_under}
-use Rattle.journal_acks.proofs.UnderHandles.{end_under, octet_under, sent_if, staying_under}
+use Rattle.link_calls.proofs.HeardSteps.{received_same}
+use Rattle.link_calls.specs.Phases.{HasPassed, IsNew, Stays, Takes}
+use Rattle.link_calls.proofs.LinkCalls.{begins_under, new_good, passes_under, receiving_good, receiving_setup}
+use Rattle.journal_acks.proofs.PlainCalls.{alike_plain, begun_plain, takes_plain}
+use Rattle.link_calls.specs.Turns.{fixed_if}
+use Rattle.link_calls.specs.Uses.{sends_under}
+use Rattle.link_calls.proofs.UnderHandles.{end_under, octet_under, staying_under}
+use Rattle.link_calls.specs.Turns.{sent_if}
 
 -- ---- when a link ends
 
@@ -202,7 +206,7 @@ later_kept taken setup = record {
     ranged = octet_open IsRanged ranged_hosts setup facts octet are.ranged;
     later = λ handle link at plain.
         let was = octet_under setup facts octet handle link at in
-        same_end begun was.link link was.setup (good_alike was.link link was.good) (are.later handle was.link was.was (was.plain plain));
+        same_end begun was.link link was.setup (good_alike was.link link was.good) (are.later handle was.link was.was (alike_plain (link_at handle facts.links) link was plain));
   };
   begins = λ begun on facts are. record {
     in_turn = (turn_kept setup).begins begun on facts are.in_turn;
@@ -222,7 +226,7 @@ later_kept taken setup = record {
     ranged = end_open IsRanged ranged_hosts setup facts are.ranged;
     later = λ handle link at plain.
         let was = end_under setup facts handle link at in
-        same_end begun was.link link was.setup (good_alike was.link link was.good) (are.later handle was.link was.was (was.plain plain));
+        same_end begun was.link link was.setup (good_alike was.link link was.good) (are.later handle was.link was.was (alike_plain (link_at handle facts.links) link was plain));
   };
 }
 

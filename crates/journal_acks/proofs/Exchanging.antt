@@ -18,7 +18,7 @@ use Rattle.run_model.proofs.LinksKnown.{links_event}
 use Rattle.run_model.proofs.Parts.{journal_event}
 use Rattle.journal_packets.specs.Belonging.{is_side}
 use Rattle.journal_acks.specs.Exchange.{Exchanged, after_taking, exchange_after, exchange_from, exchange_of, first_exchanged, with_taken}
-use Rattle.journal_acks.proofs.CallNotes.{IsOfBegins, TakesNone, is_taking}
+use Rattle.link_calls.proofs.CallNotes.{OpensNone, TakesNone, is_taking}
 
 -- ---- an entry more
 
@@ -193,27 +193,6 @@ exchange_same given number station step history side =
 -- the number under a handle of a station
 abbrev pub number_at : ℕ → ℕ → List Event → ℕ
 number_at station handle history = (links_of history).link_of station handle
-
--- a note that opens no link under this handle
-abbrev pub opens_under : ℕ → Note → Bool
-opens_under handle (Opened other role own peer) = handle == other
-opens_under handle other = false
-
-abbrev pub OpensNone : ℕ → Note → Type 0
-OpensNone handle note = opens_under handle note ≡ false
-
--- no link is opened as a host sends, or as a turn begins or ends
-pub opening_none : (handle : ℕ) → IsOfBegins (OpensNone handle)
-opening_none handle = record {
-  starts = record {
-    feeds = record { up = λ octets. refl; shut = λ other reason. refl };
-    applied = λ other number event. refl;
-    entered = λ other event channel. refl;
-    done = λ other kind. refl;
-    began = λ other kind. refl;
-  };
-  sent = λ other number llid octets. refl;
-}
 
 none_if : (same opens : Bool) (number last : ℕ) → opens ≡ false → (if same && opens then last else number) ≡ number
 none_if true opens number last is = rw is refl

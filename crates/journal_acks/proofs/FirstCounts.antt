@@ -21,9 +21,10 @@ use Rattle.journal_packets.specs.journal_links.Begun.{LinkBegun, link_numbered}
 use Rattle.journal_packets.specs.Belonging.{is_side}
 use Rattle.journal_acks.specs.Carried.{sent_line_of}
 use Rattle.journal_acks.specs.Exchange.{Exchanged, after_taking, exchange_of, first_exchanged}
-use Rattle.journal_acks.proofs.CallNotes.{HasNoData, SendsNone, TakesNone, all_more}
+use Rattle.link_calls.proofs.CallNotes.{HasNoData, SendsNone, TakesNone, all_more}
 use Rattle.journal_acks.proofs.Counting.{IsBegun}
-use Rattle.journal_acks.proofs.Exchanging.{OpensNone, call_quiet, event_number, exchange_at, exchange_called, note_exchange, note_quiet, number_at, number_quiet, opens_none}
+use Rattle.link_calls.proofs.CallNotes.{OpensNone}
+use Rattle.journal_acks.proofs.Exchanging.{call_quiet, event_number, exchange_at, exchange_called, note_exchange, note_quiet, number_at, number_quiet, opens_none}
 use Rattle.journal_acks.proofs.SentLines.{call_line, line_called, note_line, quiet_note, sent_line_at}
 
 pub data IsFirst (number : ℕ) (history : List Event) : Type 0 where

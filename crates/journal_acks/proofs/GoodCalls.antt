@@ -20,16 +20,18 @@ use Rattle.run_model.proofs.Stations.{is_in, among, not_before}
 use Rattle.run_model.proofs.Walk.{Place, AtListening}
 use Rattle.journal_packets.proofs.run_laws.Hearings.{other_facts}
 use Rattle.journal_packets.proofs.run_laws.TurnPlaces.{Within, at_stage}
-use Rattle.journal_acks.proofs.CallNotes.{octet_noted}
+use Rattle.link_calls.proofs.CallNotes.{octet_noted}
 use Rattle.journal_acks.proofs.Counting.{AreKnown, facts_event, taking_if, nothing_taken}
-use Rattle.journal_acks.proofs.Exchanging.{OpensNone, number_at, number_called, number_other, number_quiet, opening_none}
+use Rattle.link_calls.proofs.CallNotes.{OpensNone, opening_none}
+use Rattle.journal_acks.proofs.Exchanging.{number_at, number_called, number_other, number_quiet}
 use Rattle.journal_acks.proofs.GoodLinks.{good_alike, good_of, good_room, good_sent, slot_of}
 use Rattle.journal_acks.proofs.HeardLines.{AreUnheard, feed_heard, heard_at, heard_called, unheard_called, unheard_event_at, unheard_now}
 use Rattle.journal_acks.proofs.KeptCounts.{AreCountedAt, own_at}
-use Rattle.journal_acks.proofs.LinkCalls.{HasPassed, IsNew, IsOpenedNow, Stays, Takes, new_good, passes_under, phase_quiet, receiving_good}
-use Rattle.journal_acks.proofs.LinkUses.{listens_under, sends_under}
+use Rattle.link_calls.specs.Phases.{HasPassed, IsNew, Stays, Takes}
+use Rattle.link_calls.proofs.LinkCalls.{IsOpenedNow, new_good, passes_under, phase_quiet, receiving_good}
+use Rattle.link_calls.specs.Uses.{listens_under, sends_under}
 use Rattle.journal_acks.proofs.Standing.{PhasedBy, phased_at}
-use Rattle.journal_acks.proofs.UnderHandles.{octet_under}
+use Rattle.link_calls.proofs.UnderHandles.{octet_under}
 
 -- before an end takes a packet that was on the air, the journal is one reception ahead
 abbrev pub IsGoodAt : Option (List ℕ) → ℕ → Turn → OpenLink → Option ℕ → Type 0

@@ -19,9 +19,10 @@ use Rattle.controller_model.specs.declared.doing.Doing.{Doing}
 use Rattle.controller_model.specs.Facts.{Facts}
 use Rattle.run_model.specs.History.{is_good}
 use Rattle.journal_packets.proofs.run_laws.Agreed.{step_facts}
-use Rattle.journal_acks.proofs.HeardSteps.{entered_good, fixed_same, received_same, sent_in}
-use Rattle.journal_acks.proofs.LinkCalls.{HasBegun, fixed_if}
-use Rattle.journal_acks.proofs.UnderHandles.{sent_if}
+use Rattle.link_calls.proofs.HeardSteps.{entered_good, fixed_same, received_same, sent_in}
+use Rattle.link_calls.proofs.LinkCalls.{HasBegun}
+use Rattle.link_calls.specs.Turns.{fixed_if}
+use Rattle.link_calls.specs.Turns.{sent_if}
 
 abbrev pub slot_of : Option Reception → Option ℕ
 slot_of None = None

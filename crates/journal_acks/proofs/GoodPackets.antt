@@ -28,7 +28,7 @@ use Rattle.journal_acks.proofs.Exchanging.{number_at, number_sent}
 use Rattle.journal_acks.proofs.GoodLinks.{good_now, good_of}
 use Rattle.journal_acks.proofs.HeardLines.{AreUnheard, IsUnheard, advertised_heard, apart_heard, far_side, heard_at, heard_if, link_heard, own_side, unheard_event_at, unheard_packet, unheard_packet_of}
 use Rattle.journal_acks.proofs.KeptCounts.{sent_later}
-use Rattle.journal_acks.proofs.LinkUses.{listens_under}
+use Rattle.link_calls.specs.Uses.{listens_under}
 use Rattle.journal_acks.proofs.Standing.{PhasedBy, other_listens, phased_at}
 use Rattle.journal_acks.proofs.TwoStations.{IsOfTwo, hearing_of, one_hearing, other_is, other_of, own_differs, own_received}
 use Rattle.journal_acks.proofs.GoodCalls.{AreGood, AreGoodAt, IsGoodAt, deaf, from_plain, moved, plain}

@@ -50,18 +50,21 @@ use Rattle.journal_acks.specs.Counted.{IsCounted}
 use Rattle.journal_acks.specs.Exchange.{Exchanged, after_taking, with_taken}
 use Rattle.journal_acks.proofs.Acks.{link_sends}
 use Rattle.journal_acks.proofs.AirCounts.{advertises, any_sending, first_aired, packet_counted, packet_to_take}
-use Rattle.journal_acks.proofs.CallNotes.{HasNoData, TakesNone, all_more, begin_noted, doing_noted, end_noted, events_noted, no_data, none_taken, octet_noted}
+use Rattle.link_calls.proofs.CallNotes.{HasNoData, TakesNone, all_more, begin_noted, doing_noted, end_noted, events_noted, no_data, none_taken, octet_noted}
 use Rattle.journal_acks.proofs.Counting.{AreCountedSo, AreKnown, AreToTake, IsEndCounted, ahead_if, alike_counted, apart_numbers, counted_call, counted_event, counted_same, from_plain, from_sent, moved, none_to_take, plain, take_call, taking_if}
 use Rattle.journal_acks.proofs.DataCalls.{begin_call, on_link_facts, on_link_notes, phase_call, plain_heard, unfound}
-use Rattle.journal_acks.proofs.Exchanging.{OpensNone, exchange_at, exchange_called, exchange_took, feed_quiet, number_at, number_called, number_quiet, opening_none, turn_quiet}
+use Rattle.link_calls.proofs.CallNotes.{OpensNone, opening_none}
+use Rattle.journal_acks.proofs.Exchanging.{exchange_at, exchange_called, exchange_took, feed_quiet, number_at, number_called, number_quiet, turn_quiet}
 use Rattle.journal_acks.proofs.FirstCounts.{AreFirst, IsCallOf, IsFirst, OfNone, first_called, first_event, first_event_at, first_of}
-use Rattle.journal_acks.proofs.LinkCalls.{HasPassed, IsNew, IsOpenedNow, Stays, Takes, base_ack, begins_under, passes_under, phase_quiet, receiving_ack}
-use Rattle.journal_acks.proofs.LinkUses.{listens_under, sends_under}
+use Rattle.link_calls.specs.Phases.{HasPassed, IsNew, Stays, Takes}
+use Rattle.link_calls.proofs.LinkCalls.{IsOpenedNow, base_ack, begins_under, passes_under, phase_quiet, receiving_ack}
+use Rattle.link_calls.specs.Uses.{listens_under, sends_under}
 use Rattle.journal_acks.proofs.PhaseNotes.{IsOnLink, IsPhaseOf, IsPlainPhase, IsTakenSo, Noted, Unnoted, phase_of, same_but, taken_so}
 use Rattle.journal_acks.proofs.SentLines.{air_line, feed_line, turn_line}
 use Rattle.journal_acks.proofs.Standing.{PhasedBy, fresh_counted, last_phase, phased_at, sending_on_link, silent_sends}
 use Rattle.journal_acks.proofs.TwoStations.{IsOfTwo, air_quiet, hearing_of, one_hearing, other_is, own_differs, own_received, side_same}
-use Rattle.journal_acks.proofs.UnderHandles.{end_under, octet_under, sent_if}
+use Rattle.link_calls.proofs.UnderHandles.{end_under, octet_under}
+use Rattle.link_calls.specs.Turns.{sent_if}
 
 -- a station still has to transmit what it wants to
 abbrev pub unsent : Place → ℕ → Bool

@@ -15,17 +15,18 @@ use Rattle.run_model.proofs.Stations.{among, not_before}
 use Rattle.run_model.proofs.Walk.{Place, NoTurn, AtBegins, IsKept}
 use Rattle.journal_packets.proofs.run_laws.OpenSteps.{none_open, open_has}
 use Rattle.journal_packets.proofs.SoFar.{IsBelongingSoFar}
-use Rattle.journal_acks.proofs.CallNotes.{begin_noted, end_noted}
+use Rattle.link_calls.proofs.CallNotes.{begin_noted, end_noted}
 use Rattle.journal_acks.proofs.Counting.{AreKnown}
-use Rattle.journal_acks.proofs.Exchanging.{OpensNone, number_at, number_called, number_quiet, opening_none}
+use Rattle.link_calls.proofs.CallNotes.{OpensNone, opening_none}
+use Rattle.journal_acks.proofs.Exchanging.{number_at, number_called, number_quiet}
 use Rattle.journal_acks.proofs.GoodLinks.{good_alike, good_base, good_of, good_sent}
 use Rattle.journal_acks.proofs.HeardLines.{heard_at, none_unheard, turn_heard, unheard_called, unheard_event_at}
 use Rattle.journal_acks.proofs.KeptCounts.{counts_kept, own_at}
-use Rattle.journal_acks.proofs.LinkCalls.{begins_under}
-use Rattle.journal_acks.proofs.LinkUses.{sends_under}
+use Rattle.link_calls.proofs.LinkCalls.{begins_under}
+use Rattle.link_calls.specs.Uses.{sends_under}
 use Rattle.journal_acks.proofs.RunCounts.{counts_first}
 use Rattle.journal_acks.proofs.TwoStations.{IsOfTwo}
-use Rattle.journal_acks.proofs.UnderHandles.{end_under}
+use Rattle.link_calls.proofs.UnderHandles.{end_under}
 use Rattle.journal_acks.proofs.GoodCalls.{AreGood, AreGoodAt, IsGoodAt, feed_good, feed_unheard, good_call, good_event, good_same, passes_own, plain, quiet_own}
 use Rattle.journal_acks.proofs.GoodPackets.{packet_good, packet_unheard}
 

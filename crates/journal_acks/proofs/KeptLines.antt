@@ -42,20 +42,24 @@ use Rattle.journal_packets.proofs.run_laws.TurnPlaces.{Between, Within, at_stage
 use Rattle.journal_packets.proofs.run_laws.TurnSteps.{phase_turn}
 use Rattle.journal_packets.specs.Belonging.{is_side}
 use Rattle.journal_acks.specs.Carried.{SentLine, pdu_carried}
-use Rattle.journal_acks.proofs.CallNotes.{HasNoData, SendsNone, all_more, begin_noted, end_noted, no_data, notes_starting, octet_noted, start_noted}
+use Rattle.link_calls.proofs.CallNotes.{HasNoData, SendsNone, all_more, begin_noted, end_noted, no_data, notes_starting, octet_noted, start_noted}
 use Rattle.journal_acks.proofs.Counting.{AreCountedSo, AreKnown, HaveOwnNumbers, apart_numbers, facts_event, plain}
 use Rattle.journal_acks.proofs.DataCalls.{on_link_notes, own_begun, received_at, unfound}
-use Rattle.journal_acks.proofs.Exchanging.{OpensNone, exchange_at, number_at, number_called, number_other, number_quiet, number_sent, opening_none}
+use Rattle.link_calls.proofs.CallNotes.{OpensNone, opening_none}
+use Rattle.journal_acks.proofs.Exchanging.{exchange_at, number_at, number_called, number_other, number_quiet, number_sent}
 use Rattle.journal_acks.proofs.FirstCounts.{first_called, first_of}
 use Rattle.journal_acks.proofs.FixedPdus.{fixed_empty}
 use Rattle.journal_acks.proofs.KeptCounts.{AreCountedAt, before_call, call_is, counts_kept, own_at, phased, station_is, was_taking}
-use Rattle.journal_acks.proofs.LinkCalls.{HasBegun, HasPassed, IsNew, IsOpenedNow, Stays, Takes, base_ack, begins_under, begun_before, passes_under, phase_quiet, received_noted, receiving_ack, receiving_setup, sent_plain, taking_opens, taking_sends}
-use Rattle.journal_acks.proofs.LinkUses.{listens_under, sends_under}
+use Rattle.link_calls.proofs.LinkCalls.{HasBegun, IsOpenedNow, base_ack, begins_under, begun_before, passes_under, phase_quiet, received_noted, receiving_ack, receiving_setup, taking_opens, taking_sends}
+use Rattle.link_calls.specs.Phases.{HasPassed, IsNew, Stays, Takes}
+use Rattle.journal_acks.proofs.PlainCalls.{sent_plain}
+use Rattle.link_calls.specs.Uses.{listens_under, sends_under}
 use Rattle.journal_acks.proofs.PhaseNotes.{IsOnLink, IsPhaseOf, IsPlainPhase, HasSentSame, SendsFrom, SendsNothing, SendsOne, doing_notes, notes_when, phase_of, same_but, sends_from, sent_same}
 use Rattle.journal_acks.proofs.SentLines.{air_line, feed_line, line_called, line_other, line_sent, sent_line_at, turn_line}
 use Rattle.journal_acks.proofs.Standing.{PhasedBy, phased_at, reply_under, sends_once}
 use Rattle.journal_acks.proofs.TwoStations.{IsOfTwo, other_is, side_differs}
-use Rattle.journal_acks.proofs.UnderHandles.{end_under, octet_under, sent_if}
+use Rattle.link_calls.proofs.UnderHandles.{end_under, octet_under}
+use Rattle.link_calls.specs.Turns.{sent_if}
 
 -- the PDU that an end has sent last is that of the line, if no other was sent since, and else an empty one
 pub record IsLined (line : Option SentLine) (ack : Acknowledgement) : Type 0 where

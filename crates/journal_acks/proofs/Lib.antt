@@ -1,13 +1,8 @@
 -- The lemmas of this crate.
 pub mod Bounds
-pub mod CallNotes
 pub mod Exchanging
 pub mod Acks
-pub mod LinkUses
-pub mod UnderHandles
-pub mod HeardSteps
-pub mod LinkPhases
-pub mod LinkCalls
+pub mod PlainCalls
 pub mod TwoStations
 pub mod SentLines
 pub mod Counting
@@ -21,8 +16,6 @@ pub mod EachCall
 pub mod Known
 pub mod Seen
 pub mod RunCounts
-pub mod RadioUses
-pub mod EnteredLinks
 pub mod EntryNotes
 pub mod EntryLines
 pub mod FixedPdus
@@ -42,6 +35,7 @@ pub mod ShutLines
 -- what the crates above use of those below
 pub use Rattle.journal_packets.proofs.journal_links as journal_links
 pub use Rattle.journal_packets.proofs as journal_packets
+pub use Rattle.link_calls.proofs as link_calls
 pub use Rattle.journal_packets.proofs.link_model as link_model
 pub use Rattle.journal_packets.proofs.open_links as open_links
 pub use Rattle.journal_packets.proofs.plain_links as plain_links

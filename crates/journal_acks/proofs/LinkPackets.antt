@@ -39,14 +39,14 @@ use Rattle.journal_acks.specs.Counted.{IsCounted}
 use Rattle.journal_acks.specs.Exchange.{Exchanged, with_sent}
 use Rattle.journal_acks.proofs.AirCounts.{link_sent, own_number, sender_counted, sends_it}
 use Rattle.journal_acks.proofs.Counting.{AreKnown}
-use Rattle.journal_acks.proofs.EnteredLinks.{AreEntered, HasEntered, entered_first, entered_kept, entries_sent}
+use Rattle.link_calls.proofs.EnteredLinks.{AreEntered, HasEntered, entered_first, entered_kept, entries_sent}
 use Rattle.journal_acks.proofs.EntryNotes.{channel_by}
 use Rattle.journal_acks.proofs.EntryLines.{channel_at, channel_read}
 use Rattle.journal_acks.proofs.Exchanging.{exchange_at, number_at}
 use Rattle.journal_acks.proofs.FixedPdus.{sent_out}
 use Rattle.journal_acks.proofs.KeptLines.{AreLined, AreLinedAt, lines_kept}
 use Rattle.journal_acks.proofs.Known.{known_of}
-use Rattle.journal_acks.proofs.LinkCalls.{sent_plain}
+use Rattle.journal_acks.proofs.PlainCalls.{sent_plain}
 use Rattle.journal_acks.proofs.RunCounts.{counts_first}
 use Rattle.journal_acks.proofs.Seen.{seen_packet}
 use Rattle.journal_acks.proofs.TwoStations.{IsOfTwo}

@@ -44,17 +44,18 @@ use Rattle.journal_packets.proofs.run_laws.TurnPlaces.{Between, Within, at_stage
 use Rattle.journal_packets.proofs.AccessOrder.{AreNth}
 use Rattle.journal_packets.proofs.SoFar.{IsBelongingSoFar}
 use Rattle.journal_acks.specs.Carried.{IsNewPdu}
-use Rattle.journal_acks.proofs.CallNotes.{HasNoData, IsOfStarts, all_more, end_noted, no_data, notes_starting, octet_noted, start_noted}
+use Rattle.link_calls.proofs.CallNotes.{HasNoData, IsOfStarts, all_more, end_noted, no_data, notes_starting, octet_noted, start_noted}
 use Rattle.journal_acks.proofs.Counting.{AreKnown, plain}
 use Rattle.journal_acks.proofs.DataCalls.{on_link_notes, own_begun, received_at, sent_at, unfound}
 use Rattle.journal_acks.proofs.EachCall.{HaveCalls, OfCall, run_calls}
-use Rattle.journal_acks.proofs.Exchanging.{OpensNone, exchange_at, notes_counts, number_at, number_notes}
+use Rattle.link_calls.proofs.CallNotes.{OpensNone}
+use Rattle.journal_acks.proofs.Exchanging.{exchange_at, notes_counts, number_at, number_notes}
 use Rattle.journal_acks.proofs.FirstCounts.{IsCallOf, IsOnly, OfLink, OfNone}
 use Rattle.journal_acks.proofs.KeptCounts.{AreCountedAt, before_call, begun_call, call_is, counts_kept, station_is, was_taking}
 use Rattle.journal_acks.proofs.KeptLines.{rests_deaf, rests_none}
 use Rattle.journal_acks.proofs.Known.{known_of}
-use Rattle.journal_acks.proofs.LinkCalls.{IsOfTakes, base_ack, begins_under, received_noted, receiving_ack, receiving_setup}
-use Rattle.journal_acks.proofs.LinkUses.{listens_under}
+use Rattle.link_calls.proofs.LinkCalls.{IsOfTakes, base_ack, begins_under, received_noted, receiving_ack, receiving_setup}
+use Rattle.link_calls.specs.Uses.{listens_under}
 use Rattle.journal_acks.proofs.PhaseNotes.{IsOnLink, IsPhaseOf, IsPlainPhase, SendsFrom, SendsNothing, SendsOne, phase_of, same_but, sends_from}
 use Rattle.journal_acks.proofs.RunCounts.{counts_first}
 use Rattle.journal_acks.proofs.Standing.{PhasedBy, phased_at}

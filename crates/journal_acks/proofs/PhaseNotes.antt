@@ -48,8 +48,8 @@ use Rattle.run_model.specs.Run.{step_of}
 use Rattle.journal_packets.specs.run_laws.Plainness.{IsPlainLink}
 use Rattle.journal_packets.proofs.run_laws.Agreed.{ack_of, step_facts}
 use Rattle.journal_acks.proofs.Acks.{empty_is_no_data}
-use Rattle.journal_acks.proofs.CallNotes.{HasNoData, events_noted, no_data}
-use Rattle.journal_acks.proofs.LinkUses.{listens_under, sends_under}
+use Rattle.link_calls.proofs.CallNotes.{HasNoData, events_noted, no_data}
+use Rattle.link_calls.specs.Uses.{listens_under, sends_under}
 use Rattle.journal_acks.proofs.TwoStations.{same_number}
 
 -- ---- what is noted of a PDU that a link receives

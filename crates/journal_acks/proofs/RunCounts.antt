@@ -25,7 +25,7 @@ use Rattle.journal_acks.proofs.Exchanging.{exchange_at, number_at}
 use Rattle.journal_acks.proofs.FirstCounts.{none_first}
 use Rattle.journal_acks.proofs.KeptCounts.{AreCountedAt, counts_kept}
 use Rattle.journal_acks.proofs.Known.{known_of}
-use Rattle.journal_acks.proofs.LinkUses.{sends_under}
+use Rattle.link_calls.specs.Uses.{sends_under}
 use Rattle.journal_acks.proofs.Seen.{IsSeen, seen_last, seen_turn}
 use Rattle.journal_acks.proofs.Standing.{phased_at}
 use Rattle.journal_acks.proofs.TwoStations.{IsOfTwo}

@@ -15,8 +15,9 @@ use Rattle.run_model.proofs.Parts.{journal_event}
 use Rattle.journal_packets.specs.Belonging.{is_side}
 use Rattle.journal_acks.specs.Carried.{SentLine, sent_line_after, sent_line_from, sent_line_of}
 use Rattle.journal_acks.specs.Exchange.{exchange_of}
-use Rattle.journal_acks.proofs.CallNotes.{SendsNone}
-use Rattle.journal_acks.proofs.Exchanging.{OpensNone, any_note, call_keeps, exchange_at, map_both, notes_counts, notes_keep, number_at, number_notes}
+use Rattle.link_calls.proofs.CallNotes.{SendsNone}
+use Rattle.link_calls.proofs.CallNotes.{OpensNone}
+use Rattle.journal_acks.proofs.Exchanging.{any_note, call_keeps, exchange_at, map_both, notes_counts, notes_keep, number_at, number_notes}
 use Rattle.journal_acks.proofs.TwoStations.{side_same}
 
 -- the last line of a new PDU of a side on a link, as the journal of a history has it

@@ -30,9 +30,10 @@ use Rattle.journal_acks.specs.Counted.{IsCounted}
 use Rattle.journal_acks.specs.Exchange.{Exchanged, first_exchanged}
 use Rattle.journal_acks.proofs.Acks.{first_counted}
 use Rattle.journal_acks.proofs.Counting.{IsEndCounted, from_plain}
-use Rattle.journal_acks.proofs.LinkCalls.{off_listens, off_sends}
-use Rattle.journal_acks.proofs.LinkPhases.{IsPhased, phased_first, phased_kept}
-use Rattle.journal_acks.proofs.LinkUses.{IsSendingOpen, listens_under, sends_under}
+use Rattle.link_calls.proofs.LinkCalls.{off_listens, off_sends}
+use Rattle.link_calls.proofs.LinkPhases.{IsPhased, phased_first, phased_kept}
+use Rattle.link_calls.proofs.LinkUses.{IsSendingOpen}
+use Rattle.link_calls.specs.Uses.{listens_under, sends_under}
 use Rattle.journal_acks.proofs.TwoStations.{same_number}
 
 abbrev pub PhasedBy : Given → List Event → ℕ → Standing → Type 0

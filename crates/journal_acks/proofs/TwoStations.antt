@@ -41,7 +41,8 @@ use Rattle.journal_packets.specs.journal_links.Begun.{LinkBegun, link_numbered}
 use Rattle.journal_packets.specs.Belonging.{is_side, link_of_packet}
 use Rattle.journal_acks.specs.Exchange.{Exchanged, after_packet, carries_empty, exchange_of, is_empty_in, is_number}
 use Rattle.journal_acks.proofs.Exchanging.{exchange_at, exchange_more}
-use Rattle.journal_acks.proofs.LinkUses.{IsScanning, listens_under}
+use Rattle.link_calls.proofs.LinkUses.{IsScanning}
+use Rattle.link_calls.specs.Uses.{listens_under}
 
 abbrev pub IsOfTwo : Given → Type 0
 IsOfTwo given = given.stations ≡ 0 ∷ 1 ∷ []

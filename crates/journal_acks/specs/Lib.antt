@@ -8,6 +8,7 @@ pub mod Rows
 -- what the crates above use of those below
 pub use Rattle.journal_packets.specs.journal_links as journal_links
 pub use Rattle.journal_packets.specs as journal_packets
+pub use Rattle.link_calls.specs as link_calls
 pub use Rattle.journal_packets.specs.link_end as link_end
 pub use Rattle.journal_packets.specs.link_model as link_model
 pub use Rattle.journal_packets.specs.open_links as open_links

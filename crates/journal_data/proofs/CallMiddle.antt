@@ -13,7 +13,7 @@ use Rattle.journal_acks.specs.run_model.History.{Event, Called, Noted}
 use Rattle.journal_acks.specs.run_model.Journal.{entry_of}
 use Rattle.journal_acks.specs.run_model.Run.{Given, setup_at, facts_at, after_call}
 use Rattle.journal_acks.proofs.run_model.Calls.{with_notes}
-use Rattle.journal_acks.proofs.CallNotes.{is_taking}
+use Rattle.journal_acks.proofs.link_calls.CallNotes.{is_taking}
 use Rattle.journal_data.specs.HostLines.{Submitted, link_under}
 use Rattle.journal_data.specs.Lines.{Lines, Received, data_received, line_after, pdus_on, received_on, submitted_on}
 use Rattle.journal_data.proofs.Arriving.{Grows}

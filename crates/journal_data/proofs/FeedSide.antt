@@ -16,7 +16,7 @@ use Rattle.journal_acks.proofs.run_laws.Agreed.{ack_of}
 use Rattle.journal_acks.proofs.run_laws.Hearings.{own_facts}
 use Rattle.journal_acks.proofs.Counting.{HaveOwnNumbers}
 use Rattle.journal_acks.proofs.Exchanging.{number_at}
-use Rattle.journal_acks.proofs.UnderHandles.{octet_under}
+use Rattle.journal_acks.proofs.link_calls.UnderHandles.{octet_under}
 use Rattle.journal_data.specs.Lines.{Lines}
 use Rattle.journal_data.proofs.Arriving.{IsAhead}
 use Rattle.journal_data.proofs.Credits.{few_feed}

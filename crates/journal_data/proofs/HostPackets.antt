@@ -41,7 +41,7 @@ use Rattle.controller_model.specs.Facts.{Setup, Facts}
 use Rattle.controller_model.specs.Host.{commands_accepted_by, commands_accepted_in}
 use Rattle.controller_model.specs.Side.{facts_after, facts_fed, facts_of, first_result, result_of}
 use Rattle.controller_model.specs.Step.{Step, HostOctet}
-use Rattle.journal_acks.proofs.UnderHandles.{map_under}
+use Rattle.journal_acks.proofs.link_calls.UnderHandles.{map_under}
 use Rattle.controller_model.proofs.Feds.{frames_more}
 use Rattle.controller_model.proofs.Resets.{resets}
 use Rattle.controller_model.specs.Since.{count_fed}

@@ -18,7 +18,7 @@ use Rattle.journal_acks.proofs.run_model.Journals.{two}
 use Rattle.journal_acks.proofs.AirCounts.{packet_far}
 use Rattle.journal_acks.proofs.Counting.{AreCountedSo, AreKnown, facts_event}
 use Rattle.journal_acks.proofs.Exchanging.{number_at, number_sent}
-use Rattle.journal_acks.proofs.LinkUses.{listens_under}
+use Rattle.journal_acks.specs.link_calls.Uses.{listens_under}
 use Rattle.journal_acks.proofs.TwoStations.{IsOfTwo, hearing_of, one_hearing, other_is, other_of, own_differs, own_received}
 
 -- the other station has an open end of the link of a station under a handle

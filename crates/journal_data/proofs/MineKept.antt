@@ -19,7 +19,7 @@ use Rattle.journal_acks.proofs.run_model.LinkEnds.{received_by}
 use Rattle.journal_acks.proofs.run_model.Stations.{is_in}
 use Rattle.journal_acks.proofs.run_laws.Hearings.{other_facts, own_facts}
 use Rattle.journal_acks.proofs.Exchanging.{number_at, number_other}
-use Rattle.journal_acks.proofs.LinkUses.{listens_under}
+use Rattle.journal_acks.specs.link_calls.Uses.{listens_under}
 use Rattle.journal_acks.proofs.TwoStations.{IsOfTwo, other_is, other_of}
 use Rattle.journal_data.proofs.Mine.{AreMine, HasFarEnd, IsTaking, none_mine, other_back}
 use Rattle.journal_data.proofs.Openness.{is_open, opens_where_free, same_open}

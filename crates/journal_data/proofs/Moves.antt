@@ -13,9 +13,11 @@ use Rattle.journal_acks.specs.run_model.Run.{Given, after_call, facts_at, setup_
 use Rattle.journal_acks.proofs.run_laws.Agreed.{ack_of, ack_sent, first_ack}
 use Rattle.journal_acks.proofs.run_laws.TurnSteps.{IsListening}
 use Rattle.journal_acks.proofs.KeptCounts.{own_at}
-use Rattle.journal_acks.proofs.LinkCalls.{HasPassed, IsNew, Stays, Takes, base_ack, begins_under, passes_under}
-use Rattle.journal_acks.proofs.LinkUses.{sends_under}
-use Rattle.journal_acks.proofs.UnderHandles.{end_under, sent_if}
+use Rattle.journal_acks.specs.link_calls.Phases.{HasPassed, IsNew, Stays, Takes}
+use Rattle.journal_acks.proofs.link_calls.LinkCalls.{base_ack, begins_under, passes_under}
+use Rattle.journal_acks.specs.link_calls.Uses.{sends_under}
+use Rattle.journal_acks.proofs.link_calls.UnderHandles.{end_under}
+use Rattle.journal_acks.specs.link_calls.Turns.{sent_if}
 use Rattle.journal_data.proofs.OneCall.{HasMoved, Kept, New, Took}
 use Rattle.journal_acks.specs.link_model.Controls.{pdu_fixed}
 

@@ -60,10 +60,10 @@ use Rattle.controller_model.proofs.AnsweredOnce.{answered_once}
 use Rattle.controller_model.proofs.Handles.{HaveOwnHandles, IsNew, free_is_new, own_handles}
 use Rattle.controller_model.proofs.OpenPlaces.{changed_opens, fixed_opens, mapped_opens, opens, sent_opens, won_opens, received_opens}
 use Rattle.controller_model.proofs.Phases.{EachOutcome, heard_is, unheard_is}
-use Rattle.journal_acks.proofs.UnderHandles.{map_under}
+use Rattle.journal_acks.proofs.link_calls.UnderHandles.{map_under}
 use Rattle.journal_acks.proofs.open_links.Handles.{opened_at, other_stays}
 use Rattle.journal_acks.proofs.run_model.OpenedNotes.{is_opened, opened_was_free}
-use Rattle.journal_acks.proofs.CallNotes.{is_taking}
+use Rattle.journal_acks.proofs.link_calls.CallNotes.{is_taking}
 use Rattle.controller_model.proofs.EndNotes.{sent_each, received_each, entered_each}
 use Rattle.controller_model.proofs.ProcedureEvents.{AreOfProcedures, IsOfProcedure, entering_events, reception_events}
 use Rattle.controller_model.specs.Entering.{events_entering, notes_all_entering}

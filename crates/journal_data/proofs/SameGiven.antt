@@ -32,7 +32,7 @@ use Rattle.controller_model.proofs.Handles.{own_handles}
 use Rattle.controller_model.proofs.Phases.{EachOutcome, heard_is, unheard_is}
 use Rattle.journal_acks.proofs.run_model.OpenedNotes.{is_opened, opened_was_free}
 use Rattle.journal_acks.proofs.open_links.Handles.{changed_is, other_stays}
-use Rattle.journal_acks.proofs.UnderHandles.{IsOpenedIf, map_under, opened_under}
+use Rattle.journal_acks.proofs.link_calls.UnderHandles.{IsOpenedIf, map_under, opened_under}
 use Rattle.std.proofs.lemmas.Bool.{eq-eqb, eqb-false, eqb-true}
 use Rattle.journal_data.proofs.DataSteps.{IsKeptByEnd, IsOwnStep, link_keeps}
 use Rattle.controller_model.proofs.Places.{link_receiving, receiving_is, refusal, refused_if, refuses_at}

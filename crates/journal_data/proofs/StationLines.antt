@@ -34,7 +34,7 @@ use Rattle.journal_acks.specs.journal_packets.Belonging.{is_side}
 use Rattle.journal_acks.proofs.Counting.{HaveOwnNumbers}
 use Rattle.journal_acks.proofs.Exchanging.{number_at}
 use Rattle.journal_acks.proofs.TwoStations.{side_same}
-use Rattle.journal_acks.proofs.UnderHandles.{octet_under}
+use Rattle.journal_acks.proofs.link_calls.UnderHandles.{octet_under}
 use Rattle.journal_data.specs.HostLines.{OpenUnder}
 use Rattle.journal_data.specs.Lines.{Lines, line_after, lines_of, pdus_on}
 use Rattle.journal_data.proofs.Booked.{IsBook, counts_on, octets_on}

@@ -62,7 +62,7 @@ use Rattle.journal_packets.proofs.Asked.{is_asked}
 use Rattle.journal_packets.proofs.SoFar.{IsBelongingSoFar}
 use Rattle.journal_acks.proofs.Counting.{AreKnown, one_begun}
 use Rattle.journal_acks.proofs.Exchanging.{number_at}
-use Rattle.journal_acks.proofs.HeardSteps.{sent_in}
+use Rattle.journal_acks.proofs.link_calls.HeardSteps.{sent_in}
 use Rattle.journal_acks.proofs.Known.{known_of}
 use Rattle.journal_acks.proofs.Seen.{IsSeen, seen_packet}
 use Rattle.journal_acks.proofs.Standing.{PhasedBy, phased_at}

@@ -35,13 +35,15 @@ use Rattle.journal_data.proofs.run_laws.PlainLinks.{plain_entered}
 use Rattle.journal_data.proofs.run_laws.TurnPlaces.{Between, IsTurned, Stage, Within}
 use Rattle.journal_data.proofs.run_laws.TurnSteps.{begins_begun, begins_slot, ends_turn, octet_turn, phase_turn}
 use Rattle.journal_acks.proofs.DueLinks.{sent_setup, fixed_setup}
-use Rattle.journal_acks.proofs.EnteredLinks.{AreEntered, HasEntered, continued, entered_first, entered_kept, entries_fixed, entries_sent, open_in_event}
-use Rattle.journal_acks.proofs.RadioUses.{Listening, Sending, Uses, advertises_off, exchange_uses, initiates_off, no_link, off_uses, rests_uses, scans_off, winner_wants}
-use Rattle.journal_acks.proofs.LinkCalls.{HasBegun, HasPassed, IsNew, Stays as StaysSo, Takes, begins_under, begun_plain, passes_under, receiving_entries, receiving_setup, takes_plain}
-use Rattle.journal_acks.proofs.LinkUses.{sends_under}
-use Rattle.journal_acks.proofs.UnderHandles.{end_under, octet_under}
+use Rattle.journal_acks.proofs.link_calls.EnteredLinks.{AreEntered, HasEntered, continued, entered_first, entered_kept, entries_fixed, entries_sent, open_in_event}
+use Rattle.journal_acks.proofs.link_calls.RadioUses.{Listening, Sending, Uses, advertises_off, exchange_uses, initiates_off, no_link, off_uses, rests_uses, scans_off, winner_wants}
+use Rattle.journal_acks.proofs.link_calls.LinkCalls.{HasBegun, begins_under, passes_under, receiving_entries, receiving_setup}
+use Rattle.journal_acks.specs.link_calls.Phases.{HasPassed, IsNew, Stays as StaysSo, Takes}
+use Rattle.journal_acks.proofs.PlainCalls.{alike_plain, begun_plain, takes_plain}
+use Rattle.journal_acks.specs.link_calls.Uses.{sends_under}
+use Rattle.journal_acks.proofs.link_calls.UnderHandles.{end_under, octet_under}
 use Rattle.journal_slots.proofs.ExchangeSlots.{one_entry_more, wants_anchor, entered_is}
-use Rattle.journal_pdus.proofs.HeldRadio.{Holds, IsBegunSo, Keeps, Stays, begins_so, end_keeps, ending_keeps, keeps_then, octet_keeps, phase_keeps}
+use Rattle.journal_acks.proofs.link_calls.HeldRadio.{Holds, IsBegunSo, Keeps, Stays, begins_so, end_keeps, ending_keeps, keeps_then, octet_keeps, phase_keeps}
 
 -- ---- an event of a link
 
@@ -395,7 +397,7 @@ in_slots_kept setup = record {
             let alike = octet_under setup facts octet handle link at in
             let count = alike.entries in
             from_stays facts.radio (facts_after setup facts (HostOctet octet)).radio handle alike.link link keeps alike.setup (omega (arith, count))
-            (is.held handle alike.link alike.was (alike.plain plain));
+            (is.held handle alike.link alike.was (alike_plain (link_at handle facts.links) link alike plain));
         in_slot = λ handle link at plain uses. rests_uses handle _ _ entered.phased.phase uses;
       };
   begins = λ begun on facts is. record {
@@ -424,7 +426,7 @@ in_slots_kept setup = record {
         held = λ handle link at plain.
             let alike = end_under setup facts handle link at in
             let count = alike.entries in
-            from_stays facts.radio after.radio handle alike.link link keeps alike.setup (omega (arith, count)) (is.held handle alike.link alike.was (alike.plain plain));
+            from_stays facts.radio after.radio handle alike.link link keeps alike.setup (omega (arith, count)) (is.held handle alike.link alike.was (alike_plain (link_at handle facts.links) link alike plain));
         in_slot = λ handle link at plain uses. rests_uses handle Rests _ refl uses;
       };
 }

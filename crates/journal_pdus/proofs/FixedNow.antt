@@ -31,11 +31,11 @@ use Rattle.journal_data.proofs.run_laws.Agreed.{step_facts}
 use Rattle.journal_data.proofs.run_laws.LinkPasses.{IsPassingOn, LeavesAll, OpensOne, ReceivesOn, is_on_link, phase_passes_on}
 use Rattle.journal_data.proofs.run_laws.TurnPlaces.{Between, IsTurned, Stage, Within}
 use Rattle.journal_packets.specs.Senders.{IsOfSendersLink}
-use Rattle.journal_acks.proofs.LinkCalls.{off_sends}
+use Rattle.journal_acks.proofs.link_calls.LinkCalls.{off_sends}
 use Rattle.journal_data.proofs.run_laws.LinkPhases.{IsInPhase}
-use Rattle.journal_acks.proofs.LinkPhases.{IsPhased, phased_first, phased_kept}
-use Rattle.journal_acks.proofs.LinkUses.{sends_under}
-use Rattle.journal_acks.proofs.UnderHandles.{same_base}
+use Rattle.journal_acks.proofs.link_calls.LinkPhases.{IsPhased, phased_first, phased_kept}
+use Rattle.journal_acks.specs.link_calls.Uses.{sends_under}
+use Rattle.journal_acks.proofs.link_calls.UnderHandles.{same_base}
 use Rattle.journal_pdus.proofs.NextPieces.{IsFixedNow, fixed_now, received_now}
 
 -- on a plain link the PDU that is fixed is the next piece still

@@ -24,7 +24,6 @@ mod Law
 mod Awaited
 mod AnswersHeard
 mod CentralsOpen
-mod HeldRadio
 mod EventSlots
 mod PacketTurns
 mod ResetAnswers

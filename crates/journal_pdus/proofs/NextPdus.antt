@@ -51,7 +51,7 @@ use Rattle.journal_data.proofs.run_laws.Hearings.{own_facts}
 use Rattle.journal_data.proofs.run_laws.TurnPlaces.{AllStand, stands_at, turned}
 use Rattle.journal_packets.proofs.AccessOrder.{AreNth}
 use Rattle.journal_packets.proofs.SoFar.{IsBelongingSoFar}
-use Rattle.journal_acks.proofs.CallNotes.{HasNoData, SendsNone, all_more, end_noted, is_sending, no_data, notes_starting, octet_noted, start_noted}
+use Rattle.journal_acks.proofs.link_calls.CallNotes.{HasNoData, SendsNone, all_more, end_noted, is_sending, no_data, notes_starting, octet_noted, start_noted}
 use Rattle.journal_acks.proofs.Counting.{AreKnown}
 use Rattle.journal_acks.proofs.DataCalls.{on_link_notes, own_begun, received_at, sent_at, unfound}
 use Rattle.journal_acks.proofs.EachCall.{HaveCalls, OfCall, run_calls}
@@ -59,12 +59,12 @@ use Rattle.journal_acks.proofs.Exchanging.{number_at, number_notes}
 use Rattle.journal_acks.proofs.FirstCounts.{IsCallOf, OfNone}
 use Rattle.journal_acks.proofs.KeptCounts.{begun_call, call_is}
 use Rattle.journal_acks.proofs.Known.{known_of}
-use Rattle.journal_acks.proofs.LinkCalls.{base_ack, begins_under, received_noted, receiving_ack, receiving_setup, taking_sends}
-use Rattle.journal_acks.proofs.LinkUses.{sends_under}
+use Rattle.journal_acks.proofs.link_calls.LinkCalls.{base_ack, begins_under, received_noted, receiving_ack, receiving_setup, taking_sends}
+use Rattle.journal_acks.specs.link_calls.Uses.{sends_under}
 use Rattle.journal_acks.proofs.NewPdus.{between_turns, none_opened as none_opened_before}
 use Rattle.journal_acks.proofs.PhaseNotes.{IsOnLink, IsPhaseOf, IsPlainPhase, SendsFrom, SendsNothing, SendsOne, phase_of, sends_from, sent_same}
 use Rattle.journal_acks.proofs.TwoStations.{IsOfTwo, same_number}
-use Rattle.journal_acks.proofs.UnderHandles.{same_base}
+use Rattle.journal_acks.proofs.link_calls.UnderHandles.{same_base}
 use Rattle.journal_data.specs.Lines.{Lines, PduLine, data_on, line_after, pdus_on}
 use Rattle.journal_data.proofs.Arriving.{data_nonempty, lines_data, lines_length, pdu_lines}
 use Rattle.journal_data.proofs.EachLine.{call_leaves, lines_at}

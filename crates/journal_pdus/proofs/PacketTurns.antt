@@ -50,7 +50,7 @@ use Rattle.journal_acks.proofs.Seen.{IsSeen, seen_packet}
 use Rattle.journal_acks.proofs.Standing.{sends_on}
 use Rattle.journal_acks.proofs.TwoStations.{IsOfTwo}
 use Rattle.journal_pdus.specs.InEvent.{AllAreInEvents, IsInEvent}
-use Rattle.journal_acks.proofs.RadioUses.{Sending}
+use Rattle.journal_acks.proofs.link_calls.RadioUses.{Sending}
 use Rattle.journal_slots.proofs.SecondSlots.{entered_noted}
 use Rattle.journal_pdus.proofs.EventSlots.{AreInSlots, Early, IsInSlot, OfEvent, in_slots_first, in_slots_kept}
 

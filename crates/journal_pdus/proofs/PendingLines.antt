@@ -18,7 +18,7 @@ use Rattle.run_model.proofs.LinksKnown.{links_event}
 use Rattle.run_model.proofs.Parts.{journal_event}
 use Rattle.run_model.proofs.Places.{each_append}
 use Rattle.journal_packets.specs.Belonging.{is_side}
-use Rattle.journal_acks.proofs.CallNotes.{TakesNone}
+use Rattle.journal_acks.proofs.link_calls.CallNotes.{TakesNone}
 use Rattle.journal_acks.proofs.Exchanging.{any_note, call_keeps}
 use Rattle.journal_acks.proofs.TwoStations.{side_same}
 use Rattle.journal_data.specs.Lines.{PduLine}

@@ -23,7 +23,7 @@ use Rattle.journal_acks.proofs.Counting.{AreKnown}
 use Rattle.journal_acks.proofs.Exchanging.{exchange_at, number_at}
 use Rattle.journal_acks.proofs.FixedPdus.{sent_out}
 use Rattle.journal_acks.proofs.KeptCounts.{AreCountedAt}
-use Rattle.journal_acks.proofs.LinkUses.{sends_under}
+use Rattle.journal_acks.specs.link_calls.Uses.{sends_under}
 use Rattle.journal_acks.proofs.TwoStations.{IsOfTwo}
 use Rattle.journal_data.proofs.Arriving.{IsEndBooked}
 use Rattle.journal_data.proofs.EachLine.{lines_at}

@@ -25,7 +25,7 @@ use Rattle.journal_acks.specs.Exchange.{Exchanged}
 use Rattle.journal_acks.proofs.Counting.{IsEndCounted, ahead_if, taking_if}
 use Rattle.journal_acks.proofs.Exchanging.{exchange_at, number_at}
 use Rattle.journal_acks.proofs.Known.{known_of}
-use Rattle.journal_acks.proofs.LinkUses.{listens_under, sends_under}
+use Rattle.journal_acks.specs.link_calls.Uses.{listens_under, sends_under}
 use Rattle.journal_acks.proofs.Seen.{IsSeen, seen_packet}
 use Rattle.journal_acks.proofs.TwoStations.{IsOfTwo}
 use Rattle.journal_data.specs.HostLines.{OpenUnder}

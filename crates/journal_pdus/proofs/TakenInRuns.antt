@@ -56,13 +56,13 @@ use Rattle.journal_acks.specs.Carried.{carried_of}
 use Rattle.journal_acks.specs.Counted.{IsCounted}
 use Rattle.journal_acks.specs.Exchange.{with_sent}
 use Rattle.journal_acks.proofs.AirCounts.{sender_counted, one_number}
-use Rattle.journal_acks.proofs.CallNotes.{TakesNone, begin_noted, end_noted, none_taken, octet_noted}
+use Rattle.journal_acks.proofs.link_calls.CallNotes.{TakesNone, begin_noted, end_noted, none_taken, octet_noted}
 use Rattle.journal_acks.proofs.Counting.{AreKnown, facts_event, one_begun}
 use Rattle.journal_acks.proofs.Exchanging.{exchange_at, number_at, number_other, number_sent as sent_number}
 use Rattle.journal_acks.proofs.FixedPdus.{sent_out}
 use Rattle.journal_acks.proofs.KeptCounts.{AreCountedAt}
 use Rattle.journal_acks.proofs.Known.{known_of}
-use Rattle.journal_acks.proofs.LinkPhases.{IsPhased}
+use Rattle.journal_acks.proofs.link_calls.LinkPhases.{IsPhased}
 use Rattle.journal_acks.proofs.Standing.{listens_wanted, other_listens, phased_at}
 use Rattle.journal_acks.proofs.TwoStations.{IsListening, IsOfTwo, hearing_of, judged, link_listens, one_hearing, other_apart, other_is, other_of, other_received, own_differs, own_received, same_number, side_other, side_same, unchanged}
 use Rattle.journal_data.specs.Lines.{PduLine}

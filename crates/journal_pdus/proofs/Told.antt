@@ -43,17 +43,20 @@ use Rattle.journal_data.proofs.run_laws.InAgreement.{AreStations, IsStation, dif
 use Rattle.journal_links.specs.Begun.{link_numbered}
 use Rattle.journal_packets.specs.Belonging.{is_side, link_of_packet}
 use Rattle.journal_acks.specs.Exchange.{Exchanged, after_packet, carries_empty, exchange_of, is_number, with_heard, with_sent}
-use Rattle.journal_acks.proofs.CallNotes.{HasNoData, SendsNone, all_more, doing_noted, no_data, notes_starting, start_noted}
+use Rattle.journal_acks.proofs.link_calls.CallNotes.{HasNoData, SendsNone, all_more, doing_noted, no_data, notes_starting, start_noted}
 use Rattle.journal_acks.proofs.Counting.{AreCountedSo, AreKnown, facts_event, plain}
 use Rattle.journal_acks.proofs.DataCalls.{on_link_notes, own_begun, sent_at}
-use Rattle.journal_acks.proofs.Exchanging.{OpensNone, exchange_at, exchange_more, exchange_other, exchange_same, feed_quiet, number_at, number_called, number_other, number_quiet, number_sent as number_aired, opening_none, turn_quiet}
+use Rattle.journal_acks.proofs.link_calls.CallNotes.{OpensNone, opening_none}
+use Rattle.journal_acks.proofs.Exchanging.{exchange_at, exchange_more, exchange_other, exchange_same, feed_quiet, number_at, number_called, number_other, number_quiet, number_sent as number_aired, turn_quiet}
 use Rattle.journal_acks.proofs.KeptCounts.{AreCountedAt, before_call, own_at, phased, station_is, unsent, was_taking}
 use Rattle.journal_acks.proofs.KeptLines.{rests_deaf, rests_none}
-use Rattle.journal_acks.proofs.LinkCalls.{HasPassed, IsNew, Stays, Takes, base_ack, begins_under, off_sends, passes_under, received_noted, receiving_ack, receiving_setup, taking_opens, taking_sends}
-use Rattle.journal_acks.proofs.LinkUses.{listens_under, sends_under}
+use Rattle.journal_acks.specs.link_calls.Phases.{HasPassed, IsNew, Stays, Takes}
+use Rattle.journal_acks.proofs.link_calls.LinkCalls.{base_ack, begins_under, off_sends, passes_under, received_noted, receiving_ack, receiving_setup, taking_opens, taking_sends}
+use Rattle.journal_acks.specs.link_calls.Uses.{listens_under, sends_under}
 use Rattle.journal_acks.proofs.PhaseNotes.{IsOnLink, IsPhaseOf, IsPlainPhase, phase_of, same_but}
 use Rattle.journal_acks.proofs.TwoStations.{IsOfTwo, other_apart, same_number}
-use Rattle.journal_acks.proofs.UnderHandles.{WasOpen, change_if, change_under, sending_under}
+use Rattle.journal_acks.proofs.link_calls.UnderHandles.{WasOpen, change_under, sending_under}
+use Rattle.journal_acks.specs.link_calls.Turns.{change_if}
 use Rattle.journal_data.specs.Lines.{PduLine}
 use Rattle.journal_pdus.specs.Announced.{is_first_sent, pdu_line_if}
 use Rattle.journal_pdus.proofs.ToldLines.{air_other_told, called_none, called_other, called_sent, fed_other_told, told_at, turn_told}

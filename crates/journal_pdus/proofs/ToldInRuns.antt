@@ -43,13 +43,13 @@ use Rattle.journal_data.proofs.run_laws.TurnPlaces.{Between, Within, at_stage}
 use Rattle.journal_packets.specs.Belonging.{is_side}
 use Rattle.journal_packets.proofs.AccessOrder.{AreNth}
 use Rattle.journal_packets.proofs.SoFar.{IsBelongingSoFar}
-use Rattle.journal_acks.proofs.CallNotes.{HasNoData, SendsNone, all_more, end_noted, no_data, notes_starting, octet_noted, start_noted}
+use Rattle.journal_acks.proofs.link_calls.CallNotes.{HasNoData, SendsNone, all_more, end_noted, no_data, notes_starting, octet_noted, start_noted}
 use Rattle.journal_acks.proofs.Counting.{AreKnown}
 use Rattle.journal_acks.proofs.DataCalls.{on_link_notes}
 use Rattle.journal_acks.proofs.KeptCounts.{AreCountedAt, unsent}
 use Rattle.journal_acks.proofs.Known.{known_of}
-use Rattle.journal_acks.proofs.LinkCalls.{received_noted, taking_sends}
-use Rattle.journal_acks.proofs.LinkUses.{sends_under}
+use Rattle.journal_acks.proofs.link_calls.LinkCalls.{received_noted, taking_sends}
+use Rattle.journal_acks.specs.link_calls.Uses.{sends_under}
 use Rattle.journal_acks.proofs.RunCounts.{counts_first}
 use Rattle.journal_acks.proofs.PhaseNotes.{IsOnLink, IsPhaseOf, IsPlainPhase, phase_of}
 use Rattle.journal_acks.proofs.Standing.{PhasedBy, last_phase, phased_at, silent_sends}

@@ -14,8 +14,9 @@ use Rattle.run_model.specs.Links.{links_of}
 use Rattle.run_model.specs.Run.{Given, after_call, facts_at, setup_at}
 use Rattle.run_model.proofs.Parts.{journal_event}
 use Rattle.journal_packets.specs.Belonging.{is_side}
-use Rattle.journal_acks.proofs.CallNotes.{SendsNone}
-use Rattle.journal_acks.proofs.Exchanging.{OpensNone, any_note, call_keeps, map_both, number_at, number_notes}
+use Rattle.journal_acks.proofs.link_calls.CallNotes.{SendsNone}
+use Rattle.journal_acks.proofs.link_calls.CallNotes.{OpensNone}
+use Rattle.journal_acks.proofs.Exchanging.{any_note, call_keeps, map_both, number_at, number_notes}
 use Rattle.journal_acks.proofs.TwoStations.{side_same}
 use Rattle.journal_data.specs.Lines.{PduLine}
 use Rattle.journal_pdus.specs.Announced.{announced_pdu, announced_pdu_after, announcement_in}

@@ -26,10 +26,10 @@ use Rattle.journal_packets.specs.Senders.{IsOfSendersLink}
 use Rattle.journal_acks.specs.Carried.{carried_of}
 use Rattle.journal_acks.proofs.Counting.{AreKnown}
 use Rattle.journal_acks.proofs.Exchanging.{exchange_at, number_at}
-use Rattle.journal_acks.proofs.LinkUses.{sends_under}
+use Rattle.journal_acks.specs.link_calls.Uses.{sends_under}
 use Rattle.journal_acks.proofs.Standing.{other_sends, phased_at}
 use Rattle.journal_acks.proofs.TwoStations.{IsOfTwo}
-use Rattle.journal_acks.proofs.UnderHandles.{same_base}
+use Rattle.journal_acks.proofs.link_calls.UnderHandles.{same_base}
 use Rattle.journal_data.specs.Lines.{PduLine}
 use Rattle.journal_data.proofs.Arriving.{lines_length}
 use Rattle.journal_data.proofs.FewLinks.{HaveFewLinks}

@@ -42,13 +42,16 @@ use Rattle.journal_acks.proofs.run_laws.Agreed.{step_facts}
 use Rattle.journal_acks.proofs.run_laws.OpenSteps.{EachOpen, IsKeptByHosts, IsKeptOpen, IsKeptServed, MayOpen, begin_open, end_open, none_open, octet_open, phase_open}
 use Rattle.journal_acks.proofs.run_laws.TurnPlaces.{Between, IsTurned, Stage}
 use Rattle.journal_acks.proofs.run_laws.TurnSteps.{begins_slot, phase_turn}
-use Rattle.journal_acks.proofs.EnteredLinks.{open_in_event}
-use Rattle.journal_acks.proofs.HeardSteps.{fixed_same, received_same, sent_in}
-use Rattle.journal_acks.proofs.LinkCalls.{HasPassed, IsNew, Stays, Takes, begins_under, fixed_if, passes_under, receiving_event}
-use Rattle.journal_acks.proofs.LinkPhases.{IsPhased, phased_first, phased_kept}
-use Rattle.journal_acks.proofs.LinkUses.{sends_under}
-use Rattle.journal_acks.proofs.RadioUses.{Listening, Sending, Uses, advertises_off, exchange_uses, initiates_off, no_link, off_uses, rests_uses, scans_off, winner_wants}
-use Rattle.journal_acks.proofs.UnderHandles.{entries_after, map_under, sent_if}
+use Rattle.journal_acks.proofs.link_calls.EnteredLinks.{open_in_event}
+use Rattle.journal_acks.proofs.link_calls.HeardSteps.{fixed_same, received_same, sent_in}
+use Rattle.journal_acks.specs.link_calls.Phases.{HasPassed, IsNew, Stays, Takes}
+use Rattle.journal_acks.proofs.link_calls.LinkCalls.{begins_under, passes_under, receiving_event}
+use Rattle.journal_acks.specs.link_calls.Turns.{fixed_if}
+use Rattle.journal_acks.proofs.link_calls.LinkPhases.{IsPhased, phased_first, phased_kept}
+use Rattle.journal_acks.specs.link_calls.Uses.{sends_under}
+use Rattle.journal_acks.proofs.link_calls.RadioUses.{Listening, Sending, Uses, advertises_off, exchange_uses, initiates_off, no_link, off_uses, rests_uses, scans_off, winner_wants}
+use Rattle.journal_acks.proofs.link_calls.UnderHandles.{entries_after, map_under}
+use Rattle.journal_acks.specs.link_calls.Turns.{sent_if}
 
 -- ---- the event that a link entered last
 

@@ -28,10 +28,11 @@ use Rattle.controller_model.specs.declared.doing.Turn.{Turn}
 use Rattle.controller_model.specs.Facts.{Facts}
 use Rattle.journal_acks.proofs.run_laws.Agreed.{step_facts}
 use Rattle.journal_acks.proofs.Counting.{taking_if, nothing_taken}
-use Rattle.journal_acks.proofs.LinkCalls.{HasBegun, fixed_if}
-use Rattle.journal_acks.proofs.LinkUses.{listens_under, sends_under}
-use Rattle.journal_acks.proofs.RadioUses.{first_of_both}
-use Rattle.journal_acks.proofs.UnderHandles.{sent_if}
+use Rattle.journal_acks.proofs.link_calls.LinkCalls.{HasBegun}
+use Rattle.journal_acks.specs.link_calls.Turns.{fixed_if}
+use Rattle.journal_acks.specs.link_calls.Uses.{listens_under, sends_under}
+use Rattle.journal_acks.proofs.link_calls.RadioUses.{first_of_both}
+use Rattle.journal_acks.specs.link_calls.Turns.{sent_if}
 use Rattle.journal_slots.specs.SecondSlot.{HasToContinue, PacketInSlot, has_more}
 use Rattle.journal_slots.proofs.ExchangeSlots.{event_after_fixing, event_after_receiving, event_after_sending, event_received}
 

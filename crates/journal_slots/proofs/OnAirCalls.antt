@@ -28,14 +28,17 @@ use Rattle.journal_acks.proofs.run_model.Walk.{Place, AtListening}
 use Rattle.journal_acks.proofs.run_laws.Hearings.{other_facts, own_facts}
 use Rattle.journal_acks.proofs.run_laws.TurnPlaces.{Within, at_stage}
 use Rattle.journal_acks.proofs.run_laws.TurnSteps.{begins_slot, octet_turn, phase_turn}
-use Rattle.journal_acks.proofs.CallNotes.{begin_noted, end_noted, octet_noted}
+use Rattle.journal_acks.proofs.link_calls.CallNotes.{begin_noted, end_noted, octet_noted}
 use Rattle.journal_acks.proofs.Counting.{facts_event, taking_if}
-use Rattle.journal_acks.proofs.Exchanging.{OpensNone, number_at, number_called, number_other, number_quiet, opening_none}
+use Rattle.journal_acks.proofs.link_calls.CallNotes.{OpensNone, opening_none}
+use Rattle.journal_acks.proofs.Exchanging.{number_at, number_called, number_other, number_quiet}
 use Rattle.journal_acks.proofs.KeptCounts.{AreCountedAt, own_at, unsent}
-use Rattle.journal_acks.proofs.LinkCalls.{HasPassed, IsNew, IsOpenedNow, Stays, Takes, begins_under, new_event, off_sends, passes_under, phase_quiet, receiving_event}
-use Rattle.journal_acks.proofs.LinkUses.{listens_under, sends_under}
+use Rattle.journal_acks.specs.link_calls.Phases.{HasPassed, IsNew, Stays, Takes}
+use Rattle.journal_acks.proofs.link_calls.LinkCalls.{IsOpenedNow, begins_under, new_event, off_sends, passes_under, phase_quiet, receiving_event}
+use Rattle.journal_acks.specs.link_calls.Uses.{listens_under, sends_under}
 use Rattle.journal_acks.proofs.Standing.{PhasedBy, phased_at}
-use Rattle.journal_acks.proofs.UnderHandles.{end_under, octet_under, sent_if}
+use Rattle.journal_acks.proofs.link_calls.UnderHandles.{end_under, octet_under}
+use Rattle.journal_acks.specs.link_calls.Turns.{sent_if}
 use Rattle.journal_slots.proofs.ExchangeSlots.{event_after_sending}
 use Rattle.journal_slots.proofs.OnAir.{IsEndOnAir, IsOnAir, WasOnAir, base_on_air, event_on_air, from_base, moved, new_on_air, not_sending, on_air_stays, plain, room_event}
 

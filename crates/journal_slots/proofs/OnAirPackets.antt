@@ -47,10 +47,10 @@ use Rattle.journal_acks.proofs.AirCounts.{heard_it, listening, one as same_link,
 use Rattle.journal_acks.proofs.Counting.{AreKnown, facts_event, taking_if}
 use Rattle.journal_acks.proofs.Exchanging.{number_at, number_sent}
 use Rattle.journal_acks.proofs.KeptCounts.{AreCountedAt}
-use Rattle.journal_acks.proofs.LinkUses.{listens_under, sends_under}
+use Rattle.journal_acks.specs.link_calls.Uses.{listens_under, sends_under}
 use Rattle.journal_acks.proofs.Standing.{PhasedBy, listener_sends, other_listens, other_sends, phased_at, sends_on, sends_other}
 use Rattle.journal_acks.proofs.TwoStations.{IsOfTwo, hearing_of, one_hearing, other_is, other_of, own_differs, own_received, same_number, sent_in_form}
-use Rattle.journal_acks.proofs.UnderHandles.{same_base}
+use Rattle.journal_acks.proofs.link_calls.UnderHandles.{same_base}
 use Rattle.journal_slots.specs.SecondSlot.{PacketInSlot, has_more}
 use Rattle.journal_slots.proofs.OnAir.{IsEndOnAir, IsOnAir, WasOnAir, moved, on_air_stays, plain, received_on_air, sent_on_air}
 use Rattle.journal_slots.proofs.OnAirCalls.{AreOnAirSo}

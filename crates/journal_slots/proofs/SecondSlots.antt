@@ -52,8 +52,8 @@ use Rattle.journal_acks.proofs.EntryNotes.{count_note, past_entered}
 use Rattle.journal_acks.proofs.Exchanging.{number_at, number_quiet}
 use Rattle.journal_acks.proofs.KeptCounts.{AreCountedAt, counts_kept, unsent}
 use Rattle.journal_acks.proofs.Known.{known_of}
-use Rattle.journal_acks.proofs.LinkUses.{listens_under, sends_under}
-use Rattle.journal_acks.proofs.RadioUses.{Sending}
+use Rattle.journal_acks.specs.link_calls.Uses.{listens_under, sends_under}
+use Rattle.journal_acks.proofs.link_calls.RadioUses.{Sending}
 use Rattle.journal_acks.proofs.RunCounts.{counts_first}
 use Rattle.journal_acks.proofs.Seen.{IsSeen, seen_packet}
 use Rattle.journal_acks.proofs.Standing.{PhasedBy, last_phase, phased_at, sends_on, silent_sends}

@@ -1,33 +1,23 @@
 -- On which link a controller sends or listens, in which phase, and as which end of it.
-use Rattle.std.proofs.Common.{◌≡◌, ℕ, ◌==◌, Bool, true, false, Option, Some, None, List, refl, sym, ap, subst, ◌∙◌}
+use Rattle.std.proofs.Common.{◌≡◌, ℕ, true, false, Option, Some, None, List, refl, sym, ap, subst, ◌∙◌}
 use Rattle.std.specs.Prelude.{⊤}
 use Rattle.std.specs.Option.{option_map}
 use Rattle.std.proofs.lemmas.Bool.{eqb-true}
-use Rattle.journal_packets.specs.link_model.Packets.{packet_sent}
-use Rattle.journal_packets.specs.link_model.Step.{PacketSent}
-use Rattle.journal_packets.specs.open_links.OpenLinks.{Links, OpenLink, facts_in, link_after, link_at, with_change}
-use Rattle.journal_packets.proofs.open_links.Handles.{changed_is}
+use Rattle.run_laws.specs.link_model.Packets.{packet_sent}
+use Rattle.run_laws.specs.link_model.Step.{PacketSent}
+use Rattle.run_laws.specs.open_links.OpenLinks.{Links, OpenLink, facts_in, link_after, link_at, with_change}
+use Rattle.run_laws.proofs.open_links.Handles.{changed_is}
 use Rattle.controller_model.specs.declared.doing.Doing.{Doing}
-use Rattle.controller_model.specs.declared.doing.Doing.TheVariants.{Advertises, Scans, AwaitsResponse, CentralSends, CentralListens, PeripheralListens, PeripheralSends, Rests}
+use Rattle.controller_model.specs.declared.doing.Doing.TheVariants.{Advertises, Scans, AwaitsResponse, CentralSends, PeripheralSends, Rests}
 use Rattle.controller_model.specs.Step.{HostOctet, TurnEnds}
 use Rattle.controller_model.specs.Facts.{Setup, Facts, Use, Sends, Listens, first_facts}
 use Rattle.controller_model.specs.Packets.{facts_doing, sends_on, use_for}
 use Rattle.controller_model.specs.Radio.{outcome_begun}
 use Rattle.controller_model.specs.Side.{facts_after, outcome_heard, outcome_unheard}
-use Rattle.run_model.specs.Run.{step_of}
-use Rattle.journal_packets.proofs.run_laws.TurnPlaces.{Between, IsTurned, Stage}
-use Rattle.journal_packets.proofs.run_laws.Entering.{IsInTurn, turn_first, turn_kept}
-
--- it sends, or listens, on the link under this handle
-abbrev pub sends_under : ℕ → Doing → Bool
-sends_under handle (CentralSends other) = other == handle
-sends_under handle (PeripheralSends other) = other == handle
-sends_under handle other = false
-
-abbrev pub listens_under : ℕ → Doing → Bool
-listens_under handle (CentralListens other) = other == handle
-listens_under handle (PeripheralListens other) = other == handle
-listens_under handle other = false
+use Rattle.run_laws.specs.run_model.Run.{step_of}
+use Rattle.link_calls.specs.Uses.{sends_under}
+use Rattle.run_laws.proofs.TurnPlaces.{Between, IsTurned, Stage}
+use Rattle.run_laws.proofs.Entering.{IsInTurn, turn_first, turn_kept}
 
 -- what a link that it sends on was before that, and what it wants of the radio
 pub record IsSending (facts : Facts) (after : OpenLink) : Type 0 where

@@ -1,5 +1,5 @@
 -- What each call on a controller does to the link under one handle, and that it opens no other one there.
-use Rattle.std.proofs.Common.{◌≡◌, ℕ, ◌==◌, ◌⊎◌, inl, inr, Bool, true, false, Option, Some, None, List, [], ◌∷◌, refl, sym, ap, subst, ◌∙◌}
+use Rattle.std.proofs.Common.{◌≡◌, ℕ, ◌==◌, ◌⊎◌, inl, inr, Bool, true, false, Option, Some, None, List, [], ◌∷◌, ◌++◌, refl, sym, ap, subst, ◌∙◌}
 use Rattle.std.specs.Prelude.{All}
 use Rattle.std.proofs.lemmas.Bool.{eqb-true, eq-eqb}
 use Rattle.std.proofs.lemmas.List.Elements.{All-append, All-cons, All-from_recursion, All-nil}
@@ -9,22 +9,21 @@ use Rattle.ble_base.specs.declared.notes.Note.TheVariants.{Done, Refused, Took}
 use Rattle.ble_base.specs.declared.procedure_kinds.Kind.{Kind}
 use Rattle.hci_evt.specs.declared.event.Event.{Event}
 use Rattle.host_view.specs.View.{View}
-use Rattle.journal_packets.specs.link_model.declared.setup.LinkSetup.{LinkSetup}
-use Rattle.journal_packets.specs.link_model.End.{facts_of as end_facts}
-use Rattle.journal_packets.specs.plain_links.Events.{entries_in}
-use Rattle.journal_packets.specs.link_model.Facts.{Facts as EndFacts}
-use Rattle.journal_packets.specs.link_model.Events.{no_event}
-use Rattle.journal_packets.specs.link_model.Setup.{Setup as EndSetup}
-use Rattle.journal_packets.specs.link_model.Packets.{good_pdu}
-use Rattle.journal_packets.specs.link_model.Step.{Step as EndStep, EventEntered, PacketReceived, PacketSent, PduFixed, RequestAnswered}
-use Rattle.journal_packets.proofs.link_model.Agreeing.{others_leave}
+use Rattle.run_laws.specs.link_model.declared.setup.LinkSetup.{LinkSetup}
+use Rattle.run_laws.specs.link_model.End.{facts_of as end_facts}
+use Rattle.run_laws.specs.link_model.Facts.{Facts as EndFacts}
+use Rattle.run_laws.specs.link_model.Events.{no_event}
+use Rattle.run_laws.specs.link_model.Setup.{Setup as EndSetup}
+use Rattle.run_laws.specs.link_model.Packets.{good_pdu}
+use Rattle.run_laws.specs.link_model.Step.{Step as EndStep, EventEntered, PacketReceived, PacketSent, PduFixed, RequestAnswered}
+use Rattle.run_laws.proofs.link_model.Agreeing.{others_leave}
 use Rattle.scan_init.specs.Reports.{scan_answer}
 use Rattle.slot_plan.specs.declared.Activity.{Activity}
 use Rattle.slot_plan.specs.declared.Activity.TheVariants.{Link, Advertise, Scan, Initiate}
 use Rattle.slot_plan.specs.Holding.{is_held_in, winner_of}
-use Rattle.journal_packets.specs.open_links.OpenLinks.{Links, OpenLink, facts_in, link_after, link_at, link_served, with_change, new_link}
-use Rattle.journal_packets.specs.open_links.Turns.{due_in, entered_if, enters_in, link_entered, links_without}
-use Rattle.journal_packets.proofs.open_links.Unmoved.{entered_setup}
+use Rattle.run_laws.specs.open_links.OpenLinks.{Links, OpenLink, facts_in, link_after, link_at, link_served, with_change, new_link}
+use Rattle.run_laws.specs.open_links.Turns.{due_in, entered_if, enters_in, link_entered, links_without}
+use Rattle.run_laws.proofs.open_links.Unmoved.{entered_setup}
 use Rattle.controller_model.specs.declared.doing.Doing.{Doing}
 use Rattle.controller_model.specs.declared.doing.Doing.TheVariants.{Advertises, CentralSends, CentralListens, PeripheralListens, PeripheralSends}
 use Rattle.controller_model.specs.Step.{TurnBegins}
@@ -39,18 +38,18 @@ use Rattle.controller_model.specs.Side.{facts_after, notes_after}
 use Rattle.controller_model.proofs.Always.{ending_is, links_won, opening_is, winning_is}
 use Rattle.controller_model.proofs.EndNotes.{received_each}
 use Rattle.controller_model.proofs.Phases.{EachOutcome, heard_is, unheard_is}
-use Rattle.controller_model.proofs.Places.{link_receiving, receiving_is, refusal, refused_if, refuses_at}
-use Rattle.journal_packets.specs.plain_links.Plain.{ArePlain}
-use Rattle.journal_packets.proofs.plain_links.Growing.{plain_front, plain_less}
-use Rattle.run_model.specs.Run.{step_of}
-use Rattle.journal_packets.specs.run_laws.Plainness.{IsPlainLink}
-use Rattle.journal_packets.proofs.run_laws.Agreed.{ack_answered, ack_fixed, ack_of, step_facts}
-use Rattle.journal_packets.proofs.run_laws.LinkPasses.{IsPassingOn, LeavesAll, OpensOne, ReceivesOn, is_on_link, phase_passes_on}
-use Rattle.journal_packets.proofs.run_laws.TurnSteps.{IsListening, begins_slot}
-use Rattle.journal_acks.proofs.CallNotes.{IsOfFeeds, SendsNone, doing_noted, events_noted}
-use Rattle.journal_acks.proofs.Exchanging.{OpensNone, opening_none}
-use Rattle.journal_acks.proofs.LinkUses.{listens_under, sends_under}
-use Rattle.journal_acks.proofs.UnderHandles.{IsOpenedIf, WasOpen, change_if, change_under, entered_under, entries_after, fixes_under, fixing_under, opened_under, sending_under, sent_if, staying_under}
+use Rattle.controller_model.proofs.Places.{receiving_is}
+use Rattle.run_laws.specs.run_model.Run.{step_of}
+use Rattle.run_laws.proofs.Agreed.{ack_answered, ack_fixed, ack_of, step_facts}
+use Rattle.run_laws.proofs.LinkPasses.{IsPassingOn, LeavesAll, OpensOne, ReceivesOn}
+use Rattle.run_laws.proofs.TurnSteps.{IsListening, begins_slot}
+use Rattle.link_calls.specs.Entries.{entries_in}
+use Rattle.link_calls.specs.Phases.{HasPassed, IsNew, Stays, Takes, link_receiving, refusal, refused_if, refuses_at}
+use Rattle.link_calls.specs.Turns.{HasBegunTurn, change_if, fixed_if, sent_if}
+use Rattle.link_calls.specs.Uses.{fixes_under, is_on_link, listens_under, sends_under}
+use Rattle.link_calls.proofs.CallNotes.{IsOfFeeds, OpensNone, SendsNone, doing_noted, events_noted, opening_none}
+use Rattle.link_calls.proofs.OffLinks.{off_phase}
+use Rattle.link_calls.proofs.UnderHandles.{IsOpenedIf, WasOpen, change_under, entered_under, entries_after, fixing_under, opened_under, sending_under, staying_under}
 
 -- ---- a turn begins
 
@@ -94,19 +93,18 @@ served_under : (on : Bool) (slot handle : ℕ) (winner : Option Activity) (facts
 served_under false slot handle winner facts after is = served_none (link_at handle facts.links) after is
 served_under true slot handle winner facts after is = radio_under (is_held_in facts.radio.hold slot) slot handle winner facts after is
 
-abbrev pub fixed_if : Bool → OpenLink → OpenLink
-fixed_if fixes link = change_if fixes (link_after PduFixed) link
-
 -- the link was open before and stays; it enters its event where that is due, fixes its PDU where it has an exchange, and
 -- sends where it is to
 pub record HasBegun (facts : Facts) (slot : ℕ) (on : Bool) (handle : ℕ) (doing : Doing) (after : OpenLink) : Type 0 where
   pub link : OpenLink
   pub was : link_at handle facts.links ≡ Some link
   pub stayed : link_at handle (links_without (due_in slot) facts.links) ≡ Some link
+  pub not_due : due_in slot link ≡ None
   pub entered : OpenLink
   pub setup_is : entered.setup ≡ link.setup
   pub past_is : entered.past ≡ (link_entered slot link).past
   pub fixes : Bool
+  pub fixes_is : fixes ≡ fixes_under handle doing
   pub base : OpenLink
   pub found : link_at handle (outcome_begun slot on facts).facts.links ≡ Some base
   pub base_is : base ≡ fixed_if fixes entered
@@ -129,14 +127,51 @@ begins_under setup facts slot on handle after is =
       link = entered.link;
       was = stayed.was;
       stayed = here;
+      not_due = stayed.stays;
       entered = fixed.link;
       setup_is = base.setup_is ∙ ap (λ (l : OpenLink). l.setup) entered.is ∙ entered_setup slot entered.link;
       past_is = base.past_is ∙ ap (λ (l : OpenLink). l.past) entered.is;
       fixes = fixes_under handle before.next;
+      fixes_is = refl;
       base = sent.link;
       found = sent.was;
       base_is = fixed.is;
       is = sent.is ∙ ap (λ (n : ℕ). sent_if (sends_under handle outcome.next) n sent.link) (begins_slot setup slot on facts);
+    }
+
+-- what happened to a link later depends on what happened before alone
+sent_past : (sends : Bool) (slot : ℕ) (one other : OpenLink) → one.past ≡ other.past → (sent_if sends slot one).past ≡ (sent_if sends slot other).past
+sent_past true slot one other same = ap (λ (past : List EndStep). past ++ PacketSent slot ∷ []) same
+sent_past false slot one other same = same
+
+fixed_past : (fixes : Bool) (one other : OpenLink) → one.past ≡ other.past → (fixed_if fixes one).past ≡ (fixed_if fixes other).past
+fixed_past true one other same = ap (λ (past : List EndStep). past ++ PduFixed ∷ []) same
+fixed_past false one other same = same
+
+sent_setup : (sends : Bool) (slot : ℕ) (link : OpenLink) → (sent_if sends slot link).setup ≡ link.setup
+sent_setup true slot link = refl
+sent_setup false slot link = refl
+
+fixed_setup : (fixes : Bool) (link : OpenLink) → (fixed_if fixes link).setup ≡ link.setup
+fixed_setup true link = refl
+fixed_setup false link = refl
+
+-- all that happened to the link, in order
+pub turn_begun_under : (setup : Setup) (facts : Facts) (slot : ℕ) (on : Bool) (handle : ℕ) (after : OpenLink)
+    → link_at handle (facts_after setup facts (TurnBegins slot on)).links ≡ Some after
+    → HasBegunTurn facts.links slot handle (facts_after setup facts (TurnBegins slot on)).turn.doing after
+turn_begun_under setup facts slot on handle after is =
+    let doing = (facts_after setup facts (TurnBegins slot on)).turn.doing in
+    let has = begins_under setup facts slot on handle after is in
+    let sends = sends_under handle doing in
+    let fixed = ap (λ (l : OpenLink). l.past) has.base_is ∙ ap (λ b. (fixed_if b has.entered).past) has.fixes_is
+    ∙ fixed_past (fixes_under handle doing) has.entered (link_entered slot has.link) has.past_is in
+    record {
+      link = has.link;
+      was = has.was;
+      stays = has.not_due;
+      setup_is = ap (λ (l : OpenLink). l.setup) has.is ∙ sent_setup sends slot has.base ∙ ap (λ (l : OpenLink). l.setup) has.base_is ∙ fixed_setup has.fixes has.entered ∙ has.setup_is;
+      past_is = ap (λ (l : OpenLink). l.past) has.is ∙ sent_past sends slot has.base (fixed_if (fixes_under handle doing) (link_entered slot has.link)) fixed;
     }
 
 -- a link that is open as a turn has begun was open before it
@@ -171,30 +206,6 @@ base_ack facts slot on handle doing after begun =
     ap ack_of begun.base_is ∙ fixed_ack begun.fixes begun.entered
     ∙ (λ i. ack_of (record { setup = (begun.setup_is ∙ sym (entered_setup slot begun.link)) i; past = begun.past_is i; last_served = 0 }))
     ∙ entered_ack (enters_in slot begun.link) slot begun.link
-
--- ---- links that are plain
-
-pub sent_plain : (sends : Bool) (slot : ℕ) (link : OpenLink) → IsPlainLink (sent_if sends slot link) → IsPlainLink link
-sent_plain true slot link plain = plain_front link.setup link.past (PacketSent slot ∷ []) plain
-sent_plain false slot link plain = plain
-
-fixed_plain : (fixes : Bool) (link : OpenLink) → IsPlainLink (fixed_if fixes link) → IsPlainLink link
-fixed_plain true link plain = plain_front link.setup link.past (PduFixed ∷ []) plain
-fixed_plain false link plain = plain
-
-entered_plain : (enters : Bool) (slot : ℕ) (link : OpenLink) → IsPlainLink (entered_if enters slot link) → IsPlainLink link
-entered_plain true slot link plain = plain_front link.setup link.past (EventEntered slot ∷ []) plain
-entered_plain false slot link plain = plain
-
--- a link that is plain once a turn has begun was plain before
-pub begun_plain : (facts : Facts) (slot : ℕ) (on : Bool) (handle : ℕ) (doing : Doing) (after : OpenLink) (begun : HasBegun facts slot on handle doing after)
-    → IsPlainLink after → IsPlainLink begun.link
-begun_plain facts slot on handle doing after begun plain =
-    let base = sent_plain (sends_under handle doing) slot begun.base (subst IsPlainLink begun.is plain) in
-    let fixed = fixed_plain begun.fixes begun.entered (subst IsPlainLink begun.base_is base) in
-    entered_plain (enters_in slot begun.link) slot begun.link
-    (subst (λ (end : EndSetup). ArePlain end (link_entered slot begun.link).past) (begun.setup_is ∙ sym (entered_setup slot begun.link))
-    (subst (λ (past : List EndStep). ArePlain begun.entered.setup past) begun.past_is fixed))
 
 -- ---- a link that receives a packet, and may refuse a request in it
 
@@ -238,33 +249,7 @@ module _ (handle : ℕ) (room : Bool) (octets : List ℕ) (facts : Facts) (link 
       by true = ap (λ (f : EndFacts). f.last_good) (step_facts taken (RequestAnswered refusal))
       by false = refl
 
-  -- a link that stays plain refuses nothing
-  pub receiving_plain : IsPlainLink (link_receiving handle room octets facts link) → link_receiving handle room octets facts link ≡ taken
-  receiving_plain = by (refuses_at handle room octets facts)
-    where
-      by : (refuses : Bool) → IsPlainLink (refused_if refuses taken) → refused_if refuses taken ≡ taken
-      by true plain = absurd (plain_less link.setup taken.past (RequestAnswered refusal) plain).1
-      by false plain = refl
-
-  -- and so it is where it answers the packet
-  pub takes_plain : (sends : Bool) (after : OpenLink) → after ≡ sent_if sends facts.turn.slot (link_receiving handle room octets facts link) → IsPlainLink after
-      → IsPlainLink taken
-  takes_plain sends after is plain =
-      let receiving = sent_plain sends facts.turn.slot (link_receiving handle room octets facts link) (subst IsPlainLink is plain) in
-      subst IsPlainLink (receiving_plain receiving) receiving
-
 -- ---- a phase passes
-
-pub data HasPassed (facts : Facts) (room : Bool) (received : Option (List ℕ)) (handle : ℕ) (doing : Doing) (after : OpenLink) : Type 0 where
-  -- it is a new link
-  IsNew : (end : EndSetup) → after ≡ new_link end → end.opened ≡ facts.turn.slot → is_on_link doing ≡ false → HasPassed facts room received handle doing after
-  -- nothing happened to it
-  Stays : link_at handle facts.links ≡ Some after → sends_under handle doing ≡ false → (listens_under handle facts.turn.doing ≡ true → received ≡ None)
-      → (listens_under handle doing ≡ true → sends_under handle facts.turn.doing ≡ true) → HasPassed facts room received handle doing after
-  -- it received a packet, may refuse a request in it, and may answer it
-  Takes : (link : OpenLink) (octets : List ℕ) → link_at handle facts.links ≡ Some link → received ≡ Some octets → listens_under handle facts.turn.doing ≡ true
-      → after ≡ sent_if (sends_under handle doing) facts.turn.slot (link_receiving handle room octets facts link)
-      → HasPassed facts room received handle doing after
 
 pub off_sends : (handle : ℕ) (doing : Doing) → is_on_link doing ≡ false → sends_under handle doing ≡ false
 off_sends handle (CentralSends other) off = absurd cc
@@ -347,49 +332,57 @@ takes_on setup facts octets handle other after listens is =
     (other == handle) refl
 
 passes_by : (setup : Setup) (facts : Facts) (received : Option (List ℕ)) (handle : ℕ) (after : OpenLink) (doing : Doing) → facts.turn.doing ≡ doing
-    → IsPassingOn facts received (facts_after setup facts (step_of received)) → link_at handle (facts_after setup facts (step_of received)).links ≡ Some after
+    → link_at handle (facts_after setup facts (step_of received)).links ≡ Some after
     → HasPassed facts (has_room setup facts) received handle (facts_after setup facts (step_of received)).turn.doing after
-passes_by setup facts None handle after (CentralSends other) doing passing is =
+passes_by setup facts None handle after (CentralSends other) doing is =
     let next = ap (λ (d : Doing). (unheard d facts)) doing in
     Stays (ap (λ (o : Outcome). link_at handle (facts_passed o).links) (sym next) ∙ is) (ap (λ (o : Outcome). sends_under handle o.next) next)
     (deaf handle facts.turn.doing None (ap (listens_under handle) doing)) (λ listens. ap (sends_under handle) doing ∙ sym (ap (λ (o : Outcome). listens_under handle o.next) next) ∙ listens)
-passes_by setup facts (Some octets) handle after (CentralSends other) doing passing is =
+passes_by setup facts (Some octets) handle after (CentralSends other) doing is =
     let next = ap (λ (d : Doing). (heard setup d octets facts)) doing in
     Stays (ap (λ (o : Outcome). link_at handle (facts_passed o).links) (sym next) ∙ is) (ap (λ (o : Outcome). sends_under handle o.next) next)
     (deaf handle facts.turn.doing (Some octets) (ap (listens_under handle) doing)) (λ listens. ap (sends_under handle) doing ∙ sym (ap (λ (o : Outcome). listens_under handle o.next) next) ∙ listens)
-passes_by setup facts None handle after (PeripheralSends other) doing passing is =
+passes_by setup facts None handle after (PeripheralSends other) doing is =
     let next = ap (λ (d : Doing). (unheard d facts)) doing in
     Stays (ap (λ (o : Outcome). link_at handle (facts_passed o).links) (sym next) ∙ is) (ap (λ (o : Outcome). sends_under handle o.next) next)
     (deaf handle facts.turn.doing None (ap (listens_under handle) doing))
     (hears_none handle (unheard facts.turn.doing facts).next facts.turn.doing (ap (λ (o : Outcome). listens_under handle o.next) next))
-passes_by setup facts (Some octets) handle after (PeripheralSends other) doing passing is =
+passes_by setup facts (Some octets) handle after (PeripheralSends other) doing is =
     let next = ap (λ (d : Doing). (heard setup d octets facts)) doing in
     Stays (ap (λ (o : Outcome). link_at handle (facts_passed o).links) (sym next) ∙ is) (ap (λ (o : Outcome). sends_under handle o.next) next)
     (deaf handle facts.turn.doing (Some octets) (ap (listens_under handle) doing))
     (hears_none handle (heard setup facts.turn.doing octets facts).next facts.turn.doing (ap (λ (o : Outcome). listens_under handle o.next) next))
-passes_by setup facts None handle after (CentralListens other) doing passing is =
+passes_by setup facts None handle after (CentralListens other) doing is =
     let next = ap (λ (d : Doing). (unheard d facts)) doing in
     Stays (ap (λ (o : Outcome). link_at handle (facts_passed o).links) (sym next) ∙ is) (ap (λ (o : Outcome). sends_under handle o.next) next) (λ listens. refl)
     (hears_none handle (unheard facts.turn.doing facts).next facts.turn.doing (ap (λ (o : Outcome). listens_under handle o.next) next))
-passes_by setup facts (Some octets) handle after (CentralListens other) doing passing is =
+passes_by setup facts (Some octets) handle after (CentralListens other) doing is =
     let next = ap (λ (d : Doing). (heard setup d octets facts)) doing in
     subst (λ (o : Outcome). HasPassed facts (has_room setup facts) (Some octets) handle o.next after) (sym next)
     (takes_on setup facts octets handle other after (ap (listens_under handle) doing) (ap (λ (o : Outcome). link_at handle (facts_passed o).links) (sym next) ∙ is))
-passes_by setup facts None handle after (PeripheralListens other) doing passing is =
+passes_by setup facts None handle after (PeripheralListens other) doing is =
     let next = ap (λ (d : Doing). (unheard d facts)) doing in
     Stays (ap (λ (o : Outcome). link_at handle (facts_passed o).links) (sym next) ∙ is) (ap (λ (o : Outcome). sends_under handle o.next) next) (λ listens. refl)
     (hears_none handle (unheard facts.turn.doing facts).next facts.turn.doing (ap (λ (o : Outcome). listens_under handle o.next) next))
-passes_by setup facts (Some octets) handle after (PeripheralListens other) doing passing is =
+passes_by setup facts (Some octets) handle after (PeripheralListens other) doing is =
     let next = ap (λ (d : Doing). (heard setup d octets facts)) doing in
     subst (λ (o : Outcome). HasPassed facts (has_room setup facts) (Some octets) handle o.next after) (sym next)
     (takes_on setup facts octets handle other after (ap (listens_under handle) doing) (ap (λ (o : Outcome). link_at handle (facts_passed o).links) (sym next) ∙ is))
-passes_by setup facts received handle after (Advertises channel) doing passing is = off_passes facts _ (has_room setup facts) received handle after (ap is_on_link doing) passing is
-passes_by setup facts received handle after other doing passing is = off_passes facts _ (has_room setup facts) received handle after (ap is_on_link doing) passing is
+passes_by setup facts received handle after (Advertises channel) doing is =
+    off_passes facts _ (has_room setup facts) received handle after (ap is_on_link doing) (off_phase setup facts received (Advertises channel) doing refl) is
+passes_by setup facts received handle after other doing is =
+    off_passes facts _ (has_room setup facts) received handle after (ap is_on_link doing) (off_phase setup facts received other doing refl) is
 
+pub phase_under : (setup : Setup) (facts : Facts) (received : Option (List ℕ)) (handle : ℕ) (after : OpenLink)
+    → link_at handle (facts_after setup facts (step_of received)).links ≡ Some after
+    → HasPassed facts (has_room setup facts) received handle (facts_after setup facts (step_of received)).turn.doing after
+phase_under setup facts received handle after is = passes_by setup facts received handle after facts.turn.doing refl is
+
+-- where it is known what it listens for
 pub passes_under : (setup : Setup) (facts : Facts) (received : Option (List ℕ)) (handle : ℕ) (after : OpenLink) → IsListening facts facts.turn.doing
     → link_at handle (facts_after setup facts (step_of received)).links ≡ Some after
     → HasPassed facts (has_room setup facts) received handle (facts_after setup facts (step_of received)).turn.doing after
-passes_under setup facts received handle after listens is = passes_by setup facts received handle after facts.turn.doing refl (phase_passes_on setup facts received listens) is
+passes_under setup facts received handle after listens is = phase_under setup facts received handle after is
 
 -- ---- what is noted of links that are opened
 

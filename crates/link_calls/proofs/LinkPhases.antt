@@ -1,10 +1,10 @@
 -- What a controller does with its links, with the phase that it stands in.
 use Rattle.std.proofs.Common.{ℕ, refl}
 use Rattle.controller_model.specs.Facts.{Setup, Facts, first_facts}
-use Rattle.journal_packets.proofs.run_laws.LinkPasses.{phase_passes_on}
-use Rattle.journal_packets.proofs.run_laws.LinkPhases.{IsAtStage, begins_in, passes_in}
-use Rattle.journal_packets.proofs.run_laws.TurnPlaces.{Between, IsTurned, Stage}
-use Rattle.journal_acks.proofs.LinkUses.{IsUsing, using_first, using_kept}
+use Rattle.run_laws.proofs.LinkPasses.{phase_passes_on}
+use Rattle.run_laws.proofs.LinkPhases.{IsAtStage, begins_in, passes_in}
+use Rattle.run_laws.proofs.TurnPlaces.{Between, IsTurned, Stage}
+use Rattle.link_calls.proofs.LinkUses.{IsUsing, using_first, using_kept}
 
 pub record IsPhased (setup : Setup) (stage : Stage) (begun : ℕ) (facts : Facts) : Type 0 where
   pub uses : IsUsing setup stage begun facts

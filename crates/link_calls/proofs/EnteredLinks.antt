@@ -2,16 +2,16 @@
 use Rattle.std.proofs.Common.{◌≡◌, ℕ, ◌+◌, ◌<◌, Bool, true, false, Option, Some, None, List, refl, sym, ap, subst, ◌∙◌, arith}
 use Rattle.std.specs.Prelude.{◌&&◌, not, if◌then◌else◌}
 use Rattle.std.specs.Option.{option_map}
-use Rattle.journal_packets.specs.link_model.declared.events.ConnectionEvent.{ConnectionEvent}
-use Rattle.journal_packets.specs.link_model.End.{facts_of as end_facts}
-use Rattle.journal_packets.specs.plain_links.Events.{entries_in}
-use Rattle.journal_packets.specs.link_model.Facts.{Facts as EndFacts}
-use Rattle.journal_packets.specs.link_model.Setup.{Setup as EndSetup}
-use Rattle.journal_packets.specs.link_model.Step.{Step as EndStep, EventEntered, PduFixed, PacketSent, PacketReceived}
-use Rattle.journal_packets.specs.link_model.Times.{has_second_exchange}
-use Rattle.journal_packets.specs.open_links.OpenLinks.{OpenLink, facts_in, has_entered, in_event, link_after, link_at, new_link}
-use Rattle.journal_packets.specs.open_links.Turns.{entered_if, enters_in, link_entered, wants_entering, wants_if}
-use Rattle.journal_packets.proofs.open_links.Unmoved.{entered_setup}
+use Rattle.run_laws.specs.link_model.declared.events.ConnectionEvent.{ConnectionEvent}
+use Rattle.run_laws.specs.link_model.End.{facts_of as end_facts}
+use Rattle.link_calls.specs.Entries.{entries_in}
+use Rattle.run_laws.specs.link_model.Facts.{Facts as EndFacts}
+use Rattle.run_laws.specs.link_model.Setup.{Setup as EndSetup}
+use Rattle.run_laws.specs.link_model.Step.{Step as EndStep, EventEntered, PduFixed, PacketSent, PacketReceived}
+use Rattle.run_laws.specs.link_model.Times.{has_second_exchange}
+use Rattle.run_laws.specs.open_links.OpenLinks.{OpenLink, facts_in, has_entered, in_event, link_after, link_at, new_link}
+use Rattle.run_laws.specs.open_links.Turns.{entered_if, enters_in, link_entered, wants_entering, wants_if}
+use Rattle.run_laws.proofs.open_links.Unmoved.{entered_setup}
 use Rattle.slot_plan.specs.Holding.{is_held_in, winner_of}
 use Rattle.slot_plan.specs.declared.Activity.{Activity}
 use Rattle.slot_plan.specs.declared.Activity.TheVariants.{Link, Advertise, Scan, Initiate}
@@ -23,16 +23,19 @@ use Rattle.controller_model.specs.Links.{facts_ending}
 use Rattle.controller_model.specs.Radio.{doing_held, doing_won, exchange_if, facts_entering, first_exchange, initiator_channel, plan_in, radio_served, scanner_channel, second_exchange, served, slots_since, turn_begins, winner_served}
 use Rattle.controller_model.specs.Side.{facts_after}
 use Rattle.controller_model.proofs.Always.{ending_is}
-use Rattle.controller_model.proofs.Places.{link_receiving}
-use Rattle.run_model.specs.Run.{step_of}
-use Rattle.journal_packets.proofs.run_laws.Agreed.{step_facts}
-use Rattle.journal_packets.proofs.run_laws.TurnPlaces.{Between, IsTurned, Stage}
-use Rattle.journal_acks.proofs.HeardSteps.{fixed_same, sent_in}
-use Rattle.journal_acks.proofs.LinkCalls.{HasPassed, IsNew, Stays, Takes, begins_under, fixed_if, passes_under, receiving_entries}
-use Rattle.journal_acks.proofs.LinkPhases.{IsPhased, phased_first, phased_kept}
-use Rattle.journal_acks.proofs.LinkUses.{listens_under, sends_under}
-use Rattle.journal_acks.proofs.RadioUses.{Listening, Sending, Uses, advertises_off, exchange_uses, first_of_both, initiates_off, no_link, off_uses, rests_uses, scans_off, winner_wants}
-use Rattle.journal_acks.proofs.UnderHandles.{WasAlike, end_under, map_under, octet_under, sent_if, entries_after}
+use Rattle.link_calls.specs.Phases.{link_receiving}
+use Rattle.run_laws.specs.run_model.Run.{step_of}
+use Rattle.run_laws.proofs.Agreed.{step_facts}
+use Rattle.run_laws.proofs.TurnPlaces.{Between, IsTurned, Stage}
+use Rattle.link_calls.proofs.HeardSteps.{fixed_same, sent_in}
+use Rattle.link_calls.specs.Phases.{HasPassed, IsNew, Stays, Takes}
+use Rattle.link_calls.proofs.LinkCalls.{begins_under, passes_under, receiving_entries}
+use Rattle.link_calls.specs.Turns.{fixed_if}
+use Rattle.link_calls.proofs.LinkPhases.{IsPhased, phased_first, phased_kept}
+use Rattle.link_calls.specs.Uses.{listens_under, sends_under}
+use Rattle.link_calls.proofs.RadioUses.{Listening, Sending, Uses, advertises_off, exchange_uses, first_of_both, initiates_off, no_link, off_uses, rests_uses, scans_off, winner_wants}
+use Rattle.link_calls.proofs.UnderHandles.{WasAlike, end_under, map_under, octet_under, entries_after}
+use Rattle.link_calls.specs.Turns.{sent_if}
 use Rattle.controller_model.specs.Entering.{all_entered}
 
 -- it has entered an event
@@ -113,7 +116,7 @@ continued facts is =
 -- the links before they enter their events, and one of them
 module _ (slot handle : ℕ) (begun : Facts) (link : OpenLink) (at : link_at handle begun.links ≡ Some link) where
   -- what it is then
-  entered_is : (found : Option OpenLink) (other : ℕ) → other ≡ handle → link_at other (facts_entering slot begun).links ≡ found → found ≡ Some (link_entered slot link)
+  pub entered_is : (found : Option OpenLink) (other : ℕ) → other ≡ handle → link_at other (facts_entering slot begun).links ≡ found → found ≡ Some (link_entered slot link)
   entered_is found other same is =
       sym is ∙ ap (λ n. link_at n (all_entered slot begun.links)) same ∙ map_under (option_map (link_entered slot)) refl 0 handle begun.links ∙ ap (option_map (link_entered slot)) at
 

@@ -1,5 +1,5 @@
 -- What is open under a handle after each change of the links of a controller.
-use Rattle.std.proofs.Common.{◌≡◌, ℕ, ◌+◌, ◌==◌, Bool, true, false, Option, Some, None, List, [], ◌∷◌, ◌++◌, length, map, take, refl, sym, ap, subst, ◌∙◌, arith, length-append}
+use Rattle.std.proofs.Common.{◌≡◌, ℕ, ◌+◌, ◌==◌, Bool, true, false, Option, Some, None, List, [], ◌∷◌, ◌++◌, length, map, take, refl, sym, ap, subst, ◌∙◌, append-nil, arith, length-append}
 use Rattle.std.specs.Prelude.{nat_lt, if◌then◌else◌}
 use Rattle.std.specs.Option.{option_map}
 use Rattle.std.proofs.lemmas.Bool.{eqb-true, eqb-false}
@@ -14,17 +14,17 @@ use Rattle.hci_cmd.specs.declared.command.CmdRead.{CmdRead}
 use Rattle.hci_cmd.specs.declared.command.CmdRead.TheVariants.{Known, UnknownOpcode, BadLength}
 use Rattle.hci_cmd.specs.Command.{command_of}
 use Rattle.host_view.specs.Unbuilt.{status_of}
-use Rattle.journal_packets.specs.link_model.Setup.{Setup as EndSetup}
-use Rattle.journal_packets.specs.plain_links.Events.{count_entry, entries_in}
-use Rattle.journal_packets.specs.link_model.Facts.{Facts as EndFacts}
-use Rattle.journal_packets.specs.link_model.Step.{Step as EndStep, DataGiven, DataReported, PduFixed, PacketSent}
-use Rattle.journal_packets.specs.open_links.declared.offers.Offer.{Offer}
-use Rattle.journal_packets.specs.open_links.declared.offers.Offer.TheVariants.{NoLink, Empty, Overflow, Kept}
-use Rattle.journal_packets.specs.open_links.Data.{complete_in, link_reported, links_given, links_reported}
-use Rattle.journal_packets.specs.open_links.OpenLinks.{Links, OpenLink, facts_in, link_after, link_at, link_from, new_link, with_change, with_change_from, with_link, without_links}
-use Rattle.journal_packets.specs.open_links.Turns.{ending_in, link_entered, links_without, place_without, staying_by}
-use Rattle.journal_packets.proofs.open_links.Ends.{stays_where_not_due}
-use Rattle.journal_packets.proofs.open_links.Handles.{changed_is, other_stays}
+use Rattle.run_laws.specs.link_model.Setup.{Setup as EndSetup}
+use Rattle.run_laws.specs.link_model.Facts.{Facts as EndFacts}
+use Rattle.run_laws.specs.link_model.Step.{Step as EndStep, DataGiven, DataReported, PduFixed, PacketSent}
+use Rattle.run_laws.specs.link_model.Times.{ending_of}
+use Rattle.run_laws.specs.open_links.declared.offers.Offer.{Offer}
+use Rattle.run_laws.specs.open_links.declared.offers.Offer.TheVariants.{NoLink, Empty, Overflow, Kept}
+use Rattle.run_laws.specs.open_links.Data.{complete_in, link_reported, links_given, links_reported}
+use Rattle.run_laws.specs.open_links.OpenLinks.{Links, OpenLink, facts_in, link_after, link_at, link_from, new_link, with_change, with_change_from, with_link, without_links}
+use Rattle.run_laws.specs.open_links.Turns.{ending_in, link_entered, links_without, place_without, staying_by}
+use Rattle.run_laws.proofs.open_links.Ends.{stays_where_not_due}
+use Rattle.run_laws.proofs.open_links.Handles.{changed_is, other_stays}
 use Rattle.controller_model.specs.declared.doing.Doing.{Doing}
 use Rattle.controller_model.specs.declared.doing.Doing.TheVariants.{Advertises, CentralSends, PeripheralListens, PeripheralSends}
 use Rattle.controller_model.specs.Step.{HostOctet, TurnEnds}
@@ -36,10 +36,11 @@ use Rattle.controller_model.specs.Packets.{links_sending}
 use Rattle.controller_model.specs.Radio.{links_fixing}
 use Rattle.controller_model.specs.Side.{facts_after, facts_fed, result_of}
 use Rattle.controller_model.proofs.Always.{leaving_is}
-use Rattle.journal_packets.proofs.plain_links.Growing.{plain_front}
-use Rattle.journal_packets.specs.run_laws.Plainness.{IsPlainLink}
-use Rattle.journal_packets.proofs.run_laws.Agreed.{ack_given, ack_of, ack_reported, step_facts}
-use Rattle.journal_acks.proofs.LinkUses.{sends_under}
+use Rattle.run_laws.proofs.Agreed.{ack_given, ack_of, ack_reported, step_facts}
+use Rattle.link_calls.specs.Entries.{count_entry, entries_in}
+use Rattle.link_calls.specs.Hosts.{HasHeardHost, GetsData, Unchanged}
+use Rattle.link_calls.specs.Turns.{HasEndedTurn, change_if, sent_if}
+use Rattle.link_calls.specs.Uses.{fixes_under, sends_under}
 
 -- a place that is open after a change of it was open before
 pub record WasOpen (change : OpenLink → OpenLink) (before : Option OpenLink) (after : OpenLink) : Type 0 where
@@ -52,10 +53,6 @@ was_open change None after is = absurd cc
 was_open change (Some link) after is = let same : after ≡ change link = cc in record { link = link; was = refl; is = same }
 
 -- ---- a change under one handle
-
-abbrev pub change_if : Bool → (OpenLink → OpenLink) → OpenLink → OpenLink
-change_if true change link = change link
-change_if false change link = link
 
 pub change_by : (same : Bool) (handle other : ℕ) (change : OpenLink → OpenLink) (links : Links) → (handle == other) ≡ same
     → link_at other (with_change handle change links) ≡ option_map (change_if same change) (link_at other links)
@@ -76,9 +73,6 @@ change_under handle other change links after is =
     was_open (change_if (handle == other) change) (link_at other links) after (sym (change_by (handle == other) handle other change links refl) ∙ is)
 
 -- ---- a link that is to send
-
-abbrev pub sent_if : Bool → ℕ → OpenLink → OpenLink
-sent_if sends slot link = change_if sends (link_after (PacketSent slot)) link
 
 same_front : (one other : List EndStep) (last step : EndStep) → one ++ last ∷ [] ≡ other ++ step ∷ [] → one ≡ other
 same_front one other last step same =
@@ -169,11 +163,6 @@ opened_under end handle links after is false differs =
 
 -- ---- a link that fixes the PDU that it sends next
 
-abbrev pub fixes_under : ℕ → Doing → Bool
-fixes_under handle (CentralSends other) = other == handle
-fixes_under handle (PeripheralListens other) = other == handle
-fixes_under handle other = false
-
 nothing_fixed : (place : Option OpenLink) (after : OpenLink) → place ≡ Some after → WasOpen (change_if false (link_after PduFixed)) place after
 nothing_fixed place after is = record { link = after; was = is; is = refl }
 
@@ -184,61 +173,15 @@ fixing_under handle (PeripheralListens other) links after is = change_under othe
 fixing_under handle (Advertises channel) links after is = nothing_fixed (link_at handle links) after is
 fixing_under handle doing links after is = nothing_fixed (link_at handle links) after is
 
--- ---- what the host gives, and what is reported to it
-
--- the link that was there before has sent, accepted and entered the same, is in the same event, and was plain if it is
-pub record WasAlike (place : Option OpenLink) (after : OpenLink) : Type 0 where
-  pub link : OpenLink
-  pub was : place ≡ Some link
-  pub setup : after.setup ≡ link.setup
-  pub ack : ack_of after ≡ ack_of link
-  pub entries : entries_in after.past ≡ entries_in link.past
-  pub event : (facts_in after).event ≡ (facts_in link).event
-  pub good : (facts_in after).last_good ≡ (facts_in link).last_good
-  pub plain : IsPlainLink after → IsPlainLink link
-
-alike_same : (place : Option OpenLink) (after : OpenLink) → place ≡ Some after → WasAlike place after
-alike_same place after is = record { link = after; was = is; setup = refl; ack = refl; entries = refl; event = refl; good = refl; plain = λ is_plain. is_plain }
-
-pub entries_after : (link : OpenLink) (step : EndStep) → entries_in (link_after step link).past ≡ count_entry (entries_in link.past) step
-entries_after link step = fold-append count_entry 0 link.past (step ∷ [])
-
-given_alike : (place : Option OpenLink) (start : Bool) (body : List ℕ) (link : OpenLink) → place ≡ Some link → WasAlike place (link_after (DataGiven start body) link)
-given_alike place start body link is = record {
-  link = link;
-  was = is;
-  setup = refl;
-  ack = ack_given start body link;
-  entries = entries_after link (DataGiven start body);
-  event = ap (λ (f : EndFacts). f.event) (step_facts link (DataGiven start body));
-  good = ap (λ (f : EndFacts). f.last_good) (step_facts link (DataGiven start body));
-  plain = λ is_plain. plain_front link.setup link.past (DataGiven start body ∷ []) is_plain;
-}
-
-reported_alike : (place : Option OpenLink) (link : OpenLink) → place ≡ Some link → WasAlike place (link_after DataReported link)
-reported_alike place link is = record {
-  link = link;
-  was = is;
-  setup = refl;
-  ack = ack_reported link;
-  entries = entries_after link DataReported;
-  event = ap (λ (f : EndFacts). f.event) (step_facts link DataReported);
-  good = ap (λ (f : EndFacts). f.last_good) (step_facts link DataReported);
-  plain = λ is_plain. plain_front link.setup link.past (DataReported ∷ []) is_plain;
-}
-
-alike_is : (place : Option OpenLink) (one after : OpenLink) → after ≡ one → WasAlike place one → WasAlike place after
-alike_is place one after is alike = subst (WasAlike place) (sym is) alike
+-- ---- an octet of the host
 
 given_under : (start : Bool) (body : List ℕ) (handle other : ℕ) (links : Links) (after : OpenLink) → link_at handle (links_given other start body links) ≡ Some after
-    → WasAlike (link_at handle links) after
+    → HasHeardHost links handle after
 given_under start body handle other links after is = by (other == handle) (change_under other handle (link_after (DataGiven start body)) links after is)
   where
-    by : (same : Bool) → WasOpen (change_if same (link_after (DataGiven start body))) (link_at handle links) after → WasAlike (link_at handle links) after
-    by true was = alike_is (link_at handle links) _ after was.is (given_alike (link_at handle links) start body was.link was.was)
-    by false was = alike_is (link_at handle links) was.link after was.is (alike_same (link_at handle links) was.link was.was)
-
--- ---- an octet of the host
+    by : (same : Bool) → WasOpen (change_if same (link_after (DataGiven start body))) (link_at handle links) after → HasHeardHost links handle after
+    by true was = GetsData was.link start body was.was was.is
+    by false was = Unchanged (was.was ∙ ap Some (sym was.is))
 
 shut_under : (handle : ℕ) (links : Links) (after : OpenLink) → link_at handle (without_links links) ≡ Some after → link_at handle links ≡ Some after
 shut_under handle links after is = absurd (let h : None ≡ Some after = sym (map_under (λ place. None) refl 0 handle links) ∙ is in absurd cc)
@@ -248,49 +191,147 @@ command_under Reset handle links after is = shut_under handle links after is
 command_under other handle links after is = is
 
 known_under : (accepted : Bool) (setup : Setup) (command : Command) (facts : Facts) (handle : ℕ) (after : OpenLink)
-    → link_at handle (facts_known accepted setup facts command).links ≡ Some after → WasAlike (link_at handle facts.links) after
-known_under true setup command facts handle after is = alike_same (link_at handle facts.links) after (command_under command handle facts.links after is)
-known_under false setup command facts handle after is = alike_same (link_at handle facts.links) after is
+    → link_at handle (facts_known accepted setup facts command).links ≡ Some after → HasHeardHost facts.links handle after
+known_under true setup command facts handle after is = Unchanged (command_under command handle facts.links after is)
+known_under false setup command facts handle after is = Unchanged is
 
 read_under : (setup : Setup) (facts : Facts) (read : CmdRead) (handle : ℕ) (after : OpenLink)
-    → link_at handle (facts_commanded setup facts read).links ≡ Some after → WasAlike (link_at handle facts.links) after
+    → link_at handle (facts_commanded setup facts read).links ≡ Some after → HasHeardHost facts.links handle after
 read_under setup facts (Known command) handle after is = known_under (status_of facts.view command == 0) setup command facts handle after is
-read_under setup facts UnknownOpcode handle after is = alike_same (link_at handle facts.links) after is
-read_under setup facts BadLength handle after is = alike_same (link_at handle facts.links) after is
+read_under setup facts UnknownOpcode handle after is = Unchanged is
+read_under setup facts BadLength handle after is = Unchanged is
 
 offered_under : (offer : Offer) (other : ℕ) (start : Bool) (body : List ℕ) (facts : Facts) (handle : ℕ) (after : OpenLink)
-    → link_at handle (facts_offered offer other start body facts).links ≡ Some after → WasAlike (link_at handle facts.links) after
+    → link_at handle (facts_offered offer other start body facts).links ≡ Some after → HasHeardHost facts.links handle after
 offered_under Kept other start body facts handle after is = given_under start body handle other facts.links after is
-offered_under NoLink other start body facts handle after is = alike_same (link_at handle facts.links) after is
-offered_under Empty other start body facts handle after is = alike_same (link_at handle facts.links) after is
-offered_under Overflow other start body facts handle after is = alike_same (link_at handle facts.links) after is
+offered_under NoLink other start body facts handle after is = Unchanged is
+offered_under Empty other start body facts handle after is = Unchanged is
+offered_under Overflow other start body facts handle after is = Unchanged is
 
 fed_under : (setup : Setup) (facts : Facts) (fed : Fed) (handle : ℕ) (after : OpenLink)
-    → link_at handle (facts_fed setup facts fed).links ≡ Some after → WasAlike (link_at handle facts.links) after
+    → link_at handle (facts_fed setup facts fed).links ≡ Some after → HasHeardHost facts.links handle after
 fed_under setup facts (Packet (HostCommand opcode body)) handle after is = read_under setup facts (command_of opcode body.items) handle after is
 fed_under setup facts (Packet (Acl other start count body)) handle after is =
     offered_under (offer_of setup facts other count) other start body.items facts handle after is
-fed_under setup facts LostSync handle after is = alike_same (link_at handle facts.links) after is
-fed_under setup facts More handle after is = alike_same (link_at handle facts.links) after is
+fed_under setup facts LostSync handle after is = Unchanged is
+fed_under setup facts More handle after is = Unchanged is
 
-pub octet_under : (setup : Setup) (facts : Facts) (octet handle : ℕ) (after : OpenLink)
-    → link_at handle (facts_after setup facts (HostOctet octet)).links ≡ Some after → WasAlike (link_at handle facts.links) after
-octet_under setup facts octet handle after is = fed_under setup facts (result_of facts.octets octet) handle after is
+pub host_under : (setup : Setup) (facts : Facts) (octet handle : ℕ) (after : OpenLink)
+    → link_at handle (facts_after setup facts (HostOctet octet)).links ≡ Some after → HasHeardHost facts.links handle after
+host_under setup facts octet handle after is = fed_under setup facts (result_of facts.octets octet) handle after is
 
 -- ---- a turn ends
 
+-- what is under the handle then
+pub ended_place : (setup : Setup) (facts : Facts) (handle : ℕ)
+    → link_at handle (facts_after setup facts TurnEnds).links ≡ place_without ending_in (option_map link_reported (link_at handle facts.links))
+ended_place setup facts handle =
+    ap (λ (left : Facts). link_at handle left.links) (leaving_is (facts_handed facts)) ∙ stays_where_not_due ending_in 0 handle (links_reported facts.links)
+    ∙ ap (place_without ending_in) (map_under (option_map link_reported) refl 0 handle facts.links)
+
+pub ended_under : (setup : Setup) (facts : Facts) (handle : ℕ) (after : OpenLink)
+    → link_at handle (facts_after setup facts TurnEnds).links ≡ Some after → HasEndedTurn facts.links handle after
+ended_under setup facts handle after is =
+    let stayed = staying ending_in (option_map link_reported (link_at handle facts.links)) after (sym (ended_place setup facts handle) ∙ is) in
+    let was = was_open link_reported (link_at handle facts.links) after stayed.was in
+    record { link = was.link; was = was.was; is = was.is; stays = stayed.stays }
+
+-- to report what is complete changes nothing of why a link ends
+pub reported_ends : (link : OpenLink) → ending_of (facts_in (link_reported link)) ≡ ending_of (facts_in link)
+reported_ends link = by (nat_lt 0 (complete_in link))
+  where
+    by : (reports : Bool) → ending_of (facts_in (if reports then link_after DataReported link else link)) ≡ ending_of (facts_in link)
+    by true = ap ending_of (step_facts link DataReported)
+    by false = refl
+
+-- ---- what stays of a link as its host gives it data, or data is reported
+
+-- the link that was there before has sent, accepted and entered the same, and is in the same event
+pub record WasAlike (place : Option OpenLink) (after : OpenLink) : Type 0 where
+  pub link : OpenLink
+  pub was : place ≡ Some link
+  pub setup : after.setup ≡ link.setup
+  pub ack : ack_of after ≡ ack_of link
+  pub entries : entries_in after.past ≡ entries_in link.past
+  pub event : (facts_in after).event ≡ (facts_in link).event
+  pub good : (facts_in after).last_good ≡ (facts_in link).last_good
+  -- its procedures, and what it has of lengths, are the same
+  pub control : (facts_in after).control ≡ (facts_in link).control
+  pub lengths : (facts_in after).lengths ≡ (facts_in link).lengths
+  -- some steps more happened to it
+  pub more : List EndStep
+  pub past : after.past ≡ link.past ++ more
+
+alike_same : (place : Option OpenLink) (after : OpenLink) → place ≡ Some after → WasAlike place after
+alike_same place after is = record {
+  link = after;
+  was = is;
+  setup = refl;
+  ack = refl;
+  entries = refl;
+  event = refl;
+  good = refl;
+  control = refl;
+  lengths = refl;
+  more = [];
+  past = sym (append-nil after.past);
+}
+
+pub entries_after : (link : OpenLink) (step : EndStep) → entries_in (link_after step link).past ≡ count_entry (entries_in link.past) step
+entries_after link step = fold-append count_entry 0 link.past (step ∷ [])
+
+given_alike : (place : Option OpenLink) (start : Bool) (body : List ℕ) (link : OpenLink) → place ≡ Some link → WasAlike place (link_after (DataGiven start body) link)
+given_alike place start body link is =
+    let same = step_facts link (DataGiven start body) in record {
+      link = link;
+      was = is;
+      setup = refl;
+      ack = ack_given start body link;
+      entries = entries_after link (DataGiven start body);
+      event = ap (λ (f : EndFacts). f.event) same;
+      good = ap (λ (f : EndFacts). f.last_good) same;
+      control = ap (λ (f : EndFacts). f.control) same;
+      lengths = ap (λ (f : EndFacts). f.lengths) same;
+      more = DataGiven start body ∷ [];
+      past = refl;
+    }
+
+reported_alike : (place : Option OpenLink) (link : OpenLink) → place ≡ Some link → WasAlike place (link_after DataReported link)
+reported_alike place link is =
+    let same = step_facts link DataReported in record {
+      link = link;
+      was = is;
+      setup = refl;
+      ack = ack_reported link;
+      entries = entries_after link DataReported;
+      event = ap (λ (f : EndFacts). f.event) same;
+      good = ap (λ (f : EndFacts). f.last_good) same;
+      control = ap (λ (f : EndFacts). f.control) same;
+      lengths = ap (λ (f : EndFacts). f.lengths) same;
+      more = DataReported ∷ [];
+      past = refl;
+    }
+
+alike_is : (place : Option OpenLink) (one after : OpenLink) → after ≡ one → WasAlike place one → WasAlike place after
+alike_is place one after is alike = subst (WasAlike place) (sym is) alike
+
+host_alike : (links : Links) (handle : ℕ) (after : OpenLink) → HasHeardHost links handle after → WasAlike (link_at handle links) after
+host_alike links handle after (Unchanged was) = alike_same (link_at handle links) after was
+host_alike links handle after (GetsData link start body was is) =
+    alike_is (link_at handle links) (link_after (DataGiven start body) link) after is (given_alike (link_at handle links) start body link was)
+
+pub octet_under : (setup : Setup) (facts : Facts) (octet handle : ℕ) (after : OpenLink)
+    → link_at handle (facts_after setup facts (HostOctet octet)).links ≡ Some after → WasAlike (link_at handle facts.links) after
+octet_under setup facts octet handle after is = host_alike facts.links handle after (host_under setup facts octet handle after is)
+
 pub end_under : (setup : Setup) (facts : Facts) (handle : ℕ) (after : OpenLink)
     → link_at handle (facts_after setup facts TurnEnds).links ≡ Some after → WasAlike (link_at handle facts.links) after
-end_under setup facts handle after is =
-    let now : link_at handle (links_without ending_in (links_reported facts.links)) ≡ Some after =
-    ap (λ (left : Facts). link_at handle left.links) (sym (leaving_is (facts_handed facts))) ∙ is in
-    let stayed = staying_under ending_in handle (links_reported facts.links) after now in
-    found (was_open link_reported (link_at handle facts.links) after (sym (map_under (option_map link_reported) refl 0 handle facts.links) ∙ stayed.was))
+end_under setup facts handle after is = found (ended_under setup facts handle after is)
   where
     by : (reports : Bool) (link : OpenLink) → link_at handle facts.links ≡ Some link → after ≡ (if reports then link_after DataReported link else link)
         → WasAlike (link_at handle facts.links) after
     by true link was same = alike_is (link_at handle facts.links) _ after same (reported_alike (link_at handle facts.links) link was)
     by false link was same = alike_is (link_at handle facts.links) link after same (alike_same (link_at handle facts.links) link was)
 
-    found : WasOpen link_reported (link_at handle facts.links) after → WasAlike (link_at handle facts.links) after
-    found was = by (nat_lt 0 (complete_in was.link)) was.link was.was was.is
+    found : HasEndedTurn facts.links handle after → WasAlike (link_at handle facts.links) after
+    found ended = by (nat_lt 0 (complete_in ended.link)) ended.link ended.was ended.is

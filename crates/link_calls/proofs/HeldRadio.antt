@@ -12,12 +12,12 @@ use Rattle.h4_frames.specs.declared.packet.HostPacket.TheVariants.{Command as Ho
 use Rattle.h4_frames.specs.declared.packet.Fed.{Fed}
 use Rattle.h4_frames.specs.declared.packet.Fed.TheVariants.{More, Packet, LostSync}
 use Rattle.host_view.specs.Unbuilt.{status_of}
-use Rattle.journal_data.specs.link_model.declared.setup.LinkSetup.{LinkSetup}
-use Rattle.journal_data.specs.open_links.declared.ended.LinkEnded.{LinkEnded}
-use Rattle.journal_data.specs.open_links.declared.offers.Offer.{Offer}
-use Rattle.journal_data.specs.open_links.declared.offers.Offer.TheVariants.{NoLink, Empty, Overflow, Kept}
-use Rattle.journal_data.specs.open_links.OpenLinks.{Links, link_at}
-use Rattle.journal_data.specs.open_links.Turns.{due_in, ending_in}
+use Rattle.run_laws.specs.link_model.declared.setup.LinkSetup.{LinkSetup}
+use Rattle.run_laws.specs.open_links.declared.ended.LinkEnded.{LinkEnded}
+use Rattle.run_laws.specs.open_links.declared.offers.Offer.{Offer}
+use Rattle.run_laws.specs.open_links.declared.offers.Offer.TheVariants.{NoLink, Empty, Overflow, Kept}
+use Rattle.run_laws.specs.open_links.OpenLinks.{Links, link_at}
+use Rattle.run_laws.specs.open_links.Turns.{due_in, ending_in}
 use Rattle.slot_plan.specs.declared.Activity.{Activity}
 use Rattle.slot_plan.specs.declared.Activity.TheVariants.{Link, Advertise, Scan, Initiate}
 use Rattle.slot_plan.specs.declared.plan.Hold.{Hold}
@@ -32,7 +32,7 @@ use Rattle.controller_model.specs.Radio.{facts_entering, facts_won, plan_in, rad
 use Rattle.controller_model.specs.Side.{facts_after, facts_fed, result_of}
 use Rattle.controller_model.specs.Step.{HostOctet, TurnBegins, TurnEnds}
 use Rattle.controller_model.proofs.Phases.{EachOutcome, heard_is, unheard_is}
-use Rattle.run_model.specs.Run.{step_of}
+use Rattle.run_laws.specs.run_model.Run.{step_of}
 
 -- ---- the radio is held by the same link, or by none
 

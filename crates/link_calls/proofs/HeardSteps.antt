@@ -3,18 +3,18 @@ use Rattle.std.proofs.Common.{◌≡◌, ℕ, Bool, true, false, Some, List, ref
 use Rattle.std.specs.Prelude.{◌&&◌, if◌then◌else◌}
 use Rattle.ble_base.specs.declared.roles.Role.{Role}
 use Rattle.data_pdu.specs.Header.{header_in}
-use Rattle.journal_packets.specs.link_model.Acknowledgement.{Pdu}
-use Rattle.journal_packets.specs.link_model.Data.{is_control}
-use Rattle.journal_packets.specs.link_model.Events.{event_sent}
-use Rattle.journal_packets.specs.link_model.Verdicts.{pdu_of}
-use Rattle.journal_packets.specs.link_model.Setup.{Setup}
-use Rattle.journal_packets.specs.link_model.Controls.{goes_on, is_procedure_pdu}
-use Rattle.journal_packets.specs.link_model.Entering.{facts_entered_if}
-use Rattle.journal_packets.specs.link_model.Facts.{Facts}
-use Rattle.journal_packets.specs.link_model.Fixing.{facts_fixed, fixed_anew}
-use Rattle.journal_packets.specs.link_model.Packets.{more_sent}
-use Rattle.journal_packets.specs.link_model.Receiving.{accepted_if, accepts, acknowledged_if, answers_with_control, facts_before_taking, facts_received, has_acknowledged, heard_in_slot, procedures_take_if}
-use Rattle.journal_packets.specs.link_model.Sending.{control_gone_if, facts_sent, fixed_sent, takes_leave}
+use Rattle.run_laws.specs.link_model.Acknowledgement.{Pdu}
+use Rattle.run_laws.specs.link_model.Data.{is_control}
+use Rattle.run_laws.specs.link_model.Events.{event_sent}
+use Rattle.run_laws.specs.link_model.Verdicts.{pdu_of}
+use Rattle.run_laws.specs.link_model.Setup.{Setup}
+use Rattle.run_laws.specs.link_model.Controls.{goes_on, is_procedure_pdu}
+use Rattle.run_laws.specs.link_model.Entering.{facts_entered_if}
+use Rattle.run_laws.specs.link_model.Facts.{Facts}
+use Rattle.run_laws.specs.link_model.Fixing.{facts_fixed, fixed_anew}
+use Rattle.run_laws.specs.link_model.Packets.{more_sent}
+use Rattle.run_laws.specs.link_model.Receiving.{accepted_if, accepts, acknowledged_if, answers_with_control, facts_before_taking, facts_received, has_acknowledged, heard_in_slot, procedures_take_if}
+use Rattle.run_laws.specs.link_model.Sending.{control_gone_if, facts_sent, fixed_sent, takes_leave}
 
 -- the event and the last good packet are the same
 pub record HasHeardSame (one other : Facts) : Type 0 where

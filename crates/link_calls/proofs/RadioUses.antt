@@ -6,9 +6,9 @@ use Rattle.std.proofs.lemmas.Bool.{eqb-true}
 use Rattle.ble_base.specs.declared.roles.Role.{Role}
 use Rattle.ble_base.specs.declared.roles.Role.TheVariants.{Central, Peripheral}
 use Rattle.advertise.specs.Advertising.{AdvertiserFacts, event_channel}
-use Rattle.journal_packets.specs.open_links.OpenLinks.{Links, OpenLink, link_at}
-use Rattle.journal_packets.specs.open_links.Wants.{want_if as want_link}
-use Rattle.journal_packets.specs.open_links.Turns.{wants_entering}
+use Rattle.run_laws.specs.open_links.OpenLinks.{Links, OpenLink, link_at}
+use Rattle.run_laws.specs.open_links.Wants.{want_if as want_link}
+use Rattle.run_laws.specs.open_links.Turns.{wants_entering}
 use Rattle.slot_plan.specs.Winner.{first_activity, first_of, is_before}
 use Rattle.slot_plan.specs.declared.Activity.{Activity}
 use Rattle.slot_plan.specs.declared.Activity.TheVariants.{Link, Advertise, Scan, Initiate}
@@ -18,10 +18,10 @@ use Rattle.controller_model.specs.declared.doing.Doing.TheVariants.{Rests}
 use Rattle.controller_model.specs.Facts.{Setup, Facts, first_facts}
 use Rattle.controller_model.specs.Radio.{advertiser_wants, advertises_at, advertises_on, exchange_begins, initiates_on, initiator_channel, scanner_channel, scans_on, want_if, wants_in}
 use Rattle.controller_model.proofs.LinkNotes.{AreIn, all_in, first_in, rest_in}
-use Rattle.journal_packets.proofs.run_laws.LinkPasses.{is_on_link}
-use Rattle.journal_packets.proofs.run_laws.OpenSteps.{none_open, open_has}
-use Rattle.journal_acks.proofs.LinkCalls.{off_listens, off_sends}
-use Rattle.journal_acks.proofs.LinkUses.{listens_under, sends_under}
+use Rattle.link_calls.specs.Uses.{is_on_link}
+use Rattle.run_laws.proofs.OpenSteps.{none_open, open_has}
+use Rattle.link_calls.proofs.LinkCalls.{off_listens, off_sends}
+use Rattle.link_calls.specs.Uses.{listens_under, sends_under}
 use Rattle.controller_model.specs.Entering.{wants_from}
 
 -- ---- what wins a slot wants it

@@ -1,10 +1,10 @@
--- What a controller notes in each kind of call, and in which of them no note says that a PDU is taken.
+-- What a controller notes in each kind of call, and in which of them no note says that a PDU is taken or a link opened.
 use Rattle.std.proofs.Common.{◌≡◌, ℕ, ◌+◌, ◌==◌, Bool, true, false, Option, Some, None, List, [], ◌∷◌, ◌++◌, map, refl}
 use Rattle.std.specs.Prelude.{flat_map, filter, All}
 use Rattle.std.proofs.lemmas.List.Elements.{All-append, All-cons, All-from_recursion, All-head, All-nil, All-tail}
 use Rattle.acl_banks.specs.declared.pieces.Piece.{Piece}
 use Rattle.ble_base.specs.declared.notes.Note.{Note}
-use Rattle.ble_base.specs.declared.notes.Note.TheVariants.{Up, Sent, Took, Applied, Began, Done, Enter}
+use Rattle.ble_base.specs.declared.notes.Note.TheVariants.{Up, Opened, Sent, Took, Applied, Began, Done, Enter}
 use Rattle.ble_base.specs.declared.procedure_kinds.Kind.{Kind}
 use Rattle.h4_frames.specs.declared.packet.HostPacket.TheVariants.{Command as HostCommand, Acl}
 use Rattle.h4_frames.specs.declared.packet.Fed.{Fed}
@@ -19,12 +19,12 @@ use Rattle.hci_evt.specs.declared.event.Event.TheVariants.{DisconnectionComplete
 use Rattle.hci_evt.specs.Event.{mask_bit_of, written}
 use Rattle.host_view.specs.View.{View}
 use Rattle.host_view.specs.Unbuilt.{status_of}
-use Rattle.journal_packets.specs.open_links.declared.ended.LinkEnded.{LinkEnded}
-use Rattle.journal_packets.specs.open_links.declared.offers.Offer.{Offer}
-use Rattle.journal_packets.specs.open_links.declared.offers.Offer.TheVariants.{NoLink, Empty, Overflow, Kept}
-use Rattle.journal_packets.specs.open_links.Data.{completed_from}
-use Rattle.journal_packets.specs.open_links.OpenLinks.{Links, OpenLink, facts_in, handles_from, link_at}
-use Rattle.journal_packets.specs.open_links.Turns.{due_in, ending_in, enters_in, notes_entering, notes_if}
+use Rattle.run_laws.specs.open_links.declared.ended.LinkEnded.{LinkEnded}
+use Rattle.run_laws.specs.open_links.declared.offers.Offer.{Offer}
+use Rattle.run_laws.specs.open_links.declared.offers.Offer.TheVariants.{NoLink, Empty, Overflow, Kept}
+use Rattle.run_laws.specs.open_links.Data.{completed_from}
+use Rattle.run_laws.specs.open_links.OpenLinks.{Links, OpenLink, facts_in, handles_from, link_at}
+use Rattle.run_laws.specs.open_links.Turns.{due_in, ending_in, enters_in, notes_entering, notes_if}
 use Rattle.controller_model.specs.declared.doing.Doing.{Doing}
 use Rattle.controller_model.specs.declared.doing.Doing.TheVariants.{Advertises, CentralSends, PeripheralSends}
 use Rattle.controller_model.specs.Step.{HostOctet, TurnBegins, TurnEnds}
@@ -229,4 +229,26 @@ no_data = record {
   entered = λ handle event channel. record { takes = refl; sends = refl };
   done = λ handle kind. record { takes = refl; sends = refl };
   began = λ handle kind. record { takes = refl; sends = refl };
+}
+
+-- ---- no link is opened as a host sends, or as a turn begins or ends
+
+-- a note that opens a link under this handle
+abbrev pub opens_under : ℕ → Note → Bool
+opens_under handle (Opened other role own peer) = handle == other
+opens_under handle other = false
+
+abbrev pub OpensNone : ℕ → Note → Type 0
+OpensNone handle note = opens_under handle note ≡ false
+
+pub opening_none : (handle : ℕ) → IsOfBegins (OpensNone handle)
+opening_none handle = record {
+  starts = record {
+    feeds = record { up = λ octets. refl; shut = λ other reason. refl };
+    applied = λ other number event. refl;
+    entered = λ other event channel. refl;
+    done = λ other kind. refl;
+    began = λ other kind. refl;
+  };
+  sent = λ other number llid octets. refl;
 }

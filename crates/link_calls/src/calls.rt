@@ -1,0 +1,61 @@
+//! The link under one handle after each call on a controller. The bodies are empty: the contracts
+//! are the laws.
+ghost use Rattle.std.specs.Prelude.{◌≡◌, ℕ, Bool, List, Option, Some};
+ghost use Rattle.std.specs.Option.{option_map};
+ghost use Rattle.run_laws.specs.link_model.Times.{ending_of};
+ghost use Rattle.run_laws.specs.open_links.Data.{link_reported};
+ghost use Rattle.run_laws.specs.open_links.OpenLinks.{OpenLink, facts_in, link_at};
+ghost use Rattle.run_laws.specs.open_links.Turns.{ending_in, place_without};
+ghost use Rattle.run_laws.specs.run_model.Run.{step_of};
+ghost use Rattle.controller_model.specs.Facts.{Facts, Setup};
+ghost use Rattle.controller_model.specs.Heard.{has_room};
+ghost use Rattle.controller_model.specs.Side.{facts_after};
+ghost use Rattle.controller_model.specs.Step.{HostOctet, TurnBegins, TurnEnds};
+ghost use Rattle.link_calls.specs.Hosts.{HasHeardHost};
+ghost use Rattle.link_calls.specs.Phases.{HasPassed};
+ghost use Rattle.link_calls.specs.Turns.{HasBegunTurn, HasEndedTurn};
+
+/// A link that is open after a turn began was open before it and had no reason to end. It entered
+/// its event if the anchor of that is in this slot; then it fixed its PDU if an exchange begins on
+/// it; and then it sent its packet if it is the central of that exchange (Core 5.2, volume 6 part B,
+/// sections 4.5.1, 4.5.2 and 4.5.9).
+pub fn a_turn_begins_on_links()
+    ensures { (setup : Setup) (facts : Facts) (slot : ℕ) (on : Bool) (handle : ℕ)
+        (after : OpenLink)
+        → link_at handle (facts_after setup facts (TurnBegins slot on)).links ≡ Some after
+        → HasBegunTurn facts.links slot handle
+        (facts_after setup facts (TurnBegins slot on)).turn.doing after }
+{}
+
+/// A link that is open after a phase is new, or nothing happened to it, or it received the packet
+/// of the phase. Then it may have refused a request of the peer, and it sent its packet if it is to
+/// answer (Core 5.2, volume 6 part B, sections 4.5.1, 4.5.9 and 5.1.7).
+pub fn a_link_receives_answers_and_sends()
+    ensures { (setup : Setup) (facts : Facts) (received : Option (List ℕ)) (handle : ℕ)
+        (after : OpenLink)
+        → link_at handle (facts_after setup facts (step_of received)).links ≡ Some after
+        → HasPassed facts (has_room setup facts) received handle
+        (facts_after setup facts (step_of received)).turn.doing after }
+{}
+
+/// A link that is open after an octet of the host got data of it, or nothing happened to it (Core
+/// 5.2, volume 4 part E, section 5.4.2).
+pub fn a_host_only_gives_data_to_links()
+    ensures { (setup : Setup) (facts : Facts) (octet handle : ℕ) (after : OpenLink)
+        → link_at handle (facts_after setup facts (HostOctet octet)).links ≡ Some after
+        → HasHeardHost facts.links handle after }
+{}
+
+/// As a turn ends, the complete packets of each link are reported, and then a link is shut exactly
+/// where it is to end: its own LL_TERMINATE_IND is acknowledged, the peer ended it, or one of its
+/// procedures did (Core 5.2, volume 4 part E, section 7.7.19; volume 6 part B, section 5.1.6).
+pub fn a_turn_ends_on_links()
+    ensures open { (setup : Setup) (facts : Facts) (handle : ℕ) (after : OpenLink)
+        → link_at handle (facts_after setup facts TurnEnds).links ≡ Some after
+        → HasEndedTurn facts.links handle after }
+    ensures place { (setup : Setup) (facts : Facts) (handle : ℕ)
+        → link_at handle (facts_after setup facts TurnEnds).links
+        ≡ place_without ending_in (option_map link_reported (link_at handle facts.links)) }
+    ensures reported { (link : OpenLink)
+        → ending_of (facts_in (link_reported link)) ≡ ending_of (facts_in link) }
+{}

@@ -1,0 +1,12 @@
+//! What each call on a controller does to the link under one handle: which link was there before,
+//! and what happened to it. Definitions and laws; no code is here.
+#![tactic(auto)]
+
+mod calls;
+mod exchanges;
+
+pub use crate::calls::{
+    a_host_only_gives_data_to_links, a_link_receives_answers_and_sends, a_turn_begins_on_links,
+    a_turn_ends_on_links,
+};
+pub use crate::exchanges::each_end_exchanges_in_its_events;
