@@ -6,18 +6,16 @@ use Rattle.ble_base.specs.declared.notes.Note.TheVariants.{Up, Enter as EnterNot
 use Rattle.ble_base.specs.declared.roles.Side.{Side}
 use Rattle.journal.specs.declared.entries.Entry.{Entry}
 use Rattle.journal.specs.declared.entries.Entry.TheVariants.{Air, Enter}
-use Rattle.journal_packets.specs.plain_links.Events.{entries_in}
 use Rattle.journal_packets.specs.link_model.Setup.{Setup}
 use Rattle.journal_packets.specs.link_model.Step.{Step}
-use Rattle.journal_packets.specs.open_links.OpenLinks.{OpenLink}
+use Rattle.journal_packets.specs.open_links.OpenLinks.{OpenLink, facts_in}
 use Rattle.controller_model.specs.Since.{notes_opened_on}
 use Rattle.run_model.specs.History.{Event}
 use Rattle.run_model.specs.Journal.{journal_of, side_of}
-use Rattle.journal_packets.specs.run_laws.Plainness.{IsPlainLink}
 use Rattle.journal_packets.specs.journal_links.LinkLines.{AreLinesOf}
 use Rattle.journal_acks.specs.Carried.{channel_after, channel_entered}
 use Rattle.journal_acks.specs.EventOrder.{entered_after, entered_on}
-use Rattle.journal_acks.proofs.EntryNotes.{AreInOrder, Reading, channel_by, channel_noted, count_note, end_numbered, is_entry, past_entered, read_note, read_off}
+use Rattle.journal_acks.proofs.EntryNotes.{AreInOrder, Reading, channel_last, channel_noted, count_note, end_numbered, is_entry, past_channel, read_note, read_off}
 
 -- ---- the channel of the last one
 
@@ -45,13 +43,13 @@ read_channel before (note ∷ notes) = read_channel before notes
 abbrev pub channel_at : ℕ → ℕ → List Event → Option ℕ
 channel_at number station history = channel_entered number (side_of station) (journal_of history)
 
-pub channel_read : (journal : List Entry) (station number : ℕ) (link : OpenLink) → IsPlainLink link → AreLinesOf journal station number (notes_opened_on link.setup link.past)
-    → channel_entered number (side_of station) journal ≡ channel_by link.setup (entries_in link.past)
+pub channel_read : (journal : List Entry) (station number : ℕ) (link : OpenLink) → AreLinesOf journal station number (notes_opened_on link.setup link.past)
+    → channel_entered number (side_of station) journal ≡ channel_last (facts_in link)
 unfolding channel_entered
-channel_read journal station number link plain are =
+channel_read journal station number link are =
     read_off channels journal station number (notes_opened_on link.setup link.past) are
     ∙ read_channel None (notes_opened_on link.setup link.past)
-    ∙ (past_entered link.setup link.past plain).channel
+    ∙ past_channel link.setup link.past
 
 -- ---- how many there are
 

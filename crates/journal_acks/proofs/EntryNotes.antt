@@ -9,12 +9,14 @@ use Rattle.ble_base.specs.declared.error_codes.ErrCode.{ErrCode}
 use Rattle.ble_base.specs.declared.notes.Note.{Note}
 use Rattle.ble_base.specs.declared.notes.Note.TheVariants.{Up, Enter}
 use Rattle.ble_base.specs.declared.procedure_kinds.Kind.{Kind}
+use Rattle.ble_base.specs.declared.roles.Role.{Role}
 use Rattle.ble_base.specs.declared.roles.Side.{Side}
 use Rattle.ble_base.specs.declared.roles.Side.TheVariants.{A, B}
 use Rattle.journal_packets.specs.control_end.declared.answers.Entry.{Entry as EndEntry}
 use Rattle.journal_packets.specs.control_end.Answers.{entry_of}
 use Rattle.journal_packets.specs.control_end.Held.{held_of}
 use Rattle.journal_packets.proofs.control_model.Moving.{enters_track}
+use Rattle.run_model.specs.procedure_values.declared.asks.Ask.{Ask}
 use Rattle.instants.specs.Track.{TrackFacts, event_of}
 use Rattle.journal.specs.declared.entries.Entry.{Entry}
 use Rattle.journal.specs.declared.entries.Entry.TheVariants.{Air, Enter as EnterLine}
@@ -25,17 +27,16 @@ use Rattle.journal_packets.specs.link_model.Controls.{goes_on, is_quiet_now}
 use Rattle.journal_packets.specs.link_model.End.{facts_after, facts_of, notes_after, notes_from, notes_of}
 use Rattle.journal_packets.specs.link_model.Entering.{began_notes, done_notes, event_notes, facts_entered, facts_entered_if}
 use Rattle.journal_packets.specs.link_model.Facts.{Facts, first_facts}
+use Rattle.journal_packets.specs.link_model.Hosts.{asked_unless, is_to_come}
 use Rattle.journal_packets.specs.link_model.Packets.{good_pdu}
-use Rattle.journal_packets.specs.link_model.Step.{Step, EventEntered, PacketSent, PacketReceived}
+use Rattle.journal_packets.specs.link_model.Receiving.{facts_received}
+use Rattle.journal_packets.specs.link_model.Step.{Step, EventEntered, PacketSent, PacketReceived, PduFixed, ProcedureAsked}
 use Rattle.journal_packets.proofs.open_links.Anchors.{enters, one_more_entered, stays_in_place}
 use Rattle.controller_model.proofs.EndNotes.{received_each, sent_each}
-use Rattle.journal_packets.specs.plain_links.Events.{IsInEvent, channel_after, count_entry, entries_in}
-use Rattle.journal_packets.specs.plain_links.Idle.{IsIdle}
-use Rattle.journal_packets.specs.plain_links.Plain.{ArePlain, ArePlainFrom, IsPlain}
-use Rattle.journal_packets.specs.plain_links.Steps.{plain_entered}
-use Rattle.journal_packets.proofs.plain_links.Idle.{first_idle, step_idle}
-use Rattle.journal_packets.proofs.plain_links.InEvents.{past_in, step_in}
-use Rattle.journal_packets.proofs.plain_links.Steps.{entered_plain, entry_notes_plain}
+use Rattle.journal_packets.specs.plain_links.Plain.{ArePlain}
+use Rattle.journal_packets.proofs.plain_links.InEvents.{past_in}
+use Rattle.link_calls.specs.Entries.{entries_in}
+use Rattle.link_calls.proofs.HeardSteps.{fixed_same, received_same, sent_in}
 use Rattle.run_model.specs.Journal.{side_of}
 use Rattle.run_model.specs.Readers.{of_side}
 use Rattle.journal_packets.specs.journal_links.LinkLines.{AreLinesOf, line_of, link_named, where_named}
@@ -240,45 +241,86 @@ pub end_numbered : (setup : Setup) (past : List Step) → IsNumbered 0 (facts_of
 unfolding facts_of notes_of
 end_numbered setup past = steps_numbered setup (first_facts setup) past
 
--- ---- the channels of the events of a plain link
+-- ---- their channels
 
--- the channel of the last event that an end entered, of this number of events
-abbrev pub channel_by : Setup → ℕ → Option ℕ
-channel_by setup zero = None
-channel_by setup (suc count) = Some (channel_after setup (suc count))
+-- the channel of the last event that an end entered
+abbrev pub channel_if : ℕ → ℕ → Option ℕ
+channel_if zero channel = None
+channel_if (suc count) channel = Some channel
+
+abbrev pub channel_last : Facts → Option ℕ
+channel_last facts = channel_if facts.control.track.entered facts.event.channel
 
 one_more : (n : ℕ) → suc n ≡ n + 1
 one_more n = omega arith
 
-step_channel : (setup : Setup) (entries : ℕ) (facts : Facts) (step : Step) → IsIdle setup facts → IsPlain setup facts step → IsInEvent setup entries facts
-    → fold channel_noted (channel_by setup entries) (notes_after setup facts step) ≡ channel_by setup (count_entry entries step)
-step_channel setup entries facts (EventEntered slot) idle plain at =
-    let event = (plain_entered setup slot facts).event in
-    let on : event.channel ≡ channel_after setup (entries + 1) =
-    ap (λ (f : Facts). f.event.channel) (sym (entered_plain setup facts idle slot)) ∙ (step_in setup entries facts (EventEntered slot) idle plain at).channel in
-    ap (fold channel_noted (channel_by setup entries)) (entry_notes_plain setup facts idle slot) ∙ ap Some on
-    ∙ subst (λ n. Some (channel_after setup n) ≡ channel_by setup n) (one_more entries) refl
-step_channel setup entries facts step idle plain at =
-    (enters_none (notes_after setup facts step) (quiet_step setup facts step refl)).channel (channel_by setup entries)
+-- only as it enters an event does its channel change
+asked_channel : (comes : Bool) (ask : Ask) (facts : Facts) → (asked_unless comes ask facts).event.channel ≡ facts.event.channel
+asked_channel true ask facts = refl
+asked_channel false ask facts = refl
 
-steps_channel : (setup : Setup) (entries : ℕ) (facts : Facts) (steps : List Step) → IsIdle setup facts → ArePlainFrom setup facts steps → IsInEvent setup entries facts
-    → fold channel_noted (channel_by setup entries) (notes_from setup facts steps) ≡ channel_by setup (fold count_entry entries steps)
-steps_channel setup entries facts [] idle are at = refl
-steps_channel setup entries facts (step ∷ steps) idle are at =
+received_channel : (role : Role) (slot : ℕ) (room : Bool) (found : Option (List ℕ)) (facts : Facts) → (facts_received role slot room found facts).event.channel ≡ facts.event.channel
+received_channel role slot room None facts = refl
+received_channel role slot room (Some pdu) facts = ap (λ (e : ConnectionEvent). e.channel) (received_same role slot room pdu facts).event
+
+channel_stays : (setup : Setup) (facts : Facts) (step : Step) → enters step ≡ false → (facts_after setup facts step).event.channel ≡ facts.event.channel
+channel_stays setup facts (EventEntered slot) none = absurd cc
+channel_stays setup facts (PacketSent slot) none = ap (λ (e : ConnectionEvent). e.channel) (sent_in slot facts).event
+channel_stays setup facts (PacketReceived slot octets room) none = received_channel setup.link.role slot room (good_pdu setup facts octets) facts
+channel_stays setup facts PduFixed none = ap (λ (e : ConnectionEvent). e.channel) (fixed_same facts).event
+channel_stays setup facts (ProcedureAsked ask) none = asked_channel (is_to_come ask facts) ask facts
+channel_stays setup facts step none = refl
+
+-- what it notes as it enters an event
+event_channel : (handle : ℕ) (before : Option ℕ) (event : ConnectionEvent) (entry : EndEntry) → fold channel_noted before (event_notes handle event entry) ≡ Some event.channel
+event_channel handle before event entry =
+    let applied = applied_notes handle event.number entry.applied in
+    let enter = Enter handle (record { 0 = event.number }) event.channel ∷ [] in
+    let done = done_notes handle entry.done in
+    let began = began_notes handle entry.began in
+    fold-append channel_noted before (applied ++ enter ++ done) began
+    ∙ (enters_none began (quiet_began handle entry.began)).channel (fold channel_noted before (applied ++ enter ++ done))
+    ∙ fold-append channel_noted before (applied ++ enter) done
+    ∙ (enters_none done (quiet_done handle entry.done)).channel (fold channel_noted before (applied ++ enter))
+    ∙ fold-append channel_noted before applied enter
+
+step_channel : (setup : Setup) (facts : Facts) (step : Step) → fold channel_noted (channel_last facts) (notes_after setup facts step) ≡ channel_last (facts_after setup facts step)
+step_channel setup facts (EventEntered slot) = by (goes_on facts) refl
+  where
+    entry : EndEntry
+    entry = entry_of slot (is_quiet_now facts) (held_of facts.control)
+
+    by : (goes : Bool) → goes_on facts ≡ goes
+        → fold channel_noted (channel_last facts) (if goes then event_notes setup.link.handle (facts_entered setup slot facts).event entry else [])
+        ≡ channel_last (facts_entered_if goes setup slot facts)
+    by true goes =
+        let before = facts.control.track in
+        let event = (facts_entered setup slot facts).event in
+        let more = ap (λ (t : TrackFacts). t.entered) (enters_track facts.control slot (is_quiet_now facts) (none_of facts.control.ends goes)) ∙ one_more_entered before in
+        event_channel setup.link.handle (channel_last facts) event entry ∙ ap (λ n. channel_if n event.channel) (one_more before.entered ∙ sym more)
+    by false goes = refl
+step_channel setup facts step =
+    (enters_none (notes_after setup facts step) (quiet_step setup facts step refl)).channel (channel_last facts)
+    ∙ (λ i. channel_if (sym (stays_in_place setup facts step refl).entered i) (sym (channel_stays setup facts step refl) i))
+
+steps_channel : (setup : Setup) (facts : Facts) (steps : List Step)
+    → fold channel_noted (channel_last facts) (notes_from setup facts steps) ≡ channel_last (fold (facts_after setup) facts steps)
+steps_channel setup facts [] = refl
+steps_channel setup facts (step ∷ steps) =
     let next = facts_after setup facts step in
     let more = notes_from setup next steps in
-    fold-append channel_noted (channel_by setup entries) (notes_after setup facts step) more
-    ∙ ap (λ may. fold channel_noted may more) (step_channel setup entries facts step idle are.0 at)
-    ∙ steps_channel setup (count_entry entries step) next steps (step_idle setup facts step idle are.0) are.1 (step_in setup entries facts step idle are.0 at)
+    fold-append channel_noted (channel_last facts) (notes_after setup facts step) more
+    ∙ ap (λ may. fold channel_noted may more) (step_channel setup facts step) ∙ steps_channel setup next steps
 
--- all that the end of a plain link notes
-pub record IsEntered (setup : Setup) (entries : ℕ) (notes : List Note) : Type 0 where
+-- what an end notes has the channel of the event that it entered last
+pub past_channel : (setup : Setup) (past : List Step) → fold channel_noted None (notes_of setup past) ≡ channel_last (facts_of setup past)
+unfolding facts_of notes_of
+past_channel setup past = steps_channel setup (first_facts setup) past
+
+-- ---- a plain link enters an event in each step that does so
+
+pub record IsEntered (entries : ℕ) (notes : List Note) : Type 0 where
   pub count : fold count_note 0 notes ≡ entries
-  pub channel : fold channel_noted None notes ≡ channel_by setup entries
 
-pub past_entered : (setup : Setup) (past : List Step) → ArePlain setup past → IsEntered setup (entries_in past) (notes_of setup past)
-unfolding ArePlain facts_of notes_of
-past_entered setup past are = record {
-  count = (end_numbered setup past).count ∙ (past_in setup past are).entered_events;
-  channel = steps_channel setup 0 (first_facts setup) past (first_idle setup) are (past_in setup [] tt);
-}
+pub past_entered : (setup : Setup) (past : List Step) → ArePlain setup past → IsEntered (entries_in past) (notes_of setup past)
+past_entered setup past are = record { count = (end_numbered setup past).count ∙ (past_in setup past are).entered_events }

@@ -262,21 +262,27 @@ number_other given station step history other handle differs =
     (λ before note any. event_number other handle before (Noted station note) (of_others station other handle note (links_of before) differs))
     given step history (number_quiet other handle history (Called station step) (λ links. refl)) (any_note _)
 
--- ---- a call in which a PDU is taken, which is noted first
+-- ---- a call in which one PDU is taken
 
-pub exchange_took : (given : Given) (number station : ℕ) (step : Step) (history : List Event) (handle count llid : ℕ) (body : List ℕ) (rest : List Note)
-    → notes_after (setup_at given station) (facts_at given station history) step ≡ Took handle count llid (record { items = body }) ∷ rest → All TakesNone rest
+pub exchange_took : (given : Given) (number station : ℕ) (step : Step) (history : List Event) (handle count llid : ℕ) (body : List ℕ) (earlier rest : List Note)
+    → notes_after (setup_at given station) (facts_at given station history) step ≡ earlier ++ Took handle count llid (record { items = body }) ∷ rest
+    → All TakesNone earlier → All (OpensNone handle) earlier → All TakesNone rest
     → exchange_at number (after_call given station step history)
     ≡ (if number_at station handle history == number then after_taking (side_of station) (exchange_at number history) else exchange_at number history)
-exchange_took given number station step history handle count llid body rest are none =
+exchange_took given number station step history handle count llid body earlier rest are first opens none =
     let took = Took handle count llid (record { items = body }) in
     let called = history ++ Called station step ∷ [] in
+    let base = called ++ map (Noted station) earlier in
+    let quiet : (notes : List Note) (before : List Event) → All TakesNone notes → exchange_at number (before ++ map (Noted station) notes) ≡ exchange_at number before =
+    (λ notes before all. notes_keep (Side → Exchanged) (exchange_at number) TakesNone station (λ one note takes. note_quiet number one station note takes) notes before all) in
     ap (λ notes. exchange_at number (history ++ Called station step ∷ map (Noted station) notes)) are
     ∙ ap (exchange_at number)
-    (sym (append_assoc history (Called station step ∷ []) (map (Noted station) (took ∷ rest)))
-    ∙ sym (append_assoc called (Noted station took ∷ []) (map (Noted station) rest)))
-    ∙ notes_keep (Side → Exchanged) (exchange_at number) TakesNone station (λ before note quiet. note_quiet number before station note quiet) rest
-    (called ++ Noted station took ∷ []) none
-    ∙ note_exchange number called station took
-    ∙ (λ i. if number_quiet station handle history (Called station step) (λ links. refl) i == number
-    then after_taking (side_of station) (call_quiet number history station step i) else call_quiet number history station step i)
+    (sym (append_assoc history (Called station step ∷ []) (map (Noted station) (earlier ++ took ∷ rest)))
+    ∙ ap (λ events. called ++ events) (map_both station earlier (took ∷ rest))
+    ∙ sym (append_assoc called (map (Noted station) earlier) (map (Noted station) (took ∷ rest)))
+    ∙ sym (append_assoc base (Noted station took ∷ []) (map (Noted station) rest)))
+    ∙ quiet rest (base ++ Noted station took ∷ []) none
+    ∙ note_exchange number base station took
+    ∙ (λ i. if number_notes station handle step history earlier opens i == number
+    then after_taking (side_of station) ((quiet earlier called first ∙ call_quiet number history station step) i)
+    else (quiet earlier called first ∙ call_quiet number history station step) i)

@@ -5,6 +5,7 @@ use Rattle.std.proofs.lemmas.Bool.{eqb-true, false_from_ne_true}
 use Rattle.std.proofs.lemmas.List.Elements.{All-append, All-nil}
 use Rattle.ble_base.specs.Side.{other_side}
 use Rattle.ble_base.specs.declared.notes.Note.{Note}
+use Rattle.ble_base.specs.declared.notes.Note.TheVariants.{Took}
 use Rattle.ble_base.specs.declared.roles.Side.{Side}
 use Rattle.journal_packets.proofs.link_model.Hearing.{IsHeardWhole}
 use Rattle.journal_packets.specs.link_model.Acknowledgement.{Acknowledgement}
@@ -19,7 +20,6 @@ use Rattle.controller_model.specs.Events.{notes_of_events}
 use Rattle.controller_model.specs.Heard.{events_received, has_room, link_heard, link_received, notes_taken, replies_in, reply_if}
 use Rattle.controller_model.specs.Outcome.{facts_passed, notes_passed}
 use Rattle.controller_model.specs.Packets.{notes_doing}
-use Rattle.controller_model.specs.Plain.{AllPlain}
 use Rattle.controller_model.proofs.Places.{link_receiving}
 use Rattle.controller_model.specs.Side.{facts_after, notes_after}
 use Rattle.radio_replay.specs.declared.fates.Fate.{Fate}
@@ -34,7 +34,6 @@ use Rattle.run_model.proofs.Calls.{same_station, turns_called}
 use Rattle.run_model.proofs.LinkEnds.{received_by, received_event}
 use Rattle.run_model.proofs.Stations.{is_in, among, in_more_other, in_more_same, not_before}
 use Rattle.run_model.proofs.Walk.{Place, NoTurn, AtFeeds, AtBegins, AfterPhases, AtPackets, AtListening, AtEnds, IsKept}
-use Rattle.journal_packets.specs.run_laws.Plainness.{IsPlainLink}
 use Rattle.journal_packets.proofs.run_laws.Agreed.{ack_of}
 use Rattle.journal_packets.proofs.run_laws.ByCalls.{Holds, holds_kept}
 use Rattle.journal_packets.proofs.run_laws.Hearings.{own_facts, use_sent_at, wanted_is}
@@ -52,7 +51,7 @@ use Rattle.journal_acks.proofs.Acks.{link_sends}
 use Rattle.journal_acks.proofs.AirCounts.{advertises, any_sending, first_aired, packet_counted, packet_to_take}
 use Rattle.link_calls.proofs.CallNotes.{HasNoData, TakesNone, all_more, begin_noted, doing_noted, end_noted, events_noted, no_data, none_taken, octet_noted}
 use Rattle.journal_acks.proofs.Counting.{AreCountedSo, AreKnown, AreToTake, IsEndCounted, ahead_if, alike_counted, apart_numbers, counted_call, counted_event, counted_same, from_plain, from_sent, moved, none_to_take, plain, take_call, taking_if}
-use Rattle.journal_acks.proofs.DataCalls.{begin_call, on_link_facts, on_link_notes, phase_call, plain_heard, unfound}
+use Rattle.journal_acks.proofs.DataCalls.{begin_call, on_link_facts, on_link_notes, phase_call, unfound}
 use Rattle.link_calls.proofs.CallNotes.{OpensNone, opening_none}
 use Rattle.journal_acks.proofs.Exchanging.{exchange_at, exchange_called, exchange_took, feed_quiet, number_at, number_called, number_quiet, turn_quiet}
 use Rattle.journal_acks.proofs.FirstCounts.{AreFirst, IsCallOf, IsFirst, OfNone, first_called, first_event, first_event_at, first_of}
@@ -344,23 +343,18 @@ module _ (given : Given) (Q : Place → List Event → Type 0) (known : AreKnown
       (doing_noted TakesNone (λ one number llid body. refl) (reply_if (replies_in facts.turn.slot room (link_at other facts.links) octets) other)
       (link_received other room octets facts))
 
-  -- the link is plain as it receives
-  plain_received : (other : ℕ) (octets : List ℕ) → next ≡ facts_passed (link_heard setup other octets facts) → (two : OpenLink) → link_at other facts.links ≡ Some two
-      → IsPlainLink (link_after (PacketReceived facts.turn.slot octets room) two)
-  plain_received other octets heard_is two found =
-      plain_heard setup facts other octets two found
-      (subst (λ (held : Facts). AllPlain held.links) (own_facts given station (step_of received) history ∙ heard_is)
-      (known.plain (AtListening phases (done ++ station ∷ []) left) after q station in_it))
-
   -- what is taken on another link
   other_taken : (number other : ℕ) (two : OpenLink) (octets : List ℕ) → link_at other facts.links ≡ Some two → (number_at station other history == number) ≡ false → (rest : List Note)
       → notes ≡ notes_taken facts.turn.slot (has_room setup facts) (Some two) octets ++ rest → All TakesNone rest → IsTakenSo facts.turn.slot octets (has_room setup facts) two
       → exchange_at number after ≡ exchange_at number history
   other_taken number other two octets found apart rest are_notes none (Unnoted nothing same) =
-      exchange_called given number station (step_of received) history (subst (All TakesNone) (sym (are_notes ∙ ap (λ xs. xs ++ rest) nothing)) none)
-  other_taken number other two octets found apart rest are_notes none (Noted count llid body noted same) =
+      exchange_called given number station (step_of received) history
+      (subst (All TakesNone) (sym are_notes) (All-append TakesNone (notes_taken facts.turn.slot (has_room setup facts) (Some two) octets) rest nothing none))
+  other_taken number other two octets found apart rest are_notes none (Noted earlier later count llid body noted first opens last same) =
       let own = handle_is 0 other facts.links two station_is.own.handles found in
-      exchange_took given number station (step_of received) history two.setup.link.handle count llid body rest (are_notes ∙ ap (λ xs. xs ++ rest) noted) none
+      exchange_took given number station (step_of received) history two.setup.link.handle count llid body earlier (later ++ rest)
+      (are_notes ∙ ap (λ xs. xs ++ rest) noted ∙ append_assoc earlier (Took two.setup.link.handle count llid (record { items = body }) ∷ later) rest) first (opens two.setup.link.handle)
+      (All-append TakesNone later rest last none)
       ∙ ap (λ b. if b then after_taking (side_of station) (exchange_at number history) else exchange_at number history) (ap (λ n. number_at station n history == number) own ∙ apart)
 
   other_heard : (handle : ℕ) (link : OpenLink) → link_at handle facts.links ≡ Some link → (other : ℕ) (octets : List ℕ) → (other == handle) ≡ false
@@ -373,7 +367,7 @@ module _ (given : Given) (Q : Place → List Event → Type 0) (known : AreKnown
       let apart = apart_numbers given Q known (AtListening phases done (station ∷ left)) history is.known station other handle two link in_it found at differs in
       other_taken (number_at station handle history) other two octets found apart (rest_heard other octets)
       (are_notes ∙ notes_rest other octets ∙ ap (λ may. notes_taken facts.turn.slot room may octets ++ rest_heard other octets) found)
-      (rest_takes other octets) (taken_so facts.turn.slot octets room two (plain_received other octets heard_is two found))
+      (rest_takes other octets) (taken_so facts.turn.slot octets room two)
 
   -- the counts of a link on which nothing was received stay
   unmoved : (handle : ℕ) (link : OpenLink) → link_at handle facts.links ≡ Some link → (listens_under handle facts.turn.doing ≡ true → received ≡ None)
@@ -393,18 +387,19 @@ module _ (given : Given) (Q : Place → List Event → Type 0) (known : AreKnown
   taken_by handle base octets was some on rest are_notes none (Unnoted nothing same) =
       let number = number_at station handle history in
       let end = exchange_at number history (side_of station) in
-      let notes_are = are_notes ∙ ap (λ xs. xs ++ rest) nothing in
+      let quiet = subst (All TakesNone) (sym are_notes) (All-append TakesNone (notes_taken facts.turn.slot room (Some base) octets) rest nothing none) in
       subst (λ e. IsCounted e (ack_of (link_after (PacketReceived facts.turn.slot octets room) base)))
-      (sym (ap (λ (ends : Side → Exchanged). ends (side_of station)) (exchange_called given number station (step_of received) history (subst (All TakesNone) (sym notes_are) none))))
+      (sym (ap (λ (ends : Side → Exchanged). ends (side_of station)) (exchange_called given number station (step_of received) history quiet)))
       (subst (IsCounted end) (sym same) (was_taking received octets handle facts.turn base end on some (before_call handle base was)))
-  taken_by handle base octets was some on rest are_notes none (Noted count llid body noted same) =
+  taken_by handle base octets was some on rest are_notes none (Noted earlier later count llid body noted first opens last same) =
       let number = number_at station handle history in
       let end = exchange_at number history (side_of station) in
       let from = exchange_at number history (other_side (side_of station)) in
-      let notes_are = are_notes ∙ ap (λ xs. xs ++ rest) noted in
+      let notes_are = are_notes ∙ ap (λ xs. xs ++ rest) noted ∙ append_assoc earlier (Took base.setup.link.handle count llid (record { items = body }) ∷ later) rest in
       let own = handle_is 0 handle facts.links base station_is.own.handles was in
       subst (λ e. IsCounted e (ack_of (link_after (PacketReceived facts.turn.slot octets room) base)))
-      (sym (ap (λ (ends : Side → Exchanged). ends (side_of station)) (exchange_took given number station (step_of received) history base.setup.link.handle count llid body rest notes_are none
+      (sym (ap (λ (ends : Side → Exchanged). ends (side_of station)) (exchange_took given number station (step_of received) history base.setup.link.handle count llid body earlier (later ++ rest) notes_are first
+      (opens base.setup.link.handle) (All-append TakesNone later rest last none)
       ∙ ap (λ b. if b then after_taking (side_of station) (exchange_at number history) else exchange_at number history)
       (ap (λ n. number_at station n history == number) own ∙ same_station number))
       ∙ ap (λ b. if b then with_taken from end else end) (side_same station)))
@@ -420,11 +415,10 @@ module _ (given : Given) (Q : Place → List Event → Type 0) (known : AreKnown
       let told : Some heard ≡ Some octets = sym some_too ∙ some in
       let equal : heard ≡ octets = cc in
       let are_notes = on_link_notes setup facts received other heard some_too (ap notes_passed heard_is) in
-      let now = on_link_facts setup facts received other heard some_too (ap facts_passed heard_is) in
       let here : link_at other facts.links ≡ Some base = ap (λ n. link_at n facts.links) same ∙ was in
       taken_by handle base octets was some on (rest_heard other octets)
       (are_notes ∙ notes_rest other heard ∙ (λ i. notes_taken facts.turn.slot room (here i) (equal i) ++ rest_heard other (equal i)))
-      (rest_takes other octets) (taken_so facts.turn.slot octets room base (subst (λ xs. IsPlainLink (link_after (PacketReceived facts.turn.slot xs room) base)) equal (plain_received other heard now base here)))
+      (rest_takes other octets) (taken_so facts.turn.slot octets room base)
 
   passed : (handle : ℕ) (link : OpenLink) → link_at handle (facts_at given station after).links ≡ Some link → number_at station handle after ≡ number_at station handle history
       → HasPassed facts room received handle next.turn.doing link

@@ -1,5 +1,6 @@
 -- Each packet of a link carries what the journal before it says.
-use Rattle.std.proofs.Common.{◌≡◌, ℕ, zero, suc, ◌+◌, false, true, Some, None, Option, replicate, List, [], ◌∷◌, ◌++◌, length, refl, sym, ap, subst, ◌∙◌, arith}
+use Rattle.std.proofs.Common.{◌≡◌, ℕ, zero, suc, ◌+◌, false, true, Some, None, Option, replicate, List, [], ◌∷◌, ◌++◌, length, refl, sym, ap, subst, ◌∙◌}
+use Rattle.std.specs.Prelude.{nat_lt}
 use Rattle.ble_base.specs.declared.roles.Side.{Side}
 use Rattle.ack_bit.specs.AckBits.{header_of, is_odd}
 use Rattle.air_frame.specs.Packet.{on_air}
@@ -7,30 +8,27 @@ use Rattle.journal.specs.declared.entries.Entry.{Entry}
 use Rattle.journal.specs.declared.entries.Mark.{Mark}
 use Rattle.ble_base.specs.declared.verdicts.Verdict.{Verdict}
 use Rattle.data_pdu.specs.Header.{octets_of}
-use Rattle.journal_packets.proofs.plain_links.InEvents.{past_in}
 use Rattle.journal_packets.proofs.link_model.Repeating.{past_payload}
 use Rattle.journal_packets.proofs.link_model.Hearing.{IsHeardWhole}
 use Rattle.journal_packets.specs.link_model.Acknowledgement.{Acknowledgement, Pdu, bits_of as ack_bits}
-use Rattle.journal_packets.specs.plain_links.Events.{channel_after as channel_of_event, entries_in}
 use Rattle.journal_packets.specs.link_model.Packets.{more_sent, packet_sent, pdu_sent}
-use Rattle.journal_packets.specs.open_links.OpenLinks.{OpenLink, facts_in}
+use Rattle.journal_packets.specs.link_model.Step.{PacketSent}
+use Rattle.journal_packets.specs.open_links.OpenLinks.{OpenLink, facts_in, has_entered, link_after}
 use Rattle.controller_model.specs.Facts.{Sends}
 use Rattle.controller_model.specs.Side.{facts_of}
 use Rattle.run_model.specs.Entries.{IsAired}
 use Rattle.run_model.specs.Feeding.{AreDistinct}
-use Rattle.run_model.specs.History.{Event, past_of, turns_begun}
+use Rattle.run_model.specs.History.{Event, past_of}
 use Rattle.run_model.specs.Journal.{journal_of, side_of}
 use Rattle.run_model.specs.LinkEnds.{HaveAddresses}
 use Rattle.run_model.specs.Links.{is_advertising}
-use Rattle.run_model.specs.Run.{Given, setup_at, use_at}
+use Rattle.run_model.specs.Run.{Given, facts_at, setup_at, use_at}
 use Rattle.run_model.proofs.LinkEnds.{AreTaken, IsUnderstood}
 use Rattle.run_model.proofs.Stations.{among}
 use Rattle.run_model.proofs.Walk.{Place, NoTurn, AtPackets}
-use Rattle.journal_packets.specs.run_laws.Plainness.{IsPlainLink}
-use Rattle.journal_packets.proofs.run_laws.Agreed.{ack_of, ack_sent}
+use Rattle.journal_packets.proofs.run_laws.Agreed.{ack_of, ack_sent, step_facts}
 use Rattle.journal_packets.proofs.run_laws.DistinctAccess.{AreApart}
 use Rattle.journal_packets.proofs.run_laws.OpenSteps.{none_open, open_has}
-use Rattle.journal_packets.proofs.run_laws.TurnPlaces.{Within, turned}
 use Rattle.journal_packets.specs.Senders.{IsOfSendersLink}
 use Rattle.journal_packets.proofs.AccessOrder.{AreNth}
 use Rattle.journal_packets.proofs.SoFar.{IsBelongingSoFar}
@@ -39,29 +37,33 @@ use Rattle.journal_acks.specs.Counted.{IsCounted}
 use Rattle.journal_acks.specs.Exchange.{Exchanged, with_sent}
 use Rattle.journal_acks.proofs.AirCounts.{link_sent, own_number, sender_counted, sends_it}
 use Rattle.journal_acks.proofs.Counting.{AreKnown}
-use Rattle.link_calls.proofs.EnteredLinks.{AreEntered, HasEntered, entered_first, entered_kept, entries_sent}
-use Rattle.journal_acks.proofs.EntryNotes.{channel_by}
+use Rattle.link_calls.proofs.Exchanging.{sender_entered}
+use Rattle.link_calls.proofs.HeardSteps.{sent_in}
+use Rattle.controller_model.proofs.Exchanges.{always_in_event}
+use Rattle.journal_packets.specs.link_model.declared.events.ConnectionEvent.{ConnectionEvent}
+use Rattle.journal_packets.specs.link_model.Facts.{Facts as EndFacts}
+use Rattle.journal_acks.proofs.EntryNotes.{channel_if, channel_last}
 use Rattle.journal_acks.proofs.EntryLines.{channel_at, channel_read}
 use Rattle.journal_acks.proofs.Exchanging.{exchange_at, number_at}
 use Rattle.journal_acks.proofs.FixedPdus.{sent_out}
 use Rattle.journal_acks.proofs.KeptLines.{AreLined, AreLinedAt, lines_kept}
 use Rattle.journal_acks.proofs.Known.{known_of}
-use Rattle.journal_acks.proofs.PlainCalls.{sent_plain}
 use Rattle.journal_acks.proofs.RunCounts.{counts_first}
 use Rattle.journal_acks.proofs.Seen.{seen_packet}
 use Rattle.journal_acks.proofs.TwoStations.{IsOfTwo}
 
 -- ---- where a packet is to be sent
 
-on_its_channel : (link sender : OpenLink) (may : Option ℕ) (channel : ℕ) → IsPlainLink link → sender.setup ≡ link.setup → entries_in sender.past ≡ entries_in link.past → HasEntered sender
-    → channel ≡ (facts_in link).event.channel → may ≡ channel_by sender.setup (entries_in sender.past) → may ≡ Some channel
-on_its_channel link sender may channel plain setup entries entered on is = by (entries_in sender.past) refl
+on_its_channel : (slot : ℕ) (link : OpenLink) (may : Option ℕ) (channel : ℕ) → has_entered (link_after (PacketSent slot) link) ≡ true → channel ≡ (facts_in link).event.channel
+    → may ≡ channel_last (facts_in (link_after (PacketSent slot) link)) → may ≡ Some channel
+on_its_channel slot link may channel entered on is =
+    is ∙ by (facts_in (link_after (PacketSent slot) link)).control.track.entered entered
+    ∙ ap Some (ap (λ (f : EndFacts). f.event.channel) (step_facts link (PacketSent slot)) ∙ ap (λ (e : ConnectionEvent). e.channel) (sent_in slot (facts_in link)).event ∙ sym on)
   where
-    by : (count : ℕ) → entries_in sender.past ≡ count → may ≡ Some channel
-    by zero none = absurd (omega (arith, none, entered))
-    by (suc count) are =
-        is ∙ ap (channel_by sender.setup) are ∙ (λ i. Some (channel_of_event (setup i) (sym are i)))
-        ∙ (λ i. Some (channel_of_event link.setup (entries i))) ∙ ap Some (sym (past_in link.setup link.past plain).channel ∙ sym on)
+    by : (count : ℕ) → nat_lt 0 count ≡ true
+        → channel_if count (facts_in (link_after (PacketSent slot) link)).event.channel ≡ Some (facts_in (link_after (PacketSent slot) link)).event.channel
+    by zero none = absurd cc
+    by (suc count) some = refl
 
 -- the packet, by the counts and the lines of the journal
 packet_is : (link : OpenLink) (end : Exchanged) (pdu : Pdu) (channel access init : ℕ) → channel ≡ (facts_in link).event.channel → access ≡ link.setup.link.fields.access
@@ -101,9 +103,7 @@ module _ (whole : IsHeardWhole) (given : Given) (Q : Place → List Event → Ty
       sender_counted whole given Q known are_two six distinct phases done left station channel octets [] history are wanted has.known has.holds has.counted off in
       let on = sends_it whole given Q known are_two six distinct phases done left station channel octets [] history are wanted has.known has.holds has.counted off in
       let begun = known.begun place history has.known station from.handle sender in_it from.is_open in
-      let plain = known.plain place history has.known station in_it from.handle sender from.is_open in
-      let entered = turned setup (AreEntered setup) (entered_kept setup) (past_of station history) (record { stage = Within phases; begun = turns_begun history }) (entered_first setup)
-      (has.holds.hearing.stand station in_it) in
+      let entered = sender_entered from.handle (facts_at given station history) sender on (always_in_event setup (past_of station history)) from.is_open in
       let acked = counted.acked ∙ ap (λ (a : Acknowledgement). a.acked) (ack_sent from.slot from.link) in
       let last = (lined.lines station from.handle sender in_it from.is_open).last end.acked
       (ap (λ n. n + 1) acked ∙ sent_out from.link ∙ ap (λ (a : Acknowledgement). length a.sent) (sym (ack_sent from.slot from.link))) in
@@ -113,9 +113,8 @@ module _ (whole : IsHeardWhole) (given : Given) (Q : Place → List Event → Ty
           belongs = from.belongs;
           link = begun.link;
           is_link = begun.is_link;
-          in_event = on_its_channel from.link sender (channel_at number station history) channel (sent_plain true from.slot from.link plain) refl (entries_sent true from.slot from.link)
-              (entered.sends from.handle sender from.is_open on) from.channel_is
-              (channel_read (journal_of history) station number sender plain (known.lines place history has.known station from.handle sender in_it from.is_open));
+          in_event = on_its_channel from.slot from.link (channel_at number station history) channel entered from.channel_is
+              (channel_read (journal_of history) station number sender (known.lines place history has.known station from.handle sender in_it from.is_open));
           md = more_sent (facts_in from.link);
           carries = from.packet ∙ packet_is from.link end (carried_of number (journal_of history) (side_of station)) channel begun.link.fields.access begun.link.fields.crc_init from.channel_is
               (ap (λ f. f.access) begun.fields) (ap (λ f. f.crc_init) begun.fields) acked

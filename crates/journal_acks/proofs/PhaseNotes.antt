@@ -1,9 +1,11 @@
 -- What a phase notes of PDUs: nothing, or those of the link on which a packet is received.
-use Rattle.std.proofs.Common.{◌≡◌, ℕ, ◌==◌, ◌&&◌, ◌||◌, not, Bool, true, false, Option, Some, None, List, [], ◌∷◌, refl, sym, ap, subst, ◌∙◌}
+use Rattle.std.proofs.Common.{◌≡◌, ℕ, ◌+◌, ◌==◌, ◌&&◌, ◌||◌, not, Bool, true, false, Option, Some, None, List, [], ◌∷◌, ◌++◌, refl, sym, ap, subst, ◌∙◌}
 use Rattle.std.specs.Prelude.{All}
 use Rattle.std.proofs.lemmas.Bool.{eqb-true, eqb-false}
 use Rattle.std.proofs.lemmas.List.Elements.{All-append, All-cons, All-nil}
 use Rattle.ble_base.specs.declared.addresses.Address.{Address}
+use Rattle.ble_base.specs.declared.error_codes.ErrCode.{ErrCode}
+use Rattle.ble_base.specs.declared.procedure_kinds.Kind.{Kind}
 use Rattle.ble_base.specs.declared.notes.Note.{Note}
 use Rattle.ble_base.specs.declared.notes.Note.TheVariants.{Took}
 use Rattle.ble_base.specs.declared.roles.Role.{Role}
@@ -15,10 +17,12 @@ use Rattle.advertise.specs.Advertising.{AdvertiserFacts}
 use Rattle.advertise.specs.Answers.{advertiser_answer}
 use Rattle.data_pdu.specs.Header.{header_in}
 use Rattle.journal_packets.specs.link_model.Acknowledgement.{Acknowledgement, received_by}
-use Rattle.journal_packets.specs.link_model.Data.{is_data, is_empty}
-use Rattle.journal_packets.specs.link_model.Receiving.{facts_received, has_acknowledged, has_new_pdu, took_notes_if}
+use Rattle.journal_packets.specs.link_model.Data.{is_data, is_empty, numbered}
+use Rattle.journal_packets.specs.link_model.Controls.{is_procedure_pdu}
+use Rattle.journal_packets.specs.link_model.Entering.{done_notes}
+use Rattle.journal_packets.specs.link_model.Receiving.{accepts, acked_kind, acks_control, facts_before_taking, facts_received, given_if, given_notes, has_acknowledged, has_new_pdu, received_notes, refused_notes, took_notes_if}
+use Rattle.journal_packets.specs.control_end.declared.answers.Taken.{Taken}
 use Rattle.journal_packets.proofs.link_model.Acknowledging.{ack_heard}
-use Rattle.journal_packets.specs.link_model.Data.{is_accepted}
 use Rattle.journal_packets.specs.link_model.End.{notes_after as end_notes}
 use Rattle.journal_packets.specs.link_model.Sending.{sent_notes}
 use Rattle.journal_packets.specs.link_model.Facts.{Facts as EndFacts}
@@ -26,12 +30,6 @@ use Rattle.journal_packets.specs.link_model.Packets.{good_pdu}
 use Rattle.journal_packets.specs.link_model.Verdicts.{pdu_of}
 use Rattle.journal_packets.specs.link_model.Step.{PacketReceived, PacketSent}
 use Rattle.journal_packets.specs.link_model.declared.setup.LinkSetup.{LinkSetup}
-use Rattle.journal_packets.specs.plain_links.Idle.{IsIdle}
-use Rattle.journal_packets.specs.plain_links.Plain.{IsNoControl}
-use Rattle.journal_packets.specs.plain_links.Steps.{plain_received, plain_took}
-use Rattle.journal_packets.proofs.plain_links.Growing.{plain_less}
-use Rattle.journal_packets.proofs.plain_links.Idle.{past_idle}
-use Rattle.journal_packets.proofs.plain_links.Steps.{received_notes_plain, received_plain}
 use Rattle.scan_init.specs.Initiating.{InitiatorFacts}
 use Rattle.scan_init.specs.Reports.{ScannerFacts, does_ask, scan_answer}
 use Rattle.journal_packets.specs.open_links.OpenLinks.{OpenLink, facts_in, free_from, link_after, link_at}
@@ -45,22 +43,23 @@ use Rattle.controller_model.specs.Outcome.{Outcome, notes_passed}
 use Rattle.controller_model.specs.Packets.{notes_doing, notes_sent, pdu_heard}
 use Rattle.controller_model.specs.Side.{notes_after}
 use Rattle.run_model.specs.Run.{step_of}
-use Rattle.journal_packets.specs.run_laws.Plainness.{IsPlainLink}
 use Rattle.journal_packets.proofs.run_laws.Agreed.{ack_of, step_facts}
 use Rattle.journal_acks.proofs.Acks.{empty_is_no_data}
-use Rattle.link_calls.proofs.CallNotes.{HasNoData, events_noted, no_data}
+use Rattle.link_calls.proofs.CallNotes.{HasNoData, OpensNone, TakesNone, events_noted, no_data}
 use Rattle.link_calls.specs.Uses.{listens_under, sends_under}
 use Rattle.journal_acks.proofs.TwoStations.{same_number}
 
 -- ---- what is noted of a PDU that a link receives
 
 -- it is noted where it is accepted only because there is room; a note says that it counts as it does with room, and
--- none that it counts as it does without
+-- none that it counts as it does without. Besides, procedures that are done or refused may be noted
 pub data IsTakenSo (slot : ℕ) (octets : List ℕ) (room : Bool) (link : OpenLink) : Type 0 where
-  Unnoted : notes_taken slot room (Some link) octets ≡ []
+  Unnoted : All TakesNone (notes_taken slot room (Some link) octets)
       → ack_of (link_after (PacketReceived slot octets room) link) ≡ ack_of (link_after (PacketReceived slot octets false) link)
       → IsTakenSo slot octets room link
-  Noted : (count llid : ℕ) (body : List ℕ) → notes_taken slot room (Some link) octets ≡ Took link.setup.link.handle count llid (record { items = body }) ∷ []
+  Noted : (earlier later : List Note) (count llid : ℕ) (body : List ℕ)
+      → notes_taken slot room (Some link) octets ≡ earlier ++ Took link.setup.link.handle count llid (record { items = body }) ∷ later
+      → All TakesNone earlier → ((handle : ℕ) → All (OpensNone handle) earlier) → All TakesNone later
       → ack_of (link_after (PacketReceived slot octets room) link) ≡ ack_of (link_after (PacketReceived slot octets true) link)
       → IsTakenSo slot octets room link
 
@@ -112,66 +111,102 @@ sent_same slot octets room link =
     subst (λ a. HasSentSame a (ack_of link)) (sym (received_ack slot octets room link found refl))
     (received_sent link.setup.link.role slot room found (facts_in link))
 
-noted_room : (room fresh full empty : Bool) → ((fresh && (room || not full)) && not empty) ≡ true → (fresh && (room || not full)) ≡ (fresh && true)
-noted_room true fresh full empty is = refl
-noted_room false true true empty is = absurd cc
-noted_room false true false empty is = refl
-noted_room false false full empty is = absurd cc
+noted_room : (room fresh full empty may : Bool) → ((fresh && (room || not full) && may) && not empty) ≡ true → (fresh && (room || not full) && may) ≡ (fresh && true && may)
+noted_room true fresh full empty may is = refl
+noted_room false true true empty may is = absurd cc
+noted_room false true false empty may is = refl
+noted_room false false full empty may is = absurd cc
 
-quiet_room : (room fresh full empty : Bool) → (empty ≡ true → full ≡ false) → ((fresh && (room || not full)) && not empty) ≡ false
-    → (fresh && (room || not full)) ≡ (fresh && (false || not full))
-quiet_room false fresh full empty none is = refl
-quiet_room true true false empty none is = refl
-quiet_room true true true true none is = absurd (let h : true ≡ false = none refl in absurd cc)
-quiet_room true true true false none is = absurd cc
-quiet_room true false full empty none is = refl
+quiet_room : (room fresh full empty may : Bool) → (empty ≡ true → full ≡ false) → ((fresh && (room || not full) && may) && not empty) ≡ false
+    → (fresh && (room || not full) && may) ≡ (fresh && (false || not full) && may)
+quiet_room false fresh full empty may none is = refl
+quiet_room true false full empty may none is = refl
+quiet_room true true false empty may none is = refl
+quiet_room true true true empty false none is = refl
+quiet_room true true true true true none is = absurd (let h : true ≡ false = none refl in absurd cc)
+quiet_room true true true false true none is = absurd cc
 
--- a plain link that receives a packet and stays plain
-module _ (slot : ℕ) (octets : List ℕ) (room : Bool) (link : OpenLink) (plain : IsPlainLink (link_after (PacketReceived slot octets room) link)) where
-  idle : IsIdle link.setup (facts_in link)
-  idle = past_idle link.setup link.past (plain_less link.setup link.past (PacketReceived slot octets room) plain).0
+-- what is noted of procedures
+done_takes : (handle : ℕ) (kind : Option Kind) → All TakesNone (done_notes handle kind)
+done_takes handle None = All-nil TakesNone
+done_takes handle (Some kind) = All-cons TakesNone _ [] refl (All-nil TakesNone)
 
-  no_control : IsNoControl (good_pdu link.setup (facts_in link) octets)
-  no_control = (plain_less link.setup link.past (PacketReceived slot octets room) plain).1
+done_opens : (handle : ℕ) (kind : Option Kind) (other : ℕ) → All (OpensNone other) (done_notes handle kind)
+done_opens handle None other = All-nil (OpensNone other)
+done_opens handle (Some kind) other = All-cons (OpensNone other) _ [] refl (All-nil (OpensNone other))
 
-  -- it notes at most that it takes a PDU
+refused_takes : (handle : ℕ) (refused : Option (Kind × ErrCode)) → All TakesNone (refused_notes handle refused)
+refused_takes handle None = All-nil TakesNone
+refused_takes handle (Some (kind, code)) = All-cons TakesNone _ [] refl (All-nil TakesNone)
+
+given_takes : (handle : ℕ) (given : Taken) → All TakesNone (given_notes handle given)
+given_takes handle given =
+    All-append TakesNone (refused_notes handle given.refused) (done_notes handle given.done) (refused_takes handle given.refused) (done_takes handle given.done)
+
+-- a link that receives a packet
+module _ (slot : ℕ) (octets : List ℕ) (room : Bool) (link : OpenLink) where
+  abbrev role : Role
+  role = link.setup.link.role
+
+  abbrev own_handle : ℕ
+  own_handle = link.setup.link.handle
+
+  abbrev before : List ℕ → EndFacts
+  before pdu = facts_before_taking role slot (header_in pdu) (facts_in link)
+
+  -- all that is noted but the PDU
+  abbrev kind_by : List ℕ → Option Kind
+  kind_by pdu = acked_kind (acks_control (has_acknowledged (facts_in link) (header_in pdu)) (facts_in link)) (facts_in link)
+
+  abbrev earlier_of : List ℕ → List Note
+  earlier_of pdu = done_notes own_handle (kind_by pdu)
+
+  abbrev given_by : List ℕ → Taken
+  given_by pdu = given_if (accepts room (header_in pdu) (pdu_of pdu) (before pdu) && is_procedure_pdu (pdu_of pdu)) (pdu_of pdu) slot (before pdu)
+
+  abbrev later_of : List ℕ → List Note
+  later_of pdu = given_notes own_handle (given_by pdu)
+
   notes_are : (found : Option (List ℕ)) → good_pdu link.setup (facts_in link) octets ≡ found
-      → notes_taken slot room (Some link) octets ≡ plain_took link.setup.link.handle room found (facts_in link)
-  notes_are found is =
-      received_notes_plain link.setup (facts_in link) idle slot room (good_pdu link.setup (facts_in link) octets) no_control
-      ∙ ap (λ may. plain_took link.setup.link.handle room may (facts_in link)) is
+      → notes_taken slot room (Some link) octets ≡ received_notes link.setup slot room found (facts_in link)
+  notes_are found is = ap (λ may. received_notes link.setup slot room may (facts_in link)) is
 
   ack_is : (other : Bool) (pdu : List ℕ) → good_pdu link.setup (facts_in link) octets ≡ Some pdu
-      → ack_of (link_after (PacketReceived slot octets other) link) ≡ (plain_received slot other (Some pdu) (facts_in link)).acknowledgement
-  ack_is other pdu is =
-      received_ack slot octets other link (Some pdu) is
-      ∙ ap (λ (f : EndFacts). f.acknowledgement) (received_plain link.setup (facts_in link) idle slot other (Some pdu) (subst IsNoControl is no_control))
+      → ack_of (link_after (PacketReceived slot octets other) link)
+      ≡ received_by (has_acknowledged (facts_in link) (header_in pdu)) (accepts other (header_in pdu) (pdu_of pdu) (before pdu)) (pdu_of pdu) (facts_in link).acknowledgement
+  ack_is other pdu is = received_ack slot octets other link (Some pdu) is ∙ ack_heard role slot other (header_in pdu) (pdu_of pdu) (facts_in link)
 
   pub taken_so : IsTakenSo slot octets room link
   taken_so = by (good_pdu link.setup (facts_in link) octets) refl
     where
       same_by : (other : Bool) (pdu : List ℕ) → good_pdu link.setup (facts_in link) octets ≡ Some pdu
-          → is_accepted room (has_new_pdu (facts_in link) (header_in pdu)) (pdu_of pdu) ≡ is_accepted other (has_new_pdu (facts_in link) (header_in pdu)) (pdu_of pdu)
+          → accepts room (header_in pdu) (pdu_of pdu) (before pdu) ≡ accepts other (header_in pdu) (pdu_of pdu) (before pdu)
           → ack_of (link_after (PacketReceived slot octets room) link) ≡ ack_of (link_after (PacketReceived slot octets other) link)
       same_by other pdu is accepted =
-          let facts = facts_in link in
           ack_is room pdu is
-          ∙ ap (λ b. received_by (has_acknowledged facts (header_in pdu)) b (pdu_of pdu) facts.acknowledgement) accepted
+          ∙ ap (λ b. received_by (has_acknowledged (facts_in link) (header_in pdu)) b (pdu_of pdu) (facts_in link).acknowledgement) accepted
           ∙ sym (ack_is other pdu is)
 
       noted_by : (pdu : List ℕ) → good_pdu link.setup (facts_in link) octets ≡ Some pdu → (noted : Bool)
-          → (is_accepted room (has_new_pdu (facts_in link) (header_in pdu)) (pdu_of pdu) && not (is_empty (pdu_of pdu))) ≡ noted → IsTakenSo slot octets room link
+          → (accepts room (header_in pdu) (pdu_of pdu) (before pdu) && not (is_empty (pdu_of pdu))) ≡ noted → IsTakenSo slot octets room link
       noted_by pdu is true noted =
-          let fresh = has_new_pdu (facts_in link) (header_in pdu) in
-          Noted _ _ _ (notes_are (Some pdu) is ∙ ap (λ b. took_notes_if b link.setup.link.handle (pdu_of pdu) (facts_in link)) noted)
-          (same_by true pdu is (noted_room room fresh (is_data (pdu_of pdu)) (is_empty (pdu_of pdu)) noted))
+          let fresh = has_new_pdu (before pdu) (header_in pdu) in
+          let may = is_empty (pdu_of pdu) || not (before pdu).leaving.acknowledged in
+          Noted (earlier_of pdu) (later_of pdu) (numbered (before pdu).acknowledgement.accepted + 1) (pdu_of pdu).llid (pdu_of pdu).body
+          (notes_are (Some pdu) is ∙ ap (λ b. earlier_of pdu ++ (took_notes_if b own_handle (pdu_of pdu) (before pdu) ++ later_of pdu)) noted)
+          (done_takes own_handle (kind_by pdu)) (done_opens own_handle (kind_by pdu)) (given_takes own_handle (given_by pdu))
+          (same_by true pdu is (noted_room room fresh (is_data (pdu_of pdu)) (is_empty (pdu_of pdu)) may noted))
       noted_by pdu is false noted =
-          let fresh = has_new_pdu (facts_in link) (header_in pdu) in
-          Unnoted (notes_are (Some pdu) is ∙ ap (λ b. took_notes_if b link.setup.link.handle (pdu_of pdu) (facts_in link)) noted)
-          (same_by false pdu is (quiet_room room fresh (is_data (pdu_of pdu)) (is_empty (pdu_of pdu)) (empty_is_no_data (pdu_of pdu)) noted))
+          let fresh = has_new_pdu (before pdu) (header_in pdu) in
+          let may = is_empty (pdu_of pdu) || not (before pdu).leaving.acknowledged in
+          Unnoted
+          (subst (All TakesNone) (sym (notes_are (Some pdu) is ∙ ap (λ b. earlier_of pdu ++ (took_notes_if b own_handle (pdu_of pdu) (before pdu) ++ later_of pdu)) noted))
+          (All-append TakesNone (earlier_of pdu) (later_of pdu) (done_takes own_handle (kind_by pdu)) (given_takes own_handle (given_by pdu))))
+          (same_by false pdu is (quiet_room room fresh (is_data (pdu_of pdu)) (is_empty (pdu_of pdu)) may (empty_is_no_data (pdu_of pdu)) noted))
 
       by : (found : Option (List ℕ)) → good_pdu link.setup (facts_in link) octets ≡ found → IsTakenSo slot octets room link
-      by None is = Unnoted (notes_are None is) (received_ack slot octets room link None is ∙ sym (received_ack slot octets false link None is))
+      by None is =
+          Unnoted (subst (All TakesNone) (sym (notes_are None is)) (All-nil TakesNone)) (received_ack slot octets room link None is ∙ sym (received_ack slot octets false link None is))
       by (Some pdu) is = noted_by pdu is _ refl
 
 -- ---- what is noted as a link is to send

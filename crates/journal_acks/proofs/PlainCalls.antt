@@ -1,5 +1,5 @@
 -- A link that is plain after a call on its controller was plain before it, and refused nothing.
-use Rattle.std.proofs.Common.{◌≡◌, ℕ, Bool, true, false, Option, List, [], ◌∷◌, ◌++◌, sym, subst, refl, ◌∙◌}
+use Rattle.std.proofs.Common.{◌≡◌, ℕ, Bool, true, false, Option, List, [], ◌∷◌, sym, subst, refl, ◌∙◌}
 use Rattle.link_calls.specs.Phases.{link_receiving, refusal, refused_if, refuses_at}
 use Rattle.link_calls.specs.Turns.{fixed_if, sent_if}
 use Rattle.link_calls.specs.Uses.{sends_under}
