@@ -34,6 +34,7 @@ use Rattle.journal_packets.specs.Senders.{IsOfSendersLink}
 use Rattle.journal_acks.specs.Counted.{IsCounted}
 use Rattle.journal_acks.specs.Exchange.{Exchanged, with_sent}
 use Rattle.journal_acks.proofs.Exchanging.{exchange_at, exchange_other, exchange_same, number_at, number_other}
+use Rattle.link_calls.specs.Ranges.{HasRanges}
 use Rattle.link_calls.specs.Uses.{listens_under, sends_under}
 use Rattle.journal_acks.proofs.TwoStations.{IsOfTwo, other_apart}
 use Rattle.std.proofs.Math.Bool.{and-false}
@@ -70,6 +71,9 @@ pub record AreKnown (given : Given) (Q : Place → List Event → Type 0) : Type
   -- a link that is noted as opened has no line of its side yet
   pub fresh : (place : Place) (history : List Event) → Q place history → (station handle : ℕ) (role : Role) (own peer : Address) (before more : List Event) → is_in station given.stations ≡ true
       → history ≡ before ++ Noted station (Opened handle role own peer) ∷ more → lines_of (side_of station) ((links_of before).last_of station) (journal_of before) ≡ []
+  -- what the host of an open end asked is in range
+  pub ranges : (place : Place) (history : List Event) → Q place history → (station handle : ℕ) (link : OpenLink) → is_in station given.stations ≡ true
+      → link_at handle (facts_at given station history).links ≡ Some link → HasRanges link
   -- no control procedure runs on an open link
   pub plain : (place : Place) (history : List Event) → Q place history → (station : ℕ) → is_in station given.stations ≡ true
       → AllPlain (facts_at given station history).links

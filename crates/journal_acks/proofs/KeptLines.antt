@@ -32,7 +32,6 @@ use Rattle.run_model.specs.Run.{Given, after_call, after_feed, after_octets, fac
 use Rattle.run_model.proofs.Calls.{turns_called}
 use Rattle.run_model.proofs.Stations.{is_in, among, not_before}
 use Rattle.run_model.proofs.Walk.{Place, AtBegins, AtListening, IsKept}
-use Rattle.journal_packets.specs.run_laws.Plainness.{IsPlainLink}
 use Rattle.journal_packets.proofs.run_laws.Agreed.{ack_of, ack_sent, sent_ack}
 use Rattle.journal_packets.proofs.run_laws.ByCalls.{Holds}
 use Rattle.journal_packets.proofs.run_laws.Hearings.{other_facts, own_facts}
@@ -48,11 +47,12 @@ use Rattle.journal_acks.proofs.DataCalls.{on_link_notes, own_begun, received_at,
 use Rattle.link_calls.proofs.CallNotes.{OpensNone, opening_none}
 use Rattle.journal_acks.proofs.Exchanging.{exchange_at, number_at, number_called, number_other, number_quiet, number_sent}
 use Rattle.journal_acks.proofs.FirstCounts.{first_called, first_of}
-use Rattle.journal_acks.proofs.FixedPdus.{fixed_empty}
+use Rattle.link_calls.specs.Ranges.{HasRanges}
+use Rattle.link_calls.proofs.InRange.{sent_ranges}
+use Rattle.link_calls.proofs.Pieces.{fixed_whole}
 use Rattle.journal_acks.proofs.KeptCounts.{AreCountedAt, before_call, call_is, counts_kept, own_at, phased, station_is, was_taking}
 use Rattle.link_calls.proofs.LinkCalls.{HasBegun, IsOpenedNow, base_ack, begins_under, begun_before, passes_under, phase_quiet, received_noted, receiving_ack, receiving_setup, taking_opens, taking_sends}
 use Rattle.link_calls.specs.Phases.{HasPassed, IsNew, Stays, Takes}
-use Rattle.journal_acks.proofs.PlainCalls.{sent_plain}
 use Rattle.link_calls.specs.Uses.{listens_under, sends_under}
 use Rattle.journal_acks.proofs.PhaseNotes.{IsOnLink, IsPhaseOf, IsPlainPhase, HasSentSame, SendsFrom, SendsNothing, SendsOne, doing_notes, notes_when, phase_of, same_but, sends_from, sent_same}
 use Rattle.journal_acks.proofs.SentLines.{air_line, feed_line, line_called, line_other, line_sent, sent_line_at, turn_line}
@@ -164,7 +164,7 @@ module _ (given : Given) where
 
   -- a call in which it may send one
   module _ (station : ℕ) (step : Step) (history : List Event) (handle : ℕ) (base : OpenLink) (earlier : List Note)
-      (none : All SendsNone earlier) (opens : All (OpensNone handle) earlier) (own : base.setup.link.handle ≡ handle) (is_plain : IsPlainLink base)
+      (none : All SendsNone earlier) (opens : All (OpensNone handle) earlier) (own : base.setup.link.handle ≡ handle) (ranges : HasRanges base)
       (lined : IsLined (sent_line_at (number_at station handle history) history (side_of station)) (ack_of base))
       (count : (exchange_at (number_at station handle history) history (side_of station)).acked ≡ (ack_of base).acked) where
     abbrev number : ℕ
@@ -191,7 +191,7 @@ module _ (given : Given) where
         let facts = facts_in base in
         let noted = is_acked facts.acknowledgement && not (is_empty (pdu_fixed facts)) in
         lined_ack (line_next noted facts acked line) _ (sent_ack facts) (ack_of after) (line_of noted are) (ap ack_of is ∙ ack_sent slot base)
-        (sends_lined (is_acked facts.acknowledgement) (is_empty (pdu_fixed facts)) facts acked line refl refl (fixed_empty base is_plain) count lined)
+        (sends_lined (is_acked facts.acknowledgement) (is_empty (pdu_fixed facts)) facts acked line refl refl (fixed_whole base ranges) count lined)
     sends_own false slot after is are =
         lined_ack line _ (ack_of base) (ack_of after)
         (line_called given number station step history (side_of station) (subst (All SendsNone) (sym (are ∙ append-nil earlier)) none)) (ap ack_of is) lined
@@ -258,7 +258,7 @@ module _ (given : Given) (station slot : ℕ) (on : Bool) (history : List Event)
     (rests : (facts_at given station history).turn.doing ≡ Rests) (station_is : IsStation (setup_at given station) (facts_at given station history))
     (apart : HaveOwnNumbers given station history) (counted : AreCountedSo given history (λ one. true) (λ one. packet_received one history)) (lines : AreLined given history)
     (handle : ℕ) (link : OpenLink) (at : link_at handle (facts_at given station (after_call given station (TurnBegins slot on) history)).links ≡ Some link)
-    (is_plain : IsPlainLink link) where
+    (ranges : HasRanges link) where
   abbrev setup_of : Setup
   setup_of = setup_at given station
 
@@ -291,8 +291,8 @@ module _ (given : Given) (station slot : ℕ) (on : Bool) (history : List Event)
       subst (IsLined (sent_line_at (number_at station handle history) history (side_of station))) (sym (base_ack facts_before slot on handle outcome.next link begun))
       (lines station handle begun.link is begun.was)
 
-  base_plain : IsPlainLink begun.base
-  base_plain = sent_plain (sends_under handle outcome.next) slot begun.base (subst IsPlainLink begun.is is_plain)
+  base_ranges : HasRanges begun.base
+  base_ranges = sent_ranges (sends_under handle outcome.next) slot begun.base (subst HasRanges begun.is ranges)
 
   -- it is to send on this link, or on another, or on none
   begins_by : (sends : Bool) → sends_under handle outcome.next ≡ sends
@@ -302,7 +302,7 @@ module _ (given : Given) (station slot : ℕ) (on : Bool) (history : List Event)
       let before = plain true (packet_received station history) handle facts_before.turn begun.link (exchange_at number history (side_of station)) (rests_none handle facts_before.turn.doing rests)
       (rests_deaf handle facts_before.turn.doing (packet_received station history) rests) (counted station handle begun.link is begun.was) in
       sends_own given station step history handle begun.base start start_none (start_noted (OpensNone handle) (opening_none handle).starts slot facts_before)
-      (own_handle handle begun.base begun.found) base_plain base_lined
+      (own_handle handle begun.base begun.found) base_ranges base_lined
       (before.acked ∙ ap (λ (a : Acknowledgement). a.acked) (sym (base_ack facts_before slot on handle outcome.next link begun)))
       true slot link (begun.is ∙ ap (λ b. sent_if b slot begun.base) on_it)
       (ap (λ xs. start ++ xs) (doing_notes outcome.next outcome.facts handle begun.base (λ other two on_other at_other. sends_once other handle outcome.next on_other on_it) begun.found
@@ -406,12 +406,12 @@ module _ (given : Given) (Q : Place → List Event → Type 0) (known : AreKnown
       let h : Some octets ≡ None = sym some ∙ nothing (listens handle ∙ same) in absurd cc) in
       other_line handle link at other octets differs (on_link_notes setup facts received other octets some (ap notes_passed heard_is)) (link_at other facts.links) refl
 
-  takes : (handle : ℕ) (link base : OpenLink) (octets : List ℕ) → IsPlainLink link → number_at station handle after ≡ number_at station handle history
+  takes : (handle : ℕ) (link base : OpenLink) (octets : List ℕ) → HasRanges link → number_at station handle after ≡ number_at station handle history
       → link_at handle facts.links ≡ Some base → received ≡ Some octets → listens_under handle facts.turn.doing ≡ true
       → link ≡ sent_if (sends_under handle next.turn.doing) facts.turn.slot (link_receiving handle room octets facts base)
       → IsPhaseOf setup facts received → IsLined (sent_line_at (number_at station handle after) after (side_of station)) (ack_of link)
-  takes handle link base octets is_plain number_is was some on same (IsPlainPhase none plain_too) = absurd (let h : Some octets ≡ None = sym some ∙ none handle on in absurd cc)
-  takes handle link base octets is_plain number_is was some on same (IsOnLink other heard some_too listens heard_is) =
+  takes handle link base octets ranges number_is was some on same (IsPlainPhase none plain_too) = absurd (let h : Some octets ≡ None = sym some ∙ none handle on in absurd cc)
+  takes handle link base octets ranges number_is was some on same (IsOnLink other heard some_too listens heard_is) =
       let equal = eqb-true other handle (sym (listens handle) ∙ on) in
       let told : Some heard ≡ Some octets = sym some_too ∙ some in
       let octets_are : heard ≡ octets = cc in
@@ -432,7 +432,7 @@ module _ (given : Given) (Q : Place → List Event → Type 0) (known : AreKnown
       (sends_own given station (step_of received) history handle taken (link_heard setup other heard facts).notes
       (received_noted SendsNone taking_sends setup other heard facts) (received_noted (OpensNone handle) (taking_opens handle) setup other heard facts)
       (ap (λ (end : EndSetup). end.link.handle) (receiving_setup handle room octets facts base) ∙ handle_is 0 handle facts.links base is_station.own.handles was)
-      (sent_plain (sends_under handle next.turn.doing) slot taken (subst IsPlainLink same is_plain))
+      (sent_ranges (sends_under handle next.turn.doing) slot taken (subst HasRanges same ranges))
       (lined_same (sent_line_at (number_at station handle history) history (side_of station)) (ack_of base) (ack_of taken)
       (subst (λ a. HasSentSame a (ack_of base)) (sym ack) (sent_same slot octets room base)) (lines station handle base in_it was))
       (counts.acked ∙ (same_but slot octets false room base).acked ∙ ap (λ (a : Acknowledgement). a.acked) (sym ack))
@@ -450,8 +450,8 @@ module _ (given : Given) (Q : Place → List Event → Type 0) (known : AreKnown
       subst (λ n. IsLined (sent_line_at n after (side_of station)) (ack_of link)) (sym number_is)
       (subst (λ line. IsLined line (ack_of link)) (sym (line_stays handle link was nothing (phase_of setup facts received))) (lines station handle link in_it was))
   passed handle link at number_is (Takes base octets was some on same) =
-      let is_plain = known.plain (AtListening phases (done ++ station ∷ []) left) after q station in_it handle link at in
-      takes handle link base octets is_plain number_is was some on same (phase_of setup facts received)
+      let ranges = known.ranges (AtListening phases (done ++ station ∷ []) left) after q station handle link in_it at in
+      takes handle link base octets ranges number_is was some on same (phase_of setup facts received)
 
   passes_own : (handle : ℕ) (link : OpenLink) → link_at handle (facts_at given station after).links ≡ Some link
       → IsLined (sent_line_at (number_at station handle after) after (side_of station)) (ack_of link)
@@ -498,7 +498,7 @@ lines_kept whole given Q known are_two six distinct = let kept = counts_kept who
             (λ handle link at. begin_own given station slot on history in_it phased.phase (has.counts.holds.so_far.last.each station in_it)
             (λ one other a b at at_other differs. apart_numbers given Q known (AtBegins done (station ∷ left)) history has.counts.known station one other a b in_it at at_other differs)
             has.counts.counted has.lines handle link at
-            (known.plain (AtBegins (done ++ station ∷ []) left) (after_call given station (TurnBegins slot on) history) next.known station in_it handle link at)) has.lines;
+            (known.ranges (AtBegins (done ++ station ∷ []) left) (after_call given station (TurnBegins slot on) history) next.known station handle link in_it at)) has.lines;
       };
   on_begun = λ history has. record { counts = kept.on_begun history has.counts; lines = has.lines };
   on_phase = λ phases history few has. record { counts = kept.on_phase phases history few has.counts; lines = has.lines };

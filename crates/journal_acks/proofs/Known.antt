@@ -21,6 +21,7 @@ use Rattle.journal_packets.specs.run_laws.Access.{connects_sent}
 use Rattle.journal_packets.proofs.run_laws.ConnectInds.{TakenInOrder}
 use Rattle.journal_packets.proofs.run_laws.DistinctAccess.{AreApart}
 use Rattle.journal_packets.proofs.run_laws.OpenedOnce.{opened_once}
+use Rattle.link_calls.proofs.InRange.{ranges_in}
 use Rattle.journal_packets.proofs.run_laws.PlainLinks.{links_plain}
 use Rattle.journal_packets.proofs.run_laws.TwoEnds.{all_agree}
 use Rattle.journal_packets.proofs.run_laws.TwoStations.{are_two as of_both}
@@ -103,6 +104,9 @@ known_of understood taken nth apart given are_two six = record {
       let opening = opening_at understood taken given before (more ++ front.rest) station handle role own peer (are_distinct given are_two) six whole in
       fresh given station (two_apart given are_two station in_it) before opening.known opening.since (event ∷ (more ++ front.rest)) ((links_of before).last_of station) whole
       opening.is_at opening.number_is opening.unnoted;
+  ranges = λ at history q station handle link in_it is_open.
+      let front = front_at given at history q.front in
+      ranges_in given history front.rest station handle link (are_distinct given are_two) in_it front.at is_open;
   plain = λ at history q station in_it.
       let front = front_at given at history q.front in
       links_plain given six (are_distinct given are_two) history front.rest front.at station in_it;

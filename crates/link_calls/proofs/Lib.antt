@@ -11,6 +11,8 @@ pub mod EnteredLinks
 pub mod HeldRadio
 pub mod Lengths
 pub mod Exchanging
+pub mod InRange
+pub mod Pieces
 -- what the crates above use of those below
 pub use Rattle.run_laws.proofs.control_model as control_model
 pub use Rattle.run_laws.proofs.link_model as link_model

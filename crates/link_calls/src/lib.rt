@@ -4,9 +4,11 @@
 
 mod calls;
 mod exchanges;
+mod ranges;
 
 pub use crate::calls::{
     a_host_only_gives_data_to_links, a_link_receives_answers_and_sends, a_turn_begins_on_links,
     a_turn_ends_on_links,
 };
 pub use crate::exchanges::each_end_exchanges_in_its_events;
+pub use crate::ranges::{what_hosts_ask_is_in_range, what_is_sent_is_empty_or_has_octets};

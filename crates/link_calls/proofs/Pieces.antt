@@ -1,0 +1,258 @@
+-- An end whose host asks in range sends at least an octet of data at a time, so that a PDU that counts as empty is the
+-- empty PDU.
+use Rattle.std.proofs.Common.{◌≡◌, ℕ, ◌≤◌, ◌<◌, ◌==◌, ◌&&◌, ◌||◌, not, Bool, true, false, Option, Some, None, List, [], ◌∷◌, ◌++◌, length, refl, sym, subst, ◌∙◌, arith}
+use Rattle.std.specs.Prelude.{Result, Ok, Err, fold, if◌then◌else◌}
+use Rattle.std.specs.List.{AllByRecursion, find}
+use Rattle.std.specs.Option.{option_map}
+use Rattle.std.proofs.lemmas.Bool.{ne_eqb}
+use Rattle.std.proofs.lemmas.Bool.Decides.{nat_tests}
+use Rattle.acl_banks.specs.Packets.{DataPacket, piece_of, sent_length}
+use Rattle.acl_banks.proofs.Octets.{length-piece_of, length-unsent_octets}
+use Rattle.acl_banks.proofs.Order.{is_left-head}
+use Rattle.ble_base.specs.Limits.{payload_octets}
+use Rattle.ble_base.specs.declared.error_codes.ErrCode.{ErrCode}
+use Rattle.ble_base.specs.declared.roles.Role.{Role}
+use Rattle.data_pdu.specs.Header.{header_in}
+use Rattle.data_pdu.specs.Layouts.{written}
+use Rattle.data_pdu.specs.declared.ctrl.Ctrl.{Ctrl}
+use Rattle.data_pdu.specs.declared.ctrl.Ctrl.TheVariants.{StartEncReq}
+use Rattle.wire_fields.specs.Field.{little_endian}
+use Rattle.control_model.specs.Control.{Control, Step as ControlStep, Answers, Asks, Enters, SeesAcknowledged, Sends, Takes, after, after_all}
+use Rattle.link_end.specs.Sound.{HasLengths, MayCome}
+use Rattle.link_end.proofs.Lengths.{lengths_after}
+use Rattle.run_laws.specs.run_model.procedure_values.declared.asks.Ask.{Ask}
+use Rattle.run_laws.specs.run_model.procedure_values.Limits.{tx_of}
+use Rattle.run_laws.specs.link_model.Acknowledgement.{Acknowledgement, Pdu, empty_pdu, is_acked}
+use Rattle.run_laws.specs.link_model.ControlSteps.{AreAsksInRange, IsAskInRange, control_steps_in, step_if, steps_received}
+use Rattle.run_laws.specs.link_model.Controls.{goes_on, is_procedure_pdu, is_quiet_now, next_control, pdu_fixed, pdu_of_control, read_of}
+use Rattle.run_laws.specs.link_model.Data.{Data, data_acked_if, data_given, data_sent_if, is_control, is_data, is_empty, is_unsent, llid_of, pdu_with}
+use Rattle.run_laws.specs.link_model.End.{facts_after, facts_of}
+use Rattle.run_laws.specs.link_model.Entering.{facts_entered_if}
+use Rattle.run_laws.specs.link_model.Facts.{Facts, first_facts}
+use Rattle.run_laws.specs.link_model.Fixing.{data_cut, data_fixed_by, data_goes, fixed_anew}
+use Rattle.run_laws.specs.link_model.Hosts.{asked_unless, is_to_come}
+use Rattle.run_laws.specs.link_model.Packets.{good_pdu}
+use Rattle.run_laws.specs.link_model.Receiving.{accepted_if, accepts, acknowledged_if, acks_control, answers_with_control, facts_before_taking, facts_received, has_acknowledged, heard_in_slot, procedures_take_if}
+use Rattle.run_laws.specs.link_model.Sending.{control_gone_if, facts_sent, takes_leave}
+use Rattle.run_laws.specs.link_model.Setup.{Setup}
+use Rattle.run_laws.specs.link_model.Step.{Step, DataGiven, DataReported, Disconnected, EventEntered, PacketReceived, PacketSent, PduFixed, ProcedureAsked, RequestAnswered}
+use Rattle.run_laws.specs.link_model.Verdicts.{pdu_of}
+use Rattle.run_laws.proofs.link_model.ControlSteps.{one_step}
+use Rattle.run_laws.proofs.link_model.Moves.{EachMoveKeeps, past_keeps}
+use Rattle.run_laws.proofs.open_links.Handed.{read_range}
+use Rattle.run_laws.specs.open_links.OpenLinks.{OpenLink, facts_in}
+use Rattle.link_calls.specs.Ranges.{HasRanges}
+
+-- ---- the steps of the control part that may come
+
+both : (steps more : List ControlStep) → AllByRecursion MayCome steps → AllByRecursion MayCome more → AllByRecursion MayCome (steps ++ more)
+both [] more here later = later
+both (step ∷ steps) more here later = (here.0, both steps more here.1 later)
+
+perhaps : (is_taken : Bool) (step : ControlStep) → MayCome step → AllByRecursion MayCome (step_if is_taken step)
+perhaps true step is = (is, tt)
+perhaps false step is = tt
+
+answer_comes : (answer : Result Ask ErrCode) → IsAskInRange (RequestAnswered answer) → MayCome (Answers answer)
+answer_comes (Ok ask) is = is
+answer_comes (Err code) is = tt
+
+received_come : (role : Role) (slot : ℕ) (room : Bool) (found : Option (List ℕ)) (facts : Facts) → AllByRecursion MayCome (steps_received role slot room found facts)
+received_come role slot room None facts = tt
+received_come role slot room (Some octets) facts =
+    let header = header_in octets in
+    let pdu = pdu_of octets in
+    let own = acknowledged_if (has_acknowledged facts header) (heard_in_slot slot header.md facts) in
+    let now = facts_before_taking role slot header facts in
+    both _ _ (both _ _ (perhaps (acks_control (has_acknowledged facts header) facts) SeesAcknowledged tt)
+    (perhaps (answers_with_control role own) (Sends slot (is_quiet_now own)) tt))
+    (perhaps (accepts room header pdu now && is_procedure_pdu pdu) (Takes (read_of pdu) slot (is_quiet_now now)) (read_range pdu))
+
+steps_come : (setup : Setup) (facts : Facts) (step : Step) → IsAskInRange step → AllByRecursion MayCome (control_steps_in setup facts step)
+steps_come setup facts (DataGiven start body) is = tt
+steps_come setup facts (ProcedureAsked ask) is = perhaps (not (is_to_come ask facts)) (Asks ask) is
+steps_come setup facts (RequestAnswered answer) is = (answer_comes answer is, tt)
+steps_come setup facts (Disconnected reason slot) is = (tt, tt)
+steps_come setup facts (EventEntered slot) is = perhaps (goes_on facts) (Enters slot (is_quiet_now facts)) tt
+steps_come setup facts PduFixed is = tt
+steps_come setup facts (PacketSent slot) is = perhaps (takes_leave facts) (Sends slot (is_quiet_now facts)) tt
+steps_come setup facts (PacketReceived slot octets room) is = received_come setup.link.role slot room (good_pdu setup facts octets) facts
+steps_come setup facts DataReported is = tt
+
+all_lengths : (steps : List ControlStep) (c : Control) → AllByRecursion MayCome steps → HasLengths c.table.lengths → HasLengths (after_all steps c).table.lengths
+all_lengths [] c come has = has
+all_lengths (step ∷ steps) c come has = all_lengths steps (after step c) come.1 (lengths_after step c come.0 has)
+
+-- ---- the most octets of a piece
+
+given_limit : (handle : ℕ) (start : Bool) (body : List ℕ) (outgoing : Data) → (data_given handle start body outgoing).limit ≡ outgoing.limit
+given_limit handle start [] outgoing = refl
+given_limit handle start (octet ∷ octets) outgoing = refl
+
+asked_limit : (comes : Bool) (ask : Ask) (facts : Facts) → (asked_unless comes ask facts).outgoing.limit ≡ facts.outgoing.limit
+asked_limit true ask facts = refl
+asked_limit false ask facts = refl
+
+entered_limit : (goes : Bool) (setup : Setup) (slot : ℕ) (facts : Facts) → (facts_entered_if goes setup slot facts).outgoing.limit ≡ facts.outgoing.limit
+entered_limit true setup slot facts = refl
+entered_limit false setup slot facts = refl
+
+gone_limit : (goes : Bool) (slot : ℕ) (facts : Facts) → (control_gone_if goes slot facts).outgoing.limit ≡ facts.outgoing.limit
+gone_limit true slot facts = refl
+gone_limit false slot facts = refl
+
+went_limit : (is_new : Bool) (outgoing : Data) → (data_sent_if is_new outgoing).limit ≡ outgoing.limit
+went_limit true outgoing = refl
+went_limit false outgoing = refl
+
+sent_limit : (slot : ℕ) (facts : Facts) → (facts_sent slot facts).outgoing.limit ≡ facts.outgoing.limit
+sent_limit slot facts =
+    let now = control_gone_if (takes_leave facts) slot facts in
+    went_limit (is_acked now.acknowledgement) now.outgoing ∙ gone_limit (takes_leave facts) slot facts
+
+acked_limit : (acked : Bool) (outgoing : Data) → (data_acked_if acked outgoing).limit ≡ outgoing.limit
+acked_limit true outgoing = refl
+acked_limit false outgoing = refl
+
+taken_limit : (takes : Bool) (pdu : Pdu) (slot : ℕ) (facts : Facts) → (procedures_take_if takes pdu slot facts).outgoing.limit ≡ facts.outgoing.limit
+taken_limit true pdu slot facts = refl
+taken_limit false pdu slot facts = refl
+
+received_limit : (role : Role) (slot : ℕ) (room : Bool) (found : Option (List ℕ)) (facts : Facts) → (facts_received role slot room found facts).outgoing.limit ≡ facts.outgoing.limit
+received_limit role slot room None facts = refl
+received_limit role slot room (Some octets) facts =
+    let header = header_in octets in
+    let pdu = pdu_of octets in
+    let acks = has_acknowledged facts header in
+    let own = acknowledged_if acks (heard_in_slot slot header.md facts) in
+    let now = facts_before_taking role slot header facts in
+    let accepted = accepts room header pdu now in
+    taken_limit (accepted && is_procedure_pdu pdu) pdu slot (accepted_if accepted pdu now)
+    ∙ gone_limit (answers_with_control role own) slot own ∙ acked_limit (acks && is_data facts.acknowledgement.last) facts.outgoing
+
+fixed_by_limit : (control : Bool) (waiting : ℕ) (goes : Bool) (outgoing : Data) → (data_fixed_by control waiting goes outgoing).limit ≡ outgoing.limit
+fixed_by_limit true waiting goes outgoing = refl
+fixed_by_limit false waiting true outgoing = refl
+fixed_by_limit false waiting false outgoing = refl
+
+-- ---- an end transmits 27 octets at least
+
+record HasRoom (facts : Facts) : Type 0 where
+  lengths : HasLengths facts.control.table.lengths
+  limit : 1 ≤ facts.outgoing.limit
+
+transmits : (facts : Facts) → HasLengths facts.control.table.lengths → 1 ≤ tx_of facts.control.table.lengths
+transmits facts has = let own = has.own in let peer = has.peer in omega (arith, own, peer)
+
+limit_after : (setup : Setup) (facts : Facts) (step : Step) → HasRoom facts → 1 ≤ (facts_after setup facts step).outgoing.limit
+limit_after setup facts (DataGiven start body) has = subst (λ n. 1 ≤ n) (sym (given_limit setup.link.handle start body facts.outgoing)) has.limit
+limit_after setup facts (ProcedureAsked ask) has = subst (λ n. 1 ≤ n) (sym (asked_limit (is_to_come ask facts) ask facts)) has.limit
+limit_after setup facts (EventEntered slot) has = subst (λ n. 1 ≤ n) (sym (entered_limit (goes_on facts) setup slot facts)) has.limit
+limit_after setup facts (PacketSent slot) has = subst (λ n. 1 ≤ n) (sym (sent_limit slot facts)) has.limit
+limit_after setup facts (PacketReceived slot octets room) has =
+    subst (λ n. 1 ≤ n) (sym (received_limit setup.link.role slot room (good_pdu setup facts octets) facts)) has.limit
+limit_after setup facts PduFixed has = by (is_control facts.outgoing.fixed)
+  where
+    by : (stays : Bool) → 1 ≤ (if stays then facts else fixed_anew facts).outgoing.limit
+    by true = has.limit
+    by false = subst (λ n. 1 ≤ n) (sym (fixed_by_limit _ _ (data_goes facts) (data_cut facts))) (transmits facts has.lengths)
+limit_after setup facts step has = has.limit
+
+room_after : (setup : Setup) (facts : Facts) (step : Step) → IsAskInRange step → HasRoom facts → HasRoom (facts_after setup facts step)
+room_after setup facts step is has = record {
+  lengths = subst (λ (c : Control). HasLengths c.table.lengths) (sym (one_step setup facts step))
+      (all_lengths (control_steps_in setup facts step) facts.control (steps_come setup facts step is) has.lengths);
+  limit = limit_after setup facts step has;
+}
+
+steps_room : (setup : Setup) (facts : Facts) (steps : List Step) → AreAsksInRange steps → HasRoom facts → HasRoom (fold (facts_after setup) facts steps)
+steps_room setup facts [] are has = has
+steps_room setup facts (step ∷ steps) are has = steps_room setup (facts_after setup facts step) steps are.1 (room_after setup facts step are.0 has)
+
+past_room : (setup : Setup) (past : List Step) → setup.link.max_rx ≤ payload_octets → AreAsksInRange past → HasRoom (facts_of setup past)
+unfolding facts_of
+past_room setup past max are =
+    steps_room setup (first_facts setup) past are (record {
+      lengths = record { own = omega arith; peer = omega arith; own_to = omega arith; own_rx_to = max };
+      limit = omega arith;
+    })
+
+-- ---- a PDU that counts as empty
+
+abbrev IsWhole : Pdu → Type 0
+IsWhole pdu = is_empty pdu ≡ true → pdu ≡ empty_pdu
+
+has_octets : (ctrl : Ctrl) → (length (written ctrl) == 0) ≡ false
+unfolding little_endian
+has_octets StartEncReq = refl
+has_octets ctrl = refl
+
+control_whole : (control : Option Ctrl) → IsWhole (pdu_of_control control)
+control_whole None = λ empty. refl
+control_whole (Some ctrl) = λ empty. absurd (let h : true ≡ false = sym empty ∙ has_octets ctrl in absurd cc)
+
+no_llid : (start : Bool) → (llid_of start == 0) ≡ false
+no_llid true = refl
+no_llid false = refl
+
+neither : (one other : Bool) → one ≡ false → other ≡ false → (one || other) ≡ false
+neither true other is is_too = absurd cc
+neither false other is is_too = is_too
+
+-- a packet with octets that were not sent has a piece of an octet at least
+piece_whole : (limit : ℕ) (packets : List DataPacket) (found : Option DataPacket) → 1 ≤ limit → find is_unsent packets ≡ found → IsWhole (pdu_with (option_map (piece_of limit) found))
+piece_whole limit packets None some first = λ empty. refl
+piece_whole limit packets (Some packet) some first =
+    let unsent : is_unsent packet ≡ true = is_left-head packets packet first in
+    let left : sent_length packet < length packet.body = grind (arith, nat_tests) in
+    let octets : 1 ≤ length (piece_of limit packet).body.items = omega (arith, some, left, length-piece_of limit packet, length-unsent_octets packet) in
+    let full : is_empty (pdu_with (Some (piece_of limit packet))) ≡ false =
+    neither (llid_of (piece_of limit packet).start == 0) (length (piece_of limit packet).body.items == 0) (no_llid (piece_of limit packet).start)
+    (ne_eqb (length (piece_of limit packet).body.items) 0 (λ same. omega (arith, same, octets))) in
+    λ empty. absurd (let h : true ≡ false = sym empty ∙ full in absurd cc)
+
+-- so it is of what goes out next, where pieces have an octet at least
+abbrev IsWholeNext : Acknowledgement → Data → Type 0
+IsWholeNext ack outgoing = 1 ≤ outgoing.limit → IsWhole outgoing.fixed
+
+whole_given : (handle : ℕ) (start : Bool) (body : List ℕ) (ack : Acknowledgement) (outgoing : Data) → IsWholeNext ack outgoing → IsWholeNext ack (data_given handle start body outgoing)
+whole_given handle start [] ack outgoing is = is
+whole_given handle start (octet ∷ octets) ack outgoing is = is
+
+whole_fixed : (control : Bool) (waiting : ℕ) (goes : Bool) (ack : Acknowledgement) (outgoing : Data) → IsWholeNext ack (data_fixed_by control waiting goes outgoing)
+whole_fixed true waiting goes ack outgoing = λ some empty. refl
+whole_fixed false waiting true ack outgoing = λ some. piece_whole outgoing.limit outgoing.packets (find is_unsent outgoing.packets) some refl
+whole_fixed false waiting false ack outgoing = λ some empty. refl
+
+whole_sent : (is_new : Bool) (ack : Acknowledgement) (outgoing : Data) → (1 ≤ outgoing.limit → IsWhole outgoing.fixed)
+    → 1 ≤ (data_sent_if is_new outgoing).limit → IsWhole (data_sent_if is_new outgoing).fixed
+whole_sent true ack outgoing is = λ some empty. refl
+whole_sent false ack outgoing is = is
+
+whole_acked : (acked : Bool) (outgoing : Data) → (1 ≤ outgoing.limit → IsWhole outgoing.fixed)
+    → 1 ≤ (data_acked_if acked outgoing).limit → IsWhole (data_acked_if acked outgoing).fixed
+whole_acked true outgoing is = is
+whole_acked false outgoing is = is
+
+whole_kept : EachMoveKeeps IsWholeNext
+whole_kept = record {
+  first = λ some empty. refl;
+  given = whole_given;
+  reported = λ ack outgoing is. is;
+  fixed = λ control waiting limit goes ack outgoing is. whole_fixed control waiting goes ack (record outgoing { limit = limit });
+  gone = λ control ack outgoing acked is. λ some. control_whole control;
+  sent = λ ack outgoing is. whole_sent (is_acked ack) ack outgoing is;
+  acked = λ acked ack outgoing out is. whole_acked (acked && is_data ack.last) outgoing is;
+  accepted = λ accepted pdu ack outgoing is. is;
+}
+
+next_whole : (fixes : Bool) (control : Option Ctrl) (fixed : Pdu) → IsWhole fixed → IsWhole (if fixes then pdu_of_control control else fixed)
+next_whole true control fixed is = control_whole control
+next_whole false control fixed is = is
+
+-- the PDU that an end sends next is the empty one, or does not count as empty
+pub fixed_whole : (link : OpenLink) → HasRanges link → is_empty (pdu_fixed (facts_in link)) ≡ true → pdu_fixed (facts_in link) ≡ empty_pdu
+fixed_whole link ranges =
+    let facts = facts_in link in
+    let room = past_room link.setup link.past ranges.max_rx ranges.asks in
+    next_whole facts.fixes_control (next_control facts) facts.outgoing.fixed (past_keeps IsWholeNext whole_kept link.setup link.past room.limit)

@@ -1,0 +1,29 @@
+//! The ranges of what happens to the open ends of a run, and what follows for the PDUs that they
+//! send. The bodies are empty: the contracts are the laws.
+ghost use Rattle.std.specs.Prelude.{◌≡◌, ◌++◌, ℕ, true, List, Some};
+ghost use Rattle.std.specs.List.{Contains};
+ghost use Rattle.run_laws.specs.link_model.Acknowledgement.{empty_pdu};
+ghost use Rattle.run_laws.specs.link_model.Controls.{pdu_fixed};
+ghost use Rattle.run_laws.specs.link_model.Data.{is_empty};
+ghost use Rattle.run_laws.specs.open_links.OpenLinks.{OpenLink, facts_in, link_at};
+ghost use Rattle.run_laws.specs.run_model.Feeding.{AreDistinct};
+ghost use Rattle.run_laws.specs.run_model.History.{Event};
+ghost use Rattle.run_laws.specs.run_model.Run.{Given, facts_at, history_of, run_of};
+ghost use Rattle.link_calls.specs.Ranges.{HasRanges};
+
+/// At any time of a run, what the host of an open end asked and answered is in range, and the end
+/// receives at most 251 octets of payload (Core 5.2, volume 6 part B, sections 4.5.10 and 5.1).
+pub fn what_hosts_ask_is_in_range()
+    ensures { (given : Given) (before rest : List Event) (station handle : ℕ) (link : OpenLink)
+        → AreDistinct given.stations → Contains given.stations station
+        → history_of (run_of given) ≡ before ++ rest
+        → link_at handle (facts_at given station before).links ≡ Some link → HasRanges link }
+{}
+
+/// The PDU that an end sends next is the empty one, or it has an octet and a LLID in use: a control
+/// PDU has its opcode, and a piece of data an octet at least (Core 5.2, volume 6 part B, sections
+/// 2.4 and 4.5.10).
+pub fn what_is_sent_is_empty_or_has_octets()
+    ensures { (link : OpenLink) → HasRanges link → is_empty (pdu_fixed (facts_in link)) ≡ true
+        → pdu_fixed (facts_in link) ≡ empty_pdu }
+{}
