@@ -12,7 +12,8 @@ use Rattle.journal_packets.specs.link_model.Packets.{pdu_sent}
 use Rattle.journal_packets.specs.link_model.Data.{is_empty}
 use Rattle.journal_packets.specs.link_model.OneLink.{AreInAgreement}
 use Rattle.journal_packets.proofs.plain_links.Growing.{plain_front}
-use Rattle.journal_packets.proofs.plain_links.Payloads.{past_form}
+use Rattle.link_calls.proofs.InRange.{sent_ranges}
+use Rattle.link_calls.proofs.Pieces.{sent_readable}
 use Rattle.journal_packets.proofs.link_model.Hearing.{IsHeardWhole}
 use Rattle.journal_packets.specs.link_model.Step.{PacketSent, PacketReceived}
 use Rattle.journal_packets.specs.open_links.OpenLinks.{OpenLink, facts_in, link_after, link_at}
@@ -355,8 +356,9 @@ module _ (whole : IsHeardWhole) (given : Given) (Q : Place → List Event → Ty
 
           empty_is : carries_empty (link_numbered (number_at other handle history) (journal_of history)) channel octets ≡ is_empty (pdu_sent (facts_in sent.link))
           empty_is =
+              let ranges = sent_ranges true sent.slot sent.link (known.ranges here history q station sent.handle link_sent is sent.is_open) in
               ap (λ may. carries_empty may channel octets) begun.is_link
-              ∙ sent_empty whole sent.link.setup (facts_in sent.link) begun.link channel octets (past_form sent.link.setup sent.link.past sender_plain)
+              ∙ sent_empty whole sent.link.setup (facts_in sent.link) begun.link channel octets (sent_readable sent.link ranges)
               (begun.fields ∙ sym connect_ind.fields) sent.channel_is sent.packet
 
           abbrev taken : Bool → OpenLink

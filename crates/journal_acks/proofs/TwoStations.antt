@@ -17,6 +17,7 @@ use Rattle.journal_packets.specs.link_model.Facts.{Facts as EndFacts}
 use Rattle.journal_packets.specs.link_model.Packets.{header_sent, packet_sent, payload_sent, pdu_sent, verdict_of as verdict_of_end}
 use Rattle.journal_packets.specs.link_model.Verdicts.{verdict_by as verdict_by_end}
 use Rattle.journal_packets.specs.link_model.Setup.{Setup as EndSetup}
+use Rattle.link_calls.specs.Ranges.{IsReadable}
 use Rattle.journal_packets.proofs.plain_links.Payloads.{IsInForm}
 use Rattle.journal_packets.proofs.link_model.Hearing.{IsHeardWhole}
 use Rattle.journal_packets.proofs.link_model.Received.{header_read}
@@ -250,13 +251,16 @@ in_form count short = grind (arith, nat_tests)
 pub sent_in_form : (facts : EndFacts) → IsInForm facts → IsPdu (octets_of (header_sent facts) ++ payload_sent facts)
 sent_in_form facts form = in_form (length (payload_sent facts)) form.short
 
-pub sent_empty : IsHeardWhole → (setup : EndSetup) (facts : EndFacts) (link : LinkBegun) (channel : ℕ) (octets : List ℕ) → IsInForm facts
+readable_in_form : (facts : EndFacts) → IsReadable facts → IsPdu (octets_of (header_sent facts) ++ payload_sent facts)
+readable_in_form facts form = let short = form.short in in_form (length (payload_sent facts)) (omega (arith, short))
+
+pub sent_empty : IsHeardWhole → (setup : EndSetup) (facts : EndFacts) (link : LinkBegun) (channel : ℕ) (octets : List ℕ) → IsReadable facts
     → link.fields ≡ setup.link.fields → channel ≡ facts.event.channel → octets ≡ packet_sent setup facts
     → carries_empty (Some link) channel octets ≡ is_empty (pdu_sent facts)
 unfolding packet_sent
 sent_empty whole setup facts link channel octets form fields on packet =
     let pdu = octets_of (header_sent facts) ++ payload_sent facts in
     (λ i. is_empty_in (heard_in (on i) ((fields i).access) ((fields i).crc_init) (packet i)))
-    ∙ ap is_empty_in (whole facts.event.channel setup.link.fields.access setup.link.fields.crc_init pdu (sent_in_form facts form))
-    ∙ ap counts_as_empty (header_read facts form.low)
+    ∙ ap is_empty_in (whole facts.event.channel setup.link.fields.access setup.link.fields.crc_init pdu (readable_in_form facts form))
+    ∙ ap counts_as_empty (header_read facts form.llid)
     ∙ ap (λ (payload : List ℕ). (pdu_sent facts).llid == 0 || length payload == 0) form.opened

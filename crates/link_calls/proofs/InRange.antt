@@ -1,5 +1,5 @@
 -- In every run, what the host of each open end asked and answered is in range.
-use Rattle.std.proofs.Common.{◌≡◌, ℕ, ◌≤◌, Bool, true, false, Option, Some, None, List, [], ◌∷◌, ◌++◌, refl, sym, subst, arith}
+use Rattle.std.proofs.Common.{◌≡◌, ℕ, Bool, true, false, Option, Some, None, List, [], ◌∷◌, ◌++◌, refl, sym, subst}
 use Rattle.std.specs.Prelude.{⊤, ◌&&◌, nat_lt, if◌then◌else◌}
 use Rattle.std.specs.List.{Contains}
 use Rattle.ble_base.specs.Limits.{payload_octets}
@@ -41,7 +41,7 @@ use Rattle.link_calls.proofs.UnderHandles.{ended_under, host_under}
 -- ---- what an end receives at most
 
 abbrev HasMax : OpenLink → Type 0
-HasMax link = link.setup.link.max_rx ≤ payload_octets
+HasMax link = link.setup.link.max_rx ≡ payload_octets
 
 max_hosts : IsKeptByHosts HasMax
 max_hosts = record { given = λ start body link is. is; reported = λ link is. is }
@@ -53,11 +53,11 @@ max_open : IsKeptOpen HasMax
 max_open = record { serving = max_served; received = λ slot octets room link is. is; answered = λ answer link is. is }
 
 max_entered : (slot : ℕ) (link : OpenLink) → HasMax link → HasMax (link_entered slot link)
-max_entered slot link is = subst (λ (end : EndSetup). end.link.max_rx ≤ payload_octets) (sym (entered_setup slot link)) is
+max_entered slot link is = subst (λ (end : EndSetup). end.link.max_rx ≡ payload_octets) (sym (entered_setup slot link)) is
 
 -- a link that is made
 abbrev MakesMax : Doing → Type 0
-MakesMax (Connects channel link) = link.max_rx ≤ payload_octets
+MakesMax (Connects channel link) = link.max_rx ≡ payload_octets
 MakesMax other = ⊤
 
 begins_max : (doing : Doing) → MayBegin doing → MakesMax doing
@@ -84,7 +84,7 @@ outcomes_max setup facts = record {
   taken = λ channel octets pdu on fields handle is_on hears takes free. tt;
   scanned = λ channel octets pdu on doing is_on hears. asks_max (true && does_ask (scan_answer on.params facts.view.accepted on.recent pdu)) channel pdu;
   answered = λ channel octets pdu on doing is_on hears. asks_max (false && does_ask (scan_answer on.params facts.view.accepted on.recent pdu)) channel pdu;
-  connects = λ channel octets pdu on access handle doing is_on hears answers next free in_range. omega arith;
+  connects = λ channel octets pdu on access handle doing is_on hears answers next free in_range. refl;
   received = λ handle octets. reply_max (replies_in facts.turn.slot (has_room setup facts) (link_at handle facts.links) octets) handle;
 }
 
@@ -170,7 +170,7 @@ record AreRanged (setup : Setup) (stage : Stage) (begun : ℕ) (facts : Facts) :
 may_open : (facts : Facts) → MakesMax facts.turn.doing → MayOpen HasMax max_open facts
 may_open facts makes = record {
   made = λ channel link doing. subst MakesMax doing makes;
-  taken = λ pdu on fields handle takes. omega arith;
+  taken = λ pdu on fields handle takes. refl;
 }
 
 ranged_kept : (setup : Setup) → IsTurned setup (AreRanged setup)

@@ -1,6 +1,6 @@
--- An end whose host asks in range sends at least an octet of data at a time, so that a PDU that counts as empty is the
--- empty PDU.
-use Rattle.std.proofs.Common.{◌≡◌, ℕ, ◌≤◌, ◌<◌, ◌==◌, ◌&&◌, ◌||◌, not, Bool, true, false, Option, Some, None, List, [], ◌∷◌, ◌++◌, length, refl, sym, subst, ◌∙◌, arith}
+-- What an end sends whose host asks in range: a PDU that counts as empty is the empty one, and no payload is too long, so
+-- that each open end understands each packet.
+use Rattle.std.proofs.Common.{◌≡◌, ℕ, ◌≤◌, ◌<◌, ◌==◌, ◌&&◌, ◌||◌, not, Bool, true, false, Option, Some, None, List, [], ◌∷◌, ◌++◌, length, refl, sym, subst, ◌∙◌, arith, ap}
 use Rattle.std.specs.Prelude.{Result, Ok, Err, fold, if◌then◌else◌}
 use Rattle.std.specs.List.{AllByRecursion, find}
 use Rattle.std.specs.Option.{option_map}
@@ -37,11 +37,16 @@ use Rattle.run_laws.specs.link_model.Sending.{control_gone_if, facts_sent, takes
 use Rattle.run_laws.specs.link_model.Setup.{Setup}
 use Rattle.run_laws.specs.link_model.Step.{Step, DataGiven, DataReported, Disconnected, EventEntered, PacketReceived, PacketSent, PduFixed, ProcedureAsked, RequestAnswered}
 use Rattle.run_laws.specs.link_model.Verdicts.{pdu_of}
+use Rattle.run_laws.specs.link_model.Hearing.{IsUnderstood}
+use Rattle.run_laws.specs.link_model.Packets.{pdu_sent}
+use Rattle.run_laws.specs.link_model.Payload.{opened_of}
 use Rattle.run_laws.proofs.link_model.ControlSteps.{one_step}
+use Rattle.run_laws.proofs.link_model.Llids.{past_llid}
+use Rattle.run_laws.proofs.link_model.Repeating.{past_payload}
 use Rattle.run_laws.proofs.link_model.Moves.{EachMoveKeeps, past_keeps}
 use Rattle.run_laws.proofs.open_links.Handed.{read_range}
 use Rattle.run_laws.specs.open_links.OpenLinks.{OpenLink, facts_in}
-use Rattle.link_calls.specs.Ranges.{HasRanges}
+use Rattle.link_calls.specs.Ranges.{HasRanges, IsReadable}
 
 -- ---- the steps of the control part that may come
 
@@ -169,11 +174,11 @@ steps_room : (setup : Setup) (facts : Facts) (steps : List Step) → AreAsksInRa
 steps_room setup facts [] are has = has
 steps_room setup facts (step ∷ steps) are has = steps_room setup (facts_after setup facts step) steps are.1 (room_after setup facts step are.0 has)
 
-past_room : (setup : Setup) (past : List Step) → setup.link.max_rx ≤ payload_octets → AreAsksInRange past → HasRoom (facts_of setup past)
+past_room : (setup : Setup) (past : List Step) → setup.link.max_rx ≡ payload_octets → AreAsksInRange past → HasRoom (facts_of setup past)
 unfolding facts_of
 past_room setup past max are =
     steps_room setup (first_facts setup) past are (record {
-      lengths = record { own = omega arith; peer = omega arith; own_to = omega arith; own_rx_to = max };
+      lengths = record { own = omega arith; peer = omega arith; own_to = omega arith; own_rx_to = omega (arith, max) };
       limit = omega arith;
     })
 
@@ -256,3 +261,141 @@ fixed_whole link ranges =
     let facts = facts_in link in
     let room = past_room link.setup link.past ranges.max_rx ranges.asks in
     next_whole facts.fixes_control (next_control facts) facts.outgoing.fixed (past_keeps IsWholeNext whole_kept link.setup link.past room.limit)
+
+-- ---- no payload is longer than 251 octets
+
+abbrev FitsAny : Pdu → Type 0
+FitsAny pdu = length pdu.body ≤ payload_octets
+
+record AreFitting (facts : Facts) : Type 0 where
+  fixed : FitsAny facts.outgoing.fixed
+  last : FitsAny facts.acknowledgement.last
+
+written_short : (ctrl : Ctrl) → length (written ctrl) ≤ payload_octets
+unfolding little_endian
+written_short StartEncReq = omega arith
+written_short other = omega arith
+
+control_fits : (control : Option Ctrl) → FitsAny (pdu_of_control control)
+control_fits None = omega arith
+control_fits (Some ctrl) = written_short ctrl
+
+piece_fits : (limit : ℕ) (found : Option DataPacket) → limit ≤ payload_octets → FitsAny (pdu_with (option_map (piece_of limit) found))
+piece_fits limit None most = omega arith
+piece_fits limit (Some packet) most = omega (arith, most, length-piece_of limit packet)
+
+next_fits : (fixes : Bool) (control : Option Ctrl) (fixed : Pdu) → FitsAny fixed → FitsAny (if fixes then pdu_of_control control else fixed)
+next_fits true control fixed is = control_fits control
+next_fits false control fixed is = is
+
+anew_fits : (control : Bool) (waiting : ℕ) (goes : Bool) (outgoing : Data) → outgoing.limit ≤ payload_octets → FitsAny (data_fixed_by control waiting goes outgoing).fixed
+anew_fits true waiting goes outgoing most = omega arith
+anew_fits false waiting true outgoing most = piece_fits outgoing.limit (find is_unsent outgoing.packets) most
+anew_fits false waiting false outgoing most = omega arith
+
+transmits_most : (facts : Facts) → HasLengths facts.control.table.lengths → tx_of facts.control.table.lengths ≤ payload_octets
+transmits_most facts has = let own = has.own_to in omega (arith, own)
+
+fitting_same : (facts later : Facts) → later.outgoing.fixed ≡ facts.outgoing.fixed → later.acknowledgement.last ≡ facts.acknowledgement.last → AreFitting facts → AreFitting later
+fitting_same facts later fixed last are = record { fixed = subst FitsAny (sym fixed) are.fixed; last = subst FitsAny (sym last) are.last }
+
+given_fitting : (handle : ℕ) (start : Bool) (body : List ℕ) (facts : Facts) → AreFitting facts
+    → AreFitting (record facts { outgoing = data_given handle start body facts.outgoing })
+given_fitting handle start [] facts are = record { fixed = are.fixed; last = are.last }
+given_fitting handle start (octet ∷ octets) facts are = record { fixed = are.fixed; last = are.last }
+
+asked_fitting : (comes : Bool) (ask : Ask) (facts : Facts) → AreFitting facts → AreFitting (asked_unless comes ask facts)
+asked_fitting true ask facts are = are
+asked_fitting false ask facts are = record { fixed = are.fixed; last = are.last }
+
+entered_fitting : (goes : Bool) (setup : Setup) (slot : ℕ) (facts : Facts) → AreFitting facts → AreFitting (facts_entered_if goes setup slot facts)
+entered_fitting true setup slot facts are = record { fixed = are.fixed; last = are.last }
+entered_fitting false setup slot facts are = are
+
+fixed_fitting : (stays : Bool) (facts : Facts) → HasLengths facts.control.table.lengths → AreFitting facts → AreFitting (if stays then facts else fixed_anew facts)
+fixed_fitting true facts has are = are
+fixed_fitting false facts has are = record { fixed = anew_fits _ _ (data_goes facts) (data_cut facts) (transmits_most facts has); last = are.last }
+
+gone_fitting : (goes : Bool) (slot : ℕ) (facts : Facts) → AreFitting facts → AreFitting (control_gone_if goes slot facts)
+gone_fitting true slot facts are = record { fixed = next_fits facts.fixes_control (next_control facts) facts.outgoing.fixed are.fixed; last = are.last }
+gone_fitting false slot facts are = are
+
+went_fitting : (is_new : Bool) (fixed last : Pdu) (outgoing : Data) → outgoing.fixed ≡ fixed → FitsAny fixed → FitsAny last
+    → FitsAny (data_sent_if is_new outgoing).fixed × FitsAny (if is_new then fixed else last)
+went_fitting true fixed last outgoing same fits fits_too = (omega arith, fits)
+went_fitting false fixed last outgoing same fits fits_too = (subst FitsAny (sym same) fits, fits_too)
+
+sent_fitting : (slot : ℕ) (facts : Facts) → AreFitting facts → AreFitting (facts_sent slot facts)
+sent_fitting slot facts are =
+    let now = control_gone_if (takes_leave facts) slot facts in
+    let gone = gone_fitting (takes_leave facts) slot facts are in
+    let went = went_fitting (is_acked now.acknowledgement) now.outgoing.fixed now.acknowledgement.last now.outgoing refl gone.fixed gone.last in
+    record { fixed = went.0; last = went.1 }
+
+acked_fixed : (acked : Bool) (outgoing : Data) → (data_acked_if acked outgoing).fixed ≡ outgoing.fixed
+acked_fixed true outgoing = refl
+acked_fixed false outgoing = refl
+
+taken_fitting : (takes : Bool) (pdu : Pdu) (slot : ℕ) (facts : Facts) → AreFitting facts → AreFitting (procedures_take_if takes pdu slot facts)
+taken_fitting true pdu slot facts are = record { fixed = are.fixed; last = are.last }
+taken_fitting false pdu slot facts are = are
+
+received_fitting : (role : Role) (slot : ℕ) (room : Bool) (found : Option (List ℕ)) (facts : Facts) → AreFitting facts → AreFitting (facts_received role slot room found facts)
+received_fitting role slot room None facts are = are
+received_fitting role slot room (Some octets) facts are =
+    let header = header_in octets in
+    let pdu = pdu_of octets in
+    let acks = has_acknowledged facts header in
+    let own = acknowledged_if acks (heard_in_slot slot header.md facts) in
+    let now = facts_before_taking role slot header facts in
+    let accepted = accepts room header pdu now in
+    let first = fitting_same facts own (acked_fixed (acks && is_data facts.acknowledgement.last) facts.outgoing) refl are in
+    let gone = gone_fitting (answers_with_control role own) slot own first in
+    taken_fitting (accepted && is_procedure_pdu pdu) pdu slot (accepted_if accepted pdu now) (record { fixed = gone.fixed; last = gone.last })
+
+fitting_after : (setup : Setup) (facts : Facts) (step : Step) → HasLengths facts.control.table.lengths → AreFitting facts → AreFitting (facts_after setup facts step)
+fitting_after setup facts (DataGiven start body) has are = given_fitting setup.link.handle start body facts are
+fitting_after setup facts (ProcedureAsked ask) has are = asked_fitting (is_to_come ask facts) ask facts are
+fitting_after setup facts (EventEntered slot) has are = entered_fitting (goes_on facts) setup slot facts are
+fitting_after setup facts PduFixed has are = fixed_fitting (is_control facts.outgoing.fixed) facts has are
+fitting_after setup facts (PacketSent slot) has are = sent_fitting slot facts are
+fitting_after setup facts (PacketReceived slot octets room) has are = received_fitting setup.link.role slot room (good_pdu setup facts octets) facts are
+fitting_after setup facts step has are = record { fixed = are.fixed; last = are.last }
+
+steps_fitting : (setup : Setup) (facts : Facts) (steps : List Step) → AreAsksInRange steps → HasRoom facts → AreFitting facts → AreFitting (fold (facts_after setup) facts steps)
+steps_fitting setup facts [] asks has are = are
+steps_fitting setup facts (step ∷ steps) asks has are =
+    steps_fitting setup (facts_after setup facts step) steps asks.1 (room_after setup facts step asks.0 has) (fitting_after setup facts step has.lengths are)
+
+past_fitting : (setup : Setup) (past : List Step) → setup.link.max_rx ≡ payload_octets → AreAsksInRange past → AreFitting (facts_of setup past)
+unfolding facts_of
+past_fitting setup past max asks =
+    steps_fitting setup (first_facts setup) past asks (past_room setup [] max tt) (record { fixed = omega arith; last = omega arith })
+
+one_fits : (acked : Bool) (next last : Pdu) → FitsAny next → FitsAny last → FitsAny (if acked then next else last)
+one_fits true next last is is_too = is
+one_fits false next last is is_too = is_too
+
+-- so each packet is in form
+pub sent_readable : (link : OpenLink) → HasRanges link → IsReadable (facts_in link)
+sent_readable link ranges =
+    let facts = facts_in link in
+    let are = past_fitting link.setup link.past ranges.max_rx ranges.asks in
+    let payload = past_payload link.setup link.past in
+    let fits : FitsAny (pdu_sent facts) =
+    one_fits (is_acked facts.acknowledgement) (pdu_fixed facts) facts.acknowledgement.last
+    (next_fits facts.fixes_control (next_control facts) facts.outgoing.fixed are.fixed) are.last in
+    record {
+      llid = (past_llid link.setup link.past).1;
+      short = omega (arith, fits, ap length payload);
+      opened = ap opened_of payload;
+    }
+
+-- and each open end understands it
+pub ranged_understand : (from to : OpenLink) → HasRanges from → HasRanges to → from.setup.link.fields ≡ to.setup.link.fields
+    → (facts_in from).event.channel ≡ (facts_in to).event.channel → IsUnderstood from.setup (facts_in from) to.setup (facts_in to)
+ranged_understand from to ranges ranges_too fields channel =
+    let sent = sent_readable from ranges in
+    let short = sent.short in
+    let most = ranges_too.max_rx in
+    record { fields = fields; channel = channel; llid = sent.llid; octets = omega (arith, short); fits = omega (arith, short, most) }

@@ -11,4 +11,7 @@ pub use crate::calls::{
     a_turn_ends_on_links,
 };
 pub use crate::exchanges::each_end_exchanges_in_its_events;
-pub use crate::ranges::{what_hosts_ask_is_in_range, what_is_sent_is_empty_or_has_octets};
+pub use crate::ranges::{
+    packets_are_understood_on_their_channel, what_hosts_ask_is_in_range,
+    what_is_sent_is_empty_or_has_octets,
+};

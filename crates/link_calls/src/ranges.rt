@@ -5,14 +5,15 @@ ghost use Rattle.std.specs.List.{Contains};
 ghost use Rattle.run_laws.specs.link_model.Acknowledgement.{empty_pdu};
 ghost use Rattle.run_laws.specs.link_model.Controls.{pdu_fixed};
 ghost use Rattle.run_laws.specs.link_model.Data.{is_empty};
+ghost use Rattle.run_laws.specs.link_model.Hearing.{IsUnderstood};
 ghost use Rattle.run_laws.specs.open_links.OpenLinks.{OpenLink, facts_in, link_at};
 ghost use Rattle.run_laws.specs.run_model.Feeding.{AreDistinct};
 ghost use Rattle.run_laws.specs.run_model.History.{Event};
 ghost use Rattle.run_laws.specs.run_model.Run.{Given, facts_at, history_of, run_of};
-ghost use Rattle.link_calls.specs.Ranges.{HasRanges};
+ghost use Rattle.link_calls.specs.Ranges.{HasRanges, IsReadable};
 
 /// At any time of a run, what the host of an open end asked and answered is in range, and the end
-/// receives at most 251 octets of payload (Core 5.2, volume 6 part B, sections 4.5.10 and 5.1).
+/// receives payloads of up to 251 octets (Core 5.2, volume 6 part B, sections 4.5.10 and 5.1).
 pub fn what_hosts_ask_is_in_range()
     ensures { (given : Given) (before rest : List Event) (station handle : ℕ) (link : OpenLink)
         → AreDistinct given.stations → Contains given.stations station
@@ -26,4 +27,15 @@ pub fn what_hosts_ask_is_in_range()
 pub fn what_is_sent_is_empty_or_has_octets()
     ensures { (link : OpenLink) → HasRanges link → is_empty (pdu_fixed (facts_in link)) ≡ true
         → pdu_fixed (facts_in link) ≡ empty_pdu }
+{}
+
+/// An open end understands each packet of the far end on its channel: no end sends a payload of
+/// more than 251 octets, and each receives one of 251 (Core 5.2, volume 6 part B, sections 2.4 and
+/// 4.5.10).
+pub fn packets_are_understood_on_their_channel()
+    ensures readable { (link : OpenLink) → HasRanges link → IsReadable (facts_in link) }
+    ensures understood { (from to : OpenLink) → HasRanges from → HasRanges to
+        → from.setup.link.fields ≡ to.setup.link.fields
+        → (facts_in from).event.channel ≡ (facts_in to).event.channel
+        → IsUnderstood from.setup (facts_in from) to.setup (facts_in to) }
 {}
