@@ -1,0 +1,188 @@
+-- What an event or a call adds to what an end says and hears by a journal.
+use Rattle.std.proofs.Common.{◌≡◌, ℕ, ◌-◌, ◌==◌, ◌&&◌, not, Bool, true, false, Some, List, [], ◌∷◌, ◌++◌, length, map, refl, sym, ap, ◌∙◌, append-nil, append_assoc}
+use Rattle.std.proofs.lemmas.Bool.{and_left, and_right}
+use Rattle.std.proofs.lemmas.List.{append_cancel_left, map-append}
+use Rattle.ble_base.specs.Side.{other_side}
+use Rattle.ble_base.specs.declared.notes.Note.{Note}
+use Rattle.ble_base.specs.declared.notes.Note.TheVariants.{Up}
+use Rattle.ble_base.specs.declared.roles.Side.{Side}
+use Rattle.journal.specs.declared.entries.Entry.{Entry}
+use Rattle.journal.specs.declared.entries.Entry.TheVariants.{Air}
+use Rattle.controller_model.specs.Side.{notes_after}
+use Rattle.controller_model.specs.Since.{notes_opened_on}
+use Rattle.controller_model.specs.Step.{Step as Call}
+use Rattle.journal_acks.specs.journal_links.LinkLines.{line_of, lines_of, link_named, where_named}
+use Rattle.journal_acks.specs.journal_packets.Belonging.{is_side, link_of_packet}
+use Rattle.journal_acks.specs.link_model.End.{facts_of, notes_from}
+use Rattle.journal_acks.specs.link_model.Setup.{Setup}
+use Rattle.journal_acks.specs.link_model.Step.{Step}
+use Rattle.journal_acks.specs.run_model.History.{Event, TurnBegan, HostFed, Called, Noted, Transmitted, Hearing, is_good}
+use Rattle.journal_acks.specs.run_model.Journal.{air_entries, entries_of, entry_of, journal_of, mark_of, side_of}
+use Rattle.journal_acks.specs.run_model.Links.{is_advertising, links_of}
+use Rattle.journal_acks.specs.run_model.Readers.{turns_of}
+use Rattle.journal_acks.specs.run_model.Run.{Given, after_call, facts_at, setup_at}
+use Rattle.journal_acks.specs.Exchange.{is_number}
+use Rattle.journal_acks.specs.Shut.{is_of_link}
+use Rattle.journal_acks.proofs.journal_links.LinkLines.{line_more}
+use Rattle.journal_acks.proofs.run_model.Parts.{journal_event}
+use Rattle.journal_ends.specs.Seen.{Says, Seen, heard_in_line, heard_where, notes_said, seen_in_steps, seen_of, seen_on}
+use Rattle.journal_ends.proofs.PastSeen.{notes_more, seen_grows}
+use Rattle.journal_ends.proofs.SeenLists.{seen_more}
+
+-- what an end says and hears, by the journal of a history
+abbrev pub seen_at : ℕ → Side → List Event → List Seen
+seen_at number side history = seen_on side number (journal_of history)
+
+abbrev pub lines_at : ℕ → Side → List Event → List Entry
+lines_at number side history = lines_of side number (journal_of history)
+
+-- ---- lines, and nothing that is heard
+
+pub record IsSaying (number : ℕ) (side : Side) (history after : List Event) : Type 0 where
+  pub more : List Entry
+  pub lines : lines_at number side after ≡ lines_at number side history ++ more
+  pub seen : seen_at number side after ≡ seen_at number side history ++ map Says more
+
+saying_then : (number : ℕ) (side : Side) (first second third : List Event) → IsSaying number side first second → IsSaying number side second third
+    → IsSaying number side first third
+saying_then number side first second third one next = record {
+  more = one.more ++ next.more;
+  lines = next.lines ∙ ap (λ xs. xs ++ next.more) one.lines ∙ append_assoc (lines_at number side first) one.more next.more;
+  seen = next.seen ∙ ap (λ xs. xs ++ map Says next.more) one.seen ∙ append_assoc (seen_at number side first) (map Says one.more) (map Says next.more)
+      ∙ ap (λ xs. seen_at number side first ++ xs) (sym (map-append Says one.more next.more));
+}
+
+-- an event with one line, in which nothing is heard
+line_says : (number : ℕ) (side : Side) (history : List Event) (event : Event) (line : Entry) → entries_of (links_of history) event ≡ line ∷ []
+    → heard_in_line side number (journal_of history) line ≡ [] → IsSaying number side history (history ++ event ∷ [])
+line_says number side history event line is none =
+    let named = where_named side number (link_named line) line in
+    let journal = journal_event history event ∙ ap (λ xs. journal_of history ++ xs) is in record {
+      more = named;
+      lines = ap (lines_of side number) journal ∙ line_more side number (journal_of history) line named (append-nil named);
+      seen = ap (seen_on side number) journal ∙ seen_more side number (journal_of history) line
+          ∙ ap (λ xs. seen_at number side history ++ (xs ++ map Says named)) none;
+    }
+
+pub turn_says : (number : ℕ) (side : Side) (history : List Event) (slot : ℕ) (radios : List Bool) → IsSaying number side history (history ++ TurnBegan slot radios ∷ [])
+turn_says number side history slot radios = line_says number side history (TurnBegan slot radios) _ refl refl
+
+pub feed_says : (number : ℕ) (side : Side) (history : List Event) (station : ℕ) (octets : List ℕ) → IsSaying number side history (history ++ HostFed station octets ∷ [])
+feed_says number side history station octets = line_says number side history (HostFed station octets) _ refl refl
+
+note_hears : (number : ℕ) (side other : Side) (front : List Entry) (link_of : ℕ → ℕ) (last : ℕ) (note : Note) → heard_in_line side number front (entry_of other link_of last note) ≡ []
+note_hears number side other front link_of last (Up packet) = refl
+note_hears number side other front link_of last note = refl
+
+note_says : (number : ℕ) (side : Side) (history : List Event) (station : ℕ) (note : Note) → IsSaying number side history (history ++ Noted station note ∷ [])
+note_says number side history station note =
+    let links = links_of history in
+    line_says number side history (Noted station note) _ refl
+    (note_hears number side (side_of station) (journal_of history) (links.link_of station) (links.last_of station) note)
+
+call_says_none : (number : ℕ) (side : Side) (history : List Event) (station : ℕ) (step : Call) → IsSaying number side history (history ++ Called station step ∷ [])
+call_says_none number side history station step =
+    let journal = journal_event history (Called station step) ∙ append-nil (journal_of history) in record {
+      more = [];
+      lines = ap (lines_of side number) journal ∙ sym (append-nil (lines_at number side history));
+      seen = ap (seen_on side number) journal ∙ sym (append-nil (seen_at number side history));
+    }
+
+nothing_says : (number : ℕ) (side : Side) (history after : List Event) → after ≡ history → IsSaying number side history after
+nothing_says number side history after same = record {
+  more = [];
+  lines = ap (lines_at number side) same ∙ sym (append-nil (lines_at number side history));
+  seen = ap (seen_at number side) same ∙ sym (append-nil (seen_at number side history));
+}
+
+notes_say : (number : ℕ) (side : Side) (station : ℕ) (notes : List Note) (history after : List Event) → after ≡ history ++ map (Noted station) notes
+    → IsSaying number side history after
+notes_say number side station [] history after is = nothing_says number side history after (is ∙ append-nil history)
+notes_say number side station (note ∷ notes) history after is =
+    let next = history ++ Noted station note ∷ [] in
+    saying_then number side history next after (note_says number side history station note)
+    (notes_say number side station notes next after (is ∙ sym (append_assoc history (Noted station note ∷ []) (map (Noted station) notes))))
+
+-- a call, with its notes
+pub call_says : (given : Given) (number : ℕ) (side : Side) (station : ℕ) (step : Call) (history : List Event)
+    → IsSaying number side history (after_call given station step history)
+call_says given number side station step history =
+    let notes = notes_after (setup_at given station) (facts_at given station history) step in
+    let called = history ++ Called station step ∷ [] in
+    saying_then number side history called (after_call given station step history) (call_says_none number side history station step)
+    (notes_say number side station notes called (after_call given station step history) (sym (append_assoc history (Called station step ∷ []) (map (Noted station) notes))))
+
+-- ---- an end to which more happened
+
+-- its lines before and after are its notes, so the lines between are those of what happened since
+pub grows_seen : (number : ℕ) (side : Side) (setup : Setup) (past steps : List Step) (heard : List Seen) (history after : List Event) → IsSaying number side history after
+    → lines_at number side history ≡ map (line_of side number) (notes_opened_on setup past)
+    → lines_at number side after ≡ map (line_of side number) (notes_opened_on setup (past ++ steps))
+    → seen_in_steps side number setup (facts_of setup past) steps ≡ heard ++ notes_said side number (notes_from setup (facts_of setup past) steps)
+    → seen_at number side history ≡ seen_of side number setup past ++ heard → seen_at number side after ≡ seen_of side number setup (past ++ steps)
+grows_seen number side setup past steps heard history after saying lined lined_after hears seen =
+    let notes = notes_from setup (facts_of setup past) steps in
+    let more : saying.more ≡ map (line_of side number) notes =
+    append_cancel_left (lines_at number side history) saying.more (map (line_of side number) notes)
+    (sym saying.lines ∙ lined_after ∙ ap (map (line_of side number)) (notes_more setup past steps)
+    ∙ map-append (line_of side number) (notes_opened_on setup past) notes ∙ ap (λ xs. xs ++ map (line_of side number) notes) (sym lined)) in
+    saying.seen ∙ (λ i. seen i ++ map Says (more i))
+    ∙ append_assoc (seen_of side number setup past) heard (notes_said side number notes)
+    ∙ ap (λ xs. seen_of side number setup past ++ xs) (sym hears)
+    ∙ sym (seen_grows side number setup past steps)
+
+-- ---- a packet on the air
+
+abbrev pub is_heard_of : ℕ → Side → List Event → ℕ → ℕ → List ℕ → Hearing → Bool
+is_heard_of number side history station channel octets hearing =
+    is_of_link number (journal_of history) (side_of station) channel octets && (is_side (side_of station) (other_side side) && is_good hearing.verdict)
+
+pub packet_seen : (number : ℕ) (side : Side) (station channel : ℕ) (octets : List ℕ) (history : List Event) (hearings : List Hearing) (hearing : Hearing) → hearings ≡ hearing ∷ []
+    → seen_at number side (history ++ Transmitted station channel octets hearings ∷ [])
+    ≡ seen_at number side history ++ heard_where (is_heard_of number side history station channel octets hearing) (length (turns_of (journal_of history)) - 1) octets
+packet_seen number side station channel octets history hearings hearing are =
+    let slot = length (turns_of (journal_of history)) - 1 in
+    let heard = heard_where (is_heard_of number side history station channel octets hearing) slot octets in
+    ap (seen_on side number) (journal_event history (Transmitted station channel octets hearings)
+    ∙ ap (λ xs. journal_of history ++ air_entries (side_of station) channel octets xs) are)
+    ∙ seen_more side number (journal_of history) (Air (side_of station) channel octets (mark_of hearing.fate) hearing.verdict)
+    ∙ ap (λ xs. seen_at number side history ++ xs) (append-nil heard)
+
+-- it is not heard
+pub packet_unseen : (number : ℕ) (side : Side) (station channel : ℕ) (octets : List ℕ) (history : List Event) (hearings : List Hearing) (hearing : Hearing) → hearings ≡ hearing ∷ []
+    → is_heard_of number side history station channel octets hearing ≡ false
+    → seen_at number side (history ++ Transmitted station channel octets hearings ∷ []) ≡ seen_at number side history
+packet_unseen number side station channel octets history hearings hearing are none =
+    packet_seen number side station channel octets history hearings hearing are
+    ∙ ap (λ b. seen_at number side history ++ heard_where b (length (turns_of (journal_of history)) - 1) octets) none
+    ∙ append-nil (seen_at number side history)
+
+-- as it is on an advertising channel
+pub unheard_advertised : (number : ℕ) (side : Side) (history : List Event) (station channel : ℕ) (octets : List ℕ) (hearing : Hearing) → is_advertising channel ≡ true
+    → is_heard_of number side history station channel octets hearing ≡ false
+unheard_advertised number side history station channel octets hearing on =
+    ap (λ b. (not b && is_number (link_of_packet (journal_of history) (side_of station) octets) number)
+    && (is_side (side_of station) (other_side side) && is_good hearing.verdict)) on
+
+-- or of the side itself, or not good
+pub unheard_bad : (number : ℕ) (side : Side) (history : List Event) (station channel : ℕ) (octets : List ℕ) (hearing : Hearing)
+    → (is_side (side_of station) (other_side side) && is_good hearing.verdict) ≡ false → is_heard_of number side history station channel octets hearing ≡ false
+unheard_bad number side history station channel octets hearing none =
+    and_right (is_of_link number (journal_of history) (side_of station) channel octets) (is_side (side_of station) (other_side side) && is_good hearing.verdict) none
+
+-- one of a link
+pub heard_of_link : (number other : ℕ) (side : Side) (history : List Event) (station channel : ℕ) (octets : List ℕ) (hearing : Hearing) → is_advertising channel ≡ false
+    → link_of_packet (journal_of history) (side_of station) octets ≡ Some other
+    → is_heard_of number side history station channel octets hearing ≡ ((other == number) && (is_side (side_of station) (other_side side) && is_good hearing.verdict))
+heard_of_link number other side history station channel octets hearing off belongs =
+    ap (λ b. (not b && is_number (link_of_packet (journal_of history) (side_of station) octets) number)
+    && (is_side (side_of station) (other_side side) && is_good hearing.verdict)) off
+    ∙ ap (λ may. is_number may number && (is_side (side_of station) (other_side side) && is_good hearing.verdict)) belongs
+
+-- or of another one
+pub unheard_apart : (number other : ℕ) (side : Side) (history : List Event) (station channel : ℕ) (octets : List ℕ) (hearing : Hearing) → is_advertising channel ≡ false
+    → link_of_packet (journal_of history) (side_of station) octets ≡ Some other → (other == number) ≡ false
+    → is_heard_of number side history station channel octets hearing ≡ false
+unheard_apart number other side history station channel octets hearing off belongs apart =
+    heard_of_link number other side history station channel octets hearing off belongs
+    ∙ and_left (other == number) (is_side (side_of station) (other_side side) && is_good hearing.verdict) apart

@@ -1,0 +1,103 @@
+-- What an end of a link says and hears, in order: its lines, and between them the good packets that reach it (Core 5.2,
+-- volume 6 part B, sections 2.1.2 and 4.5; the order is our choice).
+use Rattle.std.specs.Prelude.{ℕ, ◌-◌, ◌&&◌, Bool, true, false, List, [], ◌∷◌, ◌++◌, length, map}
+use Rattle.std.specs.List.{flat_map}
+use Rattle.ble_base.specs.Side.{other_side}
+use Rattle.ble_base.specs.declared.notes.Note.{Note}
+use Rattle.ble_base.specs.declared.roles.Side.{Side}
+use Rattle.journal.specs.declared.entries.Entry.{Entry}
+use Rattle.journal.specs.declared.entries.Entry.TheVariants.{Air}
+use Rattle.controller_model.specs.Facts.{Facts as StationFacts}
+use Rattle.controller_model.specs.Links.{note_opened}
+use Rattle.controller_model.specs.Step.{Step as Call, PacketHeard}
+use Rattle.journal_acks.specs.journal_links.LinkLines.{line_of, link_named, where_named}
+use Rattle.journal_acks.specs.journal_packets.Belonging.{is_side}
+use Rattle.journal_acks.specs.link_model.End.{facts_after, notes_after}
+use Rattle.journal_acks.specs.link_model.Facts.{Facts, first_facts}
+use Rattle.journal_acks.specs.link_model.Packets.{verdict_of}
+use Rattle.journal_acks.specs.link_model.Setup.{Setup}
+use Rattle.journal_acks.specs.link_model.Step.{Step, PacketReceived}
+use Rattle.journal_acks.specs.open_links.OpenLinks.{OpenLink, facts_in}
+use Rattle.journal_acks.specs.run_laws.Ends.{link_listened}
+use Rattle.journal_acks.specs.run_model.History.{is_good}
+use Rattle.journal_acks.specs.run_model.Readers.{turns_of}
+use Rattle.journal_acks.specs.Exchange.{is_number}
+use Rattle.journal_acks.specs.Shut.{is_of_link}
+
+pub data Seen : Type 0 where
+  -- a line of its side on its link
+  Says : (line : Entry) → Seen
+  -- a good packet of the other end, with these octets, reaches it in the turn of this slot
+  Hears : (slot : ℕ) (octets : List ℕ) → Seen
+
+-- a packet is heard where it is good
+abbrev pub heard_where : Bool → ℕ → List ℕ → List Seen
+heard_where true slot octets = Hears slot octets ∷ []
+heard_where false slot octets = []
+
+-- ---- by the lines alone
+
+-- the packet is one of the other side on the link with this number, and its verdict is good
+abbrev pub heard_in_line : Side → ℕ → List Entry → Entry → List Seen
+heard_in_line side number front (Air sender channel octets fate verdict) =
+    heard_where (is_of_link number front sender channel octets && (is_side sender (other_side side) && is_good verdict))
+    (length (turns_of front) - 1) octets
+heard_in_line side number front line = []
+
+-- what the end of a side on the link with a number says and hears in a line that comes after these
+abbrev pub seen_in_line : Side → ℕ → List Entry → Entry → List Seen
+seen_in_line side number front line =
+    heard_in_line side number front line ++ map Says (where_named side number (link_named line) line)
+
+abbrev pub seen_from : Side → ℕ → List Entry → List Entry → List Seen
+seen_from side number front [] = []
+seen_from side number front (line ∷ lines) =
+    seen_in_line side number front line ++ seen_from side number (front ++ line ∷ []) lines
+
+unfoldable pub seen_on : Side → ℕ → List Entry → List Seen
+seen_on side number journal = seen_from side number [] journal
+
+-- the lines among what an end says and hears
+abbrev pub line_said : Seen → List Entry
+line_said (Says line) = line ∷ []
+line_said (Hears slot octets) = []
+
+abbrev pub lines_said : List Seen → List Entry
+lines_said seen = flat_map line_said seen
+
+-- ---- by the past of the end
+
+-- the lines of these notes
+abbrev pub notes_said : Side → ℕ → List Note → List Seen
+notes_said side number notes = map Says (map (line_of side number) notes)
+
+-- a packet that its verdict finds good
+abbrev pub heard_in_step : Setup → Facts → Step → List Seen
+heard_in_step setup facts (PacketReceived slot octets room) =
+    heard_where (is_good (verdict_of setup facts octets)) slot octets
+heard_in_step setup facts step = []
+
+-- what the end with these facts says and hears in a step
+abbrev pub seen_in : Side → ℕ → Setup → Facts → Step → List Seen
+seen_in side number setup facts step =
+    heard_in_step setup facts step ++ notes_said side number (notes_after setup facts step)
+
+abbrev pub seen_in_steps : Side → ℕ → Setup → Facts → List Step → List Seen
+seen_in_steps side number setup facts [] = []
+seen_in_steps side number setup facts (step ∷ steps) =
+    seen_in side number setup facts step ++ seen_in_steps side number setup (facts_after setup facts step) steps
+
+-- what the end of a side on the link with a number says and hears, from the line that says that it was opened
+unfoldable pub seen_of : Side → ℕ → Setup → List Step → List Seen
+seen_of side number setup past =
+    Says (line_of side number (note_opened setup.link)) ∷ seen_in_steps side number setup (first_facts setup) past
+
+-- ---- by the call that comes next
+
+-- what its end hears in this call, where the station listens on the link under this handle
+abbrev pub heard_next : ℕ → StationFacts → Call → OpenLink → List Seen
+heard_next handle facts (PacketHeard octets) link =
+    heard_where
+    (is_number (link_listened facts.turn.doing) handle && is_good (verdict_of link.setup (facts_in link) octets))
+    facts.turn.slot octets
+heard_next handle facts call link = []
