@@ -1,0 +1,373 @@
+-- An accepted command may come on its link, and the view knows the end after it.
+use Rattle.std.proofs.Common.{◌≡◌, ℕ, suc, ◌<◌, ◌^◌, ◌+◌, ◌==◌, Bool, true, false, ◌&&◌, ◌||◌, not, cond, if◌then◌else◌, [], ◌∷◌, length, nat_le, nat_lt, Option, Some, None, Result, Ok, Err, is_some, refl, ap, sym, ◌∙◌, subst, arith, eqb-true}
+use Rattle.std.proofs.lemmas.Bool.Decides.{nat_tests}
+use Rattle.ble_base.specs.ChannelMap.{IsMap, used_channels}
+use Rattle.ble_base.specs.declared.error_codes.ErrCode.{ErrCode}
+use Rattle.ble_base.specs.declared.procedure_kinds.Kind.{Kind}
+use Rattle.ble_base.specs.declared.procedure_kinds.Kind.TheVariants.{Features as features_kind, Length as length_kind, Map as map_kind, Version as version_kind}
+use Rattle.ble_base.specs.declared.roles.Role.{Role}
+use Rattle.ble_base.specs.declared.roles.Role.TheVariants.{Central, Peripheral}
+use Rattle.hci_cmd.specs.declared.command.Command.{Command}
+use Rattle.hci_cmd.specs.declared.command.Command.TheVariants.{Disconnect, LeConnectionUpdate, LeParamNegative, LeParamReply, LeReadRemoteFeatures, LeSetChannels, LeSetDataLength, ReadRemoteVersion}
+use Rattle.procedure_values.specs.declared.asks.Ask.{Ask}
+use Rattle.procedure_values.specs.declared.asks.Ask.TheVariants.{Features, Length, Map, Request, Update, Version}
+use Rattle.procedure_values.specs.Asks.{is_same_kind, kind_of_ask}
+use Rattle.procedure_values.specs.Wants.{count_of}
+use Rattle.exclusive_stages.specs.declared.stages.PeerAtCentral.{PeerAtCentral}
+use Rattle.exclusive_stages.specs.declared.stages.PeerAtCentral.TheVariants.{Absent, GrantUnsent}
+use Rattle.procedure_values.specs.Values.{IsParams, IsPayloadMax}
+use Rattle.procedure_stages.specs.declared.closing.Closing.{Closing}
+use Rattle.procedure_stages.specs.declared.closing.Closing.TheVariants.{Open}
+use Rattle.procedure_stages.specs.declared.stages.Progress.{Progress}
+use Rattle.procedure_stages.specs.declared.stages.Progress.TheVariants.{Central as central, Peripheral as peripheral}
+use Rattle.procedure_stages.specs.Closing.{is_disconnecting, is_open}
+use Rattle.procedure_stages.specs.InProgress.{is_host_asked, peer_becomes}
+use Rattle.procedure_stages.specs.Kinds.{is_kind, own_kind, role_of}
+use Rattle.procedures.specs.Beginning.{may_ask_of}
+use Rattle.procedures.specs.Going.{host_answer_step, is_answer, terminate_step}
+use Rattle.procedures.specs.Table.{TableFacts}
+use Rattle.control_model.specs.Control.{Answers, Asks, Control, Disconnects, table_if}
+use Rattle.control_model.proofs.Calls.{open_step}
+use Rattle.control_octets.specs.Fitting.{AskFits, RequestFits}
+use Rattle.joint_controls.specs.Joint.{is_map}
+use Rattle.unencrypted_ends.specs.Unencrypted.{asks_no_encryption}
+use Rattle.link_model.specs.Facts.{Facts}
+use Rattle.link_model.specs.Hosts.{asked_unless, facts_answered, facts_asked, facts_disconnected, is_to_come}
+use Rattle.link_model.specs.Rows.{central_with}
+use Rattle.link_model.specs.Setup.{Setup}
+use Rattle.procedure_stages.specs.declared.steps.Effect.{Effect}
+use Rattle.procedure_stages.specs.declared.steps.Effect.TheVariants.{AskHost}
+use Rattle.link_model.specs.Step.{Step, ProcedureAsked}
+use Rattle.link_model.specs.End.{facts_after}
+use Rattle.host_view.specs.declared.links.Link.{Link}
+use Rattle.host_view.specs.View.{View}
+use Rattle.host_view.specs.declared.links.Asked.{Asked}
+use Rattle.host_view.specs.Changes.{answered, asking, with_asked}
+use Rattle.host_view.specs.Links.{is_asked, link_in, update_kind}
+use Rattle.host_view.specs.Refusals.{are_parameters, asked_row, count_if, first_refusal, link_rows, parameters_row}
+use Rattle.host_view.specs.Status.{connection_update_rows, data_length_rows, disconnect_rows, is_data_length, is_reason, parameter_request_row, rows_of}
+use Rattle.host_asks.specs.Commands.{FitsReason, MayComeIf, answered_if, ask_unless, facts_commanded, host_step_of, is_about, link_commanded, map_by, update_by}
+use Rattle.host_asks.specs.Knowing.{KnowsAsks, KnowsTable}
+use Rattle.host_asks.specs.Noting.{effect_in, is_of_host, link_after, link_after_notes, link_told}
+use Rattle.host_asks.proofs.Controls.{ends_before}
+use Rattle.host_asks.proofs.Ends.{step_knows}
+use Rattle.host_asks.proofs.Keeping.{asked_with, same_kinds}
+use Rattle.host_asks.proofs.Tables.{may_ask_new, table_asks}
+
+-- ---- the steps of the host, one end
+
+disconnect_table : (link : Link) (f : TableFacts) (reason : ErrCode) (closing : Closing) → f.closing ≡ closing → KnowsTable link f
+    → KnowsTable (record link { disconnecting = true }) (if is_open closing then terminate_step f reason else f)
+disconnect_table link f reason Open is knows =
+    record { role = knows.role; asked = knows.asked; closes = λ ends. refl; disconnects = λ ends. refl; parameters = knows.parameters }
+disconnect_table link f reason closing is knows =
+    record { role = knows.role; asked = knows.asked; closes = λ ends. ap is_open is; disconnects = λ ends. refl; parameters = knows.parameters }
+
+table_is : (b : Bool) (g : TableFacts) (c : Control) → (table_if b g c).table ≡ (if b then g else c.table)
+table_is true g c = refl
+table_is false g c = refl
+
+pub disconnect_knows : (link : Link) (facts : Facts) (reason : ErrCode) (slot : ℕ) → KnowsAsks link facts
+    → (facts_disconnected reason slot facts).control.ends ≡ None
+    → KnowsAsks (record link { disconnecting = true }) (facts_disconnected reason slot facts)
+disconnect_knows link facts reason slot knows lasts =
+    record {
+      table =
+          open_step (λ (c : Control). KnowsTable (record link { disconnecting = true }) c.table) (Disconnects reason) facts.control
+          (ends_before (Disconnects reason) facts.control lasts)
+          (subst (λ (f : TableFacts). KnowsTable (record link { disconnecting = true }) f)
+          (sym (table_is (is_open facts.control.table.closing) (terminate_step facts.control.table reason) facts.control))
+          (disconnect_table link facts.control.table reason facts.control.table.closing refl knows.table));
+      disconnecting = refl;
+    }
+
+-- it asks for a procedure that it did not ask for before
+pub asked_knows : (link : Link) (facts : Facts) (ask : Ask) → is_asked (kind_of_ask ask) link.asked ≡ false → KnowsAsks link facts
+    → (facts_asked ask facts).control.ends ≡ None → is_to_come ask facts ≡ false
+    → KnowsAsks (asking (kind_of_ask ask) link) (facts_asked ask facts)
+asked_knows link facts ask new knows lasts not_come = by (is_to_come ask facts) not_come lasts
+  where
+    by : (comes : Bool) → comes ≡ false → (asked_unless comes ask facts).control.ends ≡ None → KnowsAsks (asking (kind_of_ask ask) link) (asked_unless comes ask facts)
+    by true is lasts = absurd (cc)
+    by false is lasts =
+        record {
+          table =
+              open_step (λ (c : Control). KnowsTable (asking (kind_of_ask ask) link) c.table) (Asks ask) facts.control
+              (ends_before (Asks ask) facts.control lasts) (table_asks link facts.control.table ask new knows.table);
+          disconnecting = knows.disconnecting;
+        }
+
+-- a map, which the view of a link does not keep
+pub map_knows : (link : Link) (facts : Facts) (map : ℕ) → KnowsAsks link facts
+    → (facts_asked (Map map) facts).control.ends ≡ None → KnowsAsks link (facts_asked (Map map) facts)
+map_knows link facts map knows lasts = by (is_to_come (Map map) facts) lasts
+  where
+    by : (comes : Bool) → (asked_unless comes (Map map) facts).control.ends ≡ None → KnowsAsks link (asked_unless comes (Map map) facts)
+    by true lasts = knows
+    by false lasts =
+        record {
+          table =
+              open_step (λ (c : Control). KnowsTable link c.table) (Asks (Map map)) facts.control
+              (ends_before (Asks (Map map)) facts.control lasts) (table_asks link facts.control.table (Map map) refl knows.table);
+          disconnecting = knows.disconnecting;
+        }
+
+-- it answers a request, whatever the view keeps of that
+no_longer_asked : (link : Link) (f g : TableFacts) (waits : Bool) → g.wanted ≡ f.wanted → g.closing ≡ f.closing → role_of g.progress ≡ role_of f.progress
+    → own_kind g.progress ≡ own_kind f.progress → is_host_asked g.progress ≡ false → KnowsTable link f
+    → KnowsTable (record link { waits_for_parameters = waits }) g
+no_longer_asked link f g waits wanted closing role own none knows =
+    record {
+      role = role ∙ knows.role;
+      asked = λ kind other. (λ i. count_of kind (wanted i) + count_if (is_kind (own i) kind)) ∙ knows.asked kind other;
+      closes = λ is. ap is_open closing ∙ knows.closes is;
+      disconnects = λ is. knows.disconnects (sym (ap is_disconnecting closing) ∙ is);
+      parameters = λ asks. absurd (let h : false ≡ true = sym none ∙ asks in absurd cc);
+    }
+
+becomes_role : (peer : PeerAtCentral) (p : Progress) → role_of (peer_becomes peer p) ≡ role_of p
+becomes_role peer (central c) = refl
+becomes_role peer (peripheral p) = refl
+
+becomes_own : (peer : PeerAtCentral) (p : Progress) → own_kind (peer_becomes peer p) ≡ own_kind p
+becomes_own peer (central c) = refl
+becomes_own peer (peripheral p) = refl
+
+granted_host : (p : Progress) → is_host_asked (peer_becomes GrantUnsent p) ≡ false
+granted_host (central c) = refl
+granted_host (peripheral p) = refl
+
+refused_host : (p : Progress) → is_host_asked (peer_becomes Absent p) ≡ false
+refused_host (central c) = refl
+refused_host (peripheral p) = refl
+
+answered_table : (link : Link) (f : TableFacts) (answer : Result Ask ErrCode) (waits asked : Bool) → is_answer answer ≡ true
+    → is_host_asked f.progress ≡ asked → KnowsTable link f
+    → KnowsTable (record link { waits_for_parameters = waits }) (if asked && is_answer answer then host_answer_step f answer else f)
+answered_table link f answer waits false answers is knows = no_longer_asked link f f waits refl refl refl refl is knows
+answered_table link f (Err code) waits true answers is knows =
+    no_longer_asked link f (host_answer_step f (Err code)) waits refl refl (becomes_role Absent f.progress) (becomes_own Absent f.progress) (refused_host f.progress) knows
+answered_table link f (Ok (Update interval latency timeout)) waits true answers is knows =
+    no_longer_asked link f (host_answer_step f (Ok (Update interval latency timeout))) waits refl refl (becomes_role GrantUnsent f.progress)
+    (becomes_own GrantUnsent f.progress) (granted_host f.progress) knows
+answered_table link f (Ok ask) waits true answers is knows = absurd (cc)
+
+pub answer_knows : (link : Link) (facts : Facts) (answer : Result Ask ErrCode) (waits : Bool) → is_answer answer ≡ true → KnowsAsks link facts
+    → (facts_answered answer facts).control.ends ≡ None
+    → KnowsAsks (record link { waits_for_parameters = waits }) (facts_answered answer facts)
+answer_knows link facts answer waits answers knows lasts =
+    record {
+      table =
+          open_step (λ (c : Control). KnowsTable (record link { waits_for_parameters = waits }) c.table) (Answers answer) facts.control
+          (ends_before (Answers answer) facts.control lasts)
+          (subst (λ (f : TableFacts). KnowsTable (record link { waits_for_parameters = waits }) f)
+          (sym (table_is (is_host_asked facts.control.table.progress && is_answer answer) (host_answer_step facts.control.table answer) facts.control))
+          (answered_table link facts.control.table answer waits (is_host_asked facts.control.table.progress) answers refl knows.table));
+      disconnecting = knows.disconnecting;
+    }
+
+-- ---- rows that do not hold
+
+-- a row with a code that is not 00 does not hold, nor does one of the next
+passes : (condition : Bool) (code rest : ℕ) → cond condition (suc code) rest ≡ 0 → (condition ≡ false) × (rest ≡ 0)
+passes true code rest is = absurd (omega (arith, is))
+passes false code rest is = (refl, is)
+
+not_not : (b : Bool) → not b ≡ false → b ≡ true
+not_not true is = refl
+not_not false is = sym is
+
+-- ---- values
+
+reason_fits : (reason : ℕ) → is_reason reason ≡ true → reason < 256
+reason_fits reason is = grind (arith, nat_tests)
+
+params_fit : (min max latency timeout : ℕ) → are_parameters min max latency timeout ≡ true
+    → IsParams (record { interval = max; latency = latency; timeout = timeout })
+params_fit min max latency timeout are =
+    record {
+      win_size_one = refl;
+      win_offset_within = omega arith;
+      interval_from = grind (arith, nat_tests);
+      interval_to = grind (arith, nat_tests);
+      latency_to = grind (arith, nat_tests);
+      timeout_from = grind (arith, nat_tests);
+      timeout_to = grind (arith, nat_tests);
+      timeout_outlasts = grind (arith, nat_tests);
+    }
+
+request_fits : (min max latency timeout : ℕ) → are_parameters min max latency timeout ≡ true → RequestFits min max latency timeout
+request_fits min max latency timeout are =
+    record {
+      min_fits = grind (arith, nat_tests);
+      max_fits = grind (arith, nat_tests);
+      latency_fits = grind (arith, nat_tests);
+      timeout_fits = grind (arith, nat_tests);
+    }
+
+length_fits : (most time : ℕ) → is_data_length most time ≡ true → IsPayloadMax most
+length_fits most time is = record { from = grind (arith, nat_tests); to = grind (arith, nat_tests) }
+
+map_fits : (map : ℕ) → (nat_lt (length (used_channels map)) 2 || nat_le (2 ^ 37) map) ≡ false → IsMap map
+map_fits map ok = record { data_channels_only = grind (arith, nat_tests); two_or_more = grind (arith, nat_tests) }
+
+-- ---- what a command does on its link
+
+pub record IsCarriedOut (setup : Setup) (fits : Type 0) (step : Option Step) (after : Link) (facts : Facts) : Type 0 where
+  pub may : fits → MayComeIf step facts
+  pub keeps : (facts_commanded setup step facts).control.ends ≡ None → KnowsAsks after (facts_commanded setup step facts)
+
+may_by : (x same known : Bool) → x ≡ true → (same && known) ≡ false → (false || (x && not (same && known))) ≡ true
+may_by x same known is none = rw (is, none) refl
+
+-- it asks for a procedure
+asks_out : (setup : Setup) (link : Link) (facts : Facts) (ask : Ask) → KnowsAsks link facts → is_asked (kind_of_ask ask) link.asked ≡ false
+    → AskFits ask → asks_no_encryption ask ≡ true → is_same_kind (kind_of_ask ask) map_kind ≡ false → is_map ask ≡ false
+    → (is_same_kind (kind_of_ask ask) version_kind && is_some facts.peer.version) ≡ false → is_to_come ask facts ≡ false
+    → (F : Type 0) → IsCarriedOut setup F (Some (ProcedureAsked ask)) (asking (kind_of_ask ask) link) facts
+asks_out setup link facts ask knows new fits plain other no_map unknown comes F =
+    record {
+      may = λ fits_too.
+          record {
+            in_range = fits;
+            plain = plain;
+            may =
+                ap (λ (b : Bool). b || (may_ask_of facts.control.table (kind_of_ask ask) && not (is_same_kind (kind_of_ask ask) version_kind && is_some facts.peer.version))) no_map
+                ∙ may_by (may_ask_of facts.control.table (kind_of_ask ask)) (is_same_kind (kind_of_ask ask) version_kind) (is_some facts.peer.version)
+                (may_ask_new facts.control.table (kind_of_ask ask) link.asked other knows.table.asked new) unknown;
+          };
+      keeps = λ lasts. asked_knows link facts ask new knows lasts comes;
+    }
+
+-- what is known is answered at once, and is not asked for
+asked_again : (k kind : Kind) (asked : Asked) → is_asked k asked ≡ false → is_same_kind kind map_kind ≡ false
+    → is_asked kind (with_asked k false (with_asked k true asked)) ≡ is_asked kind asked
+asked_again k kind asked new other =
+    asked_with k kind false (with_asked k true asked) other ∙ by (is_same_kind k kind) refl
+  where
+    by : (same : Bool) → is_same_kind k kind ≡ same → (if same then false else is_asked kind (with_asked k true asked)) ≡ is_asked kind asked
+    by true is = sym (subst (λ (a : Kind). is_asked a asked ≡ false) (same_kinds k kind is) new)
+    by false is = asked_with k kind true asked other ∙ ap (λ (b : Bool). if b then true else is_asked kind asked) is
+
+known_out : (setup : Setup) (link : Link) (facts : Facts) (k : Kind) → KnowsAsks link facts → is_asked k link.asked ≡ false
+    → (F : Type 0) → IsCarriedOut setup F None (answered k (asking k link)) facts
+known_out setup link facts k knows new F =
+    record {
+      may = λ fits. tt;
+      keeps = λ lasts.
+          record {
+            table =
+                record {
+                  role = knows.table.role;
+                  asked = λ kind other. knows.table.asked kind other ∙ ap count_if (sym (asked_again k kind link.asked new other));
+                  closes = knows.table.closes;
+                  disconnects = knows.table.disconnects;
+                  parameters = knows.table.parameters;
+                };
+            disconnecting = knows.disconnecting;
+          };
+    }
+
+version_out : (setup : Setup) (link : Link) (facts : Facts) (known : Bool) → is_some facts.peer.version ≡ known → KnowsAsks link facts
+    → is_asked version_kind link.asked ≡ false
+    → (F : Type 0) → IsCarriedOut setup F (ask_unless known Version) (answered_if known version_kind (asking version_kind link)) facts
+version_out setup link facts true is knows new F = known_out setup link facts version_kind knows new F
+version_out setup link facts false is knows new F = asks_out setup link facts Version knows new tt refl refl refl is refl F
+
+features_out : (setup : Setup) (link : Link) (facts : Facts) (known : Bool) → KnowsAsks link facts → is_asked features_kind link.asked ≡ false
+    → (F : Type 0) → IsCarriedOut setup F (ask_unless known Features) (answered_if known features_kind (asking features_kind link)) facts
+features_out setup link facts true knows new F = known_out setup link facts features_kind knows new F
+features_out setup link facts false knows new F = asks_out setup link facts Features knows new tt refl refl refl refl refl F
+
+update_out : (setup : Setup) (link : Link) (facts : Facts) (role : Role) (min max latency timeout : ℕ) → KnowsAsks link facts
+    → are_parameters min max latency timeout ≡ true → is_asked (update_kind role) link.asked ≡ false
+    → (F : Type 0) → IsCarriedOut setup F (Some (ProcedureAsked (update_by role min max latency timeout))) (asking (update_kind role) link) facts
+update_out setup link facts Central min max latency timeout knows are new F =
+    asks_out setup link facts (Update max latency timeout) knows new (params_fit min max latency timeout are) refl refl refl refl refl F
+update_out setup link facts Peripheral min max latency timeout knows are new F =
+    asks_out setup link facts (Request min max latency timeout) knows new (request_fits min max latency timeout are) refl refl refl refl refl F
+
+map_out : (setup : Setup) (link : Link) (facts : Facts) (role : Role) (map : ℕ) → KnowsAsks link facts → IsMap map
+    → (F : Type 0) → IsCarriedOut setup F (map_by role map) link facts
+map_out setup link facts Central map knows is F =
+    record { may = λ fits. record { in_range = is; plain = refl; may = refl }; keeps = λ lasts. map_knows link facts map knows lasts }
+map_out setup link facts Peripheral map knows is F = record { may = λ fits. tt; keeps = λ lasts. knows }
+
+-- ---- by command
+
+given_link : (view : View) (given handle : ℕ) (link : Link) → (given == handle) ≡ true → link_in view.links handle ≡ Some link
+    → link_in view.links given ≡ Some link
+given_link view given handle link same is = subst (λ (h : ℕ). link_in view.links h ≡ Some link) (sym (eqb-true given handle same)) is
+
+pub carried_out : (setup : Setup) (view : View) (command : Command) (handle slot : ℕ) (link : Link) (facts : Facts)
+    → first_refusal (rows_of view command) ≡ 0 → is_about handle command ≡ true → link_in view.links handle ≡ Some link
+    → KnowsAsks link facts
+    → IsCarriedOut setup (FitsReason command) (host_step_of command slot link.role facts.peer) (link_commanded command facts.peer link) facts
+carried_out setup view (Disconnect given reason) handle slot link facts ok about is knows =
+    let rows = passes link.disconnecting _ _ (subst (λ (l : Option Link). first_refusal (disconnect_rows l reason) ≡ 0) (given_link view given handle link about is) ok) in
+    record {
+      may = λ fits. reason_fits reason (not_not (is_reason reason) (passes (not (is_reason reason)) _ _ rows.1).0);
+      keeps = λ lasts. disconnect_knows link facts (record { 0 = reason }) slot knows lasts;
+    }
+carried_out setup view (ReadRemoteVersion given) handle slot link facts ok about is knows =
+    let rows = passes link.disconnecting _ _ (subst (λ (l : Option Link). first_refusal (link_rows l (asked_row version_kind l ∷ [])) ≡ 0) (given_link view given handle link about is) ok) in
+    version_out setup link facts (is_some facts.peer.version) refl knows (passes (is_asked version_kind link.asked) _ _ rows.1).0 _
+carried_out setup view (LeReadRemoteFeatures given) handle slot link facts ok about is knows =
+    let rows = passes link.disconnecting _ _ (subst (λ (l : Option Link). first_refusal (link_rows l (asked_row features_kind l ∷ [])) ≡ 0) (given_link view given handle link about is) ok) in
+    features_out setup link facts (is_some facts.peer.features) knows (passes (is_asked features_kind link.asked) _ _ rows.1).0 _
+carried_out setup view (LeSetDataLength given most time) handle slot link facts ok about is knows =
+    let rows = passes link.disconnecting _ _ (subst (λ (l : Option Link). first_refusal (data_length_rows l most time) ≡ 0) (given_link view given handle link about is) ok) in
+    let long = passes (not (is_data_length most time)) _ _ rows.1 in
+    asks_out setup link facts (Length most) knows (passes (is_asked length_kind link.asked) _ _ long.1).0
+    (length_fits most time (not_not (is_data_length most time) long.0)) refl refl refl refl refl _
+carried_out setup view (LeConnectionUpdate given min max latency timeout lengths) handle slot link facts ok about is knows =
+    let rows = passes link.disconnecting _ _ (subst (λ (l : Option Link). first_refusal (connection_update_rows l min max latency timeout) ≡ 0) (given_link view given handle link about is) ok) in
+    let valid = passes (not (are_parameters min max latency timeout)) _ _ rows.1 in
+    update_out setup link facts link.role min max latency timeout knows (not_not (are_parameters min max latency timeout) valid.0)
+    (passes (is_asked (update_kind link.role) link.asked) _ _ valid.1).0 _
+carried_out setup view (LeSetChannels map) handle slot link facts ok about is knows =
+    map_out setup link facts link.role map knows (map_fits map (passes (nat_lt (length (used_channels map)) 2 || nat_le (2 ^ 37) map) _ _ ok).0) _
+carried_out setup view (LeParamReply given min max latency timeout lengths) handle slot link facts ok about is knows =
+    let rows = passes link.disconnecting _ _ (subst (λ (l : Option Link). first_refusal (link_rows l (parameter_request_row l ∷ parameters_row min max latency timeout ∷ [])) ≡ 0) (given_link view given handle link about is) ok) in
+    let waits = passes (not link.waits_for_parameters) _ _ rows.1 in
+    record {
+      may = λ fits. params_fit min max latency timeout (not_not (are_parameters min max latency timeout) (passes (not (are_parameters min max latency timeout)) _ _ waits.1).0);
+      keeps = λ lasts. answer_knows link facts (Ok (Update max latency timeout)) false refl knows lasts;
+    }
+carried_out setup view (LeParamNegative given reason) handle slot link facts ok about is knows =
+    record { may = λ fits. fits; keeps = λ lasts. answer_knows link facts (Err (record { 0 = reason })) false refl knows lasts }
+carried_out setup view other handle slot link facts ok about is knows = absurd (cc)
+
+pub command_may_come : (view : View) (command : Command) (handle slot : ℕ) (link : Link) (facts : Facts)
+    → first_refusal (rows_of view command) ≡ 0 → FitsReason command → is_about handle command ≡ true → link_in view.links handle ≡ Some link
+    → KnowsAsks link facts → MayComeIf (host_step_of command slot link.role facts.peer) facts
+command_may_come view command handle slot link facts ok fits about is knows =
+    (carried_out (central_with 0) view command handle slot link facts ok about is knows).may fits
+
+pub command_keeps : (setup : Setup) (view : View) (command : Command) (handle slot : ℕ) (link : Link) (facts : Facts)
+    → first_refusal (rows_of view command) ≡ 0 → is_about handle command ≡ true → link_in view.links handle ≡ Some link
+    → KnowsAsks link facts → (facts_commanded setup (host_step_of command slot link.role facts.peer) facts).control.ends ≡ None
+    → KnowsAsks (link_commanded command facts.peer link) (facts_commanded setup (host_step_of command slot link.role facts.peer) facts)
+command_keeps setup view command handle slot link facts ok about is knows lasts =
+    (carried_out setup view command handle slot link facts ok about is knows).keeps lasts
+
+-- ---- a request is refused, also one whose event is withheld
+
+pub refused_knows : (link : Link) (facts : Facts) (code : ErrCode) (waits : Bool) → KnowsAsks link facts
+    → (facts_answered (Err code) facts).control.ends ≡ None
+    → KnowsAsks (record link { waits_for_parameters = waits }) (facts_answered (Err code) facts)
+refused_knows link facts code waits knows lasts = answer_knows link facts (Err code) waits refl knows lasts
+
+told_again : (effect : Effect) (link : Link) → record (link_told effect link) { waits_for_parameters = link.waits_for_parameters } ≡ link
+told_again (AskHost min max latency timeout) link = refl
+told_again effect link = refl
+
+pub withheld_knows : (setup : Setup) (step : Step) (link : Link) (facts : Facts) (code : ErrCode) → is_of_host step ≡ false → KnowsAsks link facts
+    → (facts_answered (Err code) (facts_after setup facts step)).control.ends ≡ None
+    → KnowsAsks (link_after_notes setup facts step link) (facts_answered (Err code) (facts_after setup facts step))
+withheld_knows setup step link facts code other knows lasts =
+    let next = facts_after setup facts step in
+    let noted = link_after_notes setup facts step link in
+    subst (λ (l : Link). KnowsAsks l (facts_answered (Err code) next)) (told_again (effect_in setup facts step) noted)
+    (refused_knows (link_after setup facts step link) next code noted.waits_for_parameters
+    (step_knows setup step link facts other knows (ends_before (Answers (Err code)) next.control lasts)) lasts)

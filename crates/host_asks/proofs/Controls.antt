@@ -1,0 +1,138 @@
+-- What the view knows of the control part of an end, step by step.
+use Rattle.std.proofs.Common.{◌≡◌, ℕ, Bool, true, false, ◌&&◌, if◌then◌else◌, Option, Some, None, is_some, is_none, refl, ap, sym, ◌∙◌, subst}
+use Rattle.ble_base.specs.ErrorCodes.{instant_passed}
+use Rattle.ble_base.specs.declared.error_codes.ErrCode.{ErrCode}
+use Rattle.ble_base.specs.declared.roles.Role.{Role}
+use Rattle.ble_base.specs.declared.roles.Role.TheVariants.{Central, Peripheral}
+use Rattle.data_pdu.specs.declared.ctrl.CtrlRead.{CtrlRead}
+use Rattle.instants.specs.declared.indications.Indication.{Indication}
+use Rattle.instants.specs.Track.{event_of, next_number, track_after_take}
+use Rattle.procedure_values.specs.Drafts.{is_out}
+use Rattle.procedure_stages.specs.declared.steps.Effect.{Effect}
+use Rattle.procedure_stages.specs.declared.steps.Effect.TheVariants.{Indicated}
+use Rattle.procedure_stages.specs.declared.steps.Step.{Step as TableStep}
+use Rattle.procedure_stages.specs.Kinds.{role_of}
+use Rattle.procedures.specs.Going.{entered_step}
+use Rattle.procedures.specs.Queue.{next_of}
+use Rattle.procedures.specs.Sending.{acked_step}
+use Rattle.procedures.specs.Table.{TableFacts}
+use Rattle.procedures.specs.Taking.{facts_with, lacks_room, outcome_of, took_step}
+use Rattle.control_model.specs.Control.{Control, Step, Enters, SeesAcknowledged, Sends, Takes, after, ended, following, goes_out, is_to_come, indicated_by, moved, table_if, taken, went}
+use Rattle.control_model.proofs.Calls.{open_step, settled_as}
+use Rattle.control_end.specs.declared.answers.Taken.{Taken}
+use Rattle.control_end.specs.Answers.{done_by_acknowledgement, effect_shown, nothing_taken, step_shown, taken_of}
+use Rattle.control_end.specs.Held.{Held, held_after, held_of}
+use Rattle.control_end.proofs.Depending.{step_held}
+use Rattle.host_view.specs.declared.links.Link.{Link}
+use Rattle.host_asks.specs.Knowing.{KnowsTable}
+use Rattle.host_asks.specs.Noting.{link_told}
+use Rattle.host_asks.proofs.Tables.{link_done, link_refused, table_acked, table_begun, table_entered, table_sent, table_takes}
+
+-- an end that did not end the link did not before
+pub ends_before : (step : Step) (c : Control) → (after step c).ends ≡ None → c.ends ≡ None
+ends_before step c lasts = by c.ends refl lasts
+  where
+    by : (ends : Option ErrCode) → c.ends ≡ ends → (if is_none ends then moved step c else c).ends ≡ None → c.ends ≡ None
+    by None is h = is
+    by (Some code) is h = h
+
+-- ---- an event is entered
+
+pub control_entered_knows : (link : Link) (c : Control) (slot : ℕ) (quiet : Bool) → c.ends ≡ None → KnowsTable link c.table
+    → KnowsTable (link_done (entered_step c.table (is_some (next_number c.track))).1 link) (after (Enters slot quiet) c).table
+control_entered_knows link c slot quiet lasts knows =
+    open_step (λ (d : Control). KnowsTable (link_done (entered_step c.table (is_some (next_number c.track))).1 link) d.table) (Enters slot quiet) c lasts
+    (table_begun _ (entered_step c.table (is_some (next_number c.track))).0 slot quiet (table_entered link c.table (is_some (next_number c.track)) knows))
+
+-- ---- a control PDU is sent
+
+following_table : (role : Role) (indication : Option Indication) (c : Control) → (following role indication c).table ≡ c.table
+following_table Central (Some indication) c = refl
+following_table Central None c = refl
+following_table Peripheral indication c = refl
+
+pub control_sent_knows : (link : Link) (c : Control) (slot : ℕ) (quiet : Bool) → KnowsTable link c.table → KnowsTable link (after (Sends slot quiet) c).table
+control_sent_knows link c slot quiet knows = lasting (is_none c.ends)
+  where
+    by : (goes : Bool)
+        → KnowsTable link (if goes then following (role_of c.table.progress) (went slot quiet c).1 (record c { table = (went slot quiet c).0 }) else c).table
+    by true =
+        subst (λ (f : TableFacts). KnowsTable link f) (sym (following_table (role_of c.table.progress) (went slot quiet c).1 (record c { table = (went slot quiet c).0 })))
+        (table_sent link c.table (next_of c.table (event_of c.track) quiet) (event_of c.track) c.track.params.latency slot knows)
+    by false = knows
+
+    lasting : (lasts : Bool) → KnowsTable link (if lasts then moved (Sends slot quiet) c else c).table
+    lasting true = by (goes_out quiet c)
+    lasting false = knows
+
+-- ---- one is acknowledged
+
+pub control_acked_knows : (link : Link) (c : Control) → KnowsTable link c.table
+    → KnowsTable (link_done (done_by_acknowledgement (held_of c)) link) (after SeesAcknowledged c).table
+control_acked_knows link c knows = lasting (is_none c.ends) (is_out c.table.out)
+  where
+    lasting : (lasts out : Bool)
+        → KnowsTable (link_done (if lasts && out then (acked_step c.table).1 else None) link)
+        (if lasts then table_if out (acked_step c.table).0 c else c).table
+    lasting true true = table_acked link c.table knows
+    lasting true false = knows
+    lasting false out = knows
+
+-- ---- one is taken
+
+abbrev pub link_by : TableStep → Link → Link
+link_by step link = link_told step.effect (link_done step.done (link_refused step.refused link))
+
+knows_by : (link : Link) (f g : TableFacts) (full : Bool) (code : Option ErrCode) (step : TableStep) → step.ends ≡ code → KnowsTable (link_by step link) g
+    → (settled_as full code f g step).1.ends ≡ None → KnowsTable (link_by (settled_as full code f g step).1 link) (settled_as full code f g step).0
+knows_by link f g true code step is knows lasts = absurd (cc)
+knows_by link f g false (Some code) step is knows lasts = absurd (some_none (sym is ∙ lasts))
+  where
+    some_none : Some code ≡ None → ⊥
+    some_none h = cc
+knows_by link f g false None step is knows lasts = knows
+
+table_took : (link : Link) (f : TableFacts) (read : CtrlRead) (slot : ℕ) (quiet : Bool) → KnowsTable link f → (took_step f read slot quiet).1.ends ≡ None
+    → KnowsTable (link_by (took_step f read slot quiet).1 link) (took_step f read slot quiet).0
+table_took link f read slot quiet knows =
+    knows_by link f (facts_with f slot (outcome_of f quiet read)) (lacks_room f (outcome_of f quiet read)) (outcome_of f quiet read).step.ends
+    (outcome_of f quiet read).step refl (table_takes link f read slot quiet knows)
+
+taken_knows : (K : TableFacts → Type 0) (table : TableFacts) (code : Option ErrCode) (indication : Option Indication) (c : Control) → (code ≡ None → K table)
+    → (taken table code indication c).ends ≡ None → K (taken table code indication c).table
+taken_knows K table (Some code) indication c knows lasts = absurd (cc)
+taken_knows K table None None c knows lasts = knows refl
+taken_knows K table None (Some indication) c knows lasts = by (is_to_come c.track indication) lasts
+  where
+    by : (comes : Bool)
+        → (if comes then record c { table = table; track = track_after_take c.track indication } else ended (record { 0 = instant_passed }) c).ends ≡ None
+        → K (if comes then record c { table = table; track = track_after_take c.track indication } else ended (record { 0 = instant_passed }) c).table
+    by true lasts = knows refl
+    by false lasts = absurd (cc)
+
+-- what is given of it changes the link as the step of the table does
+shown_tells : (effect : Effect) (link : Link) → link_told (effect_shown effect) link ≡ link_told effect link
+shown_tells (Indicated indication) link = refl
+shown_tells effect link = refl
+
+abbrev pub link_given : Taken → Link → Link
+link_given given link = link_told given.effect (link_done given.done (link_refused given.refused link))
+
+given_by : (link : Link) (goes : Bool) (step : TableStep) → goes ≡ true → link_given (if goes then step_shown step else nothing_taken) link ≡ link_by step link
+given_by link true step is = shown_tells step.effect (link_done step.done (link_refused step.refused link))
+given_by link false step is = absurd (cc)
+
+pub control_taken_knows : (link : Link) (c : Control) (read : CtrlRead) (slot : ℕ) (quiet : Bool) → KnowsTable link c.table
+    → (after (Takes read slot quiet) c).ends ≡ None
+    → KnowsTable (link_given (taken_of read slot quiet (held_of c)) link) (after (Takes read slot quiet) c).table
+control_taken_knows link c read slot quiet knows lasts =
+    subst (λ (l : Link). KnowsTable l (after (Takes read slot quiet) c).table)
+    (sym (given_by link (is_none (held_after (Takes read slot quiet) (held_of c)).ends) (took_step c.table read slot quiet).1 goes))
+    (open_step (λ (d : Control). d.ends ≡ None → KnowsTable (link_by (took_step c.table read slot quiet).1 link) d.table) (Takes read slot quiet) c
+    (ends_before (Takes read slot quiet) c lasts)
+    (taken_knows (λ (f : TableFacts). KnowsTable (link_by (took_step c.table read slot quiet).1 link) f) (took_step c.table read slot quiet).0
+    (took_step c.table read slot quiet).1.ends (indicated_by (took_step c.table read slot quiet).1.effect) c (table_took link c.table read slot quiet knows))
+    lasts)
+  where
+    goes : is_none (held_after (Takes read slot quiet) (held_of c)).ends ≡ true
+    goes = ap (λ (h : Held). is_none h.ends) (sym (step_held (Takes read slot quiet) c)) ∙ ap (λ (ends : Option ErrCode). is_none ends) lasts

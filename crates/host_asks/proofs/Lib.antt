@@ -1,0 +1,7 @@
+-- The lemmas of this crate.
+pub mod Keeping
+pub mod Outcomes
+pub mod Tables
+pub mod Controls
+pub mod Ends
+pub mod Accepting

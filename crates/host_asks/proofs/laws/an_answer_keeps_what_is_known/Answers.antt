@@ -1,0 +1,9 @@
+-- Proof of `laws::an_answer_keeps_what_is_known`.
+use Rattle.host_asks.proofs.Accepting.{refused_knows, withheld_knows}
+use Rattle.host_asks.proofs.laws.an_answer_keeps_what_is_known.Goals as goal
+
+pub returns-clause-refused : goal.returns-clause-refused
+returns-clause-refused c = refused_knows
+
+pub returns-clause-withheld : goal.returns-clause-withheld
+returns-clause-withheld c = withheld_knows

@@ -1,0 +1,78 @@
+//! The laws of what the view of a host knows of the ends of its links. The bodies do nothing: the
+//! contracts are the laws.
+ghost use Rattle.std.specs.Prelude.{◌≡◌, ℕ, Bool, true, false, Some, None, Err};
+ghost use Rattle.ble_base.specs.declared.addresses.Address.{Address};
+ghost use Rattle.ble_base.specs.declared.error_codes.ErrCode.{ErrCode};
+ghost use Rattle.hci_cmd.specs.declared.command.Command.{Command};
+ghost use Rattle.link_model.specs.Setup.{Setup};
+ghost use Rattle.link_model.specs.Facts.{Facts, first_facts};
+ghost use Rattle.link_model.specs.Hosts.{facts_answered};
+ghost use Rattle.link_model.specs.Step.{Step};
+ghost use Rattle.link_model.specs.End.{facts_after};
+ghost use Rattle.host_view.specs.declared.links.Link.{Link};
+ghost use Rattle.host_view.specs.View.{View};
+ghost use Rattle.host_view.specs.Links.{link_in};
+ghost use Rattle.host_view.specs.Noted.{opened_link};
+ghost use Rattle.host_view.specs.Refusals.{first_refusal};
+ghost use Rattle.host_view.specs.Status.{rows_of};
+ghost use Rattle.host_asks.specs.Commands.{FitsReason, MayComeIf, facts_commanded, host_step_of};
+ghost use Rattle.host_asks.specs.Commands.{is_about, link_commanded};
+ghost use Rattle.host_asks.specs.Knowing.{KnowsAsks};
+ghost use Rattle.host_asks.specs.Noting.{is_of_host, link_after, link_after_notes};
+
+/// The view of a link that was just opened knows the end of it: nothing is asked for there.
+pub fn a_new_link_is_known()
+    ensures { (setup : Setup) (own peer : Address)
+        → KnowsAsks (opened_link setup.link.role own peer) (first_facts setup) }
+{}
+
+/// Where the table of conditions accepts a command on a link, and the view knows the end of that
+/// link, the step that the command makes may come there: the host asks for no procedure that the
+/// end wants or runs, and all values are in their ranges (Core 5.2, volume 4 part E, sections 7.1
+/// and 7.8; volume 6 part B, section 5.1).
+pub fn accepted_commands_may_come()
+    ensures { (view : View) (command : Command) (handle slot : ℕ) (link : Link) (facts : Facts)
+        → first_refusal (rows_of view command) ≡ 0 → FitsReason command
+        → is_about handle command ≡ true → link_in view.links handle ≡ Some link
+        → KnowsAsks link facts
+        → MayComeIf (host_step_of command slot link.role facts.peer) facts }
+{}
+
+/// The view knows the end after that step too, until a procedure ends the link. Where the end knows
+/// the features or the version of its peer already, the command makes no step: it is answered at
+/// once, and the view takes that as done.
+pub fn a_command_keeps_what_is_known()
+    ensures { (setup : Setup) (view : View) (command : Command) (handle slot : ℕ) (link : Link)
+        (facts : Facts)
+        → first_refusal (rows_of view command) ≡ 0
+        → is_about handle command ≡ true → link_in view.links handle ≡ Some link
+        → KnowsAsks link facts
+        → (facts_commanded setup (host_step_of command slot link.role facts.peer)
+        facts).control.ends ≡ None
+        → KnowsAsks (link_commanded command facts.peer link)
+        (facts_commanded setup (host_step_of command slot link.role facts.peer) facts) }
+{}
+
+/// The view knows the end after any other step, with what that notes, and with the event of a
+/// request of the peer: a procedure that is refused or done is the one that the host asked for.
+pub fn a_step_keeps_what_is_known()
+    ensures { (setup : Setup) (step : Step) (link : Link) (facts : Facts)
+        → is_of_host step ≡ false → KnowsAsks link facts
+        → (facts_after setup facts step).control.ends ≡ None
+        → KnowsAsks (link_after setup facts step link) (facts_after setup facts step) }
+{}
+
+/// A request of the peer that is refused waits for the host no more, whatever the view keeps of it.
+/// So where a mask withholds its event and it is refused at once, the view need not know of it.
+pub fn an_answer_keeps_what_is_known()
+    ensures refused { (link : Link) (facts : Facts) (code : ErrCode) (waits : Bool)
+        → KnowsAsks link facts
+        → (facts_answered (Err code) facts).control.ends ≡ None
+        → KnowsAsks (record link { waits_for_parameters = waits })
+        (facts_answered (Err code) facts) }
+    ensures withheld { (setup : Setup) (step : Step) (link : Link) (facts : Facts)
+        (code : ErrCode) → is_of_host step ≡ false → KnowsAsks link facts
+        → (facts_answered (Err code) (facts_after setup facts step)).control.ends ≡ None
+        → KnowsAsks (link_after_notes setup facts step link)
+        (facts_answered (Err code) (facts_after setup facts step)) }
+{}
