@@ -358,7 +358,7 @@ pub refused_knows : (link : Link) (facts : Facts) (code : ErrCode) (waits : Bool
     → KnowsAsks (record link { waits_for_parameters = waits }) (facts_answered (Err code) facts)
 refused_knows link facts code waits knows lasts = answer_knows link facts (Err code) waits refl knows lasts
 
-told_again : (effect : Effect) (link : Link) → record (link_told effect link) { waits_for_parameters = link.waits_for_parameters } ≡ link
+pub told_again : (effect : Effect) (link : Link) → record (link_told effect link) { waits_for_parameters = link.waits_for_parameters } ≡ link
 told_again (AskHost min max latency timeout) link = refl
 told_again effect link = refl
 

@@ -5,3 +5,7 @@ pub mod Tables
 pub mod Controls
 pub mod Ends
 pub mod Accepting
+pub mod Lasting
+pub mod LinksViewed
+pub mod EndsViewed
+pub mod StepsListed

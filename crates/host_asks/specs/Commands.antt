@@ -49,6 +49,12 @@ host_step_of (LeParamReply handle min max latency timeout lengths) slot role pee
 host_step_of (LeParamNegative handle reason) slot role peer = Some (RequestAnswered (Err (record { 0 = reason })))
 host_step_of other slot role peer = None
 
+-- the host asks for what the end may know already (volume 4 part E, sections 7.1.23 and 7.8.21)
+abbrev pub is_read_of_peer : Command → Bool
+is_read_of_peer (ReadRemoteVersion handle) = true
+is_read_of_peer (LeReadRemoteFeatures handle) = true
+is_read_of_peer other = false
+
 -- ---- on which links
 
 -- the command is about the link with this handle

@@ -2,4 +2,6 @@
 pub mod Knowing
 pub mod Noting
 pub mod Commands
+pub mod Lasting
+pub mod Views
 pub mod Rows

@@ -1,6 +1,6 @@
 //! The laws of what the view of a host knows of the ends of its links. The bodies do nothing: the
 //! contracts are the laws.
-ghost use Rattle.std.specs.Prelude.{◌≡◌, ℕ, Bool, true, false, Some, None, Err};
+ghost use Rattle.std.specs.Prelude.{◌≡◌, ℕ, Bool, true, false, List, Some, None, Err};
 ghost use Rattle.ble_base.specs.declared.addresses.Address.{Address};
 ghost use Rattle.ble_base.specs.declared.error_codes.ErrCode.{ErrCode};
 ghost use Rattle.hci_cmd.specs.declared.command.Command.{Command};
@@ -18,6 +18,7 @@ ghost use Rattle.host_view.specs.Status.{rows_of};
 ghost use Rattle.host_asks.specs.Commands.{FitsReason, MayComeIf, facts_commanded, host_step_of};
 ghost use Rattle.host_asks.specs.Commands.{is_about, link_commanded};
 ghost use Rattle.host_asks.specs.Knowing.{KnowsAsks};
+ghost use Rattle.host_asks.specs.Lasting.{AllMayHappen, LinkEvent, first_viewed, viewed_after_all};
 ghost use Rattle.host_asks.specs.Noting.{is_of_host, link_after, link_after_notes};
 
 /// The view of a link that was just opened knows the end of it: nothing is asked for there.
@@ -75,4 +76,15 @@ pub fn an_answer_keeps_what_is_known()
         → (facts_answered (Err code) (facts_after setup facts step)).control.ends ≡ None
         → KnowsAsks (link_after_notes setup facts step link)
         (facts_answered (Err code) (facts_after setup facts step)) }
+{}
+
+/// So through all that happens to a link and to an end of it, the view knows the end until a
+/// procedure ends the link: commands that are accepted, steps of the end, and requests of the peer
+/// that its host receives or that are refused at once.
+pub fn a_link_is_known_while_it_lasts()
+    ensures { (setup : Setup) (own peer : Address) (events : List LinkEvent)
+        → AllMayHappen setup (first_viewed setup own peer) events
+        → (viewed_after_all setup (first_viewed setup own peer) events).facts.control.ends ≡ None
+        → KnowsAsks (viewed_after_all setup (first_viewed setup own peer) events).link
+        (viewed_after_all setup (first_viewed setup own peer) events).facts }
 {}

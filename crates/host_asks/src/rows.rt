@@ -1,5 +1,12 @@
-//! A worked example.
-ghost use Rattle.std.specs.Prelude.{◌≡◌, true, false, None};
+//! Worked examples, and why the view takes what is answered at once.
+ghost use Rattle.std.specs.Prelude.{◌≡◌, ℕ, true, false, None};
+ghost use Rattle.ble_base.specs.declared.procedure_kinds.Kind.{Kind};
+ghost use Rattle.hci_cmd.specs.declared.command.Command.{Command};
+ghost use Rattle.link_model.specs.Facts.{Facts};
+ghost use Rattle.host_view.specs.declared.links.Link.{Link};
+ghost use Rattle.host_view.specs.Links.{is_asked};
+ghost use Rattle.host_asks.specs.Commands.{link_accepted};
+ghost use Rattle.host_asks.specs.Knowing.{KnowsAsks};
 ghost use Rattle.procedure_stages.specs.InProgress.{is_host_asked};
 ghost use Rattle.host_asks.specs.Rows.{asked_once, asked_wrongly};
 
@@ -10,4 +17,15 @@ pub fn a_peer_may_withdraw_its_request()
     ensures waits { is_host_asked asked_once.table.progress ≡ true }
     ensures gone { is_host_asked asked_wrongly.table.progress ≡ false }
     ensures goes_on { asked_wrongly.ends ≡ None }
+{}
+
+/// An accepted command alone does not leave the view as the end is, where it is answered at once:
+/// no step would ever clear what it asks for, and the host could not ask a second time.
+pub fn an_answer_at_once_is_taken()
+    ensures version { (handle : ℕ) (link : Link) (facts : Facts) → KnowsAsks link facts
+        → is_asked Kind.Version link.asked ≡ false
+        → KnowsAsks (link_accepted (Command.ReadRemoteVersion handle) link) facts → ⊥ }
+    ensures features { (handle : ℕ) (link : Link) (facts : Facts) → KnowsAsks link facts
+        → is_asked Kind.Features link.asked ≡ false
+        → KnowsAsks (link_accepted (Command.LeReadRemoteFeatures handle) link) facts → ⊥ }
 {}

@@ -1,0 +1,269 @@
+-- What the view of all links knows of each end, by steps, packets and commands.
+use Rattle.std.proofs.Common.{◌≡◌, ℕ, ◌+◌, ◌*◌, ◌%◌, ◌/◌, ◌<◌, ◌==◌, ◌&&◌, min, Bool, true, false, List, [], ◌∷◌, fold, length, Option, Some, None, Err, is_none, is_some, if◌then◌else◌, refl, ap, sym, ◌∙◌, subst, arith}
+use Rattle.std.specs.Option.{option_map}
+use Rattle.ble_base.specs.declared.error_codes.ErrCode.{ErrCode}
+use Rattle.ble_base.specs.declared.procedure_kinds.Kind.{Kind}
+use Rattle.ble_base.specs.declared.procedure_kinds.Kind.TheVariants.{Features, Version}
+use Rattle.ble_base.specs.declared.roles.Role.{Role}
+use Rattle.hci_cmd.specs.declared.command.Command.{Command}
+use Rattle.hci_cmd.specs.declared.command.Command.TheVariants.{LeReadRemoteFeatures, ReadRemoteVersion}
+use Rattle.procedure_values.specs.declared.asks.Ask.TheVariants.{Features as ask_features, Version as ask_version}
+use Rattle.procedure_stages.specs.declared.steps.Effect.{Effect}
+use Rattle.procedure_stages.specs.Kinds.{role_of}
+use Rattle.procedure_stages.specs.Steps.{asks_host}
+use Rattle.link_model.specs.declared.state.PeerFacts.{PeerFacts}
+use Rattle.link_model.specs.declared.state.PeerVersion.{PeerVersion}
+use Rattle.link_model.specs.End.{facts_after, notes_after}
+use Rattle.link_model.specs.Hosts.{facts_answered}
+use Rattle.link_model.specs.Setup.{Setup}
+use Rattle.link_model.specs.Step.{Step}
+use Rattle.host_view.specs.Changes.{answered, view_after}
+use Rattle.host_view.specs.Refusals.{count_if, first_refusal}
+use Rattle.host_view.specs.Status.{rows_of}
+use Rattle.host_asks.specs.Commands.{FitsReason, MayComeIf, answered_if, ask_unless, facts_commanded, host_step_of, is_about, is_read_of_peer, link_accepted, link_answered, link_commanded}
+use Rattle.host_asks.proofs.Accepting.{command_keeps, command_may_come, refused_knows, told_again}
+use Rattle.host_asks.proofs.Ends.{step_knows}
+use Rattle.ble_base.specs.declared.notes.Note.TheVariants.{Done, Up}
+use Rattle.hci_evt.specs.Event.{written}
+use Rattle.hci_evt.specs.declared.event.Event.TheVariants.{ParamRequest}
+use Rattle.wire_fields.specs.Field.{little_endian}
+use Rattle.procedure_stages.specs.declared.steps.Effect.TheVariants.{AskHost}
+use Rattle.link_model.specs.Facts.{Facts}
+use Rattle.host_view.specs.declared.links.Link.{Link}
+use Rattle.host_view.specs.View.{View}
+use Rattle.host_view.specs.Changes.{on_link}
+use Rattle.host_view.specs.Links.{link_in}
+use Rattle.host_view.specs.Noted.{after_packet, event_handle, handed_up, acl_handle, is_acl_data, is_le_event, view_noted}
+use Rattle.host_asks.specs.Knowing.{KnowsAsks}
+use Rattle.host_asks.specs.Noting.{effect_in, is_of_host, link_after_notes, link_noted, link_told}
+use Rattle.host_asks.specs.Views.{KnowsAt, KnowsOnceTold, events_at_once, events_if, kind_if, kind_known, leaves_other_links, view_answered, view_commanded}
+use Rattle.host_asks.proofs.LinksViewed.{about_other, about_own, command_other, command_own, notes_of_step, notes_own}
+
+-- ---- a change that keeps what is known
+
+changed_known : (effect : Effect) (view : View) (given handle : ℕ) (facts : Facts) (change : Link → Link)
+    → ((link : Link) → KnowsAsks (link_told effect link) facts → KnowsAsks (link_told effect (change link)) facts)
+    → KnowsOnceTold effect view handle facts → KnowsOnceTold effect (on_link given change view) handle facts
+changed_known effect view given handle facts change keeps known = by (given == handle) refl
+  where
+    by : (own : Bool) → (given == handle) ≡ own → KnowsOnceTold effect (on_link given change view) handle facts
+    by true is =
+        record {
+          link = change known.link;
+          is_open = about_own view given handle change is ∙ ap (option_map change) known.is_open;
+          knows = keeps known.link known.knows;
+        }
+    by false is = record { link = known.link; is_open = about_other view given handle change is ∙ known.is_open; knows = known.knows }
+
+handed_known : (link : Link) (facts : Facts) (outstanding : ℕ) → KnowsAsks link facts → KnowsAsks (record link { outstanding = outstanding }) facts
+handed_known link facts outstanding knows =
+    record {
+      table =
+          record {
+            role = knows.table.role;
+            asked = knows.table.asked;
+            closes = knows.table.closes;
+            disconnects = knows.table.disconnects;
+            parameters = knows.table.parameters;
+          };
+      disconnecting = knows.disconnecting;
+    }
+
+key_known : (link : Link) (facts : Facts) (waits : Bool) → KnowsAsks link facts → KnowsAsks (record link { waits_for_key = waits }) facts
+key_known link facts waits knows =
+    record {
+      table =
+          record {
+            role = knows.table.role;
+            asked = knows.table.asked;
+            closes = knows.table.closes;
+            disconnects = knows.table.disconnects;
+            parameters = knows.table.parameters;
+          };
+      disconnecting = knows.disconnecting;
+    }
+
+parameters_known : (link : Link) (facts : Facts) → KnowsAsks link facts → KnowsAsks (record link { waits_for_parameters = true }) facts
+parameters_known link facts knows =
+    record {
+      table =
+          record {
+            role = knows.table.role;
+            asked = knows.table.asked;
+            closes = knows.table.closes;
+            disconnects = knows.table.disconnects;
+            parameters = λ asks. refl;
+          };
+      disconnecting = knows.disconnecting;
+    }
+
+-- what waits does not depend on these
+told_handed : (effect : Effect) (link : Link) (facts : Facts) (outstanding : ℕ) → KnowsAsks (link_told effect link) facts
+    → KnowsAsks (link_told effect (record link { outstanding = outstanding })) facts
+told_handed (AskHost least most latency timeout) link facts outstanding knows = handed_known (link_told (AskHost least most latency timeout) link) facts outstanding knows
+told_handed effect link facts outstanding knows = handed_known link facts outstanding knows
+
+told_key : (effect : Effect) (link : Link) (facts : Facts) (waits : Bool) → KnowsAsks (link_told effect link) facts
+    → KnowsAsks (link_told effect (record link { waits_for_key = waits })) facts
+told_key (AskHost least most latency timeout) link facts waits knows = key_known (link_told (AskHost least most latency timeout) link) facts waits knows
+told_key effect link facts waits knows = key_known link facts waits knows
+
+told_parameters : (effect : Effect) (link : Link) (facts : Facts) → KnowsAsks (link_told effect link) facts
+    → KnowsAsks (link_told effect (record link { waits_for_parameters = true })) facts
+told_parameters (AskHost least most latency timeout) link facts knows = knows
+told_parameters effect link facts knows = parameters_known link facts knows
+
+-- ---- any packet
+
+module _ (effect : Effect) (handle : ℕ) (facts : Facts) where
+  choice : (b : Bool) (x y : View) → KnowsOnceTold effect x handle facts → KnowsOnceTold effect y handle facts
+      → KnowsOnceTold effect (if b then x else y) handle facts
+  choice true x y hx hy = hx
+  choice false x y hx hy = hy
+
+  packet_by : (view : View) (octets : List ℕ) → KnowsOnceTold effect view handle facts → KnowsOnceTold effect (after_packet octets view) handle facts
+  packet_by view octets known =
+      choice (is_acl_data octets) _ _
+      (choice view.flow.on _ _
+      (changed_known effect view (acl_handle octets) handle facts (λ link. record link { outstanding = min (link.outstanding + 1) 65535 })
+      (λ link knows. told_handed effect link facts (min (link.outstanding + 1) 65535) knows) known) known)
+      (choice (is_le_event 0x05 octets) _ _
+      (changed_known effect view (event_handle octets) handle facts (λ link. record link { waits_for_key = true }) (λ link knows. told_key effect link facts true knows) known)
+      (choice (is_le_event 0x06 octets) _ _
+      (changed_known effect view (event_handle octets) handle facts (λ link. record link { waits_for_parameters = true })
+      (λ link knows. told_parameters effect link facts knows) known)
+      known))
+
+pub packet_known : (effect : Effect) (view : View) (octets : List ℕ) (handle : ℕ) (facts : Facts) → KnowsOnceTold effect view handle facts
+    → KnowsOnceTold effect (view_noted view (Up (record { items = octets }))) handle facts
+unfolding view_noted
+packet_known effect view octets handle facts known = packet_by effect handle facts view octets known
+
+-- ---- the event of a request
+
+two_octets_are : (handle : ℕ) → handle < 65536 → handle % 256 + 256 * (handle / 256 % 256) ≡ handle
+two_octets_are handle fits = omega (arith, fits)
+
+request_links : (view : View) (handle least most latency timeout : ℕ) → handle < 65536
+    → link_in (view_noted view (Up (record { items = written (ParamRequest handle least most latency timeout) }))).links handle
+    ≡ option_map (link_told (AskHost least most latency timeout)) (link_in view.links handle)
+unfolding view_noted little_endian
+request_links view handle least most latency timeout fits =
+    subst (λ (h : ℕ). link_in (on_link h (λ (link : Link). record link { waits_for_parameters = true }) view).links handle
+    ≡ option_map (λ (link : Link). record link { waits_for_parameters = true }) (link_in view.links handle)) (sym (two_octets_are handle fits))
+    (about_own view handle handle (λ link. record link { waits_for_parameters = true }) (same handle))
+  where
+    same : (n : ℕ) → (n == n) ≡ true
+    same n = grind (arith)
+
+pub request_told : (view : View) (handle least most latency timeout : ℕ) (facts : Facts) → handle < 65536
+    → KnowsOnceTold (AskHost least most latency timeout) view handle facts
+    → KnowsAt (view_noted view (Up (record { items = written (ParamRequest handle least most latency timeout) }))) handle facts
+request_told view handle least most latency timeout facts fits known =
+    record {
+      link = link_told (AskHost least most latency timeout) known.link;
+      is_open = request_links view handle least most latency timeout fits ∙ ap (option_map (link_told (AskHost least most latency timeout))) known.is_open;
+      knows = known.knows;
+    }
+
+-- ---- there is no request, or it is refused at once
+
+pub none_told : (effect : Effect) (view : View) (handle : ℕ) (facts : Facts) → asks_host effect ≡ false → KnowsOnceTold effect view handle facts
+    → KnowsAt view handle facts
+none_told (AskHost least most latency timeout) view handle facts none known = absurd (cc)
+none_told effect view handle facts none known = record { link = known.link; is_open = known.is_open; knows = known.knows }
+
+pub refused_told : (effect : Effect) (view : View) (handle : ℕ) (facts : Facts) (code : ErrCode) → KnowsOnceTold effect view handle facts
+    → (facts_answered (Err code) facts).control.ends ≡ None → KnowsAt view handle (facts_answered (Err code) facts)
+refused_told effect view handle facts code known lasts =
+    record {
+      link = known.link;
+      is_open = known.is_open;
+      knows =
+          subst (λ (l : Link). KnowsAsks l (facts_answered (Err code) facts)) (told_again effect known.link)
+          (refused_knows (link_told effect known.link) facts code known.link.waits_for_parameters known.knows lasts);
+    }
+
+-- ---- a step of an end, and a command
+
+option_some : (f : Link → Link) (found : Option Link) (link : Link) → found ≡ Some link → option_map f found ≡ Some (f link)
+option_some f found link is = ap (option_map f) is
+
+pub step_known : (view : View) (setup : Setup) (facts : Facts) (step : Step) → is_of_host step ≡ false
+    → KnowsAt view setup.link.handle facts → (facts_after setup facts step).control.ends ≡ None
+    → KnowsOnceTold (effect_in setup facts step) (fold view_noted view (notes_after setup facts step)) setup.link.handle (facts_after setup facts step)
+step_known view setup facts step other known lasts =
+    record {
+      link = link_after_notes setup facts step known.link;
+      is_open =
+          notes_own setup.link.handle view (notes_after setup facts step) (notes_of_step setup facts step)
+          ∙ option_some (link_after_notes setup facts step) (link_in view.links setup.link.handle) known.link known.is_open;
+      knows = step_knows setup step known.link facts other known.knows lasts;
+    }
+
+answered_view : (view : View) (handle : ℕ) (kind : Kind) (link : Link) → link_in view.links handle ≡ Some link
+    → link_in (view_noted view (Done handle kind)).links handle ≡ Some (answered kind link)
+answered_view view handle kind link is =
+    notes_own handle view (Done handle kind ∷ []) (refl, tt) ∙ option_some (λ l. fold link_noted l (Done handle kind ∷ [])) (link_in view.links handle) link is
+
+known_if : (view : View) (handle : ℕ) (known : Bool) (kind : Kind) (link : Link) → link_in view.links handle ≡ Some link
+    → link_in (view_answered handle (kind_if known kind) view).links handle ≡ Some (answered_if known kind link)
+known_if view handle true kind link is = answered_view view handle kind link is
+known_if view handle false kind link is = is
+
+answered_by : (view : View) (command : Command) (handle : ℕ) (peer : PeerFacts) (link : Link) → link_in view.links handle ≡ Some link
+    → link_in (view_answered handle (kind_known command peer) view).links handle ≡ Some (link_answered command peer link)
+answered_by view (ReadRemoteVersion given) handle peer link is = known_if view handle (is_some peer.version) Version link is
+answered_by view (LeReadRemoteFeatures given) handle peer link is = known_if view handle (is_some peer.features) Features link is
+answered_by view other handle peer link is = is
+
+pub command_may : (view : View) (command : Command) (handle slot : ℕ) (facts : Facts) → first_refusal (rows_of view command) ≡ 0 → FitsReason command
+    → is_about handle command ≡ true → KnowsAt view handle facts
+    → MayComeIf (host_step_of command slot (role_of facts.control.table.progress) facts.peer) facts
+command_may view command handle slot facts ok fits about known =
+    subst (λ (role : Role). MayComeIf (host_step_of command slot role facts.peer) facts) (sym known.knows.table.role)
+    (command_may_come view command handle slot known.link facts ok fits about known.is_open known.knows)
+
+pub command_known : (view : View) (setup : Setup) (command : Command) (slot : ℕ) (facts : Facts) → first_refusal (rows_of view command) ≡ 0
+    → is_about setup.link.handle command ≡ true → KnowsAt view setup.link.handle facts
+    → (facts_commanded setup (host_step_of command slot (role_of facts.control.table.progress) facts.peer) facts).control.ends ≡ None
+    → KnowsAt (view_commanded view command setup.link.handle facts.peer) setup.link.handle
+    (facts_commanded setup (host_step_of command slot (role_of facts.control.table.progress) facts.peer) facts)
+command_known view setup command slot facts ok about known lasts =
+    record {
+      link = link_commanded command facts.peer known.link;
+      is_open =
+          answered_by (view_after view command) command setup.link.handle facts.peer (link_accepted command known.link)
+          (command_own view command setup.link.handle about ∙ option_some (link_accepted command) (link_in view.links setup.link.handle) known.link known.is_open);
+      knows = by (role_of facts.control.table.progress) known.knows.table.role lasts;
+    }
+  where
+    by : (role : Role) → role ≡ known.link.role → (facts_commanded setup (host_step_of command slot role facts.peer) facts).control.ends ≡ None
+        → KnowsAsks (link_commanded command facts.peer known.link) (facts_commanded setup (host_step_of command slot role facts.peer) facts)
+    by role is lasts =
+        subst (λ (r : Role). KnowsAsks (link_commanded command facts.peer known.link) (facts_commanded setup (host_step_of command slot r facts.peer) facts)) (sym is)
+        (command_keeps setup view command setup.link.handle slot known.link facts ok about known.is_open known.knows
+        (subst (λ (r : Role). (facts_commanded setup (host_step_of command slot r facts.peer) facts).control.ends ≡ None) is lasts))
+
+-- a command on other links, or on none
+pub other_known : (view : View) (command : Command) (handle : ℕ) (facts : Facts) → is_about handle command ≡ false → leaves_other_links command ≡ true
+    → KnowsAt view handle facts → KnowsAt (view_after view command) handle facts
+other_known view command handle facts about leaves known =
+    record { link = known.link; is_open = command_other view command handle about leaves ∙ known.is_open; knows = known.knows }
+
+-- an event answers it, or it makes a step
+pub answered_or_asked : (command : Command) (handle slot : ℕ) (role : Role) (peer : PeerFacts) → is_read_of_peer command ≡ true
+    → length (events_at_once command handle peer) ≡ count_if (is_none (host_step_of command slot role peer))
+answered_or_asked (ReadRemoteVersion given) handle slot role peer is = by peer.version refl
+  where
+    by : (version : Option PeerVersion) → peer.version ≡ version
+        → length (events_if handle peer (kind_if (is_some peer.version) Version)) ≡ count_if (is_none (ask_unless (is_some peer.version) ask_version))
+    by None is = rw is refl
+    by (Some version) is = rw is refl
+answered_or_asked (LeReadRemoteFeatures given) handle slot role peer is = by peer.features refl
+  where
+    by : (features : Option ℕ) → peer.features ≡ features
+        → length (events_if handle peer (kind_if (is_some peer.features) Features)) ≡ count_if (is_none (ask_unless (is_some peer.features) ask_features))
+    by None is = rw is refl
+    by (Some features) is = rw is refl
+answered_or_asked other handle slot role peer is = absurd (cc)

@@ -1,0 +1,56 @@
+-- The view knows an end while it lasts.
+use Rattle.std.proofs.Common.{◌≡◌, ℕ, Bool, true, false, List, [], ◌∷◌, ◌++◌, Option, Some, None, Err, refl, ap, sym, ◌∙◌}
+use Rattle.ble_base.specs.declared.addresses.Address.{Address}
+use Rattle.control_model.specs.Control.{Answers, Control, Step as ControlStep, after, after_all}
+use Rattle.link_model.specs.Setup.{Setup}
+use Rattle.link_model.specs.Facts.{Facts}
+use Rattle.link_model.specs.Step.{Step}
+use Rattle.link_model.specs.End.{facts_after}
+use Rattle.link_model.specs.ControlSteps.{control_steps_in}
+use Rattle.link_model.proofs.ControlSteps.{one_step}
+use Rattle.host_view.specs.declared.links.Link.{Link}
+use Rattle.host_asks.specs.Commands.{facts_commanded, host_step_of}
+use Rattle.host_asks.specs.Knowing.{KnowsAsks}
+use Rattle.host_asks.specs.Lasting.{AllMayHappen, IsCommanded, LinkEvent, Makes, MakesUntold, MayHappen, ViewedEnd, first_viewed, viewed_after, viewed_after_all}
+use Rattle.host_asks.proofs.Accepting.{command_keeps, withheld_knows}
+use Rattle.host_asks.proofs.Controls.{ends_before}
+use Rattle.host_asks.proofs.Ends.{first_knows, step_knows}
+
+-- ---- an end that did not end the link did not before
+
+ends_before_all : (steps : List ControlStep) (c : Control) → (after_all steps c).ends ≡ None → c.ends ≡ None
+ends_before_all [] c lasts = lasts
+ends_before_all (step ∷ steps) c lasts = ends_before step c (ends_before_all steps (after step c) lasts)
+
+pub lasted : (setup : Setup) (facts : Facts) (step : Step) → (facts_after setup facts step).control.ends ≡ None → facts.control.ends ≡ None
+lasted setup facts step lasts =
+    ends_before_all (control_steps_in setup facts step) facts.control (ap (λ (c : Control). c.ends) (sym (one_step setup facts step)) ∙ lasts)
+
+lasted_if : (setup : Setup) (facts : Facts) (step : Option Step) → (facts_commanded setup step facts).control.ends ≡ None → facts.control.ends ≡ None
+lasted_if setup facts None lasts = lasts
+lasted_if setup facts (Some step) lasts = lasted setup facts step lasts
+
+-- ---- one event after the other
+
+abbrev Knows : ViewedEnd → Type 0
+Knows end = end.facts.control.ends ≡ None → KnowsAsks end.link end.facts
+
+one_event : (setup : Setup) (end : ViewedEnd) (event : LinkEvent) → MayHappen setup end event → Knows end → Knows (viewed_after setup end event)
+one_event setup end (IsCommanded view command slot) may knows lasts =
+    command_keeps setup view command setup.link.handle slot end.link end.facts may.accepted may.about may.is_open
+    (knows (lasted_if setup end.facts (host_step_of command slot end.link.role end.facts.peer) lasts)) lasts
+one_event setup end (Makes step) may knows lasts = step_knows setup step end.link end.facts may (knows (lasted setup end.facts step lasts)) lasts
+one_event setup end (MakesUntold step code) may knows lasts =
+    withheld_knows setup step end.link end.facts code may
+    (knows (lasted setup end.facts step (ends_before (Answers (Err code)) (facts_after setup end.facts step).control lasts))) lasts
+
+each_event : (setup : Setup) (end : ViewedEnd) (events : List LinkEvent) → AllMayHappen setup end events → Knows end
+    → Knows (viewed_after_all setup end events)
+each_event setup end [] may knows = knows
+each_event setup end (event ∷ events) may knows = each_event setup (viewed_after setup end event) events may.1 (one_event setup end event may.0 knows)
+
+pub known_while_it_lasts : (setup : Setup) (own peer : Address) (events : List LinkEvent) → AllMayHappen setup (first_viewed setup own peer) events
+    → (viewed_after_all setup (first_viewed setup own peer) events).facts.control.ends ≡ None
+    → KnowsAsks (viewed_after_all setup (first_viewed setup own peer) events).link (viewed_after_all setup (first_viewed setup own peer) events).facts
+known_while_it_lasts setup own peer events may =
+    each_event setup (first_viewed setup own peer) events may (λ lasts. first_knows setup own peer)

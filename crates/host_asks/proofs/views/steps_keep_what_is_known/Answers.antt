@@ -1,0 +1,18 @@
+-- Proof of `views::steps_keep_what_is_known`.
+use Rattle.host_asks.proofs.EndsViewed.{none_told, packet_known, refused_told, request_told, step_known}
+use Rattle.host_asks.proofs.views.steps_keep_what_is_known.Goals as goal
+
+pub returns-clause-step : goal.returns-clause-step
+returns-clause-step c = step_known
+
+pub returns-clause-packet : goal.returns-clause-packet
+returns-clause-packet c = packet_known
+
+pub returns-clause-request : goal.returns-clause-request
+returns-clause-request c = request_told
+
+pub returns-clause-none : goal.returns-clause-none
+returns-clause-none c = none_told
+
+pub returns-clause-refused : goal.returns-clause-refused
+returns-clause-refused c = refused_told
