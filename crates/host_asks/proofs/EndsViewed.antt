@@ -1,5 +1,5 @@
 -- What the view of all links knows of each end, by steps, packets and commands.
-use Rattle.std.proofs.Common.{◌≡◌, ℕ, ◌+◌, ◌*◌, ◌%◌, ◌/◌, ◌<◌, ◌==◌, ◌&&◌, min, Bool, true, false, List, [], ◌∷◌, fold, length, Option, Some, None, Err, is_none, is_some, if◌then◌else◌, refl, ap, sym, ◌∙◌, subst, arith}
+use Rattle.std.proofs.Common.{◌≡◌, ℕ, ◌+◌, ◌*◌, ◌%◌, ◌/◌, ◌<◌, ◌==◌, min, Bool, true, false, List, [], ◌∷◌, fold, length, Option, Some, None, Err, is_none, is_some, if◌then◌else◌, refl, ap, sym, ◌∙◌, subst, arith}
 use Rattle.std.specs.Option.{option_map}
 use Rattle.ble_base.specs.declared.error_codes.ErrCode.{ErrCode}
 use Rattle.ble_base.specs.declared.procedure_kinds.Kind.{Kind}
@@ -33,7 +33,7 @@ use Rattle.host_view.specs.declared.links.Link.{Link}
 use Rattle.host_view.specs.View.{View}
 use Rattle.host_view.specs.Changes.{on_link}
 use Rattle.host_view.specs.Links.{link_in}
-use Rattle.host_view.specs.Noted.{after_packet, event_handle, handed_up, acl_handle, is_acl_data, is_le_event, view_noted}
+use Rattle.host_view.specs.Noted.{after_packet, event_handle, acl_handle, is_acl_data, is_le_event, view_noted}
 use Rattle.host_asks.specs.Knowing.{KnowsAsks}
 use Rattle.host_asks.specs.Noting.{effect_in, is_of_host, link_after_notes, link_noted, link_told}
 use Rattle.host_asks.specs.Views.{KnowsAt, KnowsOnceTold, events_at_once, events_if, kind_if, kind_known, leaves_other_links, view_answered, view_commanded}

@@ -1,5 +1,5 @@
 -- The view knows an end while it lasts.
-use Rattle.std.proofs.Common.{◌≡◌, ℕ, Bool, true, false, List, [], ◌∷◌, ◌++◌, Option, Some, None, Err, refl, ap, sym, ◌∙◌}
+use Rattle.std.proofs.Common.{◌≡◌, List, [], ◌∷◌, Option, Some, None, Err, ap, sym, ◌∙◌}
 use Rattle.ble_base.specs.declared.addresses.Address.{Address}
 use Rattle.control_model.specs.Control.{Answers, Control, Step as ControlStep, after, after_all}
 use Rattle.link_model.specs.Setup.{Setup}
@@ -8,7 +8,6 @@ use Rattle.link_model.specs.Step.{Step}
 use Rattle.link_model.specs.End.{facts_after}
 use Rattle.link_model.specs.ControlSteps.{control_steps_in}
 use Rattle.link_model.proofs.ControlSteps.{one_step}
-use Rattle.host_view.specs.declared.links.Link.{Link}
 use Rattle.host_asks.specs.Commands.{facts_commanded, host_step_of}
 use Rattle.host_asks.specs.Knowing.{KnowsAsks}
 use Rattle.host_asks.specs.Lasting.{AllMayHappen, IsCommanded, LinkEvent, Makes, MakesUntold, MayHappen, ViewedEnd, first_viewed, viewed_after, viewed_after_all}

@@ -1,16 +1,13 @@
 -- The view of all links, as notes, commands and packets change it.
-use Rattle.std.proofs.Common.{◌≡◌, ℕ, zero, suc, ◌+◌, ◌*◌, ◌%◌, ◌<◌, ◌==◌, ◌&&◌, not, Bool, true, false, List, [], ◌∷◌, ◌++◌, fold, length, Option, Some, None, if◌then◌else◌, refl, ap, sym, ◌∙◌, subst, eqb-true, arith}
-use Rattle.std.specs.Bool.{⊤}
-use Rattle.std.specs.List.{AllByRecursion, slice_set}
+use Rattle.std.proofs.Common.{◌≡◌, ℕ, zero, suc, ◌<◌, ◌==◌, ◌&&◌, not, Bool, true, false, List, [], ◌∷◌, ◌++◌, fold, length, Option, Some, None, if◌then◌else◌, refl, ap, ◌∙◌, subst, eqb-true, arith}
+use Rattle.std.specs.List.{AllByRecursion}
 use Rattle.std.specs.Option.{option_map}
 use Rattle.std.proofs.lemmas.List.{get_or-set_other, get_or-set_same}
 use Rattle.ble_base.specs.declared.addresses.Address.{Address}
 use Rattle.ble_base.specs.declared.error_codes.ErrCode.{ErrCode}
 use Rattle.ble_base.specs.declared.procedure_kinds.Kind.{Kind}
 use Rattle.ble_base.specs.declared.notes.Note.{Note}
-use Rattle.ble_base.specs.declared.notes.Note.TheVariants.{Applied, Began, Done, Enter, Opened, Refused, Sent, Shut, Took, Up}
-use Rattle.ble_base.specs.declared.roles.Role.{Role}
-use Rattle.ble_base.specs.declared.roles.Role.TheVariants.{Central, Peripheral}
+use Rattle.ble_base.specs.declared.notes.Note.TheVariants.{Done, Opened, Refused, Shut, Up}
 use Rattle.hci_cmd.specs.declared.command.Command.{Command}
 use Rattle.hci_cmd.specs.declared.command.Command.TheVariants.{Disconnect, HostCompleted, LeConnectionUpdate, LeEnableEncryption, LeKeyNegative, LeKeyReply, LeParamNegative, LeParamReply, LeReadRemoteFeatures, LeSetChannels, LeSetDataLength, LeSetPhy, ReadRemoteVersion, Reset}
 use Rattle.control_end.specs.declared.answers.Entry.{Entry}
@@ -28,7 +25,7 @@ use Rattle.link_model.specs.Entering.{began_notes, done_notes, event_notes, fact
 use Rattle.link_model.specs.Events.{applied_notes}
 use Rattle.link_model.specs.Facts.{Facts, first_facts}
 use Rattle.link_model.specs.Packets.{good_pdu}
-use Rattle.link_model.specs.Receiving.{accepts, acked_kind, acks_control, facts_before_taking, given_if, given_notes, has_acknowledged, notes_hearing, received_notes, refused_notes, taken_notes, took_notes_if}
+use Rattle.link_model.specs.Receiving.{accepts, acked_kind, acks_control, facts_before_taking, given_if, given_notes, has_acknowledged, notes_hearing, received_notes, refused_notes, took_notes_if}
 use Rattle.link_model.specs.Sending.{sent_notes_if}
 use Rattle.link_model.specs.Setup.{Setup}
 use Rattle.link_model.specs.Step.{Step, EventEntered, PacketReceived, PacketSent}
@@ -37,9 +34,8 @@ use Rattle.host_view.specs.declared.links.Link.{Link}
 use Rattle.host_view.specs.View.{View}
 use Rattle.host_view.specs.Changes.{changed_at, on_link, view_after}
 use Rattle.host_view.specs.Links.{link_in}
-use Rattle.host_view.specs.Noted.{after_packet, event_handle, handed_up, is_acl_data, is_le_event, opened_link, view_noted, with_link}
+use Rattle.host_view.specs.Noted.{opened_link, view_noted}
 use Rattle.host_asks.specs.Commands.{is_about, link_accepted}
-use Rattle.host_asks.specs.Knowing.{KnowsAsks}
 use Rattle.host_asks.specs.Noting.{link_noted}
 use Rattle.host_asks.specs.Views.{IsNoteOf, KnowsAt, leaves_other_links}
 use Rattle.host_asks.proofs.Ends.{first_knows}

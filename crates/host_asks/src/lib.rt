@@ -8,11 +8,11 @@ mod rows;
 mod views;
 
 pub use crate::laws::{
-    a_command_keeps_what_is_known, a_link_is_known_while_it_lasts, a_new_link_is_known, a_step_keeps_what_is_known,
-    accepted_commands_may_come, an_answer_keeps_what_is_known,
+    a_command_keeps_what_is_known, a_link_is_known_while_it_lasts, a_new_link_is_known,
+    a_step_keeps_what_is_known, accepted_commands_may_come, an_answer_keeps_what_is_known,
 };
 pub use crate::rows::{a_peer_may_withdraw_its_request, an_answer_at_once_is_taken};
 pub use crate::views::{
-    all_steps_of_a_command_may_come, an_opened_link_is_known, commands_change_their_link, commands_keep_what_is_known,
-    notes_change_their_link, steps_keep_what_is_known,
+    all_steps_of_a_command_may_come, an_opened_link_is_known, commands_change_their_link,
+    commands_keep_what_is_known, notes_change_their_link, steps_keep_what_is_known,
 };

@@ -84,8 +84,10 @@ pub fn steps_keep_what_is_known()
         → KnowsOnceTold effect (view_noted view (Up (record { items = octets }))) handle facts }
     ensures request { (view : View) (handle min max latency timeout : ℕ) (facts : Facts)
         → handle < 65536 → KnowsOnceTold (AskHost min max latency timeout) view handle facts
-        → KnowsAt (view_noted view (Up (record { items =
-        written (ParamRequest handle min max latency timeout) }))) handle facts }
+        → KnowsAt (view_noted view (Up (record {
+          items =
+              written (ParamRequest handle min max latency timeout);
+        }))) handle facts }
     ensures none { (effect : Effect) (view : View) (handle : ℕ) (facts : Facts)
         → asks_host effect ≡ false → KnowsOnceTold effect view handle facts
         → KnowsAt view handle facts }
