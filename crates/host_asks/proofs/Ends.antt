@@ -15,6 +15,7 @@ use Rattle.procedure_stages.specs.declared.steps.Effect.{Effect}
 use Rattle.procedure_stages.specs.declared.steps.Effect.TheVariants.{AskHost, Lengths as new_lengths, Nothing}
 use Rattle.procedures.specs.Beginning.{begin_step}
 use Rattle.procedures.specs.Going.{entered_step}
+use Rattle.procedures.specs.Table
 use Rattle.control_end.specs.declared.answers.Entry.{Entry}
 use Rattle.control_end.specs.declared.answers.Taken.{Taken}
 use Rattle.control_end.specs.Answers.{entry_of, entry_step, is_update_waiting, no_entry}
@@ -40,7 +41,6 @@ use Rattle.host_view.specs.declared.links.Link.{Link}
 use Rattle.host_view.specs.Links.{is_asked}
 use Rattle.host_view.specs.Noted.{nothing_asked, opened_link}
 use Rattle.host_view.specs.Refusals.{count_if}
-use Rattle.procedures.specs.Table
 use Rattle.host_asks.specs.Knowing.{KnowsAsks, KnowsTable}
 use Rattle.host_asks.specs.Noting.{is_of_host, link_after, link_noted, link_told}
 use Rattle.host_asks.proofs.Tables.{link_done, link_refused}

@@ -5,38 +5,38 @@ use Rattle.ble_base.specs.declared.error_codes.ErrCode.{ErrCode}
 use Rattle.ble_base.specs.declared.procedure_kinds.Kind.{Kind}
 use Rattle.ble_base.specs.declared.procedure_kinds.Kind.TheVariants.{Features, Version}
 use Rattle.ble_base.specs.declared.roles.Role.{Role}
+use Rattle.ble_base.specs.declared.notes.Note.TheVariants.{Done, Up}
+use Rattle.wire_fields.specs.Field.{little_endian}
 use Rattle.hci_cmd.specs.declared.command.Command.{Command}
 use Rattle.hci_cmd.specs.declared.command.Command.TheVariants.{LeReadRemoteFeatures, ReadRemoteVersion}
+use Rattle.hci_evt.specs.Event.{written}
+use Rattle.hci_evt.specs.declared.event.Event.TheVariants.{ParamRequest}
 use Rattle.procedure_values.specs.declared.asks.Ask.TheVariants.{Features as ask_features, Version as ask_version}
 use Rattle.procedure_stages.specs.declared.steps.Effect.{Effect}
 use Rattle.procedure_stages.specs.Kinds.{role_of}
 use Rattle.procedure_stages.specs.Steps.{asks_host}
+use Rattle.procedure_stages.specs.declared.steps.Effect.TheVariants.{AskHost}
 use Rattle.link_model.specs.declared.state.PeerFacts.{PeerFacts}
 use Rattle.link_model.specs.declared.state.PeerVersion.{PeerVersion}
 use Rattle.link_model.specs.End.{facts_after, notes_after}
 use Rattle.link_model.specs.Hosts.{facts_answered}
 use Rattle.link_model.specs.Setup.{Setup}
 use Rattle.link_model.specs.Step.{Step}
+use Rattle.link_model.specs.Facts.{Facts}
 use Rattle.host_view.specs.Changes.{answered, view_after}
 use Rattle.host_view.specs.Refusals.{count_if, first_refusal}
 use Rattle.host_view.specs.Status.{rows_of}
-use Rattle.host_asks.specs.Commands.{FitsReason, MayComeIf, answered_if, ask_unless, facts_commanded, host_step_of, is_about, is_read_of_peer, link_accepted, link_answered, link_commanded}
-use Rattle.host_asks.proofs.Accepting.{command_keeps, command_may_come, refused_knows, told_again}
-use Rattle.host_asks.proofs.Ends.{step_knows}
-use Rattle.ble_base.specs.declared.notes.Note.TheVariants.{Done, Up}
-use Rattle.hci_evt.specs.Event.{written}
-use Rattle.hci_evt.specs.declared.event.Event.TheVariants.{ParamRequest}
-use Rattle.wire_fields.specs.Field.{little_endian}
-use Rattle.procedure_stages.specs.declared.steps.Effect.TheVariants.{AskHost}
-use Rattle.link_model.specs.Facts.{Facts}
 use Rattle.host_view.specs.declared.links.Link.{Link}
 use Rattle.host_view.specs.View.{View}
 use Rattle.host_view.specs.Changes.{on_link}
 use Rattle.host_view.specs.Links.{link_in}
 use Rattle.host_view.specs.Noted.{after_packet, event_handle, acl_handle, is_acl_data, is_le_event, view_noted}
+use Rattle.host_asks.specs.Commands.{FitsReason, MayComeIf, answered_if, ask_unless, facts_commanded, host_step_of, is_about, is_read_of_peer, link_accepted, link_answered, link_commanded}
 use Rattle.host_asks.specs.Knowing.{KnowsAsks}
 use Rattle.host_asks.specs.Noting.{effect_in, is_of_host, link_after_notes, link_noted, link_told}
 use Rattle.host_asks.specs.Views.{KnowsAt, KnowsOnceTold, events_at_once, events_if, kind_if, kind_known, leaves_other_links, view_answered, view_commanded}
+use Rattle.host_asks.proofs.Accepting.{command_keeps, command_may_come, refused_knows, told_again}
+use Rattle.host_asks.proofs.Ends.{step_knows}
 use Rattle.host_asks.proofs.LinksViewed.{about_other, about_own, command_other, command_own, notes_of_step, notes_own}
 
 -- ---- a change that keeps what is known

@@ -9,3 +9,4 @@ pub mod Lasting
 pub mod LinksViewed
 pub mod EndsViewed
 pub mod StepsListed
+pub mod ReasonsRead

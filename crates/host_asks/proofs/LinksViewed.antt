@@ -10,12 +10,12 @@ use Rattle.ble_base.specs.declared.notes.Note.{Note}
 use Rattle.ble_base.specs.declared.notes.Note.TheVariants.{Done, Opened, Refused, Shut, Up}
 use Rattle.hci_cmd.specs.declared.command.Command.{Command}
 use Rattle.hci_cmd.specs.declared.command.Command.TheVariants.{Disconnect, HostCompleted, LeConnectionUpdate, LeEnableEncryption, LeKeyNegative, LeKeyReply, LeParamNegative, LeParamReply, LeReadRemoteFeatures, LeSetChannels, LeSetDataLength, LeSetPhy, ReadRemoteVersion, Reset}
+use Rattle.data_pdu.specs.Header.{header_in}
+use Rattle.data_pdu.specs.declared.header.DataHeader.{DataHeader}
 use Rattle.control_end.specs.declared.answers.Entry.{Entry}
 use Rattle.control_end.specs.declared.answers.Taken.{Taken}
 use Rattle.control_end.specs.Answers.{entry_of}
 use Rattle.control_end.specs.Held.{held_of}
-use Rattle.data_pdu.specs.Header.{header_in}
-use Rattle.data_pdu.specs.declared.header.DataHeader.{DataHeader}
 use Rattle.link_model.specs.declared.events.ConnectionEvent.{ConnectionEvent}
 use Rattle.link_model.specs.Acknowledgement.{Pdu}
 use Rattle.link_model.specs.Controls.{goes_on, is_procedure_pdu, is_quiet_now, pdu_fixed}

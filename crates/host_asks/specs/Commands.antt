@@ -13,8 +13,8 @@ use Rattle.link_model.specs.declared.state.PeerFacts.{PeerFacts}
 use Rattle.link_model.specs.End.{facts_after}
 use Rattle.link_model.specs.Facts.{Facts}
 use Rattle.link_model.specs.Setup.{Setup}
-use Rattle.link_pairs.specs.Hosts.{MayHost}
 use Rattle.link_model.specs.Step.{Step, Disconnected, ProcedureAsked, RequestAnswered}
+use Rattle.link_pairs.specs.Hosts.{MayHost}
 use Rattle.host_view.specs.declared.links.Link.{Link}
 use Rattle.host_view.specs.Links.{update_kind}
 use Rattle.host_view.specs.Changes.{answered, asking}

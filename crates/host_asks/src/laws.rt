@@ -1,8 +1,11 @@
 //! The laws of what the view of a host knows of the ends of its links. The bodies do nothing: the
 //! contracts are the laws.
-ghost use Rattle.std.specs.Prelude.{◌≡◌, ℕ, Bool, true, false, List, Some, None, Err};
+ghost use Rattle.std.specs.Prelude.{◌≡◌, ◌<◌, ℕ, Bool, true, false, List, Some, None, Err};
+ghost use Rattle.std.specs.List.{AllByRecursion};
 ghost use Rattle.ble_base.specs.declared.addresses.Address.{Address};
 ghost use Rattle.ble_base.specs.declared.error_codes.ErrCode.{ErrCode};
+ghost use Rattle.hci_cmd.specs.Command.{command_of};
+ghost use Rattle.hci_cmd.specs.declared.command.CmdRead.TheVariants.{Known};
 ghost use Rattle.hci_cmd.specs.declared.command.Command.{Command};
 ghost use Rattle.link_model.specs.Setup.{Setup};
 ghost use Rattle.link_model.specs.Facts.{Facts, first_facts};
@@ -18,7 +21,8 @@ ghost use Rattle.host_view.specs.Status.{rows_of};
 ghost use Rattle.host_asks.specs.Commands.{FitsReason, MayComeIf, facts_commanded, host_step_of};
 ghost use Rattle.host_asks.specs.Commands.{is_about, link_commanded};
 ghost use Rattle.host_asks.specs.Knowing.{KnowsAsks};
-ghost use Rattle.host_asks.specs.Lasting.{AllMayHappen, LinkEvent, first_viewed, viewed_after_all};
+ghost use Rattle.host_asks.specs.Lasting.{AllMayHappen, LinkEvent, first_viewed};
+ghost use Rattle.host_asks.specs.Lasting.{viewed_after_all};
 ghost use Rattle.host_asks.specs.Noting.{is_of_host, link_after, link_after_notes};
 
 /// The view of a link that was just opened knows the end of it: nothing is asked for there.
@@ -37,6 +41,13 @@ pub fn accepted_commands_may_come()
         → is_about handle command ≡ true → link_in view.links handle ≡ Some link
         → KnowsAsks link facts
         → MayComeIf (host_step_of command slot link.role facts.peer) facts }
+{}
+
+/// A command that is read of octets has a reason of one octet.
+pub fn reasons_that_are_read_fit()
+    ensures { (opcode : ℕ) (octets : List ℕ) (command : Command)
+        → AllByRecursion (λ octet. octet < 256) octets
+        → command_of opcode octets ≡ Known command → FitsReason command }
 {}
 
 /// The view knows the end after that step too, until a procedure ends the link. Where the end knows

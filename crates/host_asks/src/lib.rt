@@ -10,6 +10,7 @@ mod views;
 pub use crate::laws::{
     a_command_keeps_what_is_known, a_link_is_known_while_it_lasts, a_new_link_is_known,
     a_step_keeps_what_is_known, accepted_commands_may_come, an_answer_keeps_what_is_known,
+    reasons_that_are_read_fit,
 };
 pub use crate::rows::{a_peer_may_withdraw_its_request, an_answer_at_once_is_taken};
 pub use crate::views::{

@@ -2,12 +2,12 @@
 ghost use Rattle.std.specs.Prelude.{◌≡◌, ℕ, true, false, None};
 ghost use Rattle.ble_base.specs.declared.procedure_kinds.Kind.{Kind};
 ghost use Rattle.hci_cmd.specs.declared.command.Command.{Command};
+ghost use Rattle.procedure_stages.specs.InProgress.{is_host_asked};
 ghost use Rattle.link_model.specs.Facts.{Facts};
 ghost use Rattle.host_view.specs.declared.links.Link.{Link};
 ghost use Rattle.host_view.specs.Links.{is_asked};
 ghost use Rattle.host_asks.specs.Commands.{link_accepted};
 ghost use Rattle.host_asks.specs.Knowing.{KnowsAsks};
-ghost use Rattle.procedure_stages.specs.InProgress.{is_host_asked};
 ghost use Rattle.host_asks.specs.Rows.{asked_once, asked_wrongly};
 
 /// A peer that breaks the rules may send a request that is out of range while one waits for the
