@@ -304,31 +304,49 @@ pub carried_out : (setup : Setup) (view : View) (command : Command) (handle slot
     → KnowsAsks link facts
     → IsCarriedOut setup (FitsReason command) (host_step_of command slot link.role facts.peer) (link_commanded command facts.peer link) facts
 carried_out setup view (Disconnect given reason) handle slot link facts ok about is knows =
-    let rows = passes link.disconnecting _ _ (subst (λ (l : Option Link). first_refusal (disconnect_rows l reason) ≡ 0) (given_link view given handle link about is) ok) in
+    let rows =
+    passes link.disconnecting _ _
+    (subst (λ (l : Option Link). first_refusal (disconnect_rows l reason) ≡ 0) (given_link view given handle link about is) ok)
+    in
     record {
       may = λ fits. reason_fits reason (not_not (is_reason reason) (passes (not (is_reason reason)) _ _ rows.1).0);
       keeps = λ lasts. disconnect_knows link facts (record { 0 = reason }) slot knows lasts;
     }
 carried_out setup view (ReadRemoteVersion given) handle slot link facts ok about is knows =
-    let rows = passes link.disconnecting _ _ (subst (λ (l : Option Link). first_refusal (link_rows l (asked_row version_kind l ∷ [])) ≡ 0) (given_link view given handle link about is) ok) in
+    let rows =
+    passes link.disconnecting _ _
+    (subst (λ (l : Option Link). first_refusal (link_rows l (asked_row version_kind l ∷ [])) ≡ 0) (given_link view given handle link about is) ok)
+    in
     version_out setup link facts (is_some facts.peer.version) refl knows (passes (is_asked version_kind link.asked) _ _ rows.1).0 _
 carried_out setup view (LeReadRemoteFeatures given) handle slot link facts ok about is knows =
-    let rows = passes link.disconnecting _ _ (subst (λ (l : Option Link). first_refusal (link_rows l (asked_row features_kind l ∷ [])) ≡ 0) (given_link view given handle link about is) ok) in
+    let rows =
+    passes link.disconnecting _ _
+    (subst (λ (l : Option Link). first_refusal (link_rows l (asked_row features_kind l ∷ [])) ≡ 0) (given_link view given handle link about is) ok)
+    in
     features_out setup link facts (is_some facts.peer.features) knows (passes (is_asked features_kind link.asked) _ _ rows.1).0 _
 carried_out setup view (LeSetDataLength given most time) handle slot link facts ok about is knows =
-    let rows = passes link.disconnecting _ _ (subst (λ (l : Option Link). first_refusal (data_length_rows l most time) ≡ 0) (given_link view given handle link about is) ok) in
+    let rows =
+    passes link.disconnecting _ _
+    (subst (λ (l : Option Link). first_refusal (data_length_rows l most time) ≡ 0) (given_link view given handle link about is) ok)
+    in
     let long = passes (not (is_data_length most time)) _ _ rows.1 in
     asks_out setup link facts (Length most) knows (passes (is_asked length_kind link.asked) _ _ long.1).0
     (length_fits most time (not_not (is_data_length most time) long.0)) refl refl refl refl refl _
 carried_out setup view (LeConnectionUpdate given min max latency timeout lengths) handle slot link facts ok about is knows =
-    let rows = passes link.disconnecting _ _ (subst (λ (l : Option Link). first_refusal (connection_update_rows l min max latency timeout) ≡ 0) (given_link view given handle link about is) ok) in
+    let rows =
+    passes link.disconnecting _ _
+    (subst (λ (l : Option Link). first_refusal (connection_update_rows l min max latency timeout) ≡ 0) (given_link view given handle link about is) ok)
+    in
     let valid = passes (not (are_parameters min max latency timeout)) _ _ rows.1 in
     update_out setup link facts link.role min max latency timeout knows (not_not (are_parameters min max latency timeout) valid.0)
     (passes (is_asked (update_kind link.role) link.asked) _ _ valid.1).0 _
 carried_out setup view (LeSetChannels map) handle slot link facts ok about is knows =
     map_out setup link facts link.role map knows (map_fits map (passes (nat_lt (length (used_channels map)) 2 || nat_le (2 ^ 37) map) _ _ ok).0) _
 carried_out setup view (LeParamReply given min max latency timeout lengths) handle slot link facts ok about is knows =
-    let rows = passes link.disconnecting _ _ (subst (λ (l : Option Link). first_refusal (link_rows l (parameter_request_row l ∷ parameters_row min max latency timeout ∷ [])) ≡ 0) (given_link view given handle link about is) ok) in
+    let rows =
+    passes link.disconnecting _ _
+    (subst (λ (l : Option Link). first_refusal (link_rows l (parameter_request_row l ∷ parameters_row min max latency timeout ∷ [])) ≡ 0) (given_link view given handle link about is) ok)
+    in
     let waits = passes (not link.waits_for_parameters) _ _ rows.1 in
     record {
       may = λ fits. params_fit min max latency timeout (not_not (are_parameters min max latency timeout) (passes (not (are_parameters min max latency timeout)) _ _ waits.1).0);

@@ -9,4 +9,5 @@ pub mod Lasting
 pub mod LinksViewed
 pub mod EndsViewed
 pub mod StepsListed
+pub mod PairsCommanded
 pub mod ReasonsRead

@@ -56,7 +56,11 @@ module _ (view : View) (command : Command) (slot : ℕ) (facts_at : ℕ → Fact
   pub all_may_come : ((handle : ℕ) (link : Link) → link_in view.links handle ≡ Some link → KnowsAsks link (facts_at handle))
       → All (host_steps command slot view.links (λ handle. (facts_at handle).peer))
   all_may_come known =
-      each 0 view.links (λ place link is. (subst (λ (handle : ℕ). KnowsAsks link (facts_at handle)) (omega arith) (known place link is), subst (λ (handle : ℕ). link_in view.links handle ≡ Some link) (omega arith) is))
+      each 0 view.links
+      (λ place link is. (
+        subst (λ (handle : ℕ). KnowsAsks link (facts_at handle)) (omega arith) (known place link is),
+        subst (λ (handle : ℕ). link_in view.links handle ≡ Some link) (omega arith) is,
+      ))
 
 -- ---- what is answered at once
 

@@ -3,10 +3,12 @@
 //! laws; no code.
 #![tactic(auto)]
 
+mod both_ends;
 mod laws;
 mod rows;
 mod views;
 
+pub use crate::both_ends::commands_leave_ends_linked;
 pub use crate::laws::{
     a_command_keeps_what_is_known, a_link_is_known_while_it_lasts, a_new_link_is_known,
     a_step_keeps_what_is_known, accepted_commands_may_come, an_answer_keeps_what_is_known,

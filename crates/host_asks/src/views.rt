@@ -99,9 +99,9 @@ pub fn steps_keep_what_is_known()
 {}
 
 /// Where the view knows an end, and the table of conditions accepts a command on its link, the step
-/// that the command makes there may come, and the view knows the end after it. What the end knows of
-/// its peer already is answered by one event at once, and the view takes it as done. Otherwise the
-/// command makes a step. What is known of the ends of other links stays known.
+/// that the command makes there may come, and the view knows the end after it. What the end knows
+/// of its peer already is answered by one event at once, and the view takes it as done. Otherwise
+/// the command makes a step. What is known of the ends of other links stays known.
 pub fn commands_keep_what_is_known()
     ensures may { (view : View) (command : Command) (handle slot : ℕ) (facts : Facts)
         → first_refusal (rows_of view command) ≡ 0 → FitsReason command

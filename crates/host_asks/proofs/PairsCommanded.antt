@@ -1,0 +1,26 @@
+-- A relation of two ends that each step of a host leaves is left by each command.
+use Rattle.std.proofs.Common.{◌≡◌, ℕ, true, Option, Some, None}
+use Rattle.hci_cmd.specs.declared.command.Command.{Command}
+use Rattle.procedure_stages.specs.Kinds.{role_of}
+use Rattle.link_model.specs.Setup.{Setup}
+use Rattle.link_model.specs.Facts.{Facts}
+use Rattle.link_model.specs.Step.{Step}
+use Rattle.link_model.specs.End.{facts_after}
+use Rattle.link_pairs.specs.Hosts.{MayHost}
+use Rattle.host_view.specs.View.{View}
+use Rattle.host_view.specs.Refusals.{first_refusal}
+use Rattle.host_view.specs.Status.{rows_of}
+use Rattle.host_asks.specs.Commands.{FitsReason, MayComeIf, facts_commanded, host_step_of, is_about}
+use Rattle.host_asks.specs.Views.{KnowsAt}
+use Rattle.host_asks.proofs.EndsViewed.{command_may}
+
+module _ (P : Facts → Type 0) (setup : Setup) (facts : Facts) (now : P facts) (next : (step : Step) → MayHost step facts → P (facts_after setup facts step)) where
+  left_by : (step : Option Step) → MayComeIf step facts → P (facts_commanded setup step facts)
+  left_by None may = now
+  left_by (Some step) may = next step may
+
+  pub command_leaves : (view : View) (command : Command) (handle slot : ℕ) → first_refusal (rows_of view command) ≡ 0 → FitsReason command
+      → is_about handle command ≡ true → KnowsAt view handle facts
+      → P (facts_commanded setup (host_step_of command slot (role_of facts.control.table.progress) facts.peer) facts)
+  command_leaves view command handle slot ok fits about known =
+      left_by (host_step_of command slot (role_of facts.control.table.progress) facts.peer) (command_may view command handle slot facts ok fits about known)
