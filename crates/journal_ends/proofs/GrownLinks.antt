@@ -24,9 +24,10 @@ use Rattle.journal_acks.specs.open_links.OpenLinks.{Links, OpenLink, link_after,
 use Rattle.journal_acks.specs.open_links.Turns.{ending_in, entered_if, enters_in, links_without}
 use Rattle.journal_acks.specs.open_links.declared.offers.Offer.{Offer}
 use Rattle.journal_acks.specs.open_links.declared.offers.Offer.TheVariants.{NoLink, Empty, Overflow, Kept}
-use Rattle.journal_acks.proofs.LinkCalls.{begins_under}
-use Rattle.journal_acks.proofs.LinkUses.{sends_under}
-use Rattle.journal_acks.proofs.UnderHandles.{WasOpen, change_if, change_under, map_under, sent_if, staying_under, was_open}
+use Rattle.journal_acks.proofs.link_calls.LinkCalls.{begins_under}
+use Rattle.journal_acks.specs.link_calls.Uses.{sends_under}
+use Rattle.journal_acks.proofs.link_calls.UnderHandles.{WasOpen, change_under, map_under, staying_under, was_open}
+use Rattle.journal_acks.specs.link_calls.Turns.{change_if, sent_if}
 use Rattle.journal_ends.proofs.PastSeen.{AreDeaf, IsDeaf, deaf_both}
 
 -- ---- one link

@@ -36,10 +36,11 @@ use Rattle.journal_acks.proofs.run_model.LinkEnds.{AreTaken, IsUnderstood, recei
 use Rattle.journal_acks.proofs.run_model.Places.{each_called, each_event}
 use Rattle.journal_acks.proofs.run_model.Stations.{among, in_more_other, in_more_same, is_in, not_before}
 use Rattle.journal_acks.proofs.run_model.Walk.{AtBegins, AtEnds, AtFeeds, AtListening, AtPackets, IsKept, NoTurn, Place}
-use Rattle.journal_acks.proofs.CallNotes.{begin_noted, end_noted, octet_noted}
-use Rattle.journal_acks.proofs.Exchanging.{OpensNone, number_at, number_called, number_quiet, opening_none}
+use Rattle.journal_acks.proofs.link_calls.CallNotes.{begin_noted, end_noted, octet_noted}
+use Rattle.journal_acks.proofs.link_calls.CallNotes.{OpensNone, opening_none}
+use Rattle.journal_acks.proofs.Exchanging.{number_at, number_called, number_quiet}
 use Rattle.journal_acks.proofs.HeardLines.{AreUnheard, IsUnheard, advertised_heard, feed_heard, none_unheard, turn_heard, unheard_called, unheard_event_at, unheard_packet_of}
-use Rattle.journal_acks.proofs.LinkUses.{listens_under}
+use Rattle.journal_acks.specs.link_calls.Uses.{listens_under}
 use Rattle.journal_acks.proofs.Standing.{PhasedBy, phased_at, sending_on_link}
 use Rattle.journal_acks.proofs.TwoStations.{IsOfTwo, hearing_of, one_hearing, other_is, own_differs, own_received}
 use Rattle.journal_ends.specs.Seen.{heard_next, heard_where}

@@ -23,10 +23,12 @@ use Rattle.journal_acks.proofs.run_model.Calls.{same_station, turns_called}
 use Rattle.journal_acks.proofs.run_model.LinkEnds.{received_by}
 use Rattle.journal_acks.proofs.run_model.Stations.{is_in}
 use Rattle.journal_acks.proofs.Counting.{IsBegun, facts_event}
-use Rattle.journal_acks.proofs.Exchanging.{OpensNone, number_at, number_called, number_other}
+use Rattle.journal_acks.proofs.link_calls.CallNotes.{OpensNone}
+use Rattle.journal_acks.proofs.Exchanging.{number_at, number_called, number_other}
 use Rattle.journal_acks.proofs.HeardLines.{AreUnheard, unheard_called, unheard_now}
-use Rattle.journal_acks.proofs.LinkCalls.{HasPassed, IsNew, IsOpenedNow, Stays, Takes, new_good, passes_under, phase_quiet}
-use Rattle.journal_acks.proofs.LinkUses.{listens_under, sends_under}
+use Rattle.journal_acks.specs.link_calls.Phases.{HasPassed, IsNew, Stays, Takes}
+use Rattle.journal_acks.proofs.link_calls.LinkCalls.{IsOpenedNow, new_good, passes_under, phase_quiet}
+use Rattle.journal_acks.specs.link_calls.Uses.{listens_under, sends_under}
 use Rattle.journal_acks.proofs.Standing.{PhasedBy}
 use Rattle.journal_ends.specs.Seen.{Says, Seen, heard_in_step, heard_where, seen_of}
 use Rattle.journal_ends.proofs.EndsKnown.{AreLined}

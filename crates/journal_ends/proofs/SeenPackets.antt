@@ -37,7 +37,7 @@ use Rattle.journal_acks.proofs.run_model.Walk.{AtPackets, Place}
 use Rattle.journal_acks.proofs.Counting.{facts_event}
 use Rattle.journal_acks.proofs.Exchanging.{number_at, number_sent}
 use Rattle.journal_acks.proofs.HeardLines.{far_side, own_side}
-use Rattle.journal_acks.proofs.LinkUses.{listens_under}
+use Rattle.journal_acks.specs.link_calls.Uses.{listens_under}
 use Rattle.journal_acks.proofs.Standing.{AreOne, PhasedBy, listener_role, one_listened, other_listens, phased_at, sender_role, sends_on}
 use Rattle.journal_acks.proofs.TwoStations.{IsListening, IsOfTwo, good_begins, hearing_of, judged, link_listens, one_hearing, other_is, other_of, other_received, own_differs, own_received, same_number, side_other, unchanged}
 use Rattle.journal_ends.specs.Seen.{heard_where}
