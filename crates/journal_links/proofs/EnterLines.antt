@@ -174,13 +174,13 @@ module _ (understood : IsUnderstood) (taken : AreTaken) (a b : List ℕ) (script
       let lines = lines_are_notes understood taken given distinct addresses station apart call.before (Noted station (line.note handle) ∷ call.rest) handle call.is_at was in
       let number_is = number_then given front line call (ap ends_phase turn.is) in
       let changes = changes_noted link.setup.link.role (end_notes_of link.setup link.past ++ noted_line.applied) in
-      let in_force : changes_of known of.link side front ≡ changes =
-      ap (λ n. changes_of n of.link side front) number_is
-      ∙ to_line given front line call (λ n entries one. changes_of n of.link one entries ≡ changes)
-      (changes_before (side_of station) ((links_of call.before).link_of station handle) handle of.link link.setup link.past (journal_of call.before)
-      (noted_by station base) call.earlier noted_line.applied of.central_is
-      (lines ∙ ap (λ xs. map (line_of (side_of station) ((links_of call.before).link_of station handle)) (notes_under handle xs)) known_before)
-      (ap (notes_under handle) base_noted ∙ open_noted handle setup (past_of station base) link entered.is_open) none noted_line.said_is) in
+      let own_number = (links_of call.before).link_of station handle in
+      let here : changes_of own_number of.link (side_of station) (journal_of call.before) ≡ changes =
+      changes_before (side_of station) own_number handle of.link link.setup link.past (journal_of call.before) (noted_by station base) call.earlier noted_line.applied
+      of.central_is (lines ∙ ap (λ xs. map (line_of (side_of station) own_number) (notes_under handle xs)) known_before)
+      (ap (notes_under handle) base_noted ∙ open_noted handle setup (past_of station base) link entered.is_open) none noted_line.said_is in
+      let there : changes_of number of.link side front ≡ changes = to_line given front line call (λ n entries one. changes_of n of.link one entries ≡ changes) here in
+      let in_force : changes_of known of.link side front ≡ changes = subst (λ n. changes_of n of.link side front ≡ changes) (sym number_is) there in
       subst (λ n. IsEnteredInTime front side n event channel) number_is
       (entered_in_time {end = link.setup} of front side turn.slot event channel changes (still_link {end = link.setup} of front (journal_from (links_of base) noted) front_more)
       (turns ∙ due.slot_is) (sym entered.at_anchor ∙ noted_line.entered.anchor) noted_line.entered.on_channel two in_force)

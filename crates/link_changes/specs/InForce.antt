@@ -1,11 +1,11 @@
 -- In which event each indication of an end comes into force, and where and on which channel the end enters its events
 -- (Core 5.2, volume 6 part B, sections 4.5.1, 4.5.8, 5.1.1, 5.1.2 and 5.5).
-use Rattle.std.specs.Prelude.{◌≡◌, ◌⊎◌, ◌≤◌, ℕ, ◌+◌, List, ◌∷◌, Some, slice_get, ⊤}
+use Rattle.std.specs.Prelude.{◌≡◌, ◌⊎◌, ◌≤◌, ℕ, ◌+◌, Bool, true, false, List, ◌∷◌, Some, slice_get, ⊤}
 use Rattle.std.specs.List.{AllByRecursion}
 use Rattle.ble_base.specs.ChannelMap.{IsMap}
 use Rattle.ble_base.specs.declared.counters.EventNo.{EventNo}
 use Rattle.ble_base.specs.declared.notes.Note.{Note}
-use Rattle.ble_base.specs.declared.notes.Note.TheVariants.{Enter}
+use Rattle.ble_base.specs.declared.notes.Note.TheVariants.{Applied, Enter}
 use Rattle.ble_base.specs.declared.roles.Role.{Role}
 use Rattle.chan_select.specs.Channel.{channel_of}
 use Rattle.instants.specs.Arrivals.{Taking}
@@ -14,7 +14,7 @@ use Rattle.instants.specs.Track.{next_anchor_of}
 use Rattle.link_model.specs.ControlSteps.{AreAsksInRange}
 use Rattle.link_model.specs.End.{facts_of}
 use Rattle.link_model.specs.Setup.{Setup, algorithm_of, first_anchor, first_params}
-use Rattle.link_model.specs.Step.{Step, ProcedureAsked}
+use Rattle.link_model.specs.Step.{Step, EventEntered, ProcedureAsked}
 use Rattle.link_changes.specs.Noted.{applied_noted, changes_noted, takings_noted}
 use Rattle.procedure_values.specs.declared.asks.Ask.TheVariants.{Map}
 
@@ -64,3 +64,14 @@ pub record IsAppliedInTime (role : Role) (notes : List Note) (handle number : �
   pub channel : ℕ
   pub rest : List Note
   pub then_enters : later ≡ Enter handle event channel ∷ rest
+
+-- ---- no other step notes an event or an indication that comes into force
+
+abbrev pub enters_event : Step → Bool
+enters_event (EventEntered slot) = true
+enters_event other = false
+
+abbrev pub NamesNoEvent : Note → Type 0
+NamesNoEvent (Enter handle event channel) = ⊥
+NamesNoEvent (Applied handle number event) = ⊥
+NamesNoEvent other = ⊤

@@ -1,6 +1,7 @@
 //! Laws of one end of a link by its notes, for each list of steps of the end, whatever its peer
 //! sends. The bodies are empty: the contracts are the laws.
-ghost use Rattle.std.specs.Prelude.{◌≡◌, ◌≤◌, ℕ, List, ◌++◌, ◌∷◌};
+ghost use Rattle.std.specs.Prelude.{◌≡◌, ◌≤◌, ℕ, false, List, ◌++◌, ◌∷◌};
+ghost use Rattle.std.specs.List.{AllByRecursion};
 ghost use Rattle.ble_base.specs.declared.counters.EventNo.{EventNo};
 ghost use Rattle.ble_base.specs.declared.notes.Note.{Note};
 ghost use Rattle.ble_base.specs.declared.notes.Note.TheVariants.{Applied, Enter};
@@ -8,9 +9,11 @@ ghost use Rattle.ble_base.specs.declared.roles.Role.{Role};
 ghost use Rattle.instants.specs.Follows.{Follows};
 ghost use Rattle.instants.specs.Track.{event_of};
 ghost use Rattle.link_model.specs.End.{facts_of, notes_after, notes_of};
+ghost use Rattle.link_model.specs.Facts.{Facts};
 ghost use Rattle.link_model.specs.Setup.{Setup, first_anchor, first_params};
 ghost use Rattle.link_model.specs.Step.{Step, EventEntered};
 ghost use Rattle.link_changes.specs.InForce.{HasRanges, IsAppliedInTime, IsEnteredBy};
+ghost use Rattle.link_changes.specs.InForce.{NamesNoEvent, enters_event};
 ghost use Rattle.link_changes.specs.Noted.{changes_noted, event_noted};
 
 /// Once an end has entered an event, it has the parameters and the anchor that follow from its
@@ -51,4 +54,10 @@ pub fn indications_come_into_force_in_time()
         ≡ before ++ Applied handle number event ∷ later
         → IsAppliedInTime setup.link.role (notes_of setup past ++ before) handle number event
         later }
+{}
+
+/// No other step of an end notes an event or an indication that comes into force.
+pub fn only_entered_events_are_noted()
+    ensures { (setup : Setup) (facts : Facts) (step : Step) → enters_event step ≡ false
+        → AllByRecursion NamesNoEvent (notes_after setup facts step) }
 {}

@@ -7,6 +7,6 @@ mod rows;
 
 pub use crate::laws::{
     an_end_follows_its_notes, each_event_is_entered_by_the_notes,
-    indications_come_into_force_in_time,
+    indications_come_into_force_in_time, only_entered_events_are_noted,
 };
 pub use crate::rows::{worked_notes, wrong_notes};
