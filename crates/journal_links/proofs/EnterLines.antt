@@ -49,7 +49,7 @@ use Rattle.journal_links.specs.Begun.{LinkBegun, link_numbered}
 use Rattle.journal_links.specs.Changes.{changes_of}
 use Rattle.journal_links.specs.Entered.{IsEnteredInTime, anchor_in, channel_in}
 use Rattle.journal_links.proofs.LinksBegun.{number_stays}
-use Rattle.journal_links.specs.LinkLines.{line_of}
+use Rattle.journal_links.specs.LinkLines.{line_of, lines_of}
 use Rattle.journal_links.specs.Procedures.{NoneNamesAProcedure}
 use Rattle.journal_links.proofs.ChangesAt.{changes_before, none_opened}
 use Rattle.journal_links.proofs.EntriesNoted.{noted_after}
@@ -177,13 +177,15 @@ module _ (understood : IsUnderstood) (taken : AreTaken) (a b : List ℕ) (script
       let own_number = (links_of call.before).link_of station handle in
       let here : changes_of own_number of.link (side_of station) (journal_of call.before) ≡ changes =
       changes_before (side_of station) own_number handle of.link link.setup link.past (journal_of call.before) (noted_by station base) call.earlier noted_line.applied
-      of.central_is (lines ∙ ap (λ xs. map (line_of (side_of station) own_number) (notes_under handle xs)) known_before)
+      of.central_is
+      (subst (λ xs. lines_of (side_of station) own_number (journal_of call.before) ≡ map (line_of (side_of station) own_number) (notes_under handle xs)) known_before lines)
       (ap (notes_under handle) base_noted ∙ open_noted handle setup (past_of station base) link entered.is_open) none noted_line.said_is in
       let there : changes_of number of.link side front ≡ changes = to_line given front line call (λ n entries one. changes_of n of.link one entries ≡ changes) here in
       let in_force : changes_of known of.link side front ≡ changes = subst (λ n. changes_of n of.link side front ≡ changes) (sym number_is) there in
       subst (λ n. IsEnteredInTime front side n event channel) number_is
       (entered_in_time {end = link.setup} of front side turn.slot event channel changes (still_link {end = link.setup} of front (journal_from (links_of base) noted) front_more)
-      (turns ∙ due.slot_is) (sym entered.at_anchor ∙ noted_line.entered.anchor) noted_line.entered.on_channel two in_force)
+      (turns ∙ due.slot_is)
+      (subst (λ n. n ≡ anchor_by (first_of link.setup) (first_params link.setup.link.fields) changes event) entered.at_anchor noted_line.entered.anchor) noted_line.entered.on_channel two in_force)
 
 -- ---- both lines
 
