@@ -1,24 +1,33 @@
 -- The counts of an end as it begins, sends and receives are those that a journal has for it.
-use Rattle.std.proofs.Common.{◌≡◌, ◌⊎◌, inl, inr, ℕ, ◌+◌, ◌<◌, ◌≤◌, ◌==◌, ◌&&◌, ◌||◌, not, Bool, true, false, List, [], ◌∷◌, ◌++◌, length, refl, sym, ap, subst, ◌∙◌, arith}
+use Rattle.std.proofs.Common.{◌≡◌, ℕ, ◌+◌, ◌<◌, ◌≤◌, ◌==◌, ◌&&◌, ◌||◌, not, Bool, true, false, Some, List, [], ◌∷◌, ◌++◌, length, refl, sym, ap, subst, ◌∙◌, arith}
 use Rattle.std.specs.Prelude.{if◌then◌else◌}
 use Rattle.std.proofs.lemmas.Bool.{eqb-true, eqb-false, and_left}
 use Rattle.std.proofs.lemmas.List.{length_push}
 use Rattle.ack_bit.specs.AckBits.{is_new}
-use Rattle.ack_bit.proofs.Links.{acked_count, says}
-use Rattle.journal_packets.specs.link_model.Acknowledgement.{Acknowledgement, Pdu, after_sending, bits_of, empty_pdu, end_of, first_acknowledgement, is_acked, next_sent}
-use Rattle.journal_packets.specs.link_model.Data.{is_data, is_empty}
+use Rattle.ack_bit.proofs.Links.{says}
+use Rattle.journal_packets.specs.link_model.Acknowledgement.{Acknowledgement, Pdu, after_sending, bits_of, end_of, first_acknowledgement, is_acked, next_sent, received_by}
+use Rattle.journal_packets.specs.link_model.Data.{is_accepted, is_data, is_empty}
 use Rattle.journal_packets.specs.link_model.Controls.{pdu_fixed}
 use Rattle.journal_packets.specs.link_model.Facts.{Facts}
-use Rattle.journal_packets.specs.link_model.Packets.{header_sent, packet_sent, pdu_sent}
+use Rattle.journal_packets.specs.link_model.Packets.{good_pdu, header_sent, packet_sent, payload_sent, pdu_sent}
+use Rattle.journal_packets.specs.link_model.End.{facts_after}
+use Rattle.journal_packets.specs.link_model.Hearing.{IsUnderstood, pdu_heard, pdu_octets}
+use Rattle.journal_packets.specs.link_model.Receiving.{accepts, facts_before_taking, has_acknowledged}
+use Rattle.journal_packets.specs.link_model.Setup.{Setup as EndSetup}
 use Rattle.journal_packets.specs.link_model.OneLink.{AreInAgreement}
 use Rattle.journal_packets.specs.link_model.Step.{PacketSent, PacketReceived}
-use Rattle.journal_packets.proofs.plain_links.Payloads.{IsShort, past_pdu_short}
+use Rattle.journal_packets.proofs.link_model.Acknowledging.{ack_before_taking, ack_heard, ack_sent as end_sent}
+use Rattle.journal_packets.proofs.link_model.Agreeing.{heard_acks, heard_agrees}
 use Rattle.journal_packets.proofs.link_model.Hearing.{IsHeardWhole}
+use Rattle.journal_packets.proofs.link_model.Received.{facts_heard, heard_good, pdu_read}
+use Rattle.journal_packets.proofs.link_model.Repeating.{past_payload}
 use Rattle.journal_packets.specs.open_links.OpenLinks.{OpenLink, facts_in, link_after}
-use Rattle.journal_packets.specs.run_laws.Plainness.{IsPlainLink}
-use Rattle.journal_packets.proofs.run_laws.Agreed.{ack_of, ack_sent, heard_ack, heard_by, out_after, packet_of, sent_ack}
+use Rattle.journal_packets.proofs.run_laws.Agreed.{ack_of, ack_sent, out_after, packet_of, sent_ack, step_facts}
+use Rattle.link_calls.specs.Ranges.{HasRanges}
+use Rattle.link_calls.proofs.Pieces.{ranged_understand}
 use Rattle.journal_acks.specs.Counted.{IsCounted}
 use Rattle.journal_acks.specs.Exchange.{Exchanged, first_exchanged, with_heard, with_sent}
+use Rattle.journal_acks.proofs.Counting.{accepted_before, ack_taking, has_own_line}
 
 -- ---- an end that begins, and that sends
 
@@ -56,19 +65,6 @@ empty_is_no_data pdu is =
     is_none (pdu.llid == 0) (length pdu.body == 0) (pdu.llid == 1) (pdu.llid == 2)
     (λ zero. ap (λ n. n == 1 || n == 2) (eqb-true pdu.llid 0 zero)) is
 
-is_some : (zero none one two : Bool) → (one || two) ≡ true → (zero || none) ≡ false → ((one || two) && not none) ≡ true
-is_some true none one two may is = absurd cc
-is_some false true one two may is = absurd cc
-is_some false false one two may is = ap (λ b. b && true) may
-
-data_llid : (llid : ℕ) → (llid ≡ 1) ⊎ (llid ≡ 2) → (llid == 1 || llid == 2) ≡ true
-data_llid llid (inl one) = ap (λ n. n == 1 || n == 2) one
-data_llid llid (inr two) = ap (λ n. n == 1 || n == 2) two
-
-pub full_is_data : (pdu : Pdu) → IsShort pdu → is_empty pdu ≡ false → is_data pdu ≡ true
-full_is_data pdu short is =
-    is_some (pdu.llid == 0) (length pdu.body == 0) (pdu.llid == 1) (pdu.llid == 2) (data_llid pdu.llid short.llid) is
-
 -- while a PDU is not acknowledged, the same one is sent again
 pub sent_again : (ack : Acknowledgement) (next : Pdu) (acked : Bool) → is_acked ack ≡ acked → ack.acked < length ack.sent → (next_sent acked next ack).sent ≡ ack.sent
 sent_again ack next true is out = absurd (let same = eqb-true ack.acked (length ack.sent) is in omega (arith, same, out))
@@ -76,61 +72,124 @@ sent_again ack next false is out = refl
 
 counted : (fresh : Bool) (accepted : List Pdu) (pdu : Pdu) (count : ℕ) → fresh ≡ (count == length accepted + 1)
     → length accepted ≤ count → count ≤ length accepted + 1
-    → length (if fresh && true then accepted ++ pdu ∷ [] else accepted) ≡ count
+    → length (if fresh then accepted ++ pdu ∷ [] else accepted) ≡ count
 counted true accepted pdu count is low high = length_push accepted pdu ∙ sym (eqb-true count (length accepted + 1) (sym is))
 counted false accepted pdu count is low high = let other = eqb-false count (length accepted + 1) (sym is) in omega (arith, other, low, high)
 
-unless_data : (fresh full : Bool) (accepted : List Pdu) (pdu : Pdu) → full ≡ true
-    → length (if fresh && (false || not full) then accepted ++ pdu ∷ [] else accepted) ≡ length accepted
-unless_data true true accepted pdu is = refl
-unless_data false true accepted pdu is = refl
-unless_data fresh false accepted pdu is = absurd cc
+-- what an end holds that received the packet of the other one, while a PDU with a line of its own does not count
+pub record IsTold (from one : Acknowledgement) (pdu : Pdu) (waiting : Acknowledgement) : Type 0 where
+  pub empty : is_empty pdu ≡ true → length waiting.accepted ≡ length from.sent
+  pub full : is_empty pdu ≡ false → length waiting.accepted ≡ length one.accepted
+  pub acked : waiting.acked ≡ length from.accepted
+  pub sent : waiting.sent ≡ one.sent
 
--- what an end holds that received the packet of the other one, with room for data or with none
-pub record IsTold (from one : Acknowledgement) (pdu : Pdu) (roomy tight : Acknowledgement) : Type 0 where
-  pub accepted : length roomy.accepted ≡ length from.sent
-  pub empty : is_empty pdu ≡ true → length tight.accepted ≡ length from.sent
-  pub full : is_empty pdu ≡ false → length tight.accepted ≡ length one.accepted
-  pub acked : tight.acked ≡ length from.accepted
-  pub sent : tight.sent ≡ one.sent
-
-module _ (sender : Facts) (one : Acknowledgement) (short : IsShort (pdu_sent sender)) (agreed : AreInAgreement (sent_ack sender) one) where
+-- all that was sent is accepted where a PDU with no data may be
+module _ (sender : Facts) (one : Acknowledgement) (agreed : AreInAgreement (sent_ack sender) one) where
   abbrev fresh : Bool
   fresh = is_new (bits_of one) (header_sent sender)
 
-  all_sent : (full : Bool) → full ≡ false → length (if fresh && (false || not full) then one.accepted ++ pdu_sent sender ∷ [] else one.accepted) ≡ length (sent_ack sender).sent
-  all_sent full is =
+  all_sent : (accepted : Bool) → accepted ≡ fresh → length (if accepted then one.accepted ++ pdu_sent sender ∷ [] else one.accepted) ≡ length (sent_ack sender).sent
+  all_sent accepted is =
       let ahead = agreed.from_a.reliable in
-      ap (λ b. length (if fresh && (false || not b) then one.accepted ++ pdu_sent sender ∷ [] else one.accepted)) is
+      ap (λ b. length (if b then one.accepted ++ pdu_sent sender ∷ [] else one.accepted)) is
       ∙ counted fresh one.accepted (pdu_sent sender) (length (sent_ack sender).sent)
       ((says (end_of (sent_ack sender)) (end_of one) (packet_of sender true) agreed).fresh
       ∙ ap (λ pdus. length pdus == length one.accepted + 1)
       (sent_again (sent_ack sender) (pdu_fixed sender) (is_acked (sent_ack sender)) refl (out_after sender one agreed)))
       ahead.sent_only ahead.at_most_one_ahead
 
-  heard_told : IsTold (sent_ack sender) one (pdu_sent sender) (heard_by sender true one) (heard_by sender false one)
-  heard_told = record {
-    accepted = all_sent false refl;
-    empty = λ empty. all_sent (is_data (pdu_sent sender)) (empty_is_no_data (pdu_sent sender) empty);
-    full = λ full. unless_data fresh (is_data (pdu_sent sender)) one.accepted (pdu_sent sender) (full_is_data (pdu_sent sender) short full);
-    acked = acked_count (end_of (sent_ack sender)) (end_of one) (packet_of sender false) empty_pdu agreed.from_b;
-    sent = refl;
+-- an end that receives the packet of the other one, which it understands
+module _ (whole : IsHeardWhole) (slot now : ℕ) (one from : OpenLink) (octets : List ℕ) (ranges : HasRanges one) (from_ranges : HasRanges from)
+    (fields : from.setup.link.fields ≡ one.setup.link.fields) (packet : octets ≡ packet_sent from.setup (facts_in from))
+    (channel : (facts_in from).event.channel ≡ (facts_in one).event.channel) (agreed : AreInAgreement (ack_of (link_after (PacketSent now) from)) (ack_of one)) where
+  abbrev sender : Facts
+  sender = facts_in from
+
+  abbrev listener : Facts
+  listener = facts_in one
+
+  abbrev own : EndSetup
+  own = one.setup
+
+  understood : IsUnderstood from.setup sender own listener
+  understood = ranged_understand from one from_ranges ranges fields channel
+
+  body : payload_sent sender ≡ (pdu_sent sender).body
+  body = past_payload from.setup from.past
+
+  pdu_is : pdu_heard sender ≡ pdu_sent sender
+  pdu_is = λ i. record { llid = (pdu_sent sender).llid; body = body i }
+
+  good_is : good_pdu own listener octets ≡ Some (pdu_octets sender)
+  good_is = ap (good_pdu own listener) packet ∙ heard_good whole from.setup own sender listener understood
+
+  own_line : has_own_line (good_pdu own listener octets) ≡ not (is_empty (pdu_sent sender))
+  own_line = ap has_own_line good_is ∙ ap (λ pdu. not (is_empty pdu)) (pdu_read sender understood.llid ∙ pdu_is)
+
+  once : AreInAgreement (sent_ack sender) (ack_of one)
+  once = subst (λ a. AreInAgreement a (ack_of one)) (ack_sent now from) agreed
+
+  as_sent : AreInAgreement (facts_after from.setup sender (PacketSent slot)).acknowledgement (ack_of one)
+  as_sent = subst (λ a. AreInAgreement a (ack_of one)) (sym (end_sent slot sender)) once
+
+  received_is : (room : Bool) → ack_of (link_after (PacketReceived slot octets room) one) ≡ (facts_after own listener (PacketReceived slot (packet_sent from.setup sender) room)).acknowledgement
+  received_is room =
+      ap (λ (f : Facts). f.acknowledgement) (step_facts one (PacketReceived slot octets room))
+      ∙ ap (λ xs. (facts_after own listener (PacketReceived slot xs room)).acknowledgement) packet
+
+  abbrev accepts_it : Bool
+  accepts_it = accepts false (header_sent sender) (pdu_sent sender) (facts_before_taking own.link.role slot (header_sent sender) listener)
+
+  form : ack_of (link_after (PacketReceived slot octets false) one)
+      ≡ received_by (has_acknowledged listener (header_sent sender)) accepts_it (pdu_sent sender) (ack_of one)
+  form =
+      received_is false
+      ∙ ap (λ (f : Facts). f.acknowledgement) (facts_heard whole from.setup own sender listener understood slot false)
+      ∙ ack_heard own.link.role slot false (header_sent sender) (pdu_heard sender) listener
+      ∙ ap (λ pdu. received_by (has_acknowledged listener (header_sent sender))
+      (accepts false (header_sent sender) pdu (facts_before_taking own.link.role slot (header_sent sender) listener)) pdu listener.acknowledgement) pdu_is
+
+  accepts_empty : is_empty (pdu_sent sender) ≡ true → accepts_it ≡ is_new (bits_of (ack_of one)) (header_sent sender)
+  accepts_empty empty =
+      let header = header_sent sender in
+      let before = facts_before_taking own.link.role slot header listener in
+      ap (λ (a : Acknowledgement). is_accepted false (is_new (bits_of a) header) (pdu_sent sender) && (is_empty (pdu_sent sender) || not before.leaving.acknowledged))
+      (ack_before_taking own.link.role slot header listener)
+      ∙ all_of (is_new (bits_of (ack_of one)) header) (is_data (pdu_sent sender)) (is_empty (pdu_sent sender)) before.leaving.acknowledged (empty_is_no_data (pdu_sent sender) empty) empty
+    where
+      all_of : (fresh full empty ended : Bool) → full ≡ false → empty ≡ true → ((fresh && (false || not full)) && (empty || not ended)) ≡ fresh
+      all_of true false true ended none is = refl
+      all_of false false true ended none is = refl
+      all_of fresh true empty ended none is = absurd cc
+      all_of fresh false false ended none is = absurd cc
+
+  abbrev waiting : Acknowledgement
+  waiting = ack_taking true (Some octets) slot one
+
+  accepted_by : (empty : Bool) → is_empty (pdu_sent sender) ≡ empty → waiting.accepted ≡ accepted_before (not empty) slot octets one
+  accepted_by empty is = ap (λ b. accepted_before b slot octets one) (own_line ∙ ap not is)
+
+  pub told : IsTold (ack_of (link_after (PacketSent now) from)) (ack_of one) (pdu_sent sender) waiting
+  told = record {
+    empty = λ empty. ap length (accepted_by true empty) ∙ ap (λ (a : Acknowledgement). length a.accepted) form
+        ∙ all_sent sender (ack_of one) once accepts_it (accepts_empty empty) ∙ ap (λ (a : Acknowledgement). length a.sent) (sym (ack_sent now from));
+    full = λ full. ap length (accepted_by false full);
+    acked = ap (λ (a : Acknowledgement). a.acked) (received_is false) ∙ heard_acks whole from.setup own sender listener slot false understood body as_sent
+        ∙ ap (λ (a : Acknowledgement). length a.accepted) (sym (ack_sent now from));
+    sent = ap (λ (a : Acknowledgement). a.sent) form;
   }
 
-pub told : IsHeardWhole → (slot now : ℕ) (one from : OpenLink) (octets : List ℕ) → IsPlainLink one → IsPlainLink from → 27 ≤ one.setup.link.max_rx → from.setup.link.fields ≡ one.setup.link.fields
-    → octets ≡ packet_sent from.setup (facts_in from) → (facts_in from).event.channel ≡ (facts_in one).event.channel
-    → AreInAgreement (ack_of (link_after (PacketSent now) from)) (ack_of one)
-    → IsTold (ack_of (link_after (PacketSent now) from)) (ack_of one) (pdu_sent (facts_in from))
-    (ack_of (link_after (PacketReceived slot octets true) one)) (ack_of (link_after (PacketReceived slot octets false) one))
-told whole slot now one from octets plain from_plain fits fields packet channel agreed =
-    let once = subst (λ a. AreInAgreement a (ack_of one)) (ack_sent now from) agreed in
-    subst (λ a. IsTold a (ack_of one) (pdu_sent (facts_in from)) (ack_of (link_after (PacketReceived slot octets true) one)) (ack_of (link_after (PacketReceived slot octets false) one)))
-    (sym (ack_sent now from))
-    (subst (λ a. IsTold (sent_ack (facts_in from)) (ack_of one) (pdu_sent (facts_in from)) a (ack_of (link_after (PacketReceived slot octets false) one)))
-    (sym (heard_ack whole slot true one from octets plain from_plain fits (sym fields) packet channel once))
-    (subst (λ a. IsTold (sent_ack (facts_in from)) (ack_of one) (pdu_sent (facts_in from)) (heard_by (facts_in from) true (ack_of one)) a)
-    (sym (heard_ack whole slot false one from octets plain from_plain fits (sym fields) packet channel once))
-    (heard_told (facts_in from) (ack_of one) (past_pdu_short from.setup from.past from_plain) once)))
+  -- one more that it accepts is all that was sent
+  pub takes_all : (room : Bool) → length (ack_of (link_after (PacketReceived slot octets room) one)).accepted ≡ length (ack_of one).accepted + 1
+      → length (ack_of (link_after (PacketSent now) from)).sent ≡ length (ack_of one).accepted + 1
+  takes_all room more =
+      let after = heard_agrees whole from.setup own sender listener slot room understood body as_sent in
+      let low = after.from_a.reliable.sent_only in
+      let high = once.from_a.reliable.at_most_one_ahead in
+      let same = ap (λ (a : Acknowledgement). length a.accepted) (received_is room) in
+      let ahead = ap (λ (a : Acknowledgement). length a.sent) (end_sent slot sender) in
+      let sent = ap (λ (a : Acknowledgement). length a.sent) (ack_sent now from) in
+      omega (arith, low, high, same, more, ahead, sent)
 
 -- what the line of its packet says, before it is noted that the PDU is taken
 heard_accepted : (empty : Bool) (from one : Exchanged) (sender ack next : ℕ) → (empty ≡ true → next ≡ sender) → (empty ≡ false → next ≡ ack)
@@ -138,10 +197,10 @@ heard_accepted : (empty : Bool) (from one : Exchanged) (sender ack next : ℕ) �
 heard_accepted true from one sender ack next full none is is_too = is ∙ sym (full refl)
 heard_accepted false from one sender ack next full none is is_too = is_too ∙ sym (none refl)
 
-pub hears_counted : (end from : Exchanged) (ack sender roomy tight : Acknowledgement) (pdu : Pdu) → IsCounted end ack → IsCounted from sender
-    → IsTold sender ack pdu roomy tight → IsCounted (with_heard (is_empty pdu) from end) tight
-hears_counted end from ack sender roomy tight pdu is from_is tells = record {
+pub hears_counted : (end from : Exchanged) (ack sender waiting : Acknowledgement) (pdu : Pdu) → IsCounted end ack → IsCounted from sender
+    → IsTold sender ack pdu waiting → IsCounted (with_heard (is_empty pdu) from end) waiting
+hears_counted end from ack sender waiting pdu is from_is tells = record {
   sent = is.sent ∙ ap length (sym tells.sent);
-  accepted = heard_accepted (is_empty pdu) from end (length sender.sent) (length ack.accepted) (length tight.accepted) tells.empty tells.full from_is.sent is.accepted;
+  accepted = heard_accepted (is_empty pdu) from end (length sender.sent) (length ack.accepted) (length waiting.accepted) tells.empty tells.full from_is.sent is.accepted;
   acked = from_is.accepted ∙ sym tells.acked;
 }

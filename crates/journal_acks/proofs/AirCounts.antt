@@ -11,10 +11,11 @@ use Rattle.air_frame.specs.Packet.{access_octets}
 use Rattle.journal_packets.specs.link_model.Packets.{pdu_sent}
 use Rattle.journal_packets.specs.link_model.Data.{is_empty}
 use Rattle.journal_packets.specs.link_model.OneLink.{AreInAgreement}
-use Rattle.journal_packets.proofs.plain_links.Growing.{plain_front}
+use Rattle.link_calls.specs.Ranges.{HasRanges}
 use Rattle.link_calls.proofs.InRange.{sent_ranges}
 use Rattle.link_calls.proofs.Pieces.{sent_readable}
 use Rattle.journal_packets.proofs.link_model.Hearing.{IsHeardWhole}
+use Rattle.journal_packets.specs.link_model.Acknowledgement.{Acknowledgement}
 use Rattle.journal_packets.specs.link_model.Step.{PacketSent, PacketReceived}
 use Rattle.journal_packets.specs.open_links.OpenLinks.{OpenLink, facts_in, link_after, link_at}
 use Rattle.controller_model.specs.declared.doing.Turn.{Turn}
@@ -34,13 +35,12 @@ use Rattle.run_model.specs.Run.{Given, facts_at, fate_at, hearings_of, setup_at,
 use Rattle.run_model.proofs.LinkEnds.{is_listener, received_event}
 use Rattle.run_model.proofs.Stations.{is_in, among, in_more_other, in_more_same, not_before}
 use Rattle.run_model.proofs.Walk.{Place, AtPackets}
-use Rattle.journal_packets.specs.run_laws.Plainness.{IsPlainLink}
 use Rattle.journal_packets.specs.run_laws.Ends.{HaveOneConnectInd}
 use Rattle.journal_packets.proofs.run_laws.Agreed.{Agree, ack_of}
 use Rattle.journal_packets.proofs.run_laws.ByCalls.{Holds}
 use Rattle.journal_packets.proofs.run_laws.ConnectInds.{on_channel}
 use Rattle.journal_packets.proofs.run_laws.Hearings.{wanted_is}
-use Rattle.journal_packets.proofs.run_laws.InAgreement.{AreStations, TakesShort, WithAll, differs_back}
+use Rattle.journal_packets.proofs.run_laws.InAgreement.{AreStations, WithAll, differs_back}
 use Rattle.journal_packets.proofs.run_laws.OpenSteps.{open_has}
 use Rattle.journal_packets.proofs.run_laws.OwnLinks.{sent_begins}
 use Rattle.journal_packets.proofs.run_laws.TurnPlaces.{Within}
@@ -50,8 +50,8 @@ use Rattle.journal_packets.specs.Belonging.{first_number, link_of_packet}
 use Rattle.journal_packets.specs.Senders.{IsOfSendersLink}
 use Rattle.journal_acks.specs.Counted.{IsCounted}
 use Rattle.journal_acks.specs.Exchange.{Exchanged, after_packet, carries_empty, with_heard, with_sent}
-use Rattle.journal_acks.proofs.Acks.{IsTold, hears_counted, told}
-use Rattle.journal_acks.proofs.Counting.{AreCountedSo, AreKnown, AreToTake, IsBegun, IsEndCounted, IsToTake, ahead_if, apart_numbers, facts_event, moved, none_to_take, one_begun, plain, taking_if}
+use Rattle.journal_acks.proofs.Acks.{IsTold, hears_counted, takes_all, told}
+use Rattle.journal_acks.proofs.Counting.{AreCountedSo, AreKnown, AreToTake, IsBegun, IsEndCounted, IsToTake, ahead_if, apart_numbers, facts_event, moved, none_to_take, one_begun, plain, ack_taking}
 use Rattle.journal_acks.proofs.Exchanging.{exchange_at, number_at, number_sent}
 use Rattle.journal_acks.proofs.FirstCounts.{IsFirst, first_event_at, first_old}
 use Rattle.link_calls.proofs.LinkPhases.{IsPhased}
@@ -82,7 +82,7 @@ deaf_after false empty station ends = refl
 pub any_sending : (unsent unsent_too : Bool) (received : Option (List ℕ)) (handle : ℕ) (turn : Turn) (link : OpenLink) (end : Exchanged) → sends_under handle turn.doing ≡ false
     → IsEndCounted unsent received handle turn link end → IsEndCounted unsent_too received handle turn link end
 any_sending unsent unsent_too received handle turn link end none is =
-    subst (λ b. IsCounted (ahead_if b end) (ack_of (taking_if (listens_under handle turn.doing) received turn.slot link)))
+    subst (λ b. IsCounted (ahead_if b end) (ack_taking (listens_under handle turn.doing) received turn.slot link))
     (ap (λ b. unsent && b) none ∙ no_one unsent ∙ sym (ap (λ b. unsent_too && b) none ∙ no_one unsent_too)) is
   where
     no_one : (b : Bool) → (b && false) ≡ false
@@ -92,27 +92,27 @@ any_sending unsent unsent_too received handle turn link end none is =
 any_taking : (unsent : Bool) (received received_too : Option (List ℕ)) (handle : ℕ) (turn : Turn) (link : OpenLink) (end : Exchanged) → listens_under handle turn.doing ≡ false
     → IsEndCounted unsent received handle turn link end → IsEndCounted unsent received_too handle turn link end
 any_taking unsent received received_too handle turn link end none is =
-    subst (λ b. IsCounted (ahead_if (unsent && sends_under handle turn.doing) end) (ack_of (taking_if b received_too turn.slot link))) (sym none)
-    (subst (λ b. IsCounted (ahead_if (unsent && sends_under handle turn.doing) end) (ack_of (taking_if b received turn.slot link))) none is)
+    subst (λ b. IsCounted (ahead_if (unsent && sends_under handle turn.doing) end) (ack_taking b received_too turn.slot link)) (sym none)
+    (subst (λ b. IsCounted (ahead_if (unsent && sends_under handle turn.doing) end) (ack_taking b received turn.slot link)) none is)
 
 -- the packet that it was to send is on the air
 was_sent : (received : Option (List ℕ)) (handle : ℕ) (turn : Turn) (link : OpenLink) (end : Exchanged) → sends_under handle turn.doing ≡ true
     → IsEndCounted true received handle turn link end → IsEndCounted false received handle turn link (with_sent end)
 was_sent received handle turn link end on is =
-    subst (λ b. IsCounted (ahead_if b end) (ack_of (taking_if (listens_under handle turn.doing) received turn.slot link))) on is
+    subst (λ b. IsCounted (ahead_if b end) (ack_taking (listens_under handle turn.doing) received turn.slot link)) on is
 
 -- and its counts are those of the link then
 sent_counted : (received : Option (List ℕ)) (handle : ℕ) (turn : Turn) (link : OpenLink) (end : Exchanged) → sends_under handle turn.doing ≡ true → listens_under handle turn.doing ≡ false
     → IsEndCounted true received handle turn link end → IsCounted (with_sent end) (ack_of link)
 sent_counted received handle turn link end on off is =
-    subst (λ b. IsCounted (with_sent end) (ack_of (taking_if b received turn.slot link))) off (was_sent received handle turn link end on is)
+    subst (λ b. IsCounted (with_sent end) (ack_taking b received turn.slot link)) off (was_sent received handle turn link end on is)
 
 -- a packet that it is to take is on the air
 takes : (unsent : Bool) (octets : List ℕ) (handle : ℕ) (turn : Turn) (link : OpenLink) (end : Exchanged) → listens_under handle turn.doing ≡ true → sends_under handle turn.doing ≡ false
-    → IsCounted end (ack_of (link_after (PacketReceived turn.slot octets false) link)) → IsEndCounted unsent (Some octets) handle turn link end
+    → IsCounted end (ack_taking true (Some octets) turn.slot link) → IsEndCounted unsent (Some octets) handle turn link end
 takes unsent octets handle turn link end on none is =
     any_sending false unsent (Some octets) handle turn link end none
-    (subst (λ b. IsCounted end (ack_of (taking_if b (Some octets) turn.slot link))) (sym on) is)
+    (subst (λ b. IsCounted end (ack_taking b (Some octets) turn.slot link)) (sym on) is)
 
 listener_off : (handle : ℕ) (turn : Turn) → sends_under handle turn.doing ≡ true → (listens : Bool) → listens_under handle turn.doing ≡ listens → listens ≡ false
 listener_off handle turn on true is = absurd (let h : true ≡ false = sym on ∙ listener_sends handle turn.doing is in absurd cc)
@@ -243,8 +243,8 @@ module _ (whole : IsHeardWhole) (given : Given) (Q : Place → List Event → Ty
     abbrev pub own_number : ℕ
     own_number = number_at station sent.handle history
 
-    pub sender_plain : IsPlainLink sent.link
-    sender_plain = plain_front sent.link.setup sent.link.past (PacketSent sent.slot ∷ []) (known.plain here history q station is sent.handle link_sent sent.is_open)
+    sender_ranges : HasRanges sent.link
+    sender_ranges = sent_ranges true sent.slot sent.link (known.ranges here history q station sent.handle link_sent is sent.is_open)
 
     -- it is to send on that link
     pub sends_it : sends_under sent.handle (facts station).turn.doing ≡ true
@@ -356,19 +356,20 @@ module _ (whole : IsHeardWhole) (given : Given) (Q : Place → List Event → Ty
 
           empty_is : carries_empty (link_numbered (number_at other handle history) (journal_of history)) channel octets ≡ is_empty (pdu_sent (facts_in sent.link))
           empty_is =
-              let ranges = sent_ranges true sent.slot sent.link (known.ranges here history q station sent.handle link_sent is sent.is_open) in
               ap (λ may. carries_empty may channel octets) begun.is_link
-              ∙ sent_empty whole sent.link.setup (facts_in sent.link) begun.link channel octets (sent_readable sent.link ranges)
+              ∙ sent_empty whole sent.link.setup (facts_in sent.link) begun.link channel octets (sent_readable sent.link sender_ranges)
               (begun.fields ∙ sym connect_ind.fields) sent.channel_is sent.packet
 
-          abbrev taken : Bool → OpenLink
-          taken room = link_after (PacketReceived (facts other).turn.slot octets room) link
+          abbrev waiting : Acknowledgement
+          waiting = ack_taking true (Some octets) (facts other).turn.slot link
 
-          -- what it tells the other end, with room for data or with none
-          tells : IsTold (ack_of link_sent) (ack_of link) (pdu_sent (facts_in sent.link)) (ack_of (taken true)) (ack_of (taken false))
+          own_ranges : HasRanges link
+          own_ranges = known.ranges here history q other handle link is_too is_open
+
+          -- what it tells the other end, while a PDU with a line of its own does not count
+          tells : IsTold (ack_of link_sent) (ack_of link) (pdu_sent (facts_in sent.link)) waiting
           tells =
-              let fits = open_has TakesShort 0 handle (facts other).links link (holds.so_far.last.each other is_too).short is_open in
-              told whole (facts other).turn.slot sent.slot link sent.link octets (known.plain here history q other is_too handle link is_open) sender_plain fits connect_ind.fields sent.packet
+              told whole (facts other).turn.slot sent.slot link sent.link octets own_ranges sender_ranges connect_ind.fields sent.packet
               (sym sent.channel_is ∙ listening.channel_is ∙ ap (λ (l : OpenLink). (facts_in l).event.channel) (sym one.links)) agreed
 
           sent_as : IsCounted (with_sent (exchange_at (number_at other handle history) history (side_of station))) (ack_of link_sent)
@@ -379,7 +380,7 @@ module _ (whole : IsHeardWhole) (given : Given) (Q : Place → List Event → Ty
               let number = number_at other handle history in
               let before = exchange_at number history in
               let empty = is_empty (pdu_sent (facts_in sent.link)) in
-              let next = hears_counted (before (side_of other)) (with_sent (before (side_of station))) (ack_of link) (ack_of link_sent) (ack_of (taken true)) (ack_of (taken false))
+              let next = hears_counted (before (side_of other)) (with_sent (before (side_of station))) (ack_of link) (ack_of link_sent) waiting
               (pdu_sent (facts_in sent.link)) before_taken sent_as tells in
               subst (λ e. IsEndCounted (not (is_in other done)) (Some octets) handle (facts other).turn link e)
               (sym (exchanged number one_number (side_of other)
@@ -389,14 +390,17 @@ module _ (whole : IsHeardWhole) (given : Given) (Q : Place → List Event → Ty
               (takes (not (is_in other done)) octets handle (facts other).turn link (with_heard empty (with_sent (before (side_of station))) (before (side_of other))) listens
               (listener_sends handle (facts other).turn.doing listens) next)
 
-          -- it is to take as many PDUs as the other one sent
-          is_to_take : (exchange_at (number_at other handle history) after (other_side (side_of other))).sent ≡ length (ack_of (taken true)).accepted
-          is_to_take =
+          -- where it takes one PDU more, it has taken as many as the other one sent
+          is_to_take : (slot : ℕ) (room : Bool) → length (ack_of (link_after (PacketReceived slot octets room) link)).accepted ≡ length (ack_of link).accepted + 1
+              → (exchange_at (number_at other handle history) after (other_side (side_of other))).sent ≡ length (ack_of link).accepted + 1
+          is_to_take slot room more =
               let number = number_at other handle history in
               ap (λ s. (exchange_at number after s).sent) (ap other_side (side_other station) ∙ central_back (side_of station))
               ∙ ap (λ (e : Exchanged). e.sent) (exchanged number one_number (side_of station)
               ∙ own_after (is_good hearing.verdict) (carries_empty (link_numbered number (journal_of history)) channel octets) station (exchange_at number history))
-              ∙ sent_as.sent ∙ sym tells.accepted
+              ∙ sent_as.sent
+              ∙ takes_all whole slot sent.slot link sent.link octets own_ranges sender_ranges connect_ind.fields sent.packet
+              (sym sent.channel_is ∙ listening.channel_is ∙ ap (λ (l : OpenLink). (facts_in l).event.channel) (sym one.links)) agreed room more
 
         -- a link on which it does not listen
         other_kept : (handle : ℕ) (link : OpenLink) → link_at handle (facts other).links ≡ Some link → listens_under handle (facts other).turn.doing ≡ false
@@ -493,11 +497,11 @@ module _ (whole : IsHeardWhole) (given : Given) (Q : Place → List Event → Ty
       let off = other_listens (facts other) handle channel link (phased other is_too).uses.in_turn.listens is_open
       (wanted_is given other history ∙ (is_listener given fates channel octets history station other got).listens) on in
       absurd (let h : true ≡ false = sym listens ∙ off in absurd cc)
-  heard_to_take false off is_too differs seen silent got handle link is_open = λ heard listens same.
+  heard_to_take false off is_too differs seen silent got handle link is_open = λ heard listens same slot room more.
       let equal : octets ≡ heard = cc in
       let good = sym (heard_it off is_too differs seen silent) ∙ got in
-      is_to_take off is_too differs seen silent good handle link is_open listens
-      ∙ ap (λ xs. length (ack_of (link_after (PacketReceived (facts other).turn.slot xs true) link)).accepted) equal
+      is_to_take off is_too differs seen silent good handle link is_open listens slot room
+      (subst (λ xs. length (ack_of (link_after (PacketReceived slot xs room) link)).accepted ≡ length (ack_of link).accepted + 1) (sym equal) more)
 
   other_to_take : (received : Bool) → has_received other hearings ≡ received → is_in other given.stations ≡ true → (other == station) ≡ false → unseen_in octets hearings ≡ None
       → ((one : ℕ) → is_in one given.stations ≡ true → (one == station) ≡ false → packet_received one history ≡ None) → (handle : ℕ) (link : OpenLink)
@@ -525,7 +529,7 @@ module _ (whole : IsHeardWhole) (given : Given) (Q : Place → List Event → Ty
           let equal = eqb-true one station same in
           absurd (none_listens handle link (subst (λ n. link_at handle (facts_at given n history).links ≡ Some link) equal is_open)
           (ap (λ n. listens_under handle (facts_at given n history).turn.doing) (sym equal) ∙ ap (λ (f : Facts). listens_under handle f.turn.doing) (sym (same_facts one)) ∙ listens))
-      by one handle link in_it is_open false differs = λ heard listens some.
+      by one handle link in_it is_open false differs = λ heard listens some slot room more.
           let equal = other_is given are_two station one is in_it differs in
           let take = subst (λ n. IsToTake (if has_received n hearings then Some octets else packet_received n history) handle (facts n).turn link
           (exchange_at (number_at n handle history) after (other_side (side_of n)))) (sym equal)
@@ -533,8 +537,7 @@ module _ (whole : IsHeardWhole) (given : Given) (Q : Place → List Event → Ty
           (subst (λ n. link_at handle (facts_at given n history).links ≡ Some link) equal is_open)) in
           ap (λ n. (exchange_at n after (other_side (side_of one))).sent) (number_sent one handle history station channel octets hearings)
           ∙ take heard (ap (λ (f : Facts). listens_under handle f.turn.doing) (sym (same_facts one)) ∙ listens)
-          (sym (received_event one history (Transmitted station channel octets hearings)) ∙ some)
-          ∙ ap (λ (f : Facts). length (ack_of (link_after (PacketReceived f.turn.slot heard true) link)).accepted) (sym (same_facts one))
+          (sym (received_event one history (Transmitted station channel octets hearings)) ∙ some) slot room more
 
   -- ---- the other end of the link
 

@@ -1,5 +1,5 @@
 -- How far the journal is ahead of what each controller holds, or late, at each place of a run.
-use Rattle.std.proofs.Common.{◌≡◌, ℕ, ◌==◌, ◌&&◌, Bool, true, false, Option, Some, None, List, [], ◌∷◌, ◌++◌, length, take, refl, sym, ap, subst, ◌∙◌}
+use Rattle.std.proofs.Common.{◌≡◌, ℕ, ◌+◌, ◌==◌, ◌&&◌, not, if◌then◌else◌, Bool, true, false, Option, Some, None, List, [], ◌∷◌, ◌++◌, length, take, refl, sym, ap, subst, ◌∙◌}
 use Rattle.ble_base.specs.Side.{other_side}
 use Rattle.ble_base.specs.declared.addresses.Address.{Address}
 use Rattle.ble_base.specs.declared.notes.Note.TheVariants.{Opened}
@@ -7,9 +7,13 @@ use Rattle.ble_base.specs.declared.roles.Role.{Role}
 use Rattle.ble_base.specs.declared.roles.Side.{Side}
 use Rattle.air_frame.specs.Packet.{access_octets}
 use Rattle.journal_packets.specs.link_model.Setup.{Setup as EndSetup}
+use Rattle.journal_packets.specs.link_model.Acknowledgement.{Acknowledgement, Pdu}
+use Rattle.journal_packets.specs.link_model.Data.{is_empty}
+use Rattle.journal_packets.specs.link_model.Packets.{good_pdu}
+use Rattle.journal_packets.specs.link_model.Verdicts.{pdu_of}
 use Rattle.journal_packets.specs.link_model.Step.{PacketReceived}
 use Rattle.journal_packets.proofs.link_model.Hearing.{IsHeardWhole}
-use Rattle.journal_packets.specs.open_links.OpenLinks.{OpenLink, link_after, link_at}
+use Rattle.journal_packets.specs.open_links.OpenLinks.{OpenLink, facts_in, link_after, link_at}
 use Rattle.controller_model.specs.declared.doing.Turn.{Turn}
 use Rattle.controller_model.specs.Plain.{AllPlain}
 use Rattle.controller_model.specs.Since.{notes_opened_on}
@@ -110,7 +114,7 @@ HaveOwnNumbers given station history = (one other : ℕ) (a b : OpenLink) → li
 
 -- before the packet that an end is to send is on the air, the journal is one sending late; before it takes a packet that
 -- was on the air, the journal is one reception ahead, but for a PDU that is not empty: that it is taken has a line of its
--- own, so until then it counts as if there were no room
+-- own, so until then it does not count
 abbrev pub ahead_if : Bool → Exchanged → Exchanged
 ahead_if true end = with_sent end
 ahead_if false end = end
@@ -120,15 +124,33 @@ taking_if true (Some octets) slot link = link_after (PacketReceived slot octets 
 taking_if true None slot link = link
 taking_if false received slot link = link
 
+-- whether a packet has a PDU of which a line says that it is taken
+abbrev pub has_own_line : Option (List ℕ) → Bool
+has_own_line None = false
+has_own_line (Some pdu) = not (is_empty (pdu_of pdu))
+
+abbrev pub accepted_before : Bool → ℕ → List ℕ → OpenLink → List Pdu
+accepted_before own slot octets link = if own then (ack_of link).accepted else (ack_of (link_after (PacketReceived slot octets false) link)).accepted
+
+abbrev pub accepted_taking : Bool → Option (List ℕ) → ℕ → OpenLink → List Pdu
+accepted_taking true (Some octets) slot link = accepted_before (has_own_line (good_pdu link.setup (facts_in link) octets)) slot octets link
+accepted_taking true None slot link = (ack_of link).accepted
+accepted_taking false received slot link = (ack_of link).accepted
+
+abbrev pub ack_taking : Bool → Option (List ℕ) → ℕ → OpenLink → Acknowledgement
+ack_taking listens received slot link =
+    record (ack_of (taking_if listens received slot link)) { accepted = accepted_taking listens received slot link }
+
 abbrev pub IsEndCounted : Bool → Option (List ℕ) → ℕ → Turn → OpenLink → Exchanged → Type 0
 IsEndCounted unsent received handle turn link end =
-    IsCounted (ahead_if (unsent && sends_under handle turn.doing) end) (ack_of (taking_if (listens_under handle turn.doing) received turn.slot link))
+    IsCounted (ahead_if (unsent && sends_under handle turn.doing) end) (ack_taking (listens_under handle turn.doing) received turn.slot link)
 
 -- the other end has sent as many PDUs as it has accepted if it takes the packet that was on the air
 abbrev pub IsToTake : Option (List ℕ) → ℕ → Turn → OpenLink → Exchanged → Type 0
 IsToTake received handle turn link from =
     (octets : List ℕ) → listens_under handle turn.doing ≡ true → received ≡ Some octets
-    → from.sent ≡ length (ack_of (link_after (PacketReceived turn.slot octets true) link)).accepted
+    → (slot : ℕ) (room : Bool) → length (ack_of (link_after (PacketReceived slot octets room) link)).accepted ≡ length (ack_of link).accepted + 1
+    → from.sent ≡ length (ack_of link).accepted + 1
 
 pub none_to_take : (received : Option (List ℕ)) (handle : ℕ) (turn : Turn) (link : OpenLink) (from : Exchanged) → received ≡ None
     → IsToTake received handle turn link from
@@ -148,23 +170,28 @@ nothing_taken true None slot link none = refl
 nothing_taken true (Some octets) slot link none = absurd (let h : Some octets ≡ None = none refl in absurd cc)
 nothing_taken false received slot link none = refl
 
+pub ack_nothing : (listens : Bool) (received : Option (List ℕ)) (slot : ℕ) (link : OpenLink) → (listens ≡ true → received ≡ None) → ack_taking listens received slot link ≡ ack_of link
+ack_nothing true None slot link none = refl
+ack_nothing true (Some octets) slot link none = absurd (let h : Some octets ≡ None = none refl in absurd cc)
+ack_nothing false received slot link none = refl
+
 -- an end that neither is to send nor has a packet to take has just the counts of the journal
 pub plain : (unsent : Bool) (received : Option (List ℕ)) (handle : ℕ) (turn : Turn) (link : OpenLink) (end : Exchanged) → sends_under handle turn.doing ≡ false
     → (listens_under handle turn.doing ≡ true → received ≡ None) → IsEndCounted unsent received handle turn link end → IsCounted end (ack_of link)
 plain unsent received handle turn link end none nothing is =
-    subst (λ l. IsCounted end (ack_of l)) (nothing_taken (listens_under handle turn.doing) received turn.slot link nothing)
-    (subst (λ b. IsCounted (ahead_if b end) (ack_of (taking_if (listens_under handle turn.doing) received turn.slot link)))
+    subst (IsCounted end) (ack_nothing (listens_under handle turn.doing) received turn.slot link nothing)
+    (subst (λ b. IsCounted (ahead_if b end) (ack_taking (listens_under handle turn.doing) received turn.slot link))
     (ap (λ b. unsent && b) none ∙ and-false unsent) is)
 
 pub from_plain : (unsent : Bool) (received : Option (List ℕ)) (handle : ℕ) (turn : Turn) (link : OpenLink) (end : Exchanged) → sends_under handle turn.doing ≡ false
     → (listens_under handle turn.doing ≡ true → received ≡ None) → IsCounted end (ack_of link) → IsEndCounted unsent received handle turn link end
 from_plain unsent received handle turn link end none nothing is =
-    subst (λ b. IsCounted (ahead_if b end) (ack_of (taking_if (listens_under handle turn.doing) received turn.slot link)))
+    subst (λ b. IsCounted (ahead_if b end) (ack_taking (listens_under handle turn.doing) received turn.slot link))
     (sym (ap (λ b. unsent && b) none ∙ and-false unsent))
-    (subst (λ l. IsCounted end (ack_of l)) (sym (nothing_taken (listens_under handle turn.doing) received turn.slot link nothing)) is)
+    (subst (IsCounted end) (sym (ack_nothing (listens_under handle turn.doing) received turn.slot link nothing)) is)
 
 -- an end that received nothing
-none_taken : (listens : Bool) (slot : ℕ) (link : OpenLink) → taking_if listens None slot link ≡ link
+none_taken : (listens : Bool) (slot : ℕ) (link : OpenLink) → ack_taking listens None slot link ≡ ack_of link
 none_taken true slot link = refl
 none_taken false slot link = refl
 
@@ -174,16 +201,16 @@ pub alike_counted : (unsent : Bool) (handle : ℕ) (turn : Turn) (link after : O
 alike_counted unsent handle turn link after end same is =
     let sends = unsent && sends_under handle turn.doing in
     let listens = listens_under handle turn.doing in
-    subst (λ l. IsCounted (ahead_if sends end) (ack_of l)) (sym (none_taken listens turn.slot after))
+    subst (IsCounted (ahead_if sends end)) (sym (none_taken listens turn.slot after))
     (subst (IsCounted (ahead_if sends end)) (sym same)
-    (subst (λ l. IsCounted (ahead_if sends end) (ack_of l)) (none_taken listens turn.slot link) is))
+    (subst (IsCounted (ahead_if sends end)) (none_taken listens turn.slot link) is))
 
 -- an end whose packet is still to come, or that was sent, and that takes nothing
 pub from_sent : (sends : Bool) (received : Option (List ℕ)) (handle : ℕ) (turn : Turn) (link : OpenLink) (end : Exchanged) → sends_under handle turn.doing ≡ sends
     → (listens_under handle turn.doing ≡ true → received ≡ None) → IsCounted (ahead_if sends end) (ack_of link) → IsEndCounted true received handle turn link end
 from_sent sends received handle turn link end is nothing counted =
-    subst (λ b. IsCounted (ahead_if b end) (ack_of (taking_if (listens_under handle turn.doing) received turn.slot link))) (sym is)
-    (subst (λ l. IsCounted (ahead_if sends end) (ack_of l)) (sym (nothing_taken (listens_under handle turn.doing) received turn.slot link nothing)) counted)
+    subst (λ b. IsCounted (ahead_if b end) (ack_taking (listens_under handle turn.doing) received turn.slot link)) (sym is)
+    (subst (IsCounted (ahead_if sends end)) (sym (ack_nothing (listens_under handle turn.doing) received turn.slot link nothing)) counted)
 
 -- ---- all ends
 
@@ -266,12 +293,11 @@ module _ (given : Given) where
           let next = after_call given station step history in
           none_to_take (packet_received other next) handle (facts_at given other next).turn link (exchange_at (number_at other handle next) next (other_side (side_of other)))
           (ap (λ n. packet_received n next) (eqb-true other station one) ∙ none)
-      by other handle link is at false differs = λ octets listens some.
+      by other handle link is at false differs = λ octets listens some slot room more.
           let next = after_call given station step history in
           let same = other_facts given station step history other differs in
           let number = number_at other handle history in
           ap (λ n. (exchange_at n next (other_side (side_of other))).sent) (number_other given station step history other handle differs)
           ∙ (exchange_same given number station step history (other_side (side_of other))).sent
           ∙ to_take other handle link is (ap (λ (f : Facts). link_at handle f.links) (sym same) ∙ at) octets
-          (ap (λ (f : Facts). listens_under handle f.turn.doing) (sym same) ∙ listens) (sym (others other differs) ∙ some)
-          ∙ ap (λ (f : Facts). length (ack_of (link_after (PacketReceived f.turn.slot octets true) link)).accepted) (sym same)
+          (ap (λ (f : Facts). listens_under handle f.turn.doing) (sym same) ∙ listens) (sym (others other differs) ∙ some) slot room more

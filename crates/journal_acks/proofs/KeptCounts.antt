@@ -8,7 +8,6 @@ use Rattle.ble_base.specs.declared.notes.Note.{Note}
 use Rattle.ble_base.specs.declared.notes.Note.TheVariants.{Took}
 use Rattle.ble_base.specs.declared.roles.Side.{Side}
 use Rattle.journal_packets.proofs.link_model.Hearing.{IsHeardWhole}
-use Rattle.journal_packets.specs.link_model.Acknowledgement.{Acknowledgement}
 use Rattle.journal_packets.specs.link_model.Step.{PacketReceived, PacketSent}
 use Rattle.journal_packets.specs.open_links.OpenLinks.{OpenLink, link_after, link_at}
 use Rattle.journal_packets.proofs.open_links.Handles.{handle_is}
@@ -50,7 +49,7 @@ use Rattle.journal_acks.specs.Exchange.{Exchanged, after_taking, with_taken}
 use Rattle.journal_acks.proofs.Acks.{link_sends}
 use Rattle.journal_acks.proofs.AirCounts.{advertises, any_sending, first_aired, packet_counted, packet_to_take}
 use Rattle.link_calls.proofs.CallNotes.{HasNoData, TakesNone, all_more, begin_noted, doing_noted, end_noted, events_noted, no_data, none_taken, octet_noted}
-use Rattle.journal_acks.proofs.Counting.{AreCountedSo, AreKnown, AreToTake, IsEndCounted, ahead_if, alike_counted, apart_numbers, counted_call, counted_event, counted_same, from_plain, from_sent, moved, none_to_take, plain, take_call, taking_if}
+use Rattle.journal_acks.proofs.Counting.{AreCountedSo, AreKnown, AreToTake, IsEndCounted, ahead_if, alike_counted, apart_numbers, counted_call, counted_event, counted_same, from_plain, from_sent, moved, none_to_take, plain, take_call, ack_taking}
 use Rattle.journal_acks.proofs.DataCalls.{begin_call, on_link_facts, on_link_notes, phase_call, unfound}
 use Rattle.link_calls.proofs.CallNotes.{OpensNone, opening_none}
 use Rattle.journal_acks.proofs.Exchanging.{exchange_at, exchange_called, exchange_took, feed_quiet, number_at, number_called, number_quiet, turn_quiet}
@@ -108,29 +107,25 @@ was_plain : (received : Option (List ℕ)) (handle : ℕ) (turn : Turn) (link : 
     → IsEndCounted false received handle turn link end → IsCounted end (ack_of link)
 was_plain received handle turn link end nothing is = by (listens_under handle turn.doing) received nothing is
   where
-    by : (listens : Bool) (received : Option (List ℕ)) → (listens ≡ true → received ≡ None) → IsCounted end (ack_of (taking_if listens received turn.slot link)) → IsCounted end (ack_of link)
+    by : (listens : Bool) (received : Option (List ℕ)) → (listens ≡ true → received ≡ None) → IsCounted end (ack_taking listens received turn.slot link) → IsCounted end (ack_of link)
     by true None none counted = counted
     by true (Some octets) none counted = absurd (let h : Some octets ≡ None = none refl in absurd cc)
     by false received none counted = counted
 
--- and that takes one, as if there were no room
+-- and that takes one, before a line says so
 pub was_taking : (received : Option (List ℕ)) (octets : List ℕ) (handle : ℕ) (turn : Turn) (link : OpenLink) (end : Exchanged) → listens_under handle turn.doing ≡ true → received ≡ Some octets
-    → IsEndCounted false received handle turn link end → IsCounted end (ack_of (link_after (PacketReceived turn.slot octets false) link))
+    → IsEndCounted false received handle turn link end → IsCounted end (ack_taking true (Some octets) turn.slot link)
 was_taking received octets handle turn link end on some is =
-    subst (λ may. IsCounted end (ack_of (taking_if true may turn.slot link))) some
-    (subst (λ b. IsCounted end (ack_of (taking_if b received turn.slot link))) on is)
+    subst (λ may. IsCounted end (ack_taking true may turn.slot link)) some
+    (subst (λ b. IsCounted end (ack_taking b received turn.slot link)) on is)
 
--- a PDU that is noted counts as it does with room
+-- a PDU that is noted is one more that is accepted
 noted_counted : (slot : ℕ) (octets : List ℕ) (room : Bool) (link : OpenLink) (end from : Exchanged)
-    → ack_of (link_after (PacketReceived slot octets room) link) ≡ ack_of (link_after (PacketReceived slot octets true) link)
-    → from.sent ≡ length (ack_of (link_after (PacketReceived slot octets true) link)).accepted
-    → IsCounted end (ack_of (link_after (PacketReceived slot octets false) link)) → IsCounted (with_taken from end) (ack_of (link_after (PacketReceived slot octets room) link))
-noted_counted slot octets room link end from same sent is =
-    let but = same_but slot octets room false link in record {
-      sent = is.sent ∙ ap length (sym but.sent);
-      accepted = sent ∙ ap (λ (a : Acknowledgement). length a.accepted) (sym same);
-      acked = is.acked ∙ sym but.acked;
-    }
+    → from.sent ≡ length (ack_of (link_after (PacketReceived slot octets room) link)).accepted
+    → IsCounted end (ack_taking true (Some octets) slot link) → IsCounted (with_taken from end) (ack_of (link_after (PacketReceived slot octets room) link))
+noted_counted slot octets room link end from sent is =
+    let but = same_but slot octets room false link in
+    record { sent = is.sent ∙ ap length (sym but.sent); accepted = sent; acked = is.acked ∙ sym but.acked }
 
 not_in_more : (one : ℕ) (done : List ℕ) (station : ℕ) → is_in one (done ++ station ∷ []) ≡ false → (same : Bool) → (one == station) ≡ same → is_in one done ≡ false
 not_in_more one done station out true is = absurd (let h : true ≡ false = sym (in_more_same one station done is) ∙ out in absurd cc)
@@ -403,7 +398,7 @@ module _ (given : Given) (Q : Place → List Event → Type 0) (known : AreKnown
       ∙ ap (λ b. if b then after_taking (side_of station) (exchange_at number history) else exchange_at number history)
       (ap (λ n. number_at station n history == number) own ∙ same_station number))
       ∙ ap (λ b. if b then with_taken from end else end) (side_same station)))
-      (noted_counted facts.turn.slot octets room base end from same (is.to_take station handle base in_it was octets on some)
+      (noted_counted facts.turn.slot octets room base end from (is.to_take station handle base in_it was octets on some facts.turn.slot room same ∙ sym same)
       (was_taking received octets handle facts.turn base end on some (before_call handle base was)))
 
   -- the notes of what it takes, and of what it sends then

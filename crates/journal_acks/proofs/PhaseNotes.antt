@@ -1,7 +1,8 @@
 -- What a phase notes of PDUs: nothing, or those of the link on which a packet is received.
-use Rattle.std.proofs.Common.{◌≡◌, ℕ, ◌+◌, ◌==◌, ◌&&◌, ◌||◌, not, Bool, true, false, Option, Some, None, List, [], ◌∷◌, ◌++◌, refl, sym, ap, subst, ◌∙◌}
+use Rattle.std.proofs.Common.{◌≡◌, ℕ, ◌+◌, ◌==◌, ◌&&◌, ◌||◌, not, Bool, true, false, Option, Some, None, List, [], ◌∷◌, ◌++◌, length, refl, sym, ap, subst, ◌∙◌}
 use Rattle.std.specs.Prelude.{All}
 use Rattle.std.proofs.lemmas.Bool.{eqb-true, eqb-false}
+use Rattle.std.proofs.lemmas.List.{length_push}
 use Rattle.std.proofs.lemmas.List.Elements.{All-append, All-cons, All-nil}
 use Rattle.ble_base.specs.declared.addresses.Address.{Address}
 use Rattle.ble_base.specs.declared.error_codes.ErrCode.{ErrCode}
@@ -45,22 +46,23 @@ use Rattle.controller_model.specs.Side.{notes_after}
 use Rattle.run_model.specs.Run.{step_of}
 use Rattle.journal_packets.proofs.run_laws.Agreed.{ack_of, step_facts}
 use Rattle.journal_acks.proofs.Acks.{empty_is_no_data}
+use Rattle.journal_acks.proofs.Counting.{accepted_before, ack_taking, has_own_line}
 use Rattle.link_calls.proofs.CallNotes.{HasNoData, OpensNone, TakesNone, events_noted, no_data}
 use Rattle.link_calls.specs.Uses.{listens_under, sends_under}
 use Rattle.journal_acks.proofs.TwoStations.{same_number}
 
 -- ---- what is noted of a PDU that a link receives
 
--- it is noted where it is accepted only because there is room; a note says that it counts as it does with room, and
--- none that it counts as it does without. Besides, procedures that are done or refused may be noted
+-- a note of it says that one PDU more is accepted; without such a note none is that has a line of its own. Besides,
+-- procedures that are done or refused may be noted
 pub data IsTakenSo (slot : ℕ) (octets : List ℕ) (room : Bool) (link : OpenLink) : Type 0 where
   Unnoted : All TakesNone (notes_taken slot room (Some link) octets)
-      → ack_of (link_after (PacketReceived slot octets room) link) ≡ ack_of (link_after (PacketReceived slot octets false) link)
+      → ack_of (link_after (PacketReceived slot octets room) link) ≡ ack_taking true (Some octets) slot link
       → IsTakenSo slot octets room link
   Noted : (earlier later : List Note) (count llid : ℕ) (body : List ℕ)
       → notes_taken slot room (Some link) octets ≡ earlier ++ Took link.setup.link.handle count llid (record { items = body }) ∷ later
       → All TakesNone earlier → ((handle : ℕ) → All (OpensNone handle) earlier) → All TakesNone later
-      → ack_of (link_after (PacketReceived slot octets room) link) ≡ ack_of (link_after (PacketReceived slot octets true) link)
+      → length (ack_of (link_after (PacketReceived slot octets room) link)).accepted ≡ length (ack_of link).accepted + 1
       → IsTakenSo slot octets room link
 
 received_ack : (slot : ℕ) (octets : List ℕ) (room : Bool) (link : OpenLink) (found : Option (List ℕ)) → good_pdu link.setup (facts_in link) octets ≡ found
@@ -111,20 +113,19 @@ sent_same slot octets room link =
     subst (λ a. HasSentSame a (ack_of link)) (sym (received_ack slot octets room link found refl))
     (received_sent link.setup.link.role slot room found (facts_in link))
 
-noted_room : (room fresh full empty may : Bool) → ((fresh && (room || not full) && may) && not empty) ≡ true → (fresh && (room || not full) && may) ≡ (fresh && true && may)
-noted_room true fresh full empty may is = refl
-noted_room false true true empty may is = absurd cc
-noted_room false true false empty may is = refl
-noted_room false false full empty may is = absurd cc
+-- an empty PDU is accepted also where there is no room
+empty_room : (room fresh full may : Bool) → full ≡ false → (fresh && (room || not full) && may) ≡ (fresh && (false || not full) && may)
+empty_room room fresh true may none = absurd cc
+empty_room true fresh false may none = refl
+empty_room false fresh false may none = refl
 
-quiet_room : (room fresh full empty may : Bool) → (empty ≡ true → full ≡ false) → ((fresh && (room || not full) && may) && not empty) ≡ false
-    → (fresh && (room || not full) && may) ≡ (fresh && (false || not full) && may)
-quiet_room false fresh full empty may none is = refl
-quiet_room true false full empty may none is = refl
-quiet_room true true false empty may none is = refl
-quiet_room true true true empty false none is = refl
-quiet_room true true true true true none is = absurd (let h : true ≡ false = none refl in absurd cc)
-quiet_room true true true false true none is = absurd cc
+second_true : (one other : Bool) → other ≡ true → (one && other) ≡ false → one ≡ false
+second_true true other is none = absurd (let h : true ≡ false = sym is ∙ none in absurd cc)
+second_true false other is none = refl
+
+first_true : (one other : Bool) → (one && other) ≡ true → one ≡ true
+first_true true other is = refl
+first_true false other is = absurd cc
 
 -- what is noted of procedures
 done_takes : (handle : ℕ) (kind : Option Kind) → All TakesNone (done_notes handle kind)
@@ -179,34 +180,52 @@ module _ (slot : ℕ) (octets : List ℕ) (room : Bool) (link : OpenLink) where
   pub taken_so : IsTakenSo slot octets room link
   taken_so = by (good_pdu link.setup (facts_in link) octets) refl
     where
-      same_by : (other : Bool) (pdu : List ℕ) → good_pdu link.setup (facts_in link) octets ≡ Some pdu
-          → accepts room (header_in pdu) (pdu_of pdu) (before pdu) ≡ accepts other (header_in pdu) (pdu_of pdu) (before pdu)
-          → ack_of (link_after (PacketReceived slot octets room) link) ≡ ack_of (link_after (PacketReceived slot octets other) link)
-      same_by other pdu is accepted =
+      -- what it holds with a line to come, or with none
+      waiting_is : (found : Option (List ℕ)) (own : Bool) → good_pdu link.setup (facts_in link) octets ≡ found → has_own_line found ≡ own
+          → ack_taking true (Some octets) slot link ≡ record (ack_of (link_after (PacketReceived slot octets false) link)) { accepted = accepted_before own slot octets link }
+      waiting_is found own is own_is =
+          ap (λ b. record (ack_of (link_after (PacketReceived slot octets false) link)) { accepted = accepted_before b slot octets link }) (ap has_own_line is ∙ own_is)
+
+      unnoted : (pdu : List ℕ) → good_pdu link.setup (facts_in link) octets ≡ Some pdu → (empty : Bool) → is_empty (pdu_of pdu) ≡ empty
+          → (accepts room (header_in pdu) (pdu_of pdu) (before pdu) && not (is_empty (pdu_of pdu))) ≡ false
+          → ack_of (link_after (PacketReceived slot octets room) link) ≡ ack_taking true (Some octets) slot link
+      unnoted pdu is true empty none =
+          let acked = has_acknowledged (facts_in link) (header_in pdu) in
+          let may = is_empty (pdu_of pdu) || not (before pdu).leaving.acknowledged in
           ack_is room pdu is
-          ∙ ap (λ b. received_by (has_acknowledged (facts_in link) (header_in pdu)) b (pdu_of pdu) (facts_in link).acknowledgement) accepted
-          ∙ sym (ack_is other pdu is)
+          ∙ ap (λ b. received_by acked b (pdu_of pdu) (facts_in link).acknowledgement)
+          (empty_room room (has_new_pdu (before pdu) (header_in pdu)) (is_data (pdu_of pdu)) may (empty_is_no_data (pdu_of pdu) empty))
+          ∙ sym (ack_is false pdu is) ∙ sym (waiting_is (Some pdu) false is (ap not empty))
+      unnoted pdu is false full none =
+          let acked = has_acknowledged (facts_in link) (header_in pdu) in
+          let own = (facts_in link).acknowledgement in
+          ack_is room pdu is
+          ∙ ap (λ b. received_by acked b (pdu_of pdu) own) (second_true (accepts room (header_in pdu) (pdu_of pdu) (before pdu)) (not (is_empty (pdu_of pdu))) (ap not full) none)
+          ∙ ap (λ (a : Acknowledgement). record a { accepted = own.accepted }) (sym (ack_is false pdu is))
+          ∙ sym (waiting_is (Some pdu) true is (ap not full))
 
       noted_by : (pdu : List ℕ) → good_pdu link.setup (facts_in link) octets ≡ Some pdu → (noted : Bool)
           → (accepts room (header_in pdu) (pdu_of pdu) (before pdu) && not (is_empty (pdu_of pdu))) ≡ noted → IsTakenSo slot octets room link
       noted_by pdu is true noted =
-          let fresh = has_new_pdu (before pdu) (header_in pdu) in
-          let may = is_empty (pdu_of pdu) || not (before pdu).leaving.acknowledged in
+          let acked = has_acknowledged (facts_in link) (header_in pdu) in
+          let own = (facts_in link).acknowledgement in
           Noted (earlier_of pdu) (later_of pdu) (numbered (before pdu).acknowledgement.accepted + 1) (pdu_of pdu).llid (pdu_of pdu).body
           (notes_are (Some pdu) is ∙ ap (λ b. earlier_of pdu ++ (took_notes_if b own_handle (pdu_of pdu) (before pdu) ++ later_of pdu)) noted)
           (done_takes own_handle (kind_by pdu)) (done_opens own_handle (kind_by pdu)) (given_takes own_handle (given_by pdu))
-          (same_by true pdu is (noted_room room fresh (is_data (pdu_of pdu)) (is_empty (pdu_of pdu)) may noted))
+          (ap (λ (a : Acknowledgement). length a.accepted) (ack_is room pdu is)
+          ∙ ap (λ b. length (received_by acked b (pdu_of pdu) own).accepted)
+          (first_true (accepts room (header_in pdu) (pdu_of pdu) (before pdu)) (not (is_empty (pdu_of pdu))) noted)
+          ∙ length_push own.accepted (pdu_of pdu))
       noted_by pdu is false noted =
-          let fresh = has_new_pdu (before pdu) (header_in pdu) in
-          let may = is_empty (pdu_of pdu) || not (before pdu).leaving.acknowledged in
           Unnoted
           (subst (All TakesNone) (sym (notes_are (Some pdu) is ∙ ap (λ b. earlier_of pdu ++ (took_notes_if b own_handle (pdu_of pdu) (before pdu) ++ later_of pdu)) noted))
           (All-append TakesNone (earlier_of pdu) (later_of pdu) (done_takes own_handle (kind_by pdu)) (given_takes own_handle (given_by pdu))))
-          (same_by false pdu is (quiet_room room fresh (is_data (pdu_of pdu)) (is_empty (pdu_of pdu)) may (empty_is_no_data (pdu_of pdu)) noted))
+          (unnoted pdu is (is_empty (pdu_of pdu)) refl noted)
 
       by : (found : Option (List ℕ)) → good_pdu link.setup (facts_in link) octets ≡ found → IsTakenSo slot octets room link
       by None is =
-          Unnoted (subst (All TakesNone) (sym (notes_are None is)) (All-nil TakesNone)) (received_ack slot octets room link None is ∙ sym (received_ack slot octets false link None is))
+          Unnoted (subst (All TakesNone) (sym (notes_are None is)) (All-nil TakesNone))
+          (received_ack slot octets room link None is ∙ sym (received_ack slot octets false link None is) ∙ sym (waiting_is None false is refl))
       by (Some pdu) is = noted_by pdu is _ refl
 
 -- ---- what is noted as a link is to send
