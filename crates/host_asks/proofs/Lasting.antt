@@ -25,7 +25,7 @@ pub lasted : (setup : Setup) (facts : Facts) (step : Step) → (facts_after setu
 lasted setup facts step lasts =
     ends_before_all (control_steps_in setup facts step) facts.control (ap (λ (c : Control). c.ends) (sym (one_step setup facts step)) ∙ lasts)
 
-lasted_if : (setup : Setup) (facts : Facts) (step : Option Step) → (facts_commanded setup step facts).control.ends ≡ None → facts.control.ends ≡ None
+pub lasted_if : (setup : Setup) (facts : Facts) (step : Option Step) → (facts_commanded setup step facts).control.ends ≡ None → facts.control.ends ≡ None
 lasted_if setup facts None lasts = lasts
 lasted_if setup facts (Some step) lasts = lasted setup facts step lasts
 

@@ -9,5 +9,7 @@ pub mod Lasting
 pub mod LinksViewed
 pub mod EndsViewed
 pub mod StepsListed
+pub mod OpenLinksKnown
+pub mod OpenLinkCalls
 pub mod PairsCommanded
 pub mod ReasonsRead

@@ -187,7 +187,7 @@ command_own view (LeParamReply given min max latency timeout lengths) handle abo
 command_own view (LeParamNegative given reason) handle about = about_own view given handle _ about
 command_own view other handle about = absurd (cc)
 
-differs : (given handle : ℕ) → (given == handle) ≡ false → handle ≡ given → ⊥
+pub differs : (given handle : ℕ) → (given == handle) ≡ false → handle ≡ given → ⊥
 differs given handle other same = let h : (given == given) ≡ false = subst (λ (n : ℕ). (given == n) ≡ false) same other in grind (arith, h)
 
 pub about_other : (view : View) (given handle : ℕ) (change : Link → Link) → (given == handle) ≡ false

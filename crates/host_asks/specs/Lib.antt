@@ -4,4 +4,5 @@ pub mod Noting
 pub mod Commands
 pub mod Lasting
 pub mod Views
+pub mod LinksCommanded
 pub mod Rows

@@ -5,6 +5,7 @@
 
 mod both_ends;
 mod laws;
+mod open_ends;
 mod rows;
 mod views;
 
@@ -14,6 +15,7 @@ pub use crate::laws::{
     a_step_keeps_what_is_known, accepted_commands_may_come, an_answer_keeps_what_is_known,
     reasons_that_are_read_fit,
 };
+pub use crate::open_ends::{all_links_stay_known, each_command_is_one_call};
 pub use crate::rows::{a_peer_may_withdraw_its_request, an_answer_at_once_is_taken};
 pub use crate::views::{
     all_steps_of_a_command_may_come, an_opened_link_is_known, commands_change_their_link,

@@ -1,0 +1,181 @@
+-- The view knows the ends of all open links after an accepted command.
+use Rattle.std.proofs.Common.{◌≡◌, ℕ, ◌+◌, ◌==◌, Bool, true, false, [], ◌∷◌, Option, Some, None, if◌then◌else◌, refl, ap, sym, ◌∙◌, subst, eqb-true}
+use Rattle.ble_base.specs.declared.procedure_kinds.Kind.{Kind}
+use Rattle.ble_base.specs.declared.notes.Note.TheVariants.{Done}
+use Rattle.ble_base.specs.declared.roles.Role.{Role}
+use Rattle.hci_cmd.specs.declared.command.Command.{Command}
+use Rattle.hci_cmd.specs.declared.command.Command.TheVariants.{LeReadRemoteFeatures, ReadRemoteVersion}
+use Rattle.procedure_stages.specs.Kinds.{role_of}
+use Rattle.link_model.specs.Setup.{Setup}
+use Rattle.link_model.specs.Facts.{Facts}
+use Rattle.link_model.specs.Step.{Step}
+use Rattle.link_model.proofs.ControlSteps.{keeps_role}
+use Rattle.link_model.proofs.Pasts.{grows}
+use Rattle.open_links.specs.OpenLinks.{HasHandle, HaveHandles, Links, OpenLink, facts_in, link_at, link_from}
+use Rattle.open_links.proofs.Handles.{has_its_handle}
+use Rattle.host_view.specs.View.{View}
+use Rattle.host_view.specs.Changes.{view_after}
+use Rattle.host_view.specs.Refusals.{first_refusal}
+use Rattle.host_view.specs.Status.{rows_of}
+use Rattle.host_asks.specs.Commands.{FitsReason, MayComeIf, facts_commanded, host_step_of, is_about}
+use Rattle.host_asks.specs.LinksCommanded.{KnowsLinks, known_in, link_after_if, links_commanded, links_commanded_from, open_link_commanded, place_commanded, view_commanded_on}
+use Rattle.host_asks.specs.Views.{KnowsAt, leaves_other_links, view_answered, view_commanded}
+use Rattle.host_asks.proofs.EndsViewed.{command_known, command_may, other_known}
+use Rattle.host_asks.proofs.Lasting.{lasted_if}
+use Rattle.host_asks.proofs.LinksViewed.{differs, notes_other}
+
+-- ---- one link
+
+pub commanded_facts : (step : Option Step) (link : OpenLink) → facts_in (link_after_if step link) ≡ facts_commanded link.setup step (facts_in link)
+commanded_facts None link = refl
+commanded_facts (Some step) link = grows link.setup link.past step
+
+commanded_setup : (step : Option Step) (link : OpenLink) → (link_after_if step link).setup ≡ link.setup
+commanded_setup None link = refl
+commanded_setup (Some step) link = refl
+
+-- ---- what is under a handle
+
+commanded_from : (command : Command) (slot first handle : ℕ) (links : Links)
+    → link_from first handle (links_commanded_from first command slot links) ≡ place_commanded (is_about handle command) command slot (link_from first handle links)
+commanded_from command slot first handle [] = none (is_about handle command)
+  where
+    none : (about : Bool) → None ≡ place_commanded about command slot None
+    none true = refl
+    none false = refl
+commanded_from command slot first handle (place ∷ links) = by (first == handle) refl (commanded_from command slot (first + 1) handle links)
+  where
+    by : (same : Bool) → (first == handle) ≡ same
+        → link_from (first + 1) handle (links_commanded_from (first + 1) command slot links)
+        ≡ place_commanded (is_about handle command) command slot (link_from (first + 1) handle links)
+        → (if same then place_commanded (is_about first command) command slot place else link_from (first + 1) handle (links_commanded_from (first + 1) command slot links))
+        ≡ place_commanded (is_about handle command) command slot (if same then place else link_from (first + 1) handle links)
+    by true is rest = ap (λ (h : ℕ). place_commanded (is_about h command) command slot place) (eqb-true first handle is)
+    by false is rest = rest
+
+commanded_handle : (command : Command) (slot handle : ℕ) (about : Bool) (place : Option OpenLink) → HasHandle handle place
+    → HasHandle handle (place_commanded about command slot place)
+commanded_handle command slot handle true None has = tt
+commanded_handle command slot handle true (Some link) has =
+    ap (λ (s : Setup). s.link.handle) (commanded_setup (host_step_of command slot link.setup.link.role (facts_in link).peer) link) ∙ has
+commanded_handle command slot handle false place has = has
+
+commanded_handles : (command : Command) (slot first : ℕ) (links : Links) → HaveHandles first links → HaveHandles first (links_commanded_from first command slot links)
+commanded_handles command slot first [] have = tt
+commanded_handles command slot first (place ∷ links) have =
+    (commanded_handle command slot first (is_about first command) place have.0, commanded_handles command slot (first + 1) links have.1)
+
+-- ---- the view
+
+some_is : (one other : OpenLink) → Some one ≡ Some other → one ≡ other
+some_is one other is = ap (λ (link : Option OpenLink). or_link link) is
+  where
+    or_link : Option OpenLink → OpenLink
+    or_link None = one
+    or_link (Some link) = link
+
+-- for the link that the command is about, the view is that of one end
+view_about : (view : View) (command : Command) (handle : ℕ) (links : Links) (link : OpenLink) → is_about handle command ≡ true → link_at handle links ≡ Some link
+    → view_commanded_on view command links ≡ view_commanded view command handle (facts_in link).peer
+view_about view (ReadRemoteVersion given) handle links link about is =
+    subst (λ (h : ℕ). view_commanded_on view (ReadRemoteVersion given) links ≡ view_commanded view (ReadRemoteVersion given) h (facts_in link).peer) (eqb-true given handle about)
+    (ap (λ (found : Option OpenLink). view_answered given (known_in (ReadRemoteVersion given) found) (view_after view (ReadRemoteVersion given)))
+    (subst (λ (h : ℕ). link_at h links ≡ Some link) (sym (eqb-true given handle about)) is))
+view_about view (LeReadRemoteFeatures given) handle links link about is =
+    subst (λ (h : ℕ). view_commanded_on view (LeReadRemoteFeatures given) links ≡ view_commanded view (LeReadRemoteFeatures given) h (facts_in link).peer) (eqb-true given handle about)
+    (ap (λ (found : Option OpenLink). view_answered given (known_in (LeReadRemoteFeatures given) found) (view_after view (LeReadRemoteFeatures given)))
+    (subst (λ (h : ℕ). link_at h links ≡ Some link) (sym (eqb-true given handle about)) is))
+view_about view command handle links link about is = refl
+
+-- what is answered on one link is not known of another
+answered_other : (view : View) (given handle : ℕ) (kind : Option Kind) (facts : Facts) → (given == handle) ≡ false → KnowsAt view handle facts
+    → KnowsAt (view_answered given kind view) handle facts
+answered_other view given handle None facts other known = known
+answered_other view given handle (Some kind) facts other known =
+    record {
+      link = known.link;
+      is_open = notes_other given handle view (Done given kind ∷ []) (refl, tt) (differs given handle other) ∙ known.is_open;
+      knows = known.knows;
+    }
+
+view_other : (view : View) (command : Command) (handle : ℕ) (links : Links) (facts : Facts) → is_about handle command ≡ false → KnowsAt (view_after view command) handle facts
+    → KnowsAt (view_commanded_on view command links) handle facts
+view_other view (ReadRemoteVersion given) handle links facts about known = answered_other _ given handle _ facts about known
+view_other view (LeReadRemoteFeatures given) handle links facts about known = answered_other _ given handle _ facts about known
+view_other view command handle links facts about known = known
+
+-- ---- all links
+
+module _ (view : View) (command : Command) (slot : ℕ) (links : Links) (ok : first_refusal (rows_of view command) ≡ 0)
+    (leaves : leaves_other_links command ≡ true) (known : KnowsLinks view links) where
+  own_link : (handle : ℕ) (link : OpenLink) → is_about handle command ≡ true → link_at handle links ≡ Some link
+      → (facts_in (open_link_commanded command slot link)).control.ends ≡ None
+      → KnowsAt (view_commanded_on view command links) handle (facts_in (open_link_commanded command slot link))
+  own_link handle link about is lasts =
+      subst (λ (f : Facts). KnowsAt (view_commanded_on view command links) handle f) (sym facts_are)
+      (subst (λ (v : View). KnowsAt v handle (facts_commanded link.setup step (facts_in link))) (sym (view_about view command handle links link about is)) own)
+    where
+      step_by : Role → Option Step
+      step_by role = host_step_of command slot role (facts_in link).peer
+
+      step : Option Step
+      step = host_step_of command slot link.setup.link.role (facts_in link).peer
+
+      facts_are : facts_in (open_link_commanded command slot link) ≡ facts_commanded link.setup step (facts_in link)
+      facts_are = commanded_facts step link
+
+      goes : (facts_commanded link.setup step (facts_in link)).control.ends ≡ None
+      goes = ap (λ (f : Facts). f.control.ends) (sym facts_are) ∙ lasts
+
+      has : link.setup.link.handle ≡ handle
+      has = subst (HasHandle handle) is (has_its_handle 0 handle links known.handles)
+
+      role : role_of (facts_in link).control.table.progress ≡ link.setup.link.role
+      role = keeps_role link.setup link.past
+
+      here_known : KnowsAt view handle (facts_in link)
+      here_known = known.each handle link is (lasted_if link.setup (facts_in link) step goes)
+
+      -- by the role of its end
+      by_end : (h : ℕ) → link.setup.link.handle ≡ h → is_about h command ≡ true → KnowsAt view h (facts_in link)
+          → (facts_commanded link.setup (step_by (role_of (facts_in link).control.table.progress)) (facts_in link)).control.ends ≡ None
+          → KnowsAt (view_commanded view command h (facts_in link).peer) h
+          (facts_commanded link.setup (step_by (role_of (facts_in link).control.table.progress)) (facts_in link))
+      by_end h is_handle about_h known_h lasts_h =
+          subst (λ (n : ℕ). KnowsAt (view_commanded view command n (facts_in link).peer) n
+          (facts_commanded link.setup (step_by (role_of (facts_in link).control.table.progress)) (facts_in link))) is_handle
+          (command_known view link.setup command slot (facts_in link) ok (subst (λ (n : ℕ). is_about n command ≡ true) (sym is_handle) about_h)
+          (subst (λ (n : ℕ). KnowsAt view n (facts_in link)) (sym is_handle) known_h) lasts_h)
+
+      own : KnowsAt (view_commanded view command handle (facts_in link).peer) handle (facts_commanded link.setup step (facts_in link))
+      own =
+          subst (λ (r : Role). KnowsAt (view_commanded view command handle (facts_in link).peer) handle (facts_commanded link.setup (step_by r) (facts_in link))) role
+          (by_end handle has about here_known
+          (subst (λ (r : Role). (facts_commanded link.setup (step_by r) (facts_in link)).control.ends ≡ None) (sym role) goes))
+
+  one_link : (handle : ℕ) (about : Bool) (place : Option OpenLink) (link : OpenLink) → is_about handle command ≡ about → link_at handle links ≡ place
+      → place_commanded about command slot place ≡ Some link → (facts_in link).control.ends ≡ None
+      → KnowsAt (view_commanded_on view command links) handle (facts_in link)
+  one_link handle true None link about found is lasts = absurd (cc)
+  one_link handle true (Some before) link about found is lasts =
+      subst (λ (l : OpenLink). KnowsAt (view_commanded_on view command links) handle (facts_in l)) (some_is (open_link_commanded command slot before) link is)
+      (own_link handle before about found (subst (λ (l : OpenLink). (facts_in l).control.ends ≡ None) (sym (some_is (open_link_commanded command slot before) link is)) lasts))
+  one_link handle false place link about found is lasts =
+      view_other view command handle links (facts_in link) about (other_known view command handle (facts_in link) about leaves (known.each handle link (found ∙ is) lasts))
+
+  pub links_known : KnowsLinks (view_commanded_on view command links) (links_commanded command slot links)
+  links_known =
+      record {
+        handles = commanded_handles command slot 0 links known.handles;
+        each = λ handle link is lasts.
+            one_link handle (is_about handle command) (link_at handle links) link refl refl (sym (commanded_from command slot 0 handle links) ∙ is) lasts;
+      }
+
+-- ---- the step on each link may come
+
+pub step_may : (view : View) (command : Command) (handle slot : ℕ) (links : Links) (link : OpenLink) → first_refusal (rows_of view command) ≡ 0
+    → FitsReason command → is_about handle command ≡ true → KnowsLinks view links → link_at handle links ≡ Some link → (facts_in link).control.ends ≡ None
+    → MayComeIf (host_step_of command slot link.setup.link.role (facts_in link).peer) (facts_in link)
+step_may view command handle slot links link ok fits about known is lasts =
+    subst (λ (r : Role). MayComeIf (host_step_of command slot r (facts_in link).peer) (facts_in link)) (keeps_role link.setup link.past)
+    (command_may view command handle slot (facts_in link) ok fits about (known.each handle link is lasts))

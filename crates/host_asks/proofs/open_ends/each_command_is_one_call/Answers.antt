@@ -1,0 +1,30 @@
+-- Proof of `open_ends::each_command_is_one_call`.
+use Rattle.std.proofs.Common.{refl}
+use Rattle.hci_cmd.specs.declared.command.Command.TheVariants.{Disconnect, LeParamNegative, LeParamReply, LeSetDataLength}
+use Rattle.host_asks.proofs.OpenLinkCalls.{features_asked, map_asked, one_change, update_asked, version_asked}
+use Rattle.host_asks.proofs.open_ends.each_command_is_one_call.Goals as goal
+
+pub returns-clause-disconnect : goal.returns-clause-disconnect
+returns-clause-disconnect c = λ handle reason slot links. one_change (Disconnect handle reason) slot handle (λ h. refl) links
+
+pub returns-clause-version : goal.returns-clause-version
+returns-clause-version c = version_asked
+
+pub returns-clause-features : goal.returns-clause-features
+returns-clause-features c = features_asked
+
+pub returns-clause-length : goal.returns-clause-length
+returns-clause-length c = λ handle most time slot links. one_change (LeSetDataLength handle most time) slot handle (λ h. refl) links
+
+pub returns-clause-update : goal.returns-clause-update
+returns-clause-update c = update_asked
+
+pub returns-clause-map : goal.returns-clause-map
+returns-clause-map c = map_asked
+
+pub returns-clause-granted : goal.returns-clause-granted
+returns-clause-granted c =
+    λ handle min max latency timeout slot lengths links. one_change (LeParamReply handle min max latency timeout lengths) slot handle (λ h. refl) links
+
+pub returns-clause-refused : goal.returns-clause-refused
+returns-clause-refused c = λ handle reason slot links. one_change (LeParamNegative handle reason) slot handle (λ h. refl) links
