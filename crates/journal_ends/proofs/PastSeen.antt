@@ -24,8 +24,8 @@ use Rattle.journal_acks.specs.link_model.Verdicts.{good_in, has_room_for, pdu_by
 use Rattle.journal_acks.specs.run_model.History.{is_good}
 use Rattle.journal_acks.proofs.GoodLinks.{slot_of}
 use Rattle.journal_acks.proofs.HeardSteps.{entered_good, fixed_same, received_same, sent_in}
-use Rattle.journal_ends.specs.Seen.{Says, heard_in_step, heard_where, line_said, lines_said, notes_said, seen_in, seen_in_steps, seen_of}
-use Rattle.journal_ends.proofs.SeenLists.{heard_says, only_says, said_again, said_slot, slot_after}
+use Rattle.journal_ends.specs.Seen.{Says, heard_in_step, heard_where, line_said, lines_said, notes_said, seen_in, seen_in_steps, seen_of, slot_after}
+use Rattle.journal_ends.proofs.SeenLists.{heard_says, only_says, said_again, said_slot}
 
 module _ (side : Side) (number : ℕ) (setup : Setup) where
   -- ---- more steps
@@ -122,7 +122,7 @@ module _ (side : Side) (number : ℕ) (setup : Setup) where
       ∙ ap (λ one. fold slot_after one (seen_in_steps side number setup next steps)) (step_slot facts step)
       ∙ sym (fold-append slot_after (slot_of facts.last_good) (seen_in side number setup facts step) (seen_in_steps side number setup next steps))
 
-  past_slot : (past : List Step) → slot_of (facts_of setup past).last_good ≡ fold slot_after None (seen_of side number setup past)
+  pub past_slot : (past : List Step) → slot_of (facts_of setup past).last_good ≡ fold slot_after None (seen_of side number setup past)
   unfolding seen_of facts_of
   past_slot past = steps_slot (first_facts setup) past
 

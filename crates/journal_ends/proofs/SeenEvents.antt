@@ -103,14 +103,20 @@ notes_say number side station (note ∷ notes) history after is =
     saying_then number side history next after (note_says number side history station note)
     (notes_say number side station notes next after (is ∙ sym (append_assoc history (Noted station note ∷ []) (map (Noted station) notes))))
 
--- a call, with its notes
+-- a call, with some of its notes
+pub front_says : (number : ℕ) (side : Side) (station : ℕ) (step : Call) (history : List Event) (notes : List Note)
+    → IsSaying number side history (history ++ Called station step ∷ map (Noted station) notes)
+front_says number side station step history notes =
+    let called = history ++ Called station step ∷ [] in
+    let after = history ++ Called station step ∷ map (Noted station) notes in
+    saying_then number side history called after (call_says_none number side history station step)
+    (notes_say number side station notes called after (sym (append_assoc history (Called station step ∷ []) (map (Noted station) notes))))
+
+-- or with all of them
 pub call_says : (given : Given) (number : ℕ) (side : Side) (station : ℕ) (step : Call) (history : List Event)
     → IsSaying number side history (after_call given station step history)
 call_says given number side station step history =
-    let notes = notes_after (setup_at given station) (facts_at given station history) step in
-    let called = history ++ Called station step ∷ [] in
-    saying_then number side history called (after_call given station step history) (call_says_none number side history station step)
-    (notes_say number side station notes called (after_call given station step history) (sym (append_assoc history (Called station step ∷ []) (map (Noted station) notes))))
+    front_says number side station step history (notes_after (setup_at given station) (facts_at given station history) step)
 
 -- ---- an end to which more happened
 

@@ -12,7 +12,7 @@ use Rattle.journal_acks.specs.journal_packets.Belonging.{is_side}
 use Rattle.journal_acks.specs.run_model.History.{is_good}
 use Rattle.journal_acks.specs.run_model.Readers.{turns_of}
 use Rattle.journal_acks.specs.Shut.{heard_after, heard_from, is_of_link, last_heard}
-use Rattle.journal_ends.specs.Seen.{Hears, Says, Seen, heard_in_line, heard_where, line_said, lines_said, seen_from, seen_in_line, seen_on}
+use Rattle.journal_ends.specs.Seen.{Hears, Says, Seen, heard_in_line, heard_where, line_said, lines_said, seen_from, seen_in_line, seen_on, slot_after}
 
 -- ---- a line more
 
@@ -65,10 +65,6 @@ unfolding seen_on
 says_its_lines side number journal = from_says side number [] journal
 
 -- ---- the slot of what it heard last
-
-abbrev pub slot_after : Option ℕ → Seen → Option ℕ
-slot_after before (Says line) = before
-slot_after before (Hears slot octets) = Some slot
 
 pub said_slot : (before : Option ℕ) (lines : List Entry) → fold slot_after before (map Says lines) ≡ before
 said_slot before [] = refl

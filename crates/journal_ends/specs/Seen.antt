@@ -1,6 +1,6 @@
 -- What an end of a link says and hears, in order: its lines, and between them the good packets that reach it (Core 5.2,
 -- volume 6 part B, sections 2.1.2 and 4.5; the order is our choice).
-use Rattle.std.specs.Prelude.{ℕ, ◌-◌, ◌&&◌, Bool, true, false, List, [], ◌∷◌, ◌++◌, length, map}
+use Rattle.std.specs.Prelude.{ℕ, ◌-◌, ◌&&◌, Bool, true, false, List, [], ◌∷◌, ◌++◌, fold, length, map, Option, Some, None}
 use Rattle.std.specs.List.{flat_map}
 use Rattle.ble_base.specs.Side.{other_side}
 use Rattle.ble_base.specs.declared.notes.Note.{Note}
@@ -64,6 +64,14 @@ line_said (Hears slot octets) = []
 
 abbrev pub lines_said : List Seen → List Entry
 lines_said seen = flat_map line_said seen
+
+-- the slot of the packet that it hears last
+abbrev pub slot_after : Option ℕ → Seen → Option ℕ
+slot_after before (Says line) = before
+slot_after before (Hears slot octets) = Some slot
+
+abbrev pub last_slot : List Seen → Option ℕ
+last_slot seen = fold slot_after None seen
 
 -- ---- by the past of the end
 

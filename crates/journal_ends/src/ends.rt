@@ -1,18 +1,15 @@
 //! What each end of a link says and hears, as the lines of a journal and the past of that end have
-//! it. The bodies only call the laws that they rest on: the contracts are the laws.
+//! it. The body only calls the laws that it rests on: the contract is the law.
 ghost use Rattle.std.specs.Prelude.{◌≡◌, ◌++◌, ◌∷◌, [], ℕ, Bool, List, Some};
 ghost use Rattle.std.specs.List.{Contains};
-ghost use Rattle.ble_base.specs.declared.roles.Side.{Side};
 ghost use Rattle.controller_model.specs.Step.{Step};
-ghost use Rattle.journal.specs.declared.entries.Entry.{Entry};
-ghost use Rattle.journal_acks.specs.journal_links.LinkLines.{lines_of};
 ghost use Rattle.journal_acks.specs.open_links.OpenLinks.{OpenLink, link_at};
 ghost use Rattle.journal_acks.specs.run_model.History.{Event, Called, TurnBegan};
 ghost use Rattle.journal_acks.specs.run_model.Journal.{journal_of, side_of};
 ghost use Rattle.journal_acks.specs.run_model.LinkEnds.{HaveAddresses};
 ghost use Rattle.journal_acks.specs.run_model.Links.{links_of};
 ghost use Rattle.journal_acks.specs.run_model.Run.{Given, GoesOn, facts_at, history_of, run_of};
-ghost use Rattle.journal_ends.specs.Seen.{heard_next, lines_said, seen_of, seen_on};
+ghost use Rattle.journal_ends.specs.Seen.{heard_next, seen_of, seen_on};
 
 /// In a run of two stations, with any number of links each, the lines of the journal say in order
 /// what happened to each open end: what it noted, and between its notes each good packet of the
@@ -51,10 +48,3 @@ pub fn what_is_seen_of_an_end_is_its_past()
     advertise::laws::connections_are_taken();
     scan_init::laws::searches_give_each_valid_address();
 }
-
-/// What the end of a side on a link says, by the lines of any journal, are the lines of that side
-/// on that link: of what it says and hears, only the packets that it hears are left out.
-pub fn what_an_end_says_is_its_lines()
-    ensures { (side : Side) (number : ℕ) (journal : List Entry)
-        → lines_said (seen_on side number journal) ≡ lines_of side number journal }
-{}

@@ -1,0 +1,7 @@
+-- Proof of `lists::what_an_end_says_is_its_lines`.
+use Rattle.journal_ends.proofs.PastSeen.{past_lines}
+use Rattle.journal_ends.proofs.SeenLists.{says_its_lines}
+use Rattle.journal_ends.proofs.lists.what_an_end_says_is_its_lines.Goals as goal
+
+pub returns : goal.returns
+returns c = record { by_lines = says_its_lines; by_past = λ side number setup past. past_lines side number setup past }
