@@ -1,7 +1,8 @@
 -- Each step of a run of two stations keeps that each open end says and hears by the journal what happened to it.
 use Rattle.std.proofs.Common.{◌≡◌, ℕ, suc, ◌<◌, ◌==◌, inl, inr, Bool, true, false, Option, Some, None, List, [], ◌∷◌, ◌++◌, replicate, refl, sym, ap, subst, ◌∙◌, append-nil, append_assoc, arith}
 use Rattle.std.specs.Prelude.{◌&&◌, map, take, if◌then◌else◌}
-use Rattle.controller_model.specs.Facts.{Facts, Sends}
+use Rattle.std.proofs.lemmas.Bool.{eqb-true}
+use Rattle.controller_model.specs.Facts.{Facts, Listens, Sends}
 use Rattle.controller_model.specs.Side.{facts_of, notes_after}
 use Rattle.controller_model.specs.Step.{Step as Call, HostOctet, TurnBegins, TurnEnds}
 use Rattle.controller_model.specs.declared.doing.Doing.{Doing}
@@ -25,11 +26,12 @@ use Rattle.journal_acks.proofs.journal_packets.SoFar.{IsBelongingSoFar, belongin
 use Rattle.journal_acks.proofs.run_laws.ByCalls.{Holds, all_facts, first_hears, holds_kept}
 use Rattle.journal_acks.proofs.run_laws.ConnectInds.{on_channel}
 use Rattle.journal_acks.proofs.run_laws.DistinctAccess.{AreApart}
-use Rattle.journal_acks.proofs.run_laws.Hearings.{use_sent_at}
+use Rattle.journal_acks.proofs.run_laws.Hearings.{use_sent_at, wanted_is}
 use Rattle.journal_acks.proofs.run_laws.InAgreement.{AreStations, OpenedBefore, differs_back, first_station, stations_kept}
 use Rattle.journal_acks.proofs.run_laws.LinkPasses.{is_on_link}
 use Rattle.journal_acks.proofs.run_laws.OpenSteps.{none_open, open_has}
 use Rattle.journal_acks.proofs.run_laws.SentPackets.{IsUseSent}
+use Rattle.journal_acks.proofs.run_laws.TurnSteps.{IsListening}
 use Rattle.journal_acks.proofs.run_laws.TurnPlaces.{Within, at_stage, stands_first}
 use Rattle.journal_acks.proofs.run_model.Fronts.{front_at}
 use Rattle.journal_acks.proofs.run_model.LinkEnds.{AreTaken, IsUnderstood, received_by, received_event}
@@ -41,7 +43,7 @@ use Rattle.journal_acks.proofs.link_calls.CallNotes.{OpensNone, opening_none}
 use Rattle.journal_acks.proofs.Exchanging.{number_at, number_called, number_quiet}
 use Rattle.journal_acks.proofs.HeardLines.{AreUnheard, IsUnheard, advertised_heard, feed_heard, none_unheard, turn_heard, unheard_called, unheard_event_at, unheard_packet_of}
 use Rattle.journal_acks.specs.link_calls.Uses.{listens_under}
-use Rattle.journal_acks.proofs.Standing.{PhasedBy, phased_at, sending_on_link}
+use Rattle.journal_acks.proofs.Standing.{PhasedBy, listens_wanted, phased_at, sending_on_link}
 use Rattle.journal_acks.proofs.TwoStations.{IsOfTwo, hearing_of, one_hearing, other_is, own_differs, own_received}
 use Rattle.journal_ends.specs.Seen.{heard_next, heard_where}
 use Rattle.journal_ends.proofs.EndsKnown.{AreLined, begun_at, known_kept, lined_at, lined_before}
@@ -52,10 +54,14 @@ use Rattle.journal_ends.proofs.SeenPackets.{packet_aired}
 
 -- ---- what is kept
 
--- each open end says and hears what happened to it, and nothing more
-abbrev pub AreSeen : Given → List Event → Type 0
-AreSeen given history = (station handle : ℕ) (link : OpenLink) → is_in station given.stations ≡ true → link_at handle (facts_at given station history).links ≡ Some link
+-- each open end of a station says and hears what happened to it, and nothing more
+abbrev pub AreSeenOf : Given → List Event → ℕ → Type 0
+AreSeenOf given history station = is_in station given.stations ≡ true → (handle : ℕ) (link : OpenLink) → link_at handle (facts_at given station history).links ≡ Some link
     → seen_at (number_at station handle history) (side_of station) history ≡ seen_in_link (number_at station handle history) (side_of station) link
+
+-- so do those of all stations
+abbrev pub AreSeen : Given → List Event → Type 0
+AreSeen given history = (station : ℕ) → AreSeenOf given history station
 
 -- before a call, an end of its station hears what it is to take in it
 abbrev pub IsSeenBefore : Given → List Event → ℕ → Call → Type 0
@@ -68,7 +74,7 @@ SeenBefore given before (TurnBegan slot radios) = AreSeen given before
 SeenBefore given before (Called station step) = IsSeenBefore given before station step
 SeenBefore given before (HostFed station octets) = Unit {0}
 SeenBefore given before (Noted station note) = Unit {0}
-SeenBefore given before (Transmitted station channel octets hearings) = Unit {0}
+SeenBefore given before (Transmitted station channel octets hearings) = AreSeen given before
 
 -- nothing is heard of a station that did not transmit yet
 abbrev IsSilent : Given → Place → List Event → Type 0
@@ -119,7 +125,16 @@ whole_at given history received station handle link in_it at none seen =
 
 pub all_whole : (given : Given) (history : List Event) → ((station : ℕ) → is_in station given.stations ≡ true → packet_received station history ≡ None)
     → AreSeenSo given history (λ station. packet_received station history) → AreSeen given history
-all_whole given history none seen = λ station handle link in_it at. whole_at given history (λ one. packet_received one history) station handle link in_it at (none station in_it) seen
+all_whole given history none seen = λ station in_it handle link at. whole_at given history (λ one. packet_received one history) station handle link in_it at (none station in_it) seen
+
+-- a station that sends has no packet to take
+sender_whole : (given : Given) (history : List Event) (station channel : ℕ) (octets : List ℕ) → IsListening (facts_at given station history) (facts_at given station history).turn.doing
+    → use_at given station history ≡ Sends channel octets → AreSeenSo given history (λ one. packet_received one history) → AreSeenOf given history station
+sender_whole given history station channel octets listens sends seen = λ in_it handle link at.
+    let facts = facts_at given station history in
+    whole (packet_received station history) handle facts.turn link (number_at station handle history) (side_of station) history
+    (λ on. absurd (let h : Sends channel octets ≡ Listens (facts_in link).event.channel =
+    sym sends ∙ sym (wanted_is given station history) ∙ listens_wanted facts handle link facts.turn.doing on listens at in absurd cc)) (seen station handle link in_it at)
 
 -- a call in which nothing is heard
 whole_before : (given : Given) (history : List Event) (received : ℕ → Option (List ℕ)) (station : ℕ) (step : Call)
@@ -252,6 +267,20 @@ module _ (understood : IsUnderstood) (taken : AreTaken) (nth : AreNth) (apart : 
       ∙ ap (λ b. if b then Some octets else packet_received other history)
       (ap (λ n. has_received n (hearing ∷ [])) (sym one) ∙ own_received station hearing (own_differs station))
       ∙ silent other sender is_other is_sender differs not.1
+
+  -- before a packet no station has one to take: nothing was heard of its sender, which does not listen
+  pub packet_whole : (phases : ℕ) (done left : List ℕ) (station channel : ℕ) (octets : List ℕ) (history : List Event) → given.stations ≡ done ++ station ∷ left
+      → use_at given station history ≡ Sends channel octets → AreSeenAt given (AtPackets phases done (station ∷ left)) history → AreSeen given history
+  packet_whole phases done left station channel octets history are wanted has = λ one. by one (one == station) refl
+    where
+      by : (one : ℕ) → (same : Bool) → (one == station) ≡ same → AreSeenOf given history one
+      by one true same =
+          let place = AtPackets phases done (station ∷ left) in
+          let listens = (phased_at given place history has.holds.hearing.stand station (among given.stations done left station are)).uses.in_turn.listens in
+          subst (AreSeenOf given history) (sym (eqb-true one station same)) (sender_whole given history station channel octets listens wanted has.seen)
+      by one false differs = λ in_one handle link at.
+          whole_at given history (λ each. packet_received each history) one handle link in_one at
+          (has.silent one station in_one (among given.stations done left station are) differs (not_before given.stations done left station distinct are)) has.seen
 
   -- what is sent on a data channel is sent on a link
   sends_on_link : (held : Facts) (channel : ℕ) (octets : List ℕ) → is_advertising channel ≡ false → IsUseSent held (Sends channel octets) → is_on_link held.turn.doing ≡ true
@@ -389,7 +418,8 @@ module _ (understood : IsUnderstood) (taken : AreTaken) (nth : AreNth) (apart : 
           unheard = packet_unheard phases done left station channel octets plan.fates history are due.is_wanted has;
           seen = packet_aired nth apart given are_two six phases done left station channel octets plan.fates history are due.is_wanted has.known has.holds.hearing.stand has.seen due.is_seen
               (λ other is_other differs. has.silent other station is_other in_it differs out);
-          each = each_event (SeenBefore given) history (Transmitted station channel octets (hearings_of given plan.fates station channel octets history)) has.each tt;
+          each = each_event (SeenBefore given) history (Transmitted station channel octets (hearings_of given plan.fates station channel octets history)) has.each
+              (packet_whole phases done left station channel octets history are due.is_wanted has);
         };
     on_air = λ phases history has. record {
       known = knows.on_air phases history has.known;

@@ -8,3 +8,11 @@ pub mod SeenCalls
 pub mod SeenPackets
 pub mod KeptSeen
 pub mod RunSeen
+-- what the crates above use of those below
+pub use Rattle.journal_acks.proofs as journal_acks
+pub use Rattle.journal_acks.proofs.journal_links as journal_links
+pub use Rattle.journal_acks.proofs.journal_packets as journal_packets
+pub use Rattle.journal_acks.proofs.link_model as link_model
+pub use Rattle.journal_acks.proofs.open_links as open_links
+pub use Rattle.journal_acks.proofs.run_laws as run_laws
+pub use Rattle.journal_acks.proofs.run_model as run_model

@@ -23,7 +23,7 @@ use Rattle.journal_acks.specs.link_model.Step.{Step, DataGiven, ProcedureAsked, 
 use Rattle.journal_acks.specs.link_model.Verdicts.{good_in, has_room_for, pdu_by, verdict_by}
 use Rattle.journal_acks.specs.run_model.History.{is_good}
 use Rattle.journal_acks.proofs.GoodLinks.{slot_of}
-use Rattle.journal_acks.proofs.HeardSteps.{entered_good, fixed_same, received_same, sent_in}
+use Rattle.journal_acks.proofs.link_calls.HeardSteps.{entered_good, fixed_same, received_same, sent_in}
 use Rattle.journal_ends.specs.Seen.{Says, heard_in_step, heard_where, line_said, lines_said, notes_said, seen_in, seen_in_steps, seen_of, slot_after}
 use Rattle.journal_ends.proofs.SeenLists.{heard_says, only_says, said_again, said_slot}
 

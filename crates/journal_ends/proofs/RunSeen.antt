@@ -1,17 +1,17 @@
--- What each open end says and hears by the journal of a run, before each call and each turn and at its end.
+-- What each open end says and hears by the journal of a run: before each call, packet and turn, and at its end.
 use Rattle.std.proofs.Common.{◌≡◌, ℕ, Bool, List, [], ◌∷◌, ◌++◌}
 use Rattle.controller_model.specs.Step.{Step as Call}
 use Rattle.journal_acks.specs.run_model.Due.{Each}
-use Rattle.journal_acks.specs.run_model.History.{Event, Called, TurnBegan}
+use Rattle.journal_acks.specs.run_model.History.{Event, Called, Hearing, Transmitted, TurnBegan}
 use Rattle.journal_acks.specs.run_model.LinkEnds.{HaveAddresses}
-use Rattle.journal_acks.specs.run_model.Run.{Given, GoesOn, history_of, run_of}
+use Rattle.journal_acks.specs.run_model.Run.{Given, history_of, run_of}
 use Rattle.journal_acks.proofs.journal_packets.AccessOrder.{AreNth}
 use Rattle.journal_acks.proofs.run_laws.DistinctAccess.{AreApart}
 use Rattle.journal_acks.proofs.run_model.LinkEnds.{AreTaken, IsUnderstood}
 use Rattle.journal_acks.proofs.run_model.Places.{each_at}
-use Rattle.journal_acks.proofs.run_model.Walk.{Ends, IsStopped, IsWhole, ends_whole, ends_with, run_kept}
+use Rattle.journal_acks.proofs.run_model.Walk.{Ends, IsStopped, IsWhole, ends_with, run_kept}
 use Rattle.journal_acks.proofs.TwoStations.{IsOfTwo}
-use Rattle.journal_ends.proofs.KeptSeen.{AreSeen, AreSeenAt, IsSeenBefore, SeenBefore, all_whole, seen_first, seen_kept}
+use Rattle.journal_ends.proofs.KeptSeen.{AreSeen, AreSeenAt, IsSeenBefore, SeenBefore, all_whole, packet_whole, seen_first, seen_kept}
 
 module _ (understood : IsUnderstood) (taken : AreTaken) (nth : AreNth) (apart : AreApart) (given : Given) (are_two : IsOfTwo given) (six : HaveAddresses given) where
   ends : Ends (run_of given) (IsWhole given (AreSeenAt given)) (IsStopped given (AreSeenAt given))
@@ -28,7 +28,15 @@ module _ (understood : IsUnderstood) (taken : AreTaken) (nth : AreNth) (apart : 
   pub seen_before_turn : (before rest : List Event) (slot : ℕ) (radios : List Bool) → history_of (run_of given) ≡ before ++ TurnBegan slot radios ∷ rest → AreSeen given before
   seen_before_turn before rest slot radios at = each_at (SeenBefore given) (history_of (run_of given)) before rest (TurnBegan slot radios) run_seen at
 
-  pub seen_at_end : (history : List Event) → run_of given ≡ GoesOn history → AreSeen given history
-  seen_at_end history goes =
-      let whole = ends_whole (run_of given) (IsWhole given (AreSeenAt given)) (IsStopped given (AreSeenAt given)) history ends goes in
-      all_whole given history whole.is.holds.hearing.hears whole.is.seen
+  pub seen_before_packet : (before rest : List Event) (station channel : ℕ) (octets : List ℕ) (hearings : List Hearing)
+      → history_of (run_of given) ≡ before ++ Transmitted station channel octets hearings ∷ rest → AreSeen given before
+  seen_before_packet before rest station channel octets hearings at =
+      each_at (SeenBefore given) (history_of (run_of given)) before rest (Transmitted station channel octets hearings) run_seen at
+
+  -- at the end of a run, and where damage stops one
+  pub seen_at_end : AreSeen given (history_of (run_of given))
+  seen_at_end =
+      ends_with (run_of given) (IsWhole given (AreSeenAt given)) (IsStopped given (AreSeenAt given)) (AreSeen given) ends
+      (λ history whole. all_whole given history whole.is.holds.hearing.hears whole.is.seen)
+      (λ history stop stopped.
+      packet_whole understood taken nth apart given are_two six stopped.phases stopped.done stopped.left stop.sender stop.channel stop.sent history stopped.stations_are stopped.is_wanted stopped.kept)

@@ -4,19 +4,20 @@ ghost use Rattle.std.specs.Prelude.{◌≡◌, ◌++◌, ◌∷◌, [], ℕ, Boo
 ghost use Rattle.std.specs.List.{Contains};
 ghost use Rattle.controller_model.specs.Step.{Step};
 ghost use Rattle.journal_acks.specs.open_links.OpenLinks.{OpenLink, link_at};
-ghost use Rattle.journal_acks.specs.run_model.History.{Event, Called, TurnBegan};
+ghost use Rattle.journal_acks.specs.run_model.History.{Event, Called, Hearing, TurnBegan};
+ghost use Rattle.journal_acks.specs.run_model.History.{Transmitted};
 ghost use Rattle.journal_acks.specs.run_model.Journal.{journal_of, side_of};
 ghost use Rattle.journal_acks.specs.run_model.LinkEnds.{HaveAddresses};
 ghost use Rattle.journal_acks.specs.run_model.Links.{links_of};
-ghost use Rattle.journal_acks.specs.run_model.Run.{Given, GoesOn, facts_at, history_of, run_of};
+ghost use Rattle.journal_acks.specs.run_model.Run.{Given, facts_at, history_of, run_of};
 ghost use Rattle.journal_ends.specs.Seen.{heard_next, seen_of, seen_on};
 
 /// In a run of two stations, with any number of links each, the lines of the journal say in order
 /// what happened to each open end: what it noted, and between its notes each good packet of the
 /// other end that it received, with the slot of its turn. So it is before each call on the
-/// controller of its station, where the packet that the end takes in that call is already on the
-/// air; before each turn; and at the end of a whole run (Core 5.2, volume 6 part B, sections 2.1.2
-/// and 4.5).
+/// controller of its station, where the packet that the end takes in that call was already on the
+/// air; before each packet; before each turn; and at the end of a run, also where damage stops it
+/// (Core 5.2, volume 6 part B, sections 2.1.2 and 4.5).
 pub fn what_is_seen_of_an_end_is_its_past()
     ensures before_a_call { (given : Given) (before rest : List Event) (step : Step)
         (station handle : ℕ) (link : OpenLink)
@@ -26,6 +27,14 @@ pub fn what_is_seen_of_an_end_is_its_past()
         → seen_on (side_of station) ((links_of before).link_of station handle) (journal_of before)
         ≡ seen_of (side_of station) ((links_of before).link_of station handle) link.setup link.past
         ++ heard_next handle (facts_at given station before) step link }
+    ensures before_a_packet { (given : Given) (before rest : List Event) (sender channel : ℕ)
+        (octets : List ℕ) (hearings : List Hearing) (station handle : ℕ) (link : OpenLink)
+        → given.stations ≡ 0 ∷ 1 ∷ [] → HaveAddresses given → Contains given.stations station
+        → history_of (run_of given) ≡ before ++ Transmitted sender channel octets hearings ∷ rest
+        → link_at handle (facts_at given station before).links ≡ Some link
+        → seen_on (side_of station) ((links_of before).link_of station handle) (journal_of before)
+        ≡ seen_of (side_of station) ((links_of before).link_of station handle) link.setup
+        link.past }
     ensures before_a_turn { (given : Given) (before rest : List Event) (slot : ℕ)
         (radios : List Bool) (station handle : ℕ) (link : OpenLink)
         → given.stations ≡ 0 ∷ 1 ∷ [] → HaveAddresses given → Contains given.stations station
@@ -34,15 +43,14 @@ pub fn what_is_seen_of_an_end_is_its_past()
         → seen_on (side_of station) ((links_of before).link_of station handle) (journal_of before)
         ≡ seen_of (side_of station) ((links_of before).link_of station handle) link.setup
         link.past }
-    ensures at_the_end { (given : Given) (history : List Event) (station handle : ℕ)
-        (link : OpenLink)
+    ensures at_the_end { (given : Given) (station handle : ℕ) (link : OpenLink)
         → given.stations ≡ 0 ∷ 1 ∷ [] → HaveAddresses given → Contains given.stations station
-        → run_of given ≡ GoesOn history
-        → link_at handle (facts_at given station history).links ≡ Some link
-        → seen_on (side_of station) ((links_of history).link_of station handle)
-        (journal_of history)
-        ≡ seen_of (side_of station) ((links_of history).link_of station handle) link.setup
-        link.past }
+        → link_at handle (facts_at given station (history_of (run_of given))).links ≡ Some link
+        → seen_on (side_of station)
+        ((links_of (history_of (run_of given))).link_of station handle)
+        (journal_of (history_of (run_of given)))
+        ≡ seen_of (side_of station)
+        ((links_of (history_of (run_of given))).link_of station handle) link.setup link.past }
 {
     controller_model::a_pdu_is_understood();
     advertise::laws::connections_are_taken();

@@ -4,8 +4,10 @@
 
 mod ends;
 mod lists;
+mod rows;
 
 pub use crate::ends::what_is_seen_of_an_end_is_its_past;
 pub use crate::lists::{
     what_an_end_hears_last_is_its_last_good_packet, what_an_end_says_is_its_lines,
 };
+pub use crate::rows::worked_ends;

@@ -1,0 +1,23 @@
+//! A worked example, which the definitions compute.
+ghost use Rattle.std.specs.Prelude.{◌≡◌, ◌∷◌, [], Some};
+ghost use Rattle.ble_base.specs.declared.roles.Role.TheVariants.{Central, Peripheral};
+ghost use Rattle.ble_base.specs.declared.roles.Side.TheVariants.{A, B};
+ghost use Rattle.journal.specs.declared.entries.Entry.TheVariants.{Enter, Opened, Sent, Took};
+ghost use Rattle.journal_acks.specs.run_model.Rows.{first_reply};
+ghost use Rattle.journal_acks.specs.Rows.{data_acknowledged, data_packet, data_pdu, more_packet};
+ghost use Rattle.journal_acks.specs.Rows.{reply_packet};
+ghost use Rattle.journal_ends.specs.Seen.{Hears, Says, last_slot, seen_on};
+
+/// The central sends a PDU of data in the second slot of an event, and the peripheral takes it. Each
+/// end says that the link is opened, that it enters the event, and what it sends or takes, and hears
+/// the two packets of the other one, in turns 2 and 3. On another link a side says and hears nothing.
+pub fn worked_ends()
+    ensures central { seen_on B 1 data_acknowledged
+        ≡ Says (Opened B 1 0 Central) ∷ Says (Enter B 1 0 25) ∷ Hears 2 first_reply
+        ∷ Says (Sent B 1 1 data_pdu.llid data_pdu.body) ∷ Hears 3 reply_packet ∷ [] }
+    ensures peripheral { seen_on A 1 data_acknowledged
+        ≡ Says (Opened A 1 0 Peripheral) ∷ Says (Enter A 1 0 25) ∷ Hears 2 more_packet
+        ∷ Hears 3 data_packet ∷ Says (Took A 1 1 data_pdu.llid data_pdu.body) ∷ [] }
+    ensures other_link { seen_on A 2 data_acknowledged ≡ [] }
+    ensures last { last_slot (seen_on A 1 data_acknowledged) ≡ Some 3 }
+{}
