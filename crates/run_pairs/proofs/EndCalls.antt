@@ -1,0 +1,211 @@
+-- What a call does to one end of a link, in the words of the laws of two ends.
+use Rattle.std.proofs.Common.{◌≡◌, ◌⊎◌, inl, inr, ℕ, ◌==◌, ◌&&◌, Bool, true, false, Option, Some, None, List, refl, sym, ap, subst, ◌∙◌, arith}
+use Rattle.std.proofs.lemmas.Bool.{eqb-true}
+use Rattle.std.specs.Prelude.{if◌then◌else◌}
+use Rattle.ble_base.specs.declared.roles.Role.{Role}
+use Rattle.ble_base.specs.declared.roles.Role.TheVariants.{Central, Peripheral}
+use Rattle.ble_base.specs.declared.verdicts.Verdict.TheVariants.{Broken as BrokenPacket, Good}
+use Rattle.air_frame.specs.declared.Heard.{Heard}
+use Rattle.air_frame.specs.declared.Heard.TheVariants.{NotOurs, Broken, Whole}
+use Rattle.run_laws.specs.link_model.Controls.{goes_on}
+use Rattle.run_laws.specs.link_model.End.{facts_after as end_after, facts_of as end_facts}
+use Rattle.run_laws.specs.link_model.Entering.{facts_entered_if}
+use Rattle.run_laws.specs.link_model.Facts.{Facts as EndFacts}
+use Rattle.run_laws.specs.link_model.Packets.{good_pdu, heard_of, verdict_of}
+use Rattle.run_laws.specs.link_model.Receiving.{facts_received, has_ended, replies_by, replies_of}
+use Rattle.run_laws.specs.link_model.Setup.{Setup as EndSetup}
+use Rattle.run_laws.specs.link_model.Step.{EventEntered, PacketReceived, PacketSent, PduFixed, RequestAnswered}
+use Rattle.run_laws.specs.link_model.Verdicts.{good_in, has_room_for, pdu_by, verdict_by}
+use Rattle.run_laws.specs.open_links.OpenLinks.{Links, OpenLink, facts_in, link_after, link_at}
+use Rattle.run_laws.specs.open_links.Turns.{entered_if, is_anchor, link_entered}
+use Rattle.run_laws.proofs.open_links.Unmoved.{entered_setup}
+use Rattle.controller_model.specs.declared.doing.Doing.{Doing}
+use Rattle.controller_model.specs.declared.doing.Doing.TheVariants.{Advertises, CentralListens, CentralSends, PeripheralListens, PeripheralSends}
+use Rattle.controller_model.specs.Facts.{Setup, Facts}
+use Rattle.controller_model.specs.Side.{facts_after}
+use Rattle.controller_model.specs.Step.{TurnBegins}
+use Rattle.controller_model.proofs.Places.{link_receiving, refusal, refused_if, refuses_at}
+use Rattle.link_pairs.specs.Ends.{HasExchange}
+use Rattle.link_pairs.specs.Hearing.{received}
+use Rattle.link_pairs.specs.Turns.{MayExchange, entered_in, prepared}
+use Rattle.link_pairs.specs.Turns as turns
+use Rattle.run_laws.proofs.Agreed.{step_facts}
+use Rattle.run_laws.proofs.LinkPhases.{HasRole, IsInPhase}
+use Rattle.run_laws.proofs.TurnPlaces.{Between}
+use Rattle.run_pairs.proofs.Holds.{HoldsAt, begins_exchange}
+use Rattle.run_pairs.proofs.LinkCalls.{HasBegun, fixed_if}
+use Rattle.run_pairs.proofs.OneSide.{LastBefore, begun_last}
+use Rattle.run_pairs.proofs.UnderHandles.{fixes_under, listens_under, sends_under, sent_if}
+use Rattle.run_pairs.proofs.Wanting.{used_under}
+
+-- ---- a turn begins
+
+entered_by : (goes anchor : Bool) (slot : ℕ) (link : OpenLink) → goes_on (facts_in link) ≡ goes
+    → facts_in (entered_if (goes && anchor) slot link) ≡ (if anchor then end_after link.setup (facts_in link) (EventEntered slot) else facts_in link)
+entered_by true true slot link is = step_facts link (EventEntered slot)
+entered_by true false slot link is = refl
+entered_by false true slot link is = sym (ap (λ (b : Bool). facts_entered_if b link.setup slot (facts_in link)) is)
+entered_by false false slot link is = refl
+
+pub entered_facts : (slot : ℕ) (link : OpenLink) → facts_in (link_entered slot link) ≡ entered_in link.setup slot (facts_in link)
+entered_facts slot link = entered_by (goes_on (facts_in link)) (is_anchor slot link) slot link refl
+
+fixed_facts : (fixes : Bool) (setup : EndSetup) (link : OpenLink) → facts_in (fixed_if fixes link) ≡ turns.fixed_if fixes setup (facts_in link)
+fixed_facts true setup link = step_facts link PduFixed
+fixed_facts false setup link = refl
+
+sent_facts : (sends : Bool) (setup : EndSetup) (slot : ℕ) (link : OpenLink) → facts_in (sent_if sends slot link) ≡ turns.sent_if sends setup slot (facts_in link)
+sent_facts true setup slot link = step_facts link (PacketSent slot)
+sent_facts false setup slot link = refl
+
+-- what becomes of an end as a turn begins
+pub record IsEndBegun (setup : EndSetup) (slot : ℕ) (exchanges sends : Bool) (before now : OpenLink) : Type 0 where
+  pub facts : facts_in now ≡ turns.sent_if sends setup slot (prepared setup slot exchanges (facts_in before))
+  pub may : MayExchange setup slot exchanges (facts_in before)
+  pub unsent : sends ≡ false → LastBefore slot now.past
+
+fixes_used : (handle : ℕ) (doing : Doing) → fixes_under handle doing ≡ true → used_under handle doing ≡ true
+fixes_used handle (CentralSends other) is = is
+fixes_used handle (PeripheralListens other) is = is
+fixes_used handle (Advertises channel) is = absurd cc
+fixes_used handle other is = absurd cc
+
+pub end_begun : (setup : Setup) (slot : ℕ) (facts : Facts) (on : Bool) (handle : ℕ) (after : OpenLink) → HoldsAt setup Between slot facts
+    → (has : HasBegun facts slot on handle (facts_after setup facts (TurnBegins slot on)).turn.doing after) → LastBefore slot has.link.past
+    → let doing = (facts_after setup facts (TurnBegins slot on)).turn.doing in
+    IsEndBegun has.link.setup slot (fixes_under handle doing) (sends_under handle doing) has.link after
+end_begun setup slot facts on handle after holds has last =
+    let doing = (facts_after setup facts (TurnBegins slot on)).turn.doing in
+    let now = link_entered slot has.link in
+    let entered : facts_in has.entered ≡ entered_in has.link.setup slot (facts_in has.link) =
+    (λ i. end_facts ((has.setup_is ∙ sym (entered_setup slot has.link)) i) (has.past_is i)) ∙ entered_facts slot has.link in
+    let base : facts_in has.base ≡ prepared has.link.setup slot (fixes_under handle doing) (facts_in has.link) =
+    ap facts_in has.base_is ∙ fixed_facts (fixes_under handle doing) has.link.setup has.entered
+    ∙ ap (λ (f : EndFacts). turns.fixed_if (fixes_under handle doing) has.link.setup f) entered in record {
+      facts = ap facts_in has.is ∙ sent_facts (sends_under handle doing) has.link.setup slot has.base
+          ∙ ap (λ (f : EndFacts). turns.sent_if (sends_under handle doing) has.link.setup slot f) base;
+      may = λ uses. subst (HasExchange slot) (entered_facts slot has.link) (begins_exchange setup slot facts on handle after holds has (fixes_used handle doing uses));
+      unsent = λ none. subst (λ (l : OpenLink). LastBefore slot l.past) (sym (has.is ∙ ap (λ b. sent_if b slot has.base) none)) (begun_last slot facts on handle doing after has last);
+    }
+
+-- ---- on which end it sends or listens
+
+has_role : (role : Role) (links : Links) (handle other : ℕ) (link : OpenLink) → HasRole role (link_at other links) → (other == handle) ≡ true
+    → link_at handle links ≡ Some link → link.setup.link.role ≡ role
+has_role role links handle other link has same at =
+    subst (HasRole role) (ap (λ n. link_at n links) (eqb-true other handle same) ∙ at) has
+
+not_both : (X : Type 0) (one : Role) → one ≡ Central → one ≡ Peripheral → X
+not_both X one central peripheral = absurd (let h : Central ≡ Peripheral = sym central ∙ peripheral in absurd cc)
+
+if_not : (b : Bool) → (b ≡ true → false ≡ true) → b ≡ false
+if_not true none = absurd (let h : false ≡ true = none refl in absurd cc)
+if_not false none = refl
+
+module _ (links : Links) (handle : ℕ) (link : OpenLink) (at : link_at handle links ≡ Some link) where
+  -- as a turn begins, a central sends where it fixes its PDU
+  pub central_sends : (doing : Doing) → IsInPhase 0 links doing → link.setup.link.role ≡ Central → fixes_under handle doing ≡ sends_under handle doing
+  central_sends (CentralSends other) in_phase role = refl
+  central_sends (PeripheralListens other) in_phase role =
+      if_not (other == handle) (λ same. not_both _ link.setup.link.role role (has_role Peripheral links handle other link in_phase.1 same at))
+  central_sends (PeripheralSends other) in_phase role = absurd (let h = in_phase.0 in omega (arith, h))
+  central_sends (Advertises channel) in_phase role = refl
+  central_sends other in_phase role = refl
+
+  -- and a peripheral listens there, and sends nothing
+  pub peripheral_listens : (doing : Doing) → IsInPhase 0 links doing → link.setup.link.role ≡ Peripheral → listens_under handle doing ≡ fixes_under handle doing
+  peripheral_listens (PeripheralListens other) in_phase role = refl
+  peripheral_listens (CentralListens other) in_phase role = absurd (let h = in_phase.0 in omega (arith, h))
+  peripheral_listens (CentralSends other) in_phase role =
+      sym (if_not (other == handle) (λ same. not_both _ link.setup.link.role (has_role Central links handle other link in_phase.1 same at) role))
+  peripheral_listens (Advertises channel) in_phase role = refl
+  peripheral_listens other in_phase role = refl
+
+  pub peripheral_unsent : (doing : Doing) → IsInPhase 0 links doing → link.setup.link.role ≡ Peripheral → sends_under handle doing ≡ false
+  peripheral_unsent (CentralSends other) in_phase role =
+      if_not (other == handle) (λ same. not_both _ link.setup.link.role (has_role Central links handle other link in_phase.1 same at) role)
+  peripheral_unsent (PeripheralSends other) in_phase role = absurd (let h = in_phase.0 in omega (arith, h))
+  peripheral_unsent (Advertises channel) in_phase role = refl
+  peripheral_unsent other in_phase role = refl
+
+  -- a central takes a packet in the second phase, and a peripheral in the first
+  pub central_takes_in : (phases : ℕ) (doing : Doing) → IsInPhase phases links doing → listens_under handle doing ≡ true → link.setup.link.role ≡ Central → phases ≡ 1
+  central_takes_in phases (CentralListens other) in_phase listens role = in_phase.0
+  central_takes_in phases (PeripheralListens other) in_phase listens role =
+      not_both _ link.setup.link.role role (has_role Peripheral links handle other link in_phase.1 listens at)
+  central_takes_in phases (Advertises channel) in_phase listens role = absurd cc
+  central_takes_in phases other in_phase listens role = absurd cc
+
+  pub peripheral_takes_in : (phases : ℕ) (doing : Doing) → IsInPhase phases links doing → listens_under handle doing ≡ true → link.setup.link.role ≡ Peripheral
+      → phases ≡ 0
+  peripheral_takes_in phases (PeripheralListens other) in_phase listens role = in_phase.0
+  peripheral_takes_in phases (CentralListens other) in_phase listens role =
+      not_both _ link.setup.link.role (has_role Central links handle other link in_phase.1 listens at) role
+  peripheral_takes_in phases (Advertises channel) in_phase listens role = absurd cc
+  peripheral_takes_in phases other in_phase listens role = absurd cc
+
+-- ---- it takes a packet
+
+-- a packet that is not good changes nothing, and is not answered
+pub record IsUnheard (setup : EndSetup) (slot : ℕ) (octets : List ℕ) (room : Bool) (facts : EndFacts) : Type 0 where
+  pub same : received setup slot octets room facts ≡ facts
+  pub replies : replies_of setup facts slot octets room ≡ false
+
+none_replies : (role : Role) (ended : Bool) → replies_by role ended None ≡ false
+none_replies Central ended = refl
+none_replies Peripheral ended = refl
+
+pub good_or_unheard : (setup : EndSetup) (slot : ℕ) (octets : List ℕ) (room : Bool) (facts : EndFacts)
+    → (verdict_of setup facts octets ≡ Good) ⊎ IsUnheard setup slot octets room facts
+unfolding good_pdu verdict_of replies_of
+good_or_unheard setup slot octets room facts = got (of (heard_of setup facts octets))
+  where
+    at : (fits : Bool) (pdu : List ℕ) → ((if fits then Good else BrokenPacket) ≡ Good) ⊎ (pdu_by fits pdu ≡ None)
+    at true pdu = inl refl
+    at false pdu = inr refl
+
+    of : (heard : Heard) → (verdict_by setup.link.max_rx heard ≡ Good) ⊎ (good_in setup.link.max_rx heard ≡ None)
+    of NotOurs = inr refl
+    of Broken = inr refl
+    of (Whole pdu) = at (has_room_for setup.link.max_rx pdu.items) pdu.items
+
+    got : (verdict_by setup.link.max_rx (heard_of setup facts octets) ≡ Good) ⊎ (good_in setup.link.max_rx (heard_of setup facts octets) ≡ None)
+        → (verdict_of setup facts octets ≡ Good) ⊎ IsUnheard setup slot octets room facts
+    got (inl good) = inl good
+    got (inr none) = inr (record {
+      same = ap (λ (pdu : Option (List ℕ)). facts_received setup.link.role slot room pdu facts) none;
+      replies = ap (λ (pdu : Option (List ℕ)). replies_by setup.link.role (has_ended (facts_received setup.link.role slot room pdu facts)) pdu) none
+          ∙ none_replies setup.link.role _;
+    })
+
+central_silent_by : (role : Role) (ended : Bool) (pdu : Option (List ℕ)) → role ≡ Central → replies_by role ended pdu ≡ false
+central_silent_by Central ended pdu is = refl
+central_silent_by Peripheral ended pdu is = absurd cc
+
+pub central_silent : (setup : EndSetup) (slot : ℕ) (octets : List ℕ) (room : Bool) (facts : EndFacts) → setup.link.role ≡ Central
+    → replies_of setup facts slot octets room ≡ false
+unfolding replies_of
+central_silent setup slot octets room facts is = central_silent_by setup.link.role _ _ is
+
+abbrev pub refused_facts : Bool → EndSetup → EndFacts → EndFacts
+refused_facts refuses setup facts = if refuses then end_after setup facts (RequestAnswered refusal) else facts
+
+pub receiving_facts : (handle : ℕ) (room : Bool) (octets : List ℕ) (facts : Facts) (link : OpenLink)
+    → facts_in (link_receiving handle room octets facts link)
+    ≡ refused_facts (refuses_at handle room octets facts) link.setup (received link.setup facts.turn.slot octets room (facts_in link))
+receiving_facts handle room octets facts link = by (refuses_at handle room octets facts)
+  where
+    by : (refuses : Bool) → facts_in (refused_if refuses (link_after (PacketReceived facts.turn.slot octets room) link))
+        ≡ refused_facts refuses link.setup (received link.setup facts.turn.slot octets room (facts_in link))
+    by true =
+        step_facts (link_after (PacketReceived facts.turn.slot octets room) link) (RequestAnswered refusal)
+        ∙ ap (λ (f : EndFacts). end_after link.setup f (RequestAnswered refusal)) (step_facts link (PacketReceived facts.turn.slot octets room))
+    by false = step_facts link (PacketReceived facts.turn.slot octets room)
+
+pub taking_facts : (sends : Bool) (handle : ℕ) (room : Bool) (octets : List ℕ) (facts : Facts) (link : OpenLink)
+    → facts_in (sent_if sends facts.turn.slot (link_receiving handle room octets facts link))
+    ≡ turns.sent_if sends link.setup facts.turn.slot
+    (refused_facts (refuses_at handle room octets facts) link.setup (received link.setup facts.turn.slot octets room (facts_in link)))
+taking_facts sends handle room octets facts link =
+    sent_facts sends link.setup facts.turn.slot (link_receiving handle room octets facts link)
+    ∙ ap (λ (f : EndFacts). turns.sent_if sends link.setup facts.turn.slot f) (receiving_facts handle room octets facts link)

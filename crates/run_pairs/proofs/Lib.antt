@@ -1,0 +1,14 @@
+-- The lemmas of this crate.
+pub mod Stages
+pub mod Refusing
+pub mod UnderHandles
+pub mod LinkCalls
+pub mod SameEvents
+pub mod Wanting
+pub mod Holds
+pub mod CallPlaces
+pub mod OneSide
+pub mod EndCalls
+pub mod PairSteps
+pub mod Pairs
+pub mod Conclusions

@@ -1,0 +1,341 @@
+-- What a controller knows alone of its open links, at any time: with what each was set up, that one opened in a turn is new in all of it, and in which slot
+-- it sent last.
+use Rattle.std.proofs.Common.{◌≡◌, ℕ, ◌+◌, ◌<◌, ◌≤◌, Bool, true, false, Option, Some, None, List, [], ◌∷◌, ◌++◌, append-nil, append_assoc, length, length-append, refl, sym, ap, subst, ◌∙◌, arith}
+use Rattle.std.specs.Prelude.{⊤, fold, ◌&&◌, if◌then◌else◌}
+use Rattle.std.proofs.lemmas.List.Sums.{fold-append}
+use Rattle.adv_pdu.specs.declared.pdu.AdvPdu.{AdvPdu}
+use Rattle.adv_pdu.specs.Ranges.{IsInRange}
+use Rattle.procedure_values.specs.Values.{IsPayloadMax}
+use Rattle.run_laws.specs.link_model.Setup.{Setup as EndSetup}
+use Rattle.run_laws.specs.link_model.Step.{Step as EndStep, DataGiven, DataReported, Disconnected, EventEntered, PacketReceived, PacketSent, PduFixed, ProcedureAsked, RequestAnswered}
+use Rattle.run_laws.specs.link_model.Facts.{Facts as EndFacts}
+use Rattle.run_laws.specs.link_model.End.{facts_after as end_after}
+use Rattle.run_laws.specs.open_links.OpenLinks.{OpenLink, facts_in, link_after, link_at}
+use Rattle.run_laws.specs.open_links.Turns.{enters_in, entered_if, link_entered}
+use Rattle.run_laws.proofs.open_links.Unmoved.{entered_setup}
+use Rattle.scan_init.specs.Reports.{does_ask, scan_answer}
+use Rattle.controller_model.specs.declared.doing.Doing.{Doing}
+use Rattle.controller_model.specs.declared.doing.Doing.TheVariants.{Advertises, CentralListens, Connects, PeripheralListens}
+use Rattle.controller_model.specs.Facts.{Setup, Facts, first_facts}
+use Rattle.controller_model.specs.Heard.{asks_if, has_room, link_taken, replies_in, reply_if}
+use Rattle.controller_model.specs.Outcome.{facts_passed}
+use Rattle.controller_model.specs.Side.{facts_after}
+use Rattle.controller_model.specs.Step.{TurnBegins}
+use Rattle.controller_model.proofs.Always.{MayBegin, opening_passes}
+use Rattle.controller_model.proofs.LinkFields.{range_of_test}
+use Rattle.controller_model.proofs.Phases.{EachOutcome, heard_is, unheard_is}
+use Rattle.controller_model.proofs.Places.{link_receiving, refused_if, refuses_at}
+use Rattle.run_model.specs.Run.{step_of}
+use Rattle.run_model.proofs.LinkEnds.{AreTaken}
+use Rattle.link_pairs.specs.Hosts.{MayHost}
+use Rattle.link_runs.specs.Runs.{MayHostAll}
+use Rattle.run_laws.proofs.Entering.{taken_in_range}
+use Rattle.run_laws.proofs.InAgreement.{IsStation, OpenedBefore, first_station, station_begins, station_ends, station_fed, station_passes}
+use Rattle.run_laws.proofs.LinkPasses.{is_on_link}
+use Rattle.run_laws.proofs.OpenSteps.{EachOpen, IsKeptOpen, IsKeptServed, MayOpen, begin_open, end_open, none_open, octet_open, open_has, phase_open}
+use Rattle.run_laws.proofs.TurnPlaces.{Between, IsTurned, Stage, Within}
+use Rattle.run_laws.proofs.TurnSteps.{MakesWell, begins_may, begins_slot, phase_turn}
+use Rattle.run_pairs.proofs.Holds.{HoldsAt, holds_first, holds_kept}
+use Rattle.run_pairs.proofs.LinkCalls.{HasBegun, HasPassed, IsNew, Stays, Takes, begins_under, fixed_if, passes_under}
+use Rattle.run_pairs.proofs.UnderHandles.{end_under, fixes_under, listens_under, octet_under, sends_under, sent_if}
+
+-- ---- in which slot an end sent last
+
+-- if the last that happened to it is that it sent a packet, that was before this slot
+abbrev pub LastBefore : ℕ → List EndStep → Type 0
+LastBefore slot past = (sent : ℕ) (front : List EndStep) → past ≡ front ++ PacketSent sent ∷ [] → sent < slot
+
+abbrev last_of : List EndStep → Option EndStep
+last_of past = fold (λ before step. Some step) None past
+
+last_is : (front : List EndStep) (step : EndStep) → last_of (front ++ step ∷ []) ≡ Some step
+last_is front step = fold-append (λ before step. Some step) None front (step ∷ [])
+
+pub last_same : (one other : List EndStep) (a b : EndStep) → one ++ a ∷ [] ≡ other ++ b ∷ [] → a ≡ b
+last_same one other a b same =
+    let lasts : Some a ≡ Some b = sym (last_is one a) ∙ ap last_of same ∙ last_is other b in cc
+
+abbrev pub is_sent : EndStep → Bool
+is_sent (PacketSent slot) = true
+is_sent other = false
+
+pub last_other : (slot : ℕ) (past : List EndStep) (step : EndStep) → is_sent step ≡ false → LastBefore slot (past ++ step ∷ [])
+last_other slot past step off = λ sent front same.
+    absurd (let h : false ≡ true = sym off ∙ ap is_sent (last_same past front step (PacketSent sent) same) in absurd cc)
+
+one_slot : (a b : ℕ) → PacketSent a ≡ PacketSent b → a ≡ b
+one_slot a b same = cc
+
+pub last_sent : (slot now : ℕ) (past : List EndStep) → now < slot → LastBefore slot (past ++ PacketSent now ∷ [])
+last_sent slot now past before = λ sent front same.
+    let equal = one_slot now sent (last_same past front (PacketSent now) (PacketSent sent) same) in omega (arith, equal, before)
+
+pub last_later : (slot later : ℕ) (past : List EndStep) → slot ≤ later → LastBefore slot past → LastBefore later past
+last_later slot later past more is = λ sent front same. let before = is sent front same in omega (arith, before, more)
+
+host_unsent : (step : EndStep) (facts : EndFacts) → MayHost step facts → is_sent step ≡ false
+host_unsent (DataGiven start body) facts may = refl
+host_unsent (ProcedureAsked ask) facts may = refl
+host_unsent (RequestAnswered answer) facts may = refl
+host_unsent (Disconnected reason slot) facts may = refl
+host_unsent DataReported facts may = refl
+host_unsent (EventEntered slot) facts may = absurd may
+host_unsent PduFixed facts may = absurd may
+host_unsent (PacketSent slot) facts may = absurd may
+host_unsent (PacketReceived slot octets room) facts may = absurd may
+
+hosted_last : (slot : ℕ) (setup : EndSetup) (steps : List EndStep) (past : List EndStep) (facts : EndFacts) → MayHostAll setup steps facts → LastBefore slot past
+    → LastBefore slot (past ++ steps)
+hosted_last slot setup [] past facts may is = subst (LastBefore slot) (sym (append-nil past)) is
+hosted_last slot setup (step ∷ steps) past facts may is =
+    subst (LastBefore slot) (append_assoc past (step ∷ []) steps)
+    (hosted_last slot setup steps (past ++ step ∷ []) (end_after setup facts step) may.1 (last_other slot past step (host_unsent step facts may.0)))
+
+entered_last : (enters : Bool) (slot now : ℕ) (link : OpenLink) → LastBefore slot link.past → LastBefore slot (entered_if enters now link).past
+entered_last true slot now link is = last_other slot link.past (EventEntered now) refl
+entered_last false slot now link is = is
+
+fixed_last : (fixes : Bool) (slot : ℕ) (link : OpenLink) → LastBefore slot link.past → LastBefore slot (fixed_if fixes link).past
+fixed_last true slot link is = last_other slot link.past PduFixed refl
+fixed_last false slot link is = is
+
+sent_last : (sends : Bool) (slot now : ℕ) (link : OpenLink) → now < slot → LastBefore slot link.past → LastBefore slot (sent_if sends now link).past
+sent_last true slot now link before is = last_sent slot now link.past before
+sent_last false slot now link before is = is
+
+-- as a turn begins, before its packet
+pub begun_last : (slot : ℕ) (facts : Facts) (on : Bool) (handle : ℕ) (doing : Doing) (after : OpenLink) (has : HasBegun facts slot on handle doing after)
+    → LastBefore slot has.link.past → LastBefore slot has.base.past
+begun_last slot facts on handle doing after has is =
+    subst (λ (l : OpenLink). LastBefore slot l.past) (sym has.base_is)
+    (fixed_last (fixes_under handle doing) slot has.entered
+    (subst (LastBefore slot) (sym has.past_is) (entered_last (enters_in slot has.link) slot slot has.link is)))
+
+-- as it receives, and may refuse a request
+pub received_last : (handle : ℕ) (room : Bool) (octets : List ℕ) (facts : Facts) (link : OpenLink) (slot : ℕ)
+    → LastBefore slot (link_receiving handle room octets facts link).past
+received_last handle room octets facts link slot = by (refuses_at handle room octets facts)
+  where
+    by : (refuses : Bool) → LastBefore slot (refused_if refuses (link_after (PacketReceived facts.turn.slot octets room) link)).past
+    by true = last_other slot _ _ refl
+    by false = last_other slot link.past (PacketReceived facts.turn.slot octets room) refl
+
+-- ---- what each link was set up with
+
+pub record IsSetUp (link : OpenLink) : Type 0 where
+  pub in_range : IsInRange link.setup.link.fields
+  pub max : IsPayloadMax link.setup.link.max_rx
+
+set_up_as : (link now : OpenLink) → now.setup ≡ link.setup → IsSetUp link → IsSetUp now
+set_up_as link now same is = record {
+  in_range = subst (λ (s : EndSetup). IsInRange s.link.fields) (sym same) is.in_range;
+  max = subst (λ (s : EndSetup). IsPayloadMax s.link.max_rx) (sym same) is.max;
+}
+
+set_up_served : IsKeptServed IsSetUp
+set_up_served = record {
+  hosts = record { given = λ start body link is. set_up_as link _ refl is; reported = λ link is. set_up_as link _ refl is };
+  served = λ now link is. set_up_as link _ refl is;
+  fixed = λ link is. set_up_as link _ refl is;
+  sent = λ now link is. set_up_as link _ refl is;
+}
+
+set_up_open : IsKeptOpen IsSetUp
+set_up_open = record {
+  serving = set_up_served;
+  received = λ now octets room link is. set_up_as link _ refl is;
+  answered = λ answer link is. set_up_as link _ refl is;
+}
+
+-- a link that is to be made
+abbrev MakesMost : Doing → Type 0
+MakesMost (Connects channel link) = IsPayloadMax link.max_rx
+MakesMost other = ⊤
+
+begin_most : (doing : Doing) → MayBegin doing → MakesMost doing
+begin_most (Connects channel link) may = absurd may
+begin_most (Advertises channel) may = tt
+begin_most other may = tt
+
+asks_most : (asks : Bool) (channel : ℕ) (pdu : AdvPdu) → MakesMost (asks_if asks channel pdu)
+asks_most true channel pdu = tt
+asks_most false channel pdu = tt
+
+reply_most : (replies : Bool) (handle : ℕ) → MakesMost (reply_if replies handle)
+reply_most true handle = tt
+reply_most false handle = tt
+
+most_octets : IsPayloadMax 251
+most_octets = record { from = omega arith; to = omega arith }
+
+passes_most : (setup : Setup) (facts : Facts) → EachOutcome setup facts (λ outcome. MakesMost (facts_passed outcome).turn.doing)
+passes_most setup facts = record {
+  rests = tt;
+  awaits_request = λ channel doing. tt;
+  awaits_response = λ channel advertiser doing. tt;
+  central_listens = λ handle doing. tt;
+  sent = λ channel link doing. opening_passes (λ now. MakesMost now.turn.doing) link facts tt;
+  responds = λ channel on doing is_on. tt;
+  taken = λ channel octets pdu on fields handle is_on hears takes free. opening_passes (λ now. MakesMost now.turn.doing) (link_taken on.params.own pdu fields handle) facts tt;
+  scanned = λ channel octets pdu on doing is_on hears.
+      asks_most (true && does_ask (scan_answer on.params facts.view.accepted on.recent pdu)) channel pdu;
+  answered = λ channel octets pdu on doing is_on hears.
+      asks_most (false && does_ask (scan_answer on.params facts.view.accepted on.recent pdu)) channel pdu;
+  connects = λ channel octets pdu on access handle doing is_on hears answers next free in_range. most_octets;
+  received = λ handle octets. reply_most (replies_in facts.turn.slot (has_room setup facts) (link_at handle facts.links) octets) handle;
+}
+
+phase_most : (setup : Setup) (facts : Facts) (received : Option (List ℕ)) → MakesMost (facts_after setup facts (step_of received)).turn.doing
+phase_most setup facts None = unheard_is setup facts _ (passes_most setup facts) facts.turn.doing refl
+phase_most setup facts (Some octets) = heard_is setup facts _ (passes_most setup facts) facts.turn.doing octets refl
+
+may_set_up : AreTaken → (setup : Setup) (facts : Facts) → MakesWell setup facts.connections facts.turn.doing → MakesMost facts.turn.doing → MayOpen IsSetUp set_up_open facts
+may_set_up taken setup facts makes most = record {
+  made = λ channel link doing.
+      let made = subst (MakesWell setup facts.connections) doing makes in
+      record { in_range = range_of_test link.fields made.in_range; max = subst MakesMost doing most };
+  taken = λ pdu on fields handle takes. record { in_range = taken_in_range taken on.params facts.view.accepted pdu fields takes; max = most_octets };
+}
+
+-- ---- a link keeps what it was set up with
+
+fixed_setup : (fixes : Bool) (link : OpenLink) → (fixed_if fixes link).setup ≡ link.setup
+fixed_setup true link = refl
+fixed_setup false link = refl
+
+sent_setup : (sends : Bool) (slot : ℕ) (link : OpenLink) → (sent_if sends slot link).setup ≡ link.setup
+sent_setup true slot link = refl
+sent_setup false slot link = refl
+
+refused_setup : (refuses : Bool) (link : OpenLink) → (refused_if refuses link).setup ≡ link.setup
+refused_setup true link = refl
+refused_setup false link = refl
+
+pub begun_setup : (slot : ℕ) (facts : Facts) (on : Bool) (handle : ℕ) (doing : Doing) (after : OpenLink) (has : HasBegun facts slot on handle doing after)
+    → after.setup ≡ has.link.setup
+begun_setup slot facts on handle doing after has =
+    ap (λ (l : OpenLink). l.setup) has.is ∙ sent_setup (sends_under handle doing) slot has.base ∙ ap (λ (l : OpenLink). l.setup) has.base_is
+    ∙ fixed_setup (fixes_under handle doing) has.entered ∙ has.setup_is
+
+pub taken_setup : (sends : Bool) (handle : ℕ) (room : Bool) (octets : List ℕ) (facts : Facts) (link : OpenLink)
+    → (sent_if sends facts.turn.slot (link_receiving handle room octets facts link)).setup ≡ link.setup
+taken_setup sends handle room octets facts link =
+    sent_setup sends facts.turn.slot (link_receiving handle room octets facts link) ∙ refused_setup (refuses_at handle room octets facts) _
+
+-- ---- a link that was opened in the turn
+
+-- nothing happened to it yet
+abbrev pub IsNewIf : Stage → Facts → Type 0
+IsNewIf Between facts = ⊤
+IsNewIf (Within phases) facts =
+    (handle : ℕ) (link : OpenLink) → link_at handle facts.links ≡ Some link → link.setup.opened ≡ facts.turn.slot → link.past ≡ []
+
+listens_on_link : (handle : ℕ) (doing : Doing) → listens_under handle doing ≡ true → is_on_link doing ≡ true
+listens_on_link handle (CentralListens other) is = refl
+listens_on_link handle (PeripheralListens other) is = refl
+listens_on_link handle (Advertises channel) is = absurd cc
+listens_on_link handle other is = absurd cc
+
+-- ---- at any time
+
+pub record StationAt (setup : Setup) (stage : Stage) (begun : ℕ) (facts : Facts) : Type 0 where
+  pub holds : HoldsAt setup stage begun facts
+  pub station : IsStation setup facts
+  pub each : EachOpen IsSetUp facts.links
+  makes : MakesMost facts.turn.doing
+  pub new : IsNewIf stage facts
+  pub last : (handle : ℕ) (link : OpenLink) → link_at handle facts.links ≡ Some link → LastBefore begun link.past
+
+module _ (setup : Setup) (facts : Facts) (received : Option (List ℕ)) (phases begun : ℕ) (is : StationAt setup (Within phases) begun facts) where
+  abbrev next : Facts
+  next = facts_after setup facts (step_of received)
+
+  opened_now : (link : OpenLink) → link.setup.opened ≡ next.turn.slot → link.setup.opened ≡ facts.turn.slot
+  opened_now link now = now ∙ (phase_turn setup facts received).slot
+
+  passed_new : (handle : ℕ) (link : OpenLink) → HasPassed facts (has_room setup facts) received handle next.turn.doing link → link.setup.opened ≡ next.turn.slot → link.past ≡ []
+  passed_new handle link (IsNew end made opened off) now = ap (λ (l : OpenLink). l.past) made
+  passed_new handle link (Stays was none nothing listened) now = is.new handle link was (opened_now link now)
+  passed_new handle link (Takes base octets was got on same replies) now =
+      let before = open_has (OpenedBefore facts.turn.slot) 0 handle facts.links base (is.station.old (listens_on_link handle facts.turn.doing on)) was in
+      let setups = ap (λ (l : OpenLink). l.setup) same ∙ taken_setup (sends_under handle next.turn.doing) handle (has_room setup facts) octets facts base in
+      let slot = sym (ap (λ (s : EndSetup). s.opened) setups) ∙ opened_now link now in
+      absurd (omega (arith, before, slot))
+
+  passed_last : (handle : ℕ) (link : OpenLink) → HasPassed facts (has_room setup facts) received handle next.turn.doing link → LastBefore begun link.past
+  passed_last handle link (IsNew end made opened off) =
+      subst (λ (l : OpenLink). LastBefore begun l.past) (sym made) (λ sent front same. absurd (let long = ap length same in omega (arith, long, length-append front (PacketSent sent ∷ []))))
+  passed_last handle link (Stays was none nothing listened) = is.last handle link was
+  passed_last handle link (Takes base octets was got on same replies) =
+      let slot = is.holds.in_turn.slot_is in
+      subst (λ (l : OpenLink). LastBefore begun l.past) (sym same)
+      (sent_last (sends_under handle next.turn.doing) begun facts.turn.slot (link_receiving handle (has_room setup facts) octets facts base) (omega (arith, slot))
+      (received_last handle (has_room setup facts) octets facts base begun))
+
+pub station_kept : AreTaken → (setup : Setup) → IsTurned setup (StationAt setup)
+station_kept taken setup = let kept = holds_kept setup in record {
+  feeds = λ begun octet facts is.
+      let holds = kept.feeds begun octet facts is.holds in record {
+        holds = holds;
+        station = station_fed setup facts octet is.station;
+        each = octet_open IsSetUp set_up_served.hosts setup facts octet is.each;
+        makes = subst MakesMost (sym holds.in_turn.does) tt;
+        new = tt;
+        last = λ handle link at.
+            let was = octet_under setup facts octet handle link at in
+            subst (LastBefore begun) (sym was.past) (hosted_last begun was.link.setup was.steps was.link.past (facts_in was.link) was.may (is.last handle was.link was.was));
+      };
+  begins = λ begun on facts is. record {
+    holds = kept.begins begun on facts is.holds;
+    station = station_begins setup facts begun on is.holds.in_turn.begun_is is.station;
+    each = begin_open IsSetUp IsSetUp set_up_served setup begun on facts (λ link one. set_up_as link (link_entered begun link) (entered_setup begun link) one) is.each;
+    makes = begin_most _ (begins_may setup begun on facts is.holds.in_turn.begun_is);
+    new = λ handle link at now.
+        let has = begins_under setup facts begun on handle link at in
+        let before = open_has (OpenedBefore facts.turn.begun) 0 handle facts.links has.link is.station.earlier has.was in
+        let setups = begun_setup begun facts on handle _ link has in
+        let slot = sym (ap (λ (s : EndSetup). s.opened) setups) ∙ now ∙ begins_slot setup begun on facts in
+        let count = is.holds.in_turn.begun_is in absurd (omega (arith, before, slot, count));
+    last = λ handle link at.
+        let has = begins_under setup facts begun on handle link at in
+        let base = begun_last begun facts on handle _ link has (is.last handle has.link has.was) in
+        subst (λ (l : OpenLink). LastBefore (begun + 1) l.past) (sym has.is)
+        (sent_last (sends_under handle (facts_after setup facts (TurnBegins begun on)).turn.doing) (begun + 1) begun has.base (omega arith)
+        (last_later begun (begun + 1) has.base.past (omega arith) base));
+  };
+  passes = λ phases begun received facts is. record {
+    holds = kept.passes phases begun received facts is.holds;
+    station = station_passes setup facts phases begun received is.holds.in_turn is.station;
+    each = phase_open IsSetUp set_up_open setup facts received (may_set_up taken setup facts is.holds.in_turn.makes is.makes) is.each;
+    makes = phase_most setup facts received;
+    new = λ handle link at. passed_new setup facts received phases begun is handle link (passes_under setup facts received handle link is.holds.in_turn.listens at);
+    last = λ handle link at. passed_last setup facts received phases begun is handle link (passes_under setup facts received handle link is.holds.in_turn.listens at);
+  };
+  ends = λ begun facts is. record {
+    holds = kept.ends begun facts is.holds;
+    station = station_ends setup facts is.station;
+    each = end_open IsSetUp set_up_served.hosts setup facts is.each;
+    makes = tt;
+    new = tt;
+    last = λ handle link at.
+        let was = end_under setup facts handle link at in
+        subst (λ (l : OpenLink). LastBefore begun l.past) (sym was.is) (reported_last was.reports begun was.link (is.last handle was.link was.was));
+  };
+}
+  where
+    reported_last : (reports : Bool) (begun : ℕ) (link : OpenLink) → LastBefore begun link.past → LastBefore begun (if reports then link_after DataReported link else link).past
+    reported_last true begun link is = last_other begun link.past DataReported refl
+    reported_last false begun link is = is
+
+none_at : (setup : Setup) (handle : ℕ) (link : OpenLink) (X : Type 0) → link_at handle (first_facts setup).links ≡ Some link → X
+none_at setup handle link X at = absurd (open_has (λ one. ⊥) 0 handle (first_facts setup).links link (none_open (λ one. ⊥) setup.links) at)
+
+pub station_first : (setup : Setup) → StationAt setup Between 0 (first_facts setup)
+station_first setup = record {
+  holds = holds_first setup;
+  station = first_station setup;
+  each = none_open IsSetUp setup.links;
+  makes = tt;
+  new = tt;
+  last = λ handle link at. none_at setup handle link _ at;
+}

@@ -1,0 +1,511 @@
+-- How two open ends of a link go through a turn, call by call.
+use Rattle.std.proofs.Common.{◌≡◌, ◌&&◌, ◌⊎◌, Result, inl, inr, ◌-◌, Some, None, is_some, arith, ℕ, ◌+◌, ◌≤◌, Bool, true, false, List, Option, is_none, refl, ap, sym, subst, ◌∙◌, if◌then◌else◌}
+use Rattle.ble_base.specs.declared.error_codes.ErrCode.{ErrCode}
+use Rattle.ble_base.specs.ErrorCodes.{terminated_by_local_host}
+use Rattle.ble_base.specs.declared.verdicts.Verdict.TheVariants.{Good}
+use Rattle.procedure_values.specs.declared.asks.Ask.{Ask}
+use Rattle.procedure_stages.specs.InProgress.{is_host_asked}
+use Rattle.procedures.specs.Going.{host_answer_step, is_answer}
+use Rattle.procedures.specs.Table.{TableFacts}
+use Rattle.control_model.specs.Control.{Control, table_if}
+use Rattle.joint_controls.specs.Joint.{has_passed, last_change}
+use Rattle.run_laws.specs.link_model.declared.events.Reception.{Reception}
+use Rattle.run_laws.specs.link_model.Acknowledgement.{Acknowledgement}
+use Rattle.run_laws.specs.link_model.End.{facts_after}
+use Rattle.run_laws.specs.link_model.Facts.{Facts, first_facts}
+use Rattle.run_laws.specs.link_model.OneLink.{AreInAgreement}
+use Rattle.run_laws.specs.link_model.Receiving.{replies_of}
+use Rattle.run_laws.specs.link_model.Setup.{Setup}
+use Rattle.run_laws.specs.link_model.Step.{Step, DataReported, RequestAnswered}
+use Rattle.run_laws.specs.link_model.Packets.{verdict_of}
+use Rattle.run_laws.specs.link_model.declared.state.Leaving.{Leaving}
+use Rattle.run_laws.specs.link_model.Times.{due_of, ended_by_procedures, ending_of}
+use Rattle.run_laws.proofs.link_model.Hearing.{IsHeardWhole}
+use Rattle.link_pairs.specs.Ends.{AreEnds, IsAtRest, is_lasting, turns_at}
+use Rattle.link_pairs.specs.Hearing.{IsPacketOf, answered, received}
+use Rattle.link_pairs.specs.Hosts.{MayHost}
+use Rattle.link_pairs.specs.Parting.{ArePartingFrom, HasSeenTerminate}
+use Rattle.link_pairs.specs.Shown.{AreLinked, Shows, link_of}
+use Rattle.link_pairs.specs.Sound.{EndsForInstant}
+use Rattle.link_pairs.specs.Turns.{MayExchange, central_begun, prepared, sent_if}
+use Rattle.link_pairs.proofs.CentralHears.{hears}
+use Rattle.link_pairs.proofs.Counts.{turned}
+use Rattle.link_pairs.proofs.Ending.{answered_ends, central_lasts as central_goes, peripheral_lasts as peripheral_goes}
+use Rattle.link_pairs.proofs.EndingNothing.{begun_ends_nothing, host_ends_nothing, prepared_ends_nothing}
+use Rattle.link_pairs.proofs.First.{first_linked}
+use Rattle.link_pairs.proofs.HeardCounts.{hearing_agreed}
+use Rattle.link_pairs.proofs.Hosting.{central_hosts, peripheral_hosts}
+use Rattle.link_pairs.proofs.NothingNew.{host_still, prepared_still, sender_still, taker_still}
+use Rattle.link_pairs.proofs.PartingBegins.{central_took, peripheral_took}
+use Rattle.link_pairs.proofs.PartingEndings.{taker_ends}
+use Rattle.link_pairs.proofs.PeripheralHears.{hears_linked}
+use Rattle.link_pairs.proofs.Reading.{AreHeard, are_heard, is_read}
+use Rattle.link_pairs.proofs.SenderHears.{has_seen, hears_the_end}
+use Rattle.link_pairs.proofs.Sounding.{are_sound}
+use Rattle.link_pairs.proofs.TakerSends.{begun_parting}
+use Rattle.link_pairs.proofs.Turning.{begun_hears, prepared_hears, turn_begun}
+use Rattle.link_pairs.proofs.Understanding.{good_at_central, good_at_peripheral}
+use Rattle.link_runs.specs.Open.{AreOpenEnds, GoesOnUnlessLate}
+use Rattle.link_runs.proofs.EventsKept.{answered_in_event, ended_no_reply}
+use Rattle.link_runs.proofs.GoingOn.{lasting_by, lasting_goes, open_goes_on, shut_by, still_lasts}
+use Rattle.link_runs.proofs.OneTurn.{unanswered}
+use Rattle.link_runs.proofs.Supervision.{heard_in_time}
+use Rattle.run_pairs.specs.Stages.{AreAnsweredEnds, AreBegunEnds, AreHeardEnds, CentralTook, IsAnsweredLink, IsBegunLink, IsLate, IsOver, Lasts, PeripheralTook}
+
+-- where the link lasts at both ends, their counts agree
+pub linked_agree : (central peripheral : Setup) → AreEnds central peripheral → (turns : ℕ) (answers : Bool) (c p : Facts)
+    → AreLinked central peripheral turns answers c p → is_lasting c ≡ true → is_lasting p ≡ true → AreInAgreement c.acknowledgement p.acknowledgement
+linked_agree central peripheral ends turns answers c p linked c_lasts p_lasts = (are_sound central peripheral ends turns answers c p linked c_lasts p_lasts).agreement
+
+-- ---- steps that change neither what ends the link nor the counts
+
+pub record IsQuiet (before now : Facts) : Type 0 where
+  pub ends : now.control.ends ≡ before.control.ends
+  pub ending : ending_of now ≡ ending_of before
+  pub leaving : now.leaving ≡ before.leaving
+  pub counts : now.acknowledgement ≡ before.acknowledgement
+  pub sent : now.control.sent ≡ before.control.sent
+  pub entered : now.control.track.entered ≡ before.control.track.entered
+
+pub reported_quiet : (setup : Setup) (facts : Facts) → IsQuiet facts (facts_after setup facts DataReported)
+reported_quiet setup facts = record { ends = refl; ending = refl; leaving = refl; counts = refl; sent = refl; entered = refl }
+
+same_quiet : (facts : Facts) → IsQuiet facts facts
+same_quiet facts = record { ends = refl; ending = refl; leaving = refl; counts = refl; sent = refl; entered = refl }
+
+record IsOtherTable (c now : Control) : Type 0 where
+  ends : now.ends ≡ c.ends
+  sent : now.sent ≡ c.sent
+  entered : now.track.entered ≡ c.track.entered
+
+other_table : (runs may : Bool) (table : TableFacts) (c : Control) → IsOtherTable c (if runs then table_if may table c else c)
+other_table true true table c = record { ends = refl; sent = refl; entered = refl }
+other_table true false table c = record { ends = refl; sent = refl; entered = refl }
+other_table false may table c = record { ends = refl; sent = refl; entered = refl }
+
+pub answer_quiet : (setup : Setup) (facts : Facts) (answer : Result Ask ErrCode) → IsQuiet facts (facts_after setup facts (RequestAnswered answer))
+answer_quiet setup facts answer =
+    let c = facts.control in
+    let same = other_table (is_none c.ends) (is_host_asked c.table.progress && is_answer answer) (host_answer_step c.table answer) c in record {
+      ends = same.ends;
+      ending = ap (λ (o : Option ErrCode). if facts.leaving.acknowledged then Some (record { 0 = terminated_by_local_host }) else ended_by_procedures o facts.leaving) same.ends;
+      leaving = refl;
+      counts = refl;
+      sent = same.sent;
+      entered = same.entered;
+    }
+
+-- ---- a host does something between two turns
+
+pub central_hosted_open : (central peripheral : Setup) (turns : ℕ) (c p : Facts) (step : Step) → MayHost step c → AreOpenEnds central peripheral turns c p
+    → AreOpenEnds central peripheral turns (facts_after central c step) p
+central_hosted_open central peripheral turns c p step may (inl link) = inl (record {
+  central_lasts = still_lasts c _ (host_ends_nothing central c step may) link.central_lasts;
+  peripheral_lasts = link.peripheral_lasts;
+  linked = central_hosts central peripheral turns false c p link.linked step may;
+})
+central_hosted_open central peripheral turns c p step may (inr parting) = inr (taker_still central peripheral c p parting _ (host_still central c step may))
+
+pub peripheral_hosted_open : (central peripheral : Setup) (turns : ℕ) (c p : Facts) (step : Step) → MayHost step p → AreOpenEnds central peripheral turns c p
+    → AreOpenEnds central peripheral turns c (facts_after peripheral p step)
+peripheral_hosted_open central peripheral turns c p step may (inl link) = inl (record {
+  central_lasts = link.central_lasts;
+  peripheral_lasts = still_lasts p _ (host_ends_nothing peripheral p step may) link.peripheral_lasts;
+  linked = peripheral_hosts central peripheral turns false c p link.linked step may;
+})
+peripheral_hosted_open central peripheral turns c p step may (inr parting) = inr (sender_still central peripheral c p parting _ (host_still peripheral p step may))
+
+-- ---- MD of an event is read in no joint run
+
+abbrev pub with_more : Bool → Facts → Facts
+with_more more facts = record facts { event = record facts.event { more = more } }
+
+linked_more : (central peripheral : Setup) (turns : ℕ) (answers more : Bool) (c p : Facts) → AreLinked central peripheral turns answers c p
+    → AreLinked central peripheral turns answers c (with_more more p)
+linked_more central peripheral turns answers more c p linked = record {
+  steps = linked.steps;
+  may = linked.may;
+  in_range = linked.in_range;
+  shows = λ running. shows (linked.shows running);
+  lasts = linked.lasts;
+}
+  where
+    rests : IsAtRest peripheral turns p → IsAtRest peripheral turns (with_more more p)
+    rests r = record {
+      fits = r.fits;
+      plain = r.plain;
+      role = r.role;
+      none_gone = r.none_gone;
+      payload = r.payload;
+      fits_any = r.fits_any;
+      two_bits = r.two_bits;
+      slot = r.slot;
+      number = r.number;
+      heard = r.heard;
+      past = r.past;
+      goes = r.goes;
+      stays = r.stays;
+    }
+
+    shows : Shows central peripheral turns answers (link_of central peripheral linked.steps) c p
+        → Shows central peripheral turns answers (link_of central peripheral linked.steps) c (with_more more p)
+    shows s = record {
+      central_part = s.central_part;
+      peripheral_part = s.peripheral_part;
+      down = s.down;
+      up = s.up;
+      agreement = s.agreement;
+      begun = s.begun;
+      replies = s.replies;
+      last = s.last;
+      central_heard = s.central_heard;
+      peripheral_heard = s.peripheral_heard;
+      free = s.free;
+      central_rests = s.central_rests;
+      peripheral_rests = rests s.peripheral_rests;
+      central_fits = s.central_fits;
+      peripheral_fits = s.peripheral_fits;
+    }
+
+module _ (whole : IsHeardWhole) (central peripheral : Setup) (ends : AreEnds central peripheral) (slot : ℕ) where
+  heard : AreHeard
+  heard = are_heard whole
+
+  -- ---- both begin the turn
+
+  abbrev MayIfLasting : Setup → Bool → Facts → Type 0
+  MayIfLasting setup exchanges facts = is_lasting facts ≡ true → MayExchange setup slot exchanges facts
+
+  pub both_begin : (transmits listens : Bool) (c p : Facts) → AreOpenEnds central peripheral slot c p → MayIfLasting central transmits c
+      → MayIfLasting peripheral listens p → is_none (due_of peripheral p slot) ≡ true
+      → AreBegunEnds central peripheral slot transmits listens (central_begun central slot transmits c) (prepared peripheral slot listens p)
+  both_begin transmits listens c p (inl link) c_may p_may not_due =
+      let shows = link.linked.shows (link.linked.lasts link.central_lasts link.peripheral_lasts) in
+      inl (record {
+        central_lasts = still_lasts c _ (begun_ends_nothing central slot transmits c) link.central_lasts;
+        peripheral_lasts = still_lasts p _ (prepared_ends_nothing peripheral slot listens p) link.peripheral_lasts;
+        begun = turn_begun central peripheral slot false transmits listens c p ends link.linked (c_may link.central_lasts) (p_may link.peripheral_lasts) _ refl;
+        central_past =
+            subst (λ (good : Option Reception). turns_at central.opened good ≤ slot) (sym (begun_hears central slot transmits c)) shows.central_rests.past;
+        supervised =
+            subst (λ (good : Option Reception). slot + 1 ≤ turns_at peripheral.opened good + 32768) (sym (prepared_hears peripheral slot listens p))
+            (heard_in_time peripheral slot slot p shows.peripheral_rests not_due);
+      })
+  both_begin transmits listens c p (inr parting) c_may p_may not_due =
+      let least = ends.peripheral_max.from in
+      inr (sender_still central peripheral _ p (begun_parting central peripheral (omega (arith, least)) c p slot parting transmits) (prepared peripheral slot listens p)
+      (prepared_still peripheral slot listens p))
+
+  -- ---- the peripheral hears nothing
+
+  pub peripheral_unheard : (transmits listens : Bool) (c p : Facts) → AreBegunEnds central peripheral slot transmits listens c p
+      → AreAnsweredEnds central peripheral slot false c p
+  peripheral_unheard transmits listens c p (inl link) = Lasts (record {
+    central_lasts = link.central_lasts;
+    peripheral_lasts = link.peripheral_lasts;
+    linked = link.begun.linked;
+    central_past = link.central_past;
+    entered = λ never. absurd (cc);
+  })
+  peripheral_unheard transmits listens c p (inr parting) = CentralTook parting refl
+
+  -- ---- the peripheral hears the central
+
+  module _ (c p : Facts) (channel : ℕ) (octets : List ℕ) (room : Bool) (packet : IsPacketOf central slot c channel octets) (same : channel ≡ p.event.channel) where
+    abbrev replies : Bool
+    replies = replies_of peripheral p slot octets room
+
+    abbrev now : Facts
+    now = answered peripheral slot octets room p
+
+    module _ (link : IsBegunLink central peripheral slot true true c p) where
+      linked_now : AreLinked central peripheral (slot + 1) replies c now
+      linked_now = hears_linked heard central peripheral slot c p channel octets room ends link.begun packet same link.supervised
+
+      late_agrees : replies ≡ false → AreInAgreement c.acknowledgement now.acknowledgement
+      late_agrees none =
+          let s = link.begun.linked.shows (link.begun.linked.lasts link.central_lasts link.peripheral_lasts) in
+          let read = is_read heard central peripheral slot (slot + 1) c p channel octets ends.one_link.fields s.central_fits s.central_rests packet same in
+          let agreed = hearing_agreed peripheral.link.role slot room read.header p c.acknowledgement (turned c.acknowledgement p.acknowledgement s.agreement) read.bits read.out in
+          let now_is = ap (λ (b : Bool). sent_if b peripheral slot (received peripheral slot octets room p)) none ∙ read.facts room in
+          turned now.acknowledgement c.acknowledgement (subst (λ (f : Facts). AreInAgreement f.acknowledgement c.acknowledgement) (sym now_is) agreed)
+
+      late_now : (code : ErrCode) → now.control.ends ≡ Some code → EndsForInstant c p now.control.ends → AreAnsweredEnds central peripheral slot replies c now
+      late_now code ended late =
+          let none = ended_no_reply peripheral slot octets room p code (sym (answered_ends peripheral slot octets room p) ∙ ended) in
+          IsLate (record {
+            central_lasts = link.central_lasts;
+            late = (late.0, (λ i. has_passed (last_change c.control.sent) (answered_in_event peripheral slot octets room p i - 1)) ∙ late.1);
+            agreement = late_agrees none;
+          }) none
+
+      by_terminate : (took : Bool) → is_some now.leaving.ended_by_peer ≡ took → now.control.ends ≡ None → AreAnsweredEnds central peripheral slot replies c now
+      by_terminate true took goes =
+          PeripheralTook (peripheral_took whole central peripheral ends slot c p channel octets room link.begun link.central_lasts link.peripheral_lasts packet same took)
+      by_terminate false none goes = Lasts (record {
+        central_lasts = link.central_lasts;
+        peripheral_lasts = lasting_by now goes none;
+        linked = linked_now;
+        central_past = link.central_past;
+        entered = λ answered_it. (link.begun.transmits_in refl).0;
+      })
+
+      by_late : (now.control.ends ≡ None) ⊎ EndsForInstant c p now.control.ends → AreAnsweredEnds central peripheral slot replies c now
+      by_late (inl goes) = by_terminate (is_some now.leaving.ended_by_peer) refl goes
+      by_late (inr late) = late_now _ late.0 late
+
+      link_heard : AreAnsweredEnds central peripheral slot replies c now
+      link_heard =
+          by_late (peripheral_goes heard central peripheral slot c p channel octets room ends link.begun link.central_lasts link.peripheral_lasts packet same link.supervised)
+
+    parting_heard : ArePartingFrom central peripheral c p → AreAnsweredEnds central peripheral slot replies c now
+    parting_heard parting =
+        let fields = ends.one_link.fields in
+        let most = ends.peripheral_max.to in
+        let over = hears_the_end whole central peripheral fields most c p parting slot channel octets packet same room in
+        let seen = has_seen whole central peripheral fields most c p parting slot channel octets packet same room in
+        IsOver (record {
+          goes_on = parting.took.goes_on;
+          seen = subst (λ (f : Facts). HasSeenTerminate c.acknowledgement f) (sym over.answers_none) seen;
+        }) over.replies
+
+    pub peripheral_heard : AreBegunEnds central peripheral slot true true c p → AreAnsweredEnds central peripheral slot replies c now
+    peripheral_heard (inl link) = link_heard link
+    peripheral_heard (inr parting) = parting_heard parting
+
+    -- it judges the packet good
+    pub peripheral_judges : AreBegunEnds central peripheral slot true true c p → verdict_of peripheral p octets ≡ Good
+    peripheral_judges (inl link) =
+        good_at_peripheral whole central peripheral (slot + 1) slot false c p channel octets ends link.begun.linked link.central_lasts link.peripheral_lasts packet same
+    peripheral_judges (inr parting) =
+        (hears_the_end whole central peripheral ends.one_link.fields ends.peripheral_max.to c p parting slot channel octets packet same room).judged
+
+  -- ---- the central hears nothing
+
+  pub central_unheard : (answers : Bool) (c p : Facts) → AreAnsweredEnds central peripheral slot answers c p → AreHeardEnds central peripheral slot c p
+  central_unheard answers c p (Lasts link) = record {
+    central_goes_on = lasting_goes c link.central_lasts;
+    peripheral_goes_on = inl (lasting_goes p link.peripheral_lasts);
+    agreement = linked_agree central peripheral ends (slot + 1) answers c p link.linked link.central_lasts link.peripheral_lasts;
+    opens = λ c_open p_open. inl (record {
+      central_lasts = link.central_lasts;
+      peripheral_lasts = link.peripheral_lasts;
+      linked = unanswered central peripheral (slot + 1) answers c p link.linked;
+    });
+  }
+  central_unheard answers c p (PeripheralTook parting) = record {
+    central_goes_on = parting.sent.goes_on;
+    peripheral_goes_on = inl parting.took.goes_on;
+    agreement = turned p.acknowledgement c.acknowledgement parting.agreement;
+    opens = λ c_open p_open.
+        absurd (let ending = taker_ends peripheral central p c parting (parting.answers ends.is_peripheral).answered in
+        shut_by p.leaving.ended_by_peer parting.took.took (ap (λ (o : Option ErrCode). is_none o) (sym ending) ∙ p_open));
+  }
+  central_unheard answers c p (CentralTook parting none) = record {
+    central_goes_on = parting.took.goes_on;
+    peripheral_goes_on = inl parting.sent.goes_on;
+    agreement = parting.agreement;
+    opens = λ c_open p_open. inr parting;
+  }
+  central_unheard answers c p (IsLate link none) = record {
+    central_goes_on = lasting_goes c link.central_lasts;
+    peripheral_goes_on = inr link.late;
+    agreement = link.agreement;
+    opens = λ c_open p_open. absurd (let goes = open_goes_on p p_open in let no = sym link.late.0 ∙ goes in cc);
+  }
+  central_unheard answers c p (IsOver link none) = record {
+    central_goes_on = link.goes_on;
+    peripheral_goes_on = inl link.seen.goes_on;
+    agreement = link.seen.agreement;
+    opens = λ c_open p_open. absurd (shut_by (ending_of p) (ap (λ (o : Option ErrCode). is_some o) link.seen.ending) p_open);
+  }
+
+  -- ---- the central hears the answer
+
+  module _ (c p : Facts) (channel : ℕ) (octets : List ℕ) (room : Bool) (packet : IsPacketOf peripheral slot p channel octets) (same : channel ≡ c.event.channel) where
+    abbrev heard_now : Facts
+    heard_now = received central slot octets room c
+
+    module _ (link : IsAnsweredLink central peripheral slot true c p) where
+      goes_on : heard_now.control.ends ≡ None
+      goes_on =
+          central_goes heard central peripheral slot c p channel octets room ends link.linked link.central_lasts link.peripheral_lasts link.central_past
+          (link.entered refl) packet same
+
+      linked_after : AreLinked central peripheral (slot + 1) false heard_now p
+      linked_after = hears heard central peripheral slot c p channel octets room ends link.linked link.central_past (link.entered refl) packet same
+
+      by_terminate_too : (took : Bool) → is_some heard_now.leaving.ended_by_peer ≡ took → AreHeardEnds central peripheral slot heard_now p
+      by_terminate_too true took =
+          central_unheard false heard_now p
+          (CentralTook (central_took whole central peripheral ends slot c p channel octets room link.linked link.central_lasts link.peripheral_lasts packet same took) refl)
+      by_terminate_too false none =
+          let lasts = lasting_by heard_now goes_on none in record {
+            central_goes_on = goes_on;
+            peripheral_goes_on = inl (lasting_goes p link.peripheral_lasts);
+            agreement = linked_agree central peripheral ends (slot + 1) false heard_now p linked_after lasts link.peripheral_lasts;
+            opens = λ c_open p_open. inl (record { central_lasts = lasts; peripheral_lasts = link.peripheral_lasts; linked = linked_after });
+          }
+
+      answer_taken : AreHeardEnds central peripheral slot heard_now p
+      answer_taken = by_terminate_too (is_some heard_now.leaving.ended_by_peer) refl
+
+    over_now : ArePartingFrom peripheral central p c → AreHeardEnds central peripheral slot heard_now p
+    over_now parting =
+        let seen = has_seen whole peripheral central (sym ends.one_link.fields) ends.central_max.to p c parting slot channel octets packet same room in record {
+          central_goes_on = seen.goes_on;
+          peripheral_goes_on = inl parting.took.goes_on;
+          agreement = turned p.acknowledgement heard_now.acknowledgement seen.agreement;
+          opens = λ c_open p_open. absurd (shut_by (ending_of heard_now) (ap (λ (o : Option ErrCode). is_some o) seen.ending) c_open);
+        }
+
+    pub central_heard : AreAnsweredEnds central peripheral slot true c p → AreHeardEnds central peripheral slot heard_now p
+    central_heard (Lasts link) = answer_taken link
+    central_heard (PeripheralTook parting) = over_now parting
+    central_heard (CentralTook parting none) = absurd (cc)
+    central_heard (IsLate link none) = absurd (cc)
+    central_heard (IsOver link none) = absurd (cc)
+
+    -- it judges the answer good
+    pub central_judges : AreAnsweredEnds central peripheral slot true c p → verdict_of central c octets ≡ Good
+    central_judges (Lasts link) =
+        good_at_central whole central peripheral (slot + 1) slot true c p channel octets ends link.linked link.central_lasts link.peripheral_lasts packet same
+    central_judges (PeripheralTook parting) =
+        (hears_the_end whole peripheral central (sym ends.one_link.fields) ends.central_max.to p c parting slot channel octets packet same room).judged
+    central_judges (CentralTook parting none) = absurd (cc)
+    central_judges (IsLate link none) = absurd (cc)
+    central_judges (IsOver link none) = absurd (cc)
+
+  -- ---- a host answers a request of the peer, or its complete packets are reported
+
+  module _ (c p now : Facts) where
+    -- as this happens at the central
+    pub central_quiet : (step : Step) → MayHost step c → now ≡ facts_after central c step → IsQuiet c now → AreHeardEnds central peripheral slot c p
+        → AreHeardEnds central peripheral slot now p
+    central_quiet step may is quiet h = record {
+      central_goes_on = quiet.ends ∙ h.central_goes_on;
+      peripheral_goes_on = by h.peripheral_goes_on;
+      agreement = subst (λ (a : Acknowledgement). AreInAgreement a p.acknowledgement) (sym quiet.counts) h.agreement;
+      opens = λ c_open p_open. open_now (h.opens (ap (λ (o : Option ErrCode). is_none o) (sym quiet.ending) ∙ c_open) p_open);
+    }
+      where
+        by : GoesOnUnlessLate (Some c) p → GoesOnUnlessLate (Some now) p
+        by (inl goes) = inl goes
+        by (inr late) = inr (late.0, (λ i. has_passed (last_change (quiet.sent i)) (p.control.track.entered - 1)) ∙ late.1)
+
+        open_now : AreOpenEnds central peripheral (slot + 1) c p → AreOpenEnds central peripheral (slot + 1) now p
+        open_now both = subst (λ (f : Facts). AreOpenEnds central peripheral (slot + 1) f p) (sym is) (central_hosted_open central peripheral (slot + 1) c p step may both)
+
+    pub peripheral_quiet : (step : Step) → MayHost step p → now ≡ facts_after peripheral p step → IsQuiet p now → AreHeardEnds central peripheral slot c p
+        → AreHeardEnds central peripheral slot c now
+    peripheral_quiet step may is quiet h = record {
+      central_goes_on = h.central_goes_on;
+      peripheral_goes_on = by h.peripheral_goes_on;
+      agreement = subst (λ (a : Acknowledgement). AreInAgreement c.acknowledgement a) (sym quiet.counts) h.agreement;
+      opens = λ c_open p_open. open_now (h.opens c_open (ap (λ (o : Option ErrCode). is_none o) (sym quiet.ending) ∙ p_open));
+    }
+      where
+        by : GoesOnUnlessLate (Some c) p → GoesOnUnlessLate (Some c) now
+        by (inl goes) = inl (quiet.ends ∙ goes)
+        by (inr late) = inr (quiet.ends ∙ late.0, (λ i. has_passed (last_change c.control.sent) (quiet.entered i - 1)) ∙ late.1)
+
+        open_now : AreOpenEnds central peripheral (slot + 1) c p → AreOpenEnds central peripheral (slot + 1) c now
+        open_now both =
+            subst (λ (f : Facts). AreOpenEnds central peripheral (slot + 1) c f) (sym is) (peripheral_hosted_open central peripheral (slot + 1) c p step may both)
+
+    -- and at the peripheral before the central hears its answer
+    pub answered_quiet : (answers : Bool) (step : Step) → MayHost step p → now ≡ facts_after peripheral p step → IsQuiet p now
+        → AreAnsweredEnds central peripheral slot answers c p → AreAnsweredEnds central peripheral slot answers c now
+    answered_quiet answers step may is quiet (Lasts link) = Lasts (record {
+      central_lasts = link.central_lasts;
+      peripheral_lasts = subst (λ (f : Facts). is_lasting f ≡ true) (sym is) (still_lasts p _ (host_ends_nothing peripheral p step may) link.peripheral_lasts);
+      linked = subst (λ (f : Facts). AreLinked central peripheral (slot + 1) answers c f) (sym is)
+          (peripheral_hosts central peripheral (slot + 1) answers c p link.linked step may);
+      central_past = link.central_past;
+      entered = link.entered;
+    })
+    answered_quiet answers step may is quiet (PeripheralTook parting) =
+        PeripheralTook (subst (λ (f : Facts). ArePartingFrom peripheral central f c) (sym is) (taker_still peripheral central p c parting _ (host_still peripheral p step may)))
+    answered_quiet answers step may is quiet (CentralTook parting none) =
+        CentralTook (subst (λ (f : Facts). ArePartingFrom central peripheral c f) (sym is) (sender_still central peripheral c p parting _ (host_still peripheral p step may))) none
+    answered_quiet answers step may is quiet (IsLate link none) = IsLate (record {
+      central_lasts = link.central_lasts;
+      late = (quiet.ends ∙ link.late.0, (λ i. has_passed (last_change c.control.sent) (quiet.entered i - 1)) ∙ link.late.1);
+      agreement = subst (λ (a : Acknowledgement). AreInAgreement c.acknowledgement a) (sym quiet.counts) link.agreement;
+    }) none
+    answered_quiet answers step may is quiet (IsOver link none) = IsOver (record {
+      goes_on = link.goes_on;
+      seen = record {
+        acknowledged = ap (λ (l : Leaving). l.acknowledged) quiet.leaving ∙ link.seen.acknowledged;
+        ending = quiet.ending ∙ link.seen.ending;
+        goes_on = quiet.ends ∙ link.seen.goes_on;
+        took_none = ap (λ (l : Leaving). l.ended_by_peer) quiet.leaving ∙ link.seen.took_none;
+        agreement = subst (λ (a : Acknowledgement). AreInAgreement c.acknowledgement a) (sym quiet.counts) link.seen.agreement;
+      };
+    }) none
+
+  -- ---- MD of what it sent in the event is another one
+
+  pub answered_more : (answers more : Bool) (c p : Facts) → AreAnsweredEnds central peripheral slot answers c p
+      → AreAnsweredEnds central peripheral slot answers c (with_more more p)
+  answered_more answers more c p (Lasts link) = Lasts (record {
+    central_lasts = link.central_lasts;
+    peripheral_lasts = link.peripheral_lasts;
+    linked = linked_more central peripheral (slot + 1) answers more c p link.linked;
+    central_past = link.central_past;
+    entered = link.entered;
+  })
+  answered_more answers more c p (PeripheralTook parting) = PeripheralTook (record {
+    took = record {
+      goes_on = parting.took.goes_on;
+      took = parting.took.took;
+      stays = parting.took.stays;
+      closing = parting.took.closing;
+      none_gone = parting.took.none_gone;
+      peer_receives = parting.took.peer_receives;
+      fits = record { payload = parting.took.fits.payload; two_bits = parting.took.fits.two_bits; short = parting.took.fits.short };
+    };
+    sent = parting.sent;
+    agreement = parting.agreement;
+    unseen = parting.unseen;
+    seen = parting.seen;
+    answers = λ is. record { answered = (parting.answers is).answered; out = (parting.answers is).out };
+  })
+  answered_more answers more c p (CentralTook parting none) = CentralTook (record {
+    took = parting.took;
+    sent = record {
+      goes_on = parting.sent.goes_on;
+      took_none = parting.sent.took_none;
+      stays = parting.sent.stays;
+      terminates = parting.sent.terminates;
+      sends_no_control = parting.sent.sends_no_control;
+      fits = record { payload = parting.sent.fits.payload; two_bits = parting.sent.fits.two_bits; short = parting.sent.fits.short };
+    };
+    agreement = parting.agreement;
+    unseen = parting.unseen;
+    seen = parting.seen;
+    answers = parting.answers;
+  }) none
+  answered_more answers more c p (IsLate link none) =
+      IsLate (record { central_lasts = link.central_lasts; late = link.late; agreement = link.agreement }) none
+  answered_more answers more c p (IsOver link none) = IsOver (record {
+    goes_on = link.goes_on;
+    seen = record {
+      acknowledged = link.seen.acknowledged;
+      ending = link.seen.ending;
+      goes_on = link.seen.goes_on;
+      took_none = link.seen.took_none;
+      agreement = link.seen.agreement;
+    };
+  }) none
+
+  -- ---- a new link
+
+  pub new_ends : central.opened ≡ slot → AreHeardEnds central peripheral slot (first_facts central) (first_facts peripheral)
+  new_ends now =
+      let linked = subst (λ n. AreLinked central peripheral (n + 1) false (first_facts central) (first_facts peripheral)) now (first_linked central peripheral ends) in record {
+        central_goes_on = refl;
+        peripheral_goes_on = inl refl;
+        agreement = linked_agree central peripheral ends (slot + 1) false (first_facts central) (first_facts peripheral) linked refl refl;
+        opens = λ c_open p_open. inl (record { central_lasts = refl; peripheral_lasts = refl; linked = linked });
+      }

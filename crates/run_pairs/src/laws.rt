@@ -1,0 +1,111 @@
+//! Laws of both open ends of a link in each run. The bodies only call the laws that they rest on:
+//! the contracts are the laws.
+ghost use Rattle.std.specs.Prelude.{◌≡◌, ◌++◌, ◌∷◌, ℕ, Bool, true, List, Some};
+ghost use Rattle.std.specs.List.{Contains};
+ghost use Rattle.run_laws.specs.link_model.OneLink.{AreInAgreement};
+ghost use Rattle.run_laws.specs.open_links.OpenLinks.{facts_in};
+ghost use Rattle.run_model.specs.Feeding.{AreDistinct};
+ghost use Rattle.run_model.specs.History.{Event, TurnBegan, turns_begun};
+ghost use Rattle.run_model.specs.LinkEnds.{HaveAddresses};
+ghost use Rattle.run_model.specs.Run.{Given, GoesOn, history_of, run_of};
+ghost use Rattle.link_pairs.specs.Ends.{is_lasting};
+ghost use Rattle.link_pairs.specs.Sound.{AreSoundEnds};
+ghost use Rattle.link_runs.specs.Open.{AreOpenEnds, AreTerminated, GoOnUnlessLate};
+ghost use Rattle.run_laws.specs.Ends.{AreEnds, IsOpen, OpenEnd};
+ghost use Rattle.run_pairs.specs.InTurns.{HearEachInTurn};
+
+/// Before each turn of a run, and at its end, both open ends of a link that hear each other in
+/// turns are linked, and the link lasts at both; or the central has taken LL_TERMINATE_IND, and is
+/// shut once it has sent. So it is with any number of stations and of links, whatever procedures
+/// the link carries, whichever station has the radio, and whatever is lost (Core 5.2, volume 6 part
+/// B, sections 4.5 and 5.1.6).
+pub fn open_ends_are_linked()
+    ensures before_a_turn { (given : Given) (before rest : List Event) (slot : ℕ)
+        (radios : List Bool) (central peripheral : OpenEnd)
+        → AreDistinct given.stations → HaveAddresses given
+        → Contains given.stations central.station → Contains given.stations peripheral.station
+        → history_of (run_of given) ≡ before ++ TurnBegan slot radios ∷ rest
+        → AreEnds before central peripheral → HearEachInTurn given before central peripheral
+        → IsOpen given before central → IsOpen given before peripheral
+        → AreOpenEnds central.link.setup peripheral.link.setup slot (facts_in central.link)
+        (facts_in peripheral.link) }
+    ensures at_the_end { (given : Given) (history : List Event) (central peripheral : OpenEnd)
+        → AreDistinct given.stations → HaveAddresses given
+        → Contains given.stations central.station → Contains given.stations peripheral.station
+        → run_of given ≡ GoesOn history
+        → AreEnds history central peripheral → HearEachInTurn given history central peripheral
+        → IsOpen given history central → IsOpen given history peripheral
+        → AreOpenEnds central.link.setup peripheral.link.setup (turns_begun history)
+        (facts_in central.link) (facts_in peripheral.link) }
+{
+    air_frame::laws::packet_tells_its_pdu();
+    controller_model::a_pdu_is_understood();
+    advertise::laws::connections_are_taken();
+}
+
+/// Where the link lasts at both ends then, no procedure or LL_TERMINATE_IND of the peer having ended
+/// it, they are a joint run that goes on: in events of one number in which the same number of
+/// indications hold they have equal parameters and one anchor, and at most ten control PDUs wait at
+/// each. At any place of a run their counts agree, also where one of them ends the link in this
+/// turn (Core 5.2, volume 6 part B, sections 4.5.9, 4.5.10 and 5.5).
+pub fn ends_that_last_are_sound()
+    ensures before_a_turn { (given : Given) (before rest : List Event) (slot : ℕ)
+        (radios : List Bool) (central peripheral : OpenEnd)
+        → AreDistinct given.stations → HaveAddresses given
+        → Contains given.stations central.station → Contains given.stations peripheral.station
+        → history_of (run_of given) ≡ before ++ TurnBegan slot radios ∷ rest
+        → AreEnds before central peripheral → HearEachInTurn given before central peripheral
+        → IsOpen given before central → IsOpen given before peripheral
+        → is_lasting (facts_in central.link) ≡ true → is_lasting (facts_in peripheral.link) ≡ true
+        → AreSoundEnds central.link.setup peripheral.link.setup (facts_in central.link)
+        (facts_in peripheral.link) }
+    ensures at_the_end { (given : Given) (history : List Event) (central peripheral : OpenEnd)
+        → AreDistinct given.stations → HaveAddresses given
+        → Contains given.stations central.station → Contains given.stations peripheral.station
+        → run_of given ≡ GoesOn history
+        → AreEnds history central peripheral → HearEachInTurn given history central peripheral
+        → IsOpen given history central → IsOpen given history peripheral
+        → is_lasting (facts_in central.link) ≡ true → is_lasting (facts_in peripheral.link) ≡ true
+        → AreSoundEnds central.link.setup peripheral.link.setup (facts_in central.link)
+        (facts_in peripheral.link) }
+    ensures agreement { (given : Given) (before rest : List Event) (central peripheral : OpenEnd)
+        → AreDistinct given.stations → HaveAddresses given
+        → Contains given.stations central.station → Contains given.stations peripheral.station
+        → history_of (run_of given) ≡ before ++ rest
+        → AreEnds before central peripheral → HearEachInTurn given before central peripheral
+        → IsOpen given before central → IsOpen given before peripheral
+        → AreInAgreement (facts_in central.link).acknowledgement
+        (facts_in peripheral.link).acknowledgement }
+{
+    air_frame::laws::packet_tells_its_pdu();
+    controller_model::a_pdu_is_understood();
+    advertise::laws::connections_are_taken();
+}
+
+/// At any place of a run no procedure of the central has ended the link, and one of the peripheral
+/// only with 0x28, where the Instant of the last indication that the central sent has passed there.
+/// So an end that is shut at the end of a turn is shut with 0x16, since its LL_TERMINATE_IND was
+/// acknowledged, or with the code of its peer, or it is a peripheral and shut with 0x28 (Core 5.2,
+/// volume 6 part B, sections 5.1.6, 5.3 and 5.5.1).
+pub fn no_procedure_ends_a_link_but_a_late_one()
+    ensures procedures { (given : Given) (before rest : List Event) (central peripheral : OpenEnd)
+        → AreDistinct given.stations → HaveAddresses given
+        → Contains given.stations central.station → Contains given.stations peripheral.station
+        → history_of (run_of given) ≡ before ++ rest
+        → AreEnds before central peripheral → HearEachInTurn given before central peripheral
+        → IsOpen given before central → IsOpen given before peripheral
+        → GoOnUnlessLate (record { central = Some (facts_in central.link);
+            peripheral = Some (facts_in peripheral.link) }) }
+    ensures codes { (given : Given) (before rest : List Event) (central peripheral : OpenEnd)
+        → AreDistinct given.stations → HaveAddresses given
+        → Contains given.stations central.station → Contains given.stations peripheral.station
+        → history_of (run_of given) ≡ before ++ rest
+        → AreEnds before central peripheral → HearEachInTurn given before central peripheral
+        → IsOpen given before central → IsOpen given before peripheral
+        → AreTerminated (record { central = Some (facts_in central.link);
+            peripheral = Some (facts_in peripheral.link) }) }
+{
+    air_frame::laws::packet_tells_its_pdu();
+    controller_model::a_pdu_is_understood();
+    advertise::laws::connections_are_taken();
+}
