@@ -13,33 +13,33 @@ use Rattle.data_pdu.specs.declared.ctrl.CtrlRead.{CtrlRead}
 use Rattle.data_pdu.specs.declared.ctrl.CtrlRead.TheVariants.{Known, Unknown, Bare}
 use Rattle.instants.specs.declared.indications.Indication.{Indication}
 use Rattle.instants.specs.declared.indications.Indication.TheVariants.{Update as update_indication}
-use Rattle.procedure_values.specs.Asks.{is_same_kind}
-use Rattle.procedure_values.specs.Values.{are_valid}
-use Rattle.procedure_stages.specs.Awaited.{awaits_features, awaits_lengths, is_own_encryption}
-use Rattle.procedure_stages.specs.Collisions.{are_incompatible, collision, collision_code}
-use Rattle.procedure_stages.specs.Exclusive.{central_stage, peripheral_stage}
-use Rattle.procedure_stages.specs.Foreign.{is_foreign}
-use Rattle.procedure_stages.specs.Kinds.{kind_at_central, kind_at_peripheral, own_exchange, role_of}
-use Rattle.procedure_stages.specs.Opcodes.{connection_param_req_opcode, first_opcode, later_opcode, is_opcode, phy_req_opcode}
-use Rattle.procedure_stages.specs.declared.stages.Ahead.{Ahead}
-use Rattle.procedure_stages.specs.declared.stages.Ahead.TheVariants.{Nothing, Update as update_ahead, Map as map_ahead}
-use Rattle.procedure_stages.specs.declared.stages.Central.{Central}
-use Rattle.procedure_stages.specs.declared.stages.Peripheral.{Peripheral}
-use Rattle.procedure_stages.specs.declared.stages.Progress.{Progress}
-use Rattle.procedure_stages.specs.declared.stages.Progress.TheVariants.{Central as central, Peripheral as peripheral}
+use Rattle.control_model.specs.procedure_values.Asks.{is_same_kind}
+use Rattle.control_model.specs.procedure_values.Values.{are_valid}
+use Rattle.control_model.specs.procedure_stages.Awaited.{awaits_features, awaits_lengths, is_own_encryption}
+use Rattle.control_model.specs.procedure_stages.Collisions.{are_incompatible, collision, collision_code}
+use Rattle.control_model.specs.procedure_stages.Exclusive.{central_stage, peripheral_stage}
+use Rattle.control_model.specs.procedure_stages.Foreign.{is_foreign}
+use Rattle.control_model.specs.procedure_stages.Kinds.{kind_at_central, kind_at_peripheral, own_exchange, role_of}
+use Rattle.control_model.specs.procedure_stages.Opcodes.{connection_param_req_opcode, first_opcode, later_opcode, is_opcode, phy_req_opcode}
+use Rattle.control_model.specs.procedure_stages.declared.stages.Ahead.{Ahead}
+use Rattle.control_model.specs.procedure_stages.declared.stages.Ahead.TheVariants.{Nothing, Update as update_ahead, Map as map_ahead}
+use Rattle.control_model.specs.procedure_stages.declared.stages.Central.{Central}
+use Rattle.control_model.specs.procedure_stages.declared.stages.Peripheral.{Peripheral}
+use Rattle.control_model.specs.procedure_stages.declared.stages.Progress.{Progress}
+use Rattle.control_model.specs.procedure_stages.declared.stages.Progress.TheVariants.{Central as central, Peripheral as peripheral}
 use Rattle.exclusive_stages.specs.Awaited.{awaits_phy_ind, awaits_phy_rsp, central_answered, has_phy_of_central, peer_answered, reads_as_answer}
-use Rattle.procedures.specs.declared.outcome.Outcome.{Outcome}
-use Rattle.procedures.specs.Encryption.{cipher_at_central, start_rsp_at_central}
-use Rattle.procedures.specs.Features.{features_taken}
-use Rattle.procedures.specs.Length.{length_taken}
-use Rattle.procedures.specs.Outcomes.{ended, unchanged, unknown}
-use Rattle.procedures.specs.Phy.{phy_ind_taken}
-use Rattle.procedures.specs.Refusals.{refused_if}
-use Rattle.procedures.specs.Request.{after_grant, against_central, collided, outlived, request_judged}
-use Rattle.procedures.specs.Table.{TableFacts}
-use Rattle.procedures.specs.Taking.{outcome_of, taken_by_role, taken_by_central, taken_by_either, taken_by_peripheral}
-use Rattle.procedures.specs.Update.{follow, update_taken}
-use Rattle.procedures.specs.Version.{version_reply, version_taken}
+use Rattle.control_model.specs.procedures.declared.outcome.Outcome.{Outcome}
+use Rattle.control_model.specs.procedures.Encryption.{cipher_at_central, start_rsp_at_central}
+use Rattle.control_model.specs.procedures.Features.{features_taken}
+use Rattle.control_model.specs.procedures.Length.{length_taken}
+use Rattle.control_model.specs.procedures.Outcomes.{ended, unchanged, unknown}
+use Rattle.control_model.specs.procedures.Phy.{phy_ind_taken}
+use Rattle.control_model.specs.procedures.Refusals.{refused_if}
+use Rattle.control_model.specs.procedures.Request.{after_grant, against_central, collided, outlived, request_judged}
+use Rattle.control_model.specs.procedures.Table.{TableFacts}
+use Rattle.control_model.specs.procedures.Taking.{outcome_of, taken_by_role, taken_by_central, taken_by_either, taken_by_peripheral}
+use Rattle.control_model.specs.procedures.Update.{follow, update_taken}
+use Rattle.control_model.specs.procedures.Version.{version_reply, version_taken}
 use Rattle.control_model.specs.Control.{indicated_by}
 use Rattle.control_octets.specs.Fitting.{CodeFits, IndicationFits, LengthsFit, ReadFits, TimesFit}
 use Rattle.control_octets.proofs.Pdus.{feature_rsp_fits, length_rsp_fits, phy_ind_fits, phy_rsp_fits, unknown_fits, version_fits}

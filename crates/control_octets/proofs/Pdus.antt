@@ -7,11 +7,11 @@ use Rattle.data_pdu.specs.Layouts.{IsCtrl, written}
 use Rattle.data_pdu.specs.Ranges.{IsLength}
 use Rattle.data_pdu.specs.declared.ctrl.Ctrl.{Ctrl}
 use Rattle.data_pdu.specs.declared.ctrl.Ctrl.TheVariants.{ConnectionUpdateInd, StartEncReq}
-use Rattle.procedure_values.specs.Drafts.{ctrl_of_outgoing, instant_at, time_of}
-use Rattle.procedure_values.specs.Values.{IsParams, IsPayloadMax, ParamValues}
-use Rattle.procedure_values.specs.declared.drafts.Draft.TheVariants.{Update, Grant, Map, Request, PhyReq, PhyRsp, PhyInd, FeatureReq, PeripheralFeatureReq, FeatureRsp, VersionInd, LengthReq, LengthRsp, UnknownRsp, Cipher}
-use Rattle.procedure_values.specs.declared.drafts.Outgoing.{Outgoing}
-use Rattle.procedure_values.specs.declared.drafts.Outgoing.TheVariants.{Nothing, Rejection, Disconnect, Other}
+use Rattle.control_model.specs.procedure_values.Drafts.{ctrl_of_outgoing, instant_at, time_of}
+use Rattle.control_model.specs.procedure_values.Values.{IsParams, IsPayloadMax, ParamValues}
+use Rattle.control_model.specs.procedure_values.declared.drafts.Draft.TheVariants.{Update, Grant, Map, Request, PhyReq, PhyRsp, PhyInd, FeatureReq, PeripheralFeatureReq, FeatureRsp, VersionInd, LengthReq, LengthRsp, UnknownRsp, Cipher}
+use Rattle.control_model.specs.procedure_values.declared.drafts.Outgoing.{Outgoing}
+use Rattle.control_model.specs.procedure_values.declared.drafts.Outgoing.TheVariants.{Nothing, Rejection, Disconnect, Other}
 use Rattle.control_octets.specs.Fitting.{CodeFits, DraftFits, RejectionFits, RequestFits}
 
 -- ---- the PDUs of drafts

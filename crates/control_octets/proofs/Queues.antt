@@ -4,22 +4,22 @@ use Rattle.std.specs.Prelude.{IfSome, ⊤}
 use Rattle.std.specs.List.{All}
 use Rattle.std.proofs.lemmas.List.Elements.{All-append, All-drop, All-head, All-push, All-set, All-tail, All-take}
 use Rattle.ble_base.specs.declared.error_codes.ErrCode.{ErrCode}
-use Rattle.procedure_values.specs.Drafts.{waits_for_instant}
-use Rattle.procedure_values.specs.Wants.{wanted_at, without_place}
-use Rattle.procedure_values.specs.declared.asks.Ask.{Ask}
-use Rattle.procedure_values.specs.declared.drafts.Draft.{Draft}
-use Rattle.procedure_values.specs.declared.drafts.Outgoing.{Outgoing}
-use Rattle.procedure_values.specs.declared.drafts.Outgoing.TheVariants.{Nothing, Other}
-use Rattle.procedure_values.specs.declared.drafts.Rejection.{Rejection as TheRejection}
-use Rattle.procedure_stages.specs.Closing.{is_disconnecting, is_open}
-use Rattle.procedure_stages.specs.Queue.{QueueFacts, is_past_instant, next_by, next_disconnect, next_draft, with_disconnect, with_draft, with_rejection, with_reply, without_next}
-use Rattle.procedure_stages.specs.declared.closing.Closing.{Closing}
-use Rattle.procedure_stages.specs.declared.reply.Reply.{Reply}
-use Rattle.procedure_stages.specs.declared.reply.Reply.TheVariants.{Nothing as no_reply, Reject, Answer}
-use Rattle.procedure_stages.specs.declared.stages.Progress.{Progress}
-use Rattle.procedures.specs.Beginning.{with_first_draft}
-use Rattle.procedures.specs.Queue.{next_of}
-use Rattle.procedures.specs.Table.{TableFacts}
+use Rattle.control_model.specs.procedure_values.Drafts.{waits_for_instant}
+use Rattle.control_model.specs.procedure_values.Wants.{wanted_at, without_place}
+use Rattle.control_model.specs.procedure_values.declared.asks.Ask.{Ask}
+use Rattle.control_model.specs.procedure_values.declared.drafts.Draft.{Draft}
+use Rattle.control_model.specs.procedure_values.declared.drafts.Outgoing.{Outgoing}
+use Rattle.control_model.specs.procedure_values.declared.drafts.Outgoing.TheVariants.{Nothing, Other}
+use Rattle.control_model.specs.procedure_values.declared.drafts.Rejection.{Rejection as TheRejection}
+use Rattle.control_model.specs.procedure_stages.Closing.{is_disconnecting, is_open}
+use Rattle.control_model.specs.procedure_stages.Queue.{QueueFacts, is_past_instant, next_by, next_disconnect, next_draft, with_disconnect, with_draft, with_rejection, with_reply, without_next}
+use Rattle.control_model.specs.procedure_stages.declared.closing.Closing.{Closing}
+use Rattle.control_model.specs.procedure_stages.declared.reply.Reply.{Reply}
+use Rattle.control_model.specs.procedure_stages.declared.reply.Reply.TheVariants.{Nothing as no_reply, Reject, Answer}
+use Rattle.control_model.specs.procedure_stages.declared.stages.Progress.{Progress}
+use Rattle.control_model.specs.procedures.Beginning.{with_first_draft}
+use Rattle.control_model.specs.procedures.Queue.{next_of}
+use Rattle.control_model.specs.procedures.Table.{TableFacts}
 use Rattle.control_octets.specs.Fitting.{AskFits, CodeFits, DraftFits, QueueFits, RejectionFits}
 use Rattle.control_octets.proofs.Pdus.{OutgoingFits}
 

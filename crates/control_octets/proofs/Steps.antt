@@ -21,29 +21,29 @@ use Rattle.instants.specs.declared.indications.Indication.{Indication}
 use Rattle.instants.specs.declared.indications.Indication.TheVariants.{Update as update_indication, Map as map_indication}
 use Rattle.instants.specs.declared.indications.Params.{Params}
 use Rattle.instants.specs.declared.track.Change.{Change}
-use Rattle.procedure_values.specs.Asks.{kind_of_ask}
-use Rattle.procedure_values.specs.Drafts.{indication_of, is_out}
-use Rattle.procedure_values.specs.Limits.{lengths_asked}
-use Rattle.procedure_values.specs.Values.{IsPayloadMax}
-use Rattle.procedure_values.specs.Wants.{place_of, without_place}
-use Rattle.procedure_values.specs.declared.asks.Ask.{Ask}
-use Rattle.procedure_values.specs.declared.asks.Ask.TheVariants.{Update as ask_update, Request as ask_request, Map as ask_map, Phy as ask_phy, Features as ask_features, Version as ask_version, Length as ask_length, Encrypt as ask_encrypt}
-use Rattle.procedure_values.specs.declared.drafts.Draft.TheVariants.{Update, Grant, Map}
-use Rattle.procedure_values.specs.declared.drafts.Outgoing.{Outgoing}
-use Rattle.procedure_values.specs.declared.drafts.Outgoing.TheVariants.{Nothing, Rejection, Disconnect, Other}
-use Rattle.procedure_values.specs.declared.lengths.Lengths.{Lengths}
-use Rattle.procedure_stages.specs.Begun.{draft_begun, feature_draft}
-use Rattle.procedure_stages.specs.Closing.{is_open}
-use Rattle.procedure_stages.specs.InProgress.{is_host_asked}
-use Rattle.procedure_stages.specs.Kinds.{role_of}
-use Rattle.procedure_stages.specs.Steps.{is_version_effect}
-use Rattle.procedures.specs.declared.outcome.Outcome.{Outcome}
-use Rattle.procedures.specs.Beginning.{ask_at, ask_step, begin_at, begin_step, first_draft, place_to_begin}
-use Rattle.procedures.specs.Going.{entered_step, host_answer_step, is_answer, owe_step, terminate_step}
-use Rattle.procedures.specs.Queue.{next_of}
-use Rattle.procedures.specs.Sending.{acked_step, next_ctrl_of}
-use Rattle.procedures.specs.Table.{TableFacts}
-use Rattle.procedures.specs.Taking.{facts_with, outcome_of}
+use Rattle.control_model.specs.procedure_values.Asks.{kind_of_ask}
+use Rattle.control_model.specs.procedure_values.Drafts.{indication_of, is_out}
+use Rattle.control_model.specs.procedure_values.Limits.{lengths_asked}
+use Rattle.control_model.specs.procedure_values.Values.{IsPayloadMax}
+use Rattle.control_model.specs.procedure_values.Wants.{place_of, without_place}
+use Rattle.control_model.specs.procedure_values.declared.asks.Ask.{Ask}
+use Rattle.control_model.specs.procedure_values.declared.asks.Ask.TheVariants.{Update as ask_update, Request as ask_request, Map as ask_map, Phy as ask_phy, Features as ask_features, Version as ask_version, Length as ask_length, Encrypt as ask_encrypt}
+use Rattle.control_model.specs.procedure_values.declared.drafts.Draft.TheVariants.{Update, Grant, Map}
+use Rattle.control_model.specs.procedure_values.declared.drafts.Outgoing.{Outgoing}
+use Rattle.control_model.specs.procedure_values.declared.drafts.Outgoing.TheVariants.{Nothing, Rejection, Disconnect, Other}
+use Rattle.control_model.specs.procedure_values.declared.lengths.Lengths.{Lengths}
+use Rattle.control_model.specs.procedure_stages.Begun.{draft_begun, feature_draft}
+use Rattle.control_model.specs.procedure_stages.Closing.{is_open}
+use Rattle.control_model.specs.procedure_stages.InProgress.{is_host_asked}
+use Rattle.control_model.specs.procedure_stages.Kinds.{role_of}
+use Rattle.control_model.specs.procedure_stages.Steps.{is_version_effect}
+use Rattle.control_model.specs.procedures.declared.outcome.Outcome.{Outcome}
+use Rattle.control_model.specs.procedures.Beginning.{ask_at, ask_step, begin_at, begin_step, first_draft, place_to_begin}
+use Rattle.control_model.specs.procedures.Going.{entered_step, host_answer_step, is_answer, owe_step, terminate_step}
+use Rattle.control_model.specs.procedures.Queue.{next_of}
+use Rattle.control_model.specs.procedures.Sending.{acked_step, next_ctrl_of}
+use Rattle.control_model.specs.procedures.Table.{TableFacts}
+use Rattle.control_model.specs.procedures.Taking.{facts_with, outcome_of}
 use Rattle.control_model.specs.Control.{Control, Step, Enters, Asks, Answers, Disconnects, Sends, SeesAcknowledged, Takes, Owes, after, ended, entered, first_control, following, goes_out, indicated_by, is_to_come, moved, sent, table_if, taken, took, went}
 use Rattle.control_model.proofs.Calls.{any_step, either_way, took_by}
 use Rattle.control_octets.specs.Fitting.{AskFits, DraftFits, FitsOctets, IndicationFits, LengthsFit, ParamsFit, QueueFits, ReadFits, StepFits, TableFits, TrackFits}

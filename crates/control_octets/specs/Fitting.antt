@@ -12,16 +12,16 @@ use Rattle.instants.specs.declared.indications.Indication.{Indication}
 use Rattle.instants.specs.declared.indications.Indication.TheVariants.{Update as update_indication}
 use Rattle.instants.specs.declared.indications.Indication.TheVariants.{Map as map_indication}
 use Rattle.instants.specs.declared.indications.Params.{Params}
-use Rattle.procedure_values.specs.Drafts.{ctrl_of_draft}
-use Rattle.procedure_values.specs.Values.{IsPayloadMax}
-use Rattle.procedure_values.specs.Wants.{IsAsk}
-use Rattle.procedure_values.specs.declared.asks.Ask.{Ask}
-use Rattle.procedure_values.specs.declared.asks.Ask.TheVariants.{Request, Map}
-use Rattle.procedure_values.specs.declared.drafts.Draft.{Draft}
-use Rattle.procedure_values.specs.declared.drafts.Rejection.{Rejection}
-use Rattle.procedure_values.specs.declared.lengths.Lengths.{Lengths}
-use Rattle.procedure_stages.specs.Queue.{QueueFacts}
-use Rattle.procedures.specs.Table.{TableFacts}
+use Rattle.control_model.specs.procedure_values.Drafts.{ctrl_of_draft}
+use Rattle.control_model.specs.procedure_values.Values.{IsPayloadMax}
+use Rattle.control_model.specs.procedure_values.Wants.{IsAsk}
+use Rattle.control_model.specs.procedure_values.declared.asks.Ask.{Ask}
+use Rattle.control_model.specs.procedure_values.declared.asks.Ask.TheVariants.{Request, Map}
+use Rattle.control_model.specs.procedure_values.declared.drafts.Draft.{Draft}
+use Rattle.control_model.specs.procedure_values.declared.drafts.Rejection.{Rejection}
+use Rattle.control_model.specs.procedure_values.declared.lengths.Lengths.{Lengths}
+use Rattle.control_model.specs.procedure_stages.Queue.{QueueFacts}
+use Rattle.control_model.specs.procedures.Table.{TableFacts}
 use Rattle.control_model.specs.Control.{Control, Step, Asks, Answers, Disconnects, Takes, Owes}
 
 -- ---- what waits to be sent

@@ -8,8 +8,8 @@ ghost use Rattle.data_pdu.specs.Layouts.{IsCtrl, written};
 ghost use Rattle.data_pdu.specs.Reading.{ctrl_of};
 ghost use Rattle.instants.specs.declared.indications.Params.{Params};
 ghost use Rattle.instants.specs.Track.{event_of};
-ghost use Rattle.procedure_values.specs.Values.{IsPayloadMax};
-ghost use Rattle.procedures.specs.Sending.{next_ctrl_of};
+ghost use Rattle.control_model.specs.procedure_values.Values.{IsPayloadMax};
+ghost use Rattle.control_model.specs.procedures.Sending.{next_ctrl_of};
 ghost use Rattle.control_model.specs.Control.{Control, Step, after, first_control};
 ghost use Rattle.control_octets.specs.Fitting.{FitsOctets, ParamsFit, StepFits};
 

@@ -10,3 +10,6 @@ pub mod Same
 pub mod Sending
 pub mod Taking
 pub mod Took
+-- what the crates above use of those below
+pub use Rattle.exchange_pairs.proofs as exchange_pairs
+pub use Rattle.procedure_values.proofs as procedure_values

@@ -4,33 +4,33 @@ use Rattle.std.proofs.Common.{◌≡◌, Bool, true, false, List, [], ◌∷◌,
 use Rattle.ble_base.specs.declared.roles.Role.TheVariants.{Central as central_role}
 use Rattle.data_pdu.specs.declared.ctrl.Ctrl.{Ctrl}
 use Rattle.data_pdu.specs.declared.ctrl.Ctrl.TheVariants.{TerminateInd}
-use Rattle.enc_phase.specs.declared.facts.PhaseFacts.{PhaseFacts}
-use Rattle.enc_phase.specs.declared.facts.PhaseFacts.TheVariants.{Asked, Clear, HalfClear, HalfKeyed, Pausing, Secure}
-use Rattle.enc_phase.specs.declared.facts.Transition.TheVariants.{Refuse}
-use Rattle.enc_phase.specs.Phases.{is_quiet, phase_after, phase_starting}
+use Rattle.joint_controls.specs.enc_phase.declared.facts.PhaseFacts.{PhaseFacts}
+use Rattle.joint_controls.specs.enc_phase.declared.facts.PhaseFacts.TheVariants.{Asked, Clear, HalfClear, HalfKeyed, Pausing, Secure}
+use Rattle.joint_controls.specs.enc_phase.declared.facts.Transition.TheVariants.{Refuse}
+use Rattle.joint_controls.specs.enc_phase.Phases.{is_quiet, phase_after, phase_starting}
 use Rattle.exclusive_stages.specs.declared.pdus.Pdu.{Pdu}
 use Rattle.exclusive_stages.specs.declared.pdus.Pdu.TheVariants.{GrantInd, MapInd, PhyInd, PhyReq, Refusal, UpdateInd}
 use Rattle.exclusive_stages.specs.declared.stages.CentralStage.TheVariants.{Idle, MapSent, MapUnsent, PhyAnswered, PhyIndicated, PhySent, PhyUnsent, UpdateSent, UpdateUnsent}
 use Rattle.exclusive_stages.specs.declared.stages.PeerAtCentral.TheVariants.{Absent}
 use Rattle.exclusive_stages.specs.Acked.{own_acked_at_central, peer_acked_at_central}
 use Rattle.exclusive_stages.specs.Sent.{own_sent_by_central, peer_sent_by_central}
-use Rattle.procedure_stages.specs.declared.stages.Central.{Central}
-use Rattle.procedure_stages.specs.declared.stages.OwnCentral.{OwnCentral}
-use Rattle.procedure_stages.specs.declared.stages.OwnCentral.TheVariants.{EncryptSent, EncryptUnsent, Exchange as exchange, Exclusive as exclusive}
-use Rattle.procedure_stages.specs.declared.stages.Progress.TheVariants.{Central as central}
-use Rattle.procedure_stages.specs.Exclusive.{central_stage}
-use Rattle.procedure_stages.specs.Kinds.{kind_at_central}
-use Rattle.procedures.specs.Table.{TableFacts}
+use Rattle.collision_steps.specs.procedure_stages.declared.stages.Central.{Central}
+use Rattle.collision_steps.specs.procedure_stages.declared.stages.OwnCentral.{OwnCentral}
+use Rattle.collision_steps.specs.procedure_stages.declared.stages.OwnCentral.TheVariants.{EncryptSent, EncryptUnsent, Exchange as exchange, Exclusive as exclusive}
+use Rattle.collision_steps.specs.procedure_stages.declared.stages.Progress.TheVariants.{Central as central}
+use Rattle.collision_steps.specs.procedure_stages.Exclusive.{central_stage}
+use Rattle.collision_steps.specs.procedure_stages.Kinds.{kind_at_central}
+use Rattle.collision_steps.specs.procedures.Table.{TableFacts}
 use Rattle.collisions.specs.declared.central.Central.{Central as CentralPdus}
 use Rattle.collisions.specs.CentralTable
 use Rattle.collision_steps.specs.CentralPart.{ack_of, after_steps, central_of, sending_of, step_of_given}
-use Rattle.enc_phase.specs.declared.classes.PduClass.TheVariants.{Request as request_class}
-use Rattle.enc_phase.specs.Taking.{allows, ctrl_class}
-use Rattle.procedure_stages.specs.Closing.{is_disconnecting}
+use Rattle.joint_controls.specs.enc_phase.declared.classes.PduClass.TheVariants.{Request as request_class}
+use Rattle.joint_controls.specs.enc_phase.Taking.{allows, ctrl_class}
+use Rattle.collision_steps.specs.procedure_stages.Closing.{is_disconnecting}
 use Rattle.collision_steps.specs.Parts.{drafts_part}
 use Rattle.collision_steps.proofs.CentralTaking.{over}
 use Rattle.joint_collisions.specs.Facts.{CentralFacts}
-use Rattle.phased_control.specs.Phased.{Phased, is_open_now, is_quiet_now}
+use Rattle.joint_controls.specs.phased_control.Phased.{Phased, is_open_now, is_quiet_now}
 
 pub record IsAlone (t : CentralPdus) : Type 0 where
   pub own : t.own ≡ Idle

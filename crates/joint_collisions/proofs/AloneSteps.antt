@@ -7,8 +7,8 @@ use Rattle.ble_base.specs.declared.procedure_kinds.Kind.TheVariants.{Encrypt}
 use Rattle.ble_base.specs.declared.roles.Role.{Role}
 use Rattle.ble_base.specs.declared.roles.Role.TheVariants.{Central as central_role, Peripheral as peripheral_role}
 use Rattle.data_pdu.specs.declared.ctrl.Ctrl.{Ctrl}
-use Rattle.enc_phase.specs.declared.facts.Transition.TheVariants.{Ask as AskTransition, Refuse}
-use Rattle.enc_phase.specs.Phases.{is_quiet, may_follow}
+use Rattle.joint_controls.specs.enc_phase.declared.facts.Transition.TheVariants.{Ask as AskTransition, Refuse}
+use Rattle.joint_controls.specs.enc_phase.Phases.{is_quiet, may_follow}
 use Rattle.exclusive_stages.specs.declared.pdus.Pdu.{Pdu}
 use Rattle.exclusive_stages.specs.declared.stages.CentralStage.TheVariants.{Idle}
 use Rattle.exclusive_stages.specs.declared.stages.PeerAtCentral.{PeerAtCentral}
@@ -16,21 +16,21 @@ use Rattle.exclusive_stages.specs.declared.stages.PeerAtCentral.TheVariants.{Abs
 use Rattle.exclusive_stages.specs.Kinds.{has_peer_at_central, is_host_asked_at_central, is_idle_at_central}
 use Rattle.instants.specs.declared.indications.Indication.{Indication}
 use Rattle.instants.specs.Track.{event_of, next_number}
-use Rattle.procedure_values.specs.declared.asks.Ask.{Ask}
-use Rattle.procedure_values.specs.Asks.{kind_of_ask}
-use Rattle.procedure_values.specs.Drafts.{is_out}
-use Rattle.procedure_stages.specs.declared.stages.Central.{Central}
-use Rattle.procedure_stages.specs.declared.stages.Progress.{Progress}
-use Rattle.procedure_stages.specs.declared.stages.Progress.TheVariants.{Central as central}
-use Rattle.procedure_stages.specs.Closing.{is_open}
-use Rattle.procedure_stages.specs.Collisions.{peer_lets}
-use Rattle.procedure_stages.specs.InProgress.{has_peer, is_encrypting, is_host_asked}
-use Rattle.procedure_stages.specs.Kinds.{begins, own_kind, role_of}
-use Rattle.procedures.specs.Beginning.{ask_at, begin_at, begin_step, is_ready, may_begin, place_to_begin}
-use Rattle.procedures.specs.Going.{entered_step, host_answer_step, is_answer, terminate_step}
-use Rattle.procedures.specs.Queue.{next_of}
-use Rattle.procedures.specs.Sending.{acked_step}
-use Rattle.procedures.specs.Table.{TableFacts}
+use Rattle.collision_steps.specs.procedure_values.declared.asks.Ask.{Ask}
+use Rattle.collision_steps.specs.procedure_values.Asks.{kind_of_ask}
+use Rattle.collision_steps.specs.procedure_values.Drafts.{is_out}
+use Rattle.collision_steps.specs.procedure_stages.declared.stages.Central.{Central}
+use Rattle.collision_steps.specs.procedure_stages.declared.stages.Progress.{Progress}
+use Rattle.collision_steps.specs.procedure_stages.declared.stages.Progress.TheVariants.{Central as central}
+use Rattle.collision_steps.specs.procedure_stages.Closing.{is_open}
+use Rattle.collision_steps.specs.procedure_stages.Collisions.{peer_lets}
+use Rattle.collision_steps.specs.procedure_stages.InProgress.{has_peer, is_encrypting, is_host_asked}
+use Rattle.collision_steps.specs.procedure_stages.Kinds.{begins, own_kind, role_of}
+use Rattle.collision_steps.specs.procedures.Beginning.{ask_at, begin_at, begin_step, is_ready, may_begin, place_to_begin}
+use Rattle.collision_steps.specs.procedures.Going.{entered_step, host_answer_step, is_answer, terminate_step}
+use Rattle.collision_steps.specs.procedures.Queue.{next_of}
+use Rattle.collision_steps.specs.procedures.Sending.{acked_step}
+use Rattle.collision_steps.specs.procedures.Table.{TableFacts}
 use Rattle.collisions.specs.declared.central.Central.{Central as CentralPdus}
 use Rattle.collisions.specs.CentralTable
 use Rattle.collisions.specs.JointRun.{is_empty}
@@ -38,10 +38,10 @@ use Rattle.collision_steps.specs.CentralPart.{after_steps, central_of, sending_o
 use Rattle.collision_steps.specs.Parts.{outgoing_part}
 use Rattle.collision_steps.proofs.CentralGoing.{acked_one, begun_part, disconnects_one, enters_one, found, owes_one, sends_one}
 use Rattle.collision_steps.proofs.CentralTaking.{over}
-use Rattle.control_model.specs.Control.{Answers, Asks, Control, Disconnects, Enters, Owes, SeesAcknowledged, Sends, after, following, goes_out, table_if, went}
-use Rattle.control_model.proofs.Calls.{acked_same, any_step, begun_same, either_way, given_same, held_over, open_step, sent_from}
-use Rattle.phased_control.specs.Phased.{Phased, ask_begun, asking_if, asks_again, encrypting_if, is_encrypt, is_open_now, is_pause_rsp, is_quiet_now, key_given, key_lacking, refused_if, request_of, table_entered, with_step}
-use Rattle.phased_control.specs.Taken.{Enters as enters_end, SeesAcknowledged as acked_end, Sends as sends_end, phased_after, phased_moved}
+use Rattle.joint_controls.specs.control_model.Control.{Answers, Asks, Control, Disconnects, Enters, Owes, SeesAcknowledged, Sends, after, following, goes_out, table_if, went}
+use Rattle.joint_controls.proofs.control_model.Calls.{acked_same, any_step, begun_same, either_way, given_same, held_over, open_step, sent_from}
+use Rattle.joint_controls.specs.phased_control.Phased.{Phased, ask_begun, asking_if, asks_again, encrypting_if, is_encrypt, is_open_now, is_pause_rsp, is_quiet_now, key_given, key_lacking, refused_if, request_of, table_entered, with_step}
+use Rattle.joint_controls.specs.phased_control.Taken.{Enters as enters_end, SeesAcknowledged as acked_end, Sends as sends_end, phased_after, phased_moved}
 use Rattle.joint_controls.specs.Joint.{AnswersRequest, AsksFor, Ends, HasKey, HasNoKey, HostStep, host_step}
 use Rattle.joint_controls.proofs.Keeping.{asking_keeps, encrypting_if_keeps, given_keeps, lacking_keeps}
 use Rattle.joint_collisions.proofs.Alone.{AloneIf, IsAlone, alone_acked, alone_entered, alone_given, alone_sent, alone_terminated, no_kind, refused_loud, starting_loud}

@@ -8,32 +8,32 @@ use Rattle.data_pdu.specs.declared.ctrl.Ctrl.{Ctrl}
 use Rattle.data_pdu.specs.declared.ctrl.Ctrl.TheVariants.{PauseEncRsp, StartEncReq, StartEncRsp}
 use Rattle.data_pdu.specs.declared.ctrl.CtrlRead.{CtrlRead}
 use Rattle.data_pdu.specs.declared.ctrl.CtrlRead.TheVariants.{Known}
-use Rattle.enc_phase.specs.declared.classes.PduClass.{PduClass}
-use Rattle.enc_phase.specs.declared.classes.PduClass.TheVariants.{EncRsp as enc_rsp_class, Other as other_class, Refusal as refusal_class, Request as request_class}
-use Rattle.enc_phase.specs.declared.facts.PhaseFacts.{PhaseFacts}
-use Rattle.enc_phase.specs.declared.facts.PhaseFacts.TheVariants.{Asked, Clear, HalfClear, HalfKeyed, Pausing, Secure}
-use Rattle.enc_phase.specs.declared.facts.Transition.TheVariants.{Confirm, Refuse, Unlock}
-use Rattle.enc_phase.specs.Phases.{is_asked, is_quiet, may_follow, phase_after}
-use Rattle.enc_phase.specs.Taking.{allows, ctrl_class, is_unknown, phase_taking}
+use Rattle.joint_controls.specs.enc_phase.declared.classes.PduClass.{PduClass}
+use Rattle.joint_controls.specs.enc_phase.declared.classes.PduClass.TheVariants.{EncRsp as enc_rsp_class, Other as other_class, Refusal as refusal_class, Request as request_class}
+use Rattle.joint_controls.specs.enc_phase.declared.facts.PhaseFacts.{PhaseFacts}
+use Rattle.joint_controls.specs.enc_phase.declared.facts.PhaseFacts.TheVariants.{Asked, Clear, HalfClear, HalfKeyed, Pausing, Secure}
+use Rattle.joint_controls.specs.enc_phase.declared.facts.Transition.TheVariants.{Confirm, Refuse, Unlock}
+use Rattle.joint_controls.specs.enc_phase.Phases.{is_asked, is_quiet, may_follow, phase_after}
+use Rattle.joint_controls.specs.enc_phase.Taking.{allows, ctrl_class, is_unknown, phase_taking}
 use Rattle.exclusive_stages.specs.declared.pdus.Pdu.{Pdu}
 use Rattle.exclusive_stages.specs.declared.pdus.Pdu.TheVariants.{ParamReq, PhyReq, PhyRsp, Refusal}
-use Rattle.procedure_values.specs.declared.drafts.Draft.{Draft}
-use Rattle.procedure_values.specs.declared.drafts.Draft.TheVariants.{PhyReq as phy_req_draft, PhyRsp as phy_rsp_draft, Request as request_draft}
-use Rattle.procedure_values.specs.declared.drafts.Outgoing.{Outgoing}
-use Rattle.procedure_values.specs.declared.drafts.Outgoing.TheVariants.{Other}
-use Rattle.procedure_values.specs.Drafts.{ctrl_of_draft}
-use Rattle.procedure_stages.specs.declared.stages.Central.{Central}
-use Rattle.procedure_stages.specs.declared.stages.Progress.TheVariants.{Central as central}
-use Rattle.procedure_stages.specs.Exclusive.{pdu_of_draft, pdu_of_outgoing}
-use Rattle.procedure_stages.specs.Kinds.{role_of}
-use Rattle.table_laws.specs.Encrypting.{has_encryption}
+use Rattle.collision_steps.specs.procedure_values.declared.drafts.Draft.{Draft}
+use Rattle.collision_steps.specs.procedure_values.declared.drafts.Draft.TheVariants.{PhyReq as phy_req_draft, PhyRsp as phy_rsp_draft, Request as request_draft}
+use Rattle.collision_steps.specs.procedure_values.declared.drafts.Outgoing.{Outgoing}
+use Rattle.collision_steps.specs.procedure_values.declared.drafts.Outgoing.TheVariants.{Other}
+use Rattle.collision_steps.specs.procedure_values.Drafts.{ctrl_of_draft}
+use Rattle.collision_steps.specs.procedure_stages.declared.stages.Central.{Central}
+use Rattle.collision_steps.specs.procedure_stages.declared.stages.Progress.TheVariants.{Central as central}
+use Rattle.collision_steps.specs.procedure_stages.Exclusive.{pdu_of_draft, pdu_of_outgoing}
+use Rattle.collision_steps.specs.procedure_stages.Kinds.{role_of}
+use Rattle.joint_controls.specs.table_laws.Encrypting.{has_encryption}
 use Rattle.collisions.specs.declared.central.Central.{Central as CentralPdus}
 use Rattle.collisions.specs.declared.joint.End.{End}
 use Rattle.collisions.specs.CentralTable
 use Rattle.collision_steps.specs.CentralPart.{answer_to, central_of, step_of_read}
-use Rattle.control_model.specs.Control.{Control, Takes, after}
-use Rattle.phased_control.specs.Phased.{Phased, is_quiet_now}
-use Rattle.phased_control.specs.Taken.{Response, Takes as takes_end, TakesData, answered_if_quiet, answered_kept, ciphered, ciphered_at, ciphered_at_central, does_keep, ended_with, handed_on, is_allowed, keeping, keeps_class, knowing, lacks_room_now, moved_to, phased_after, refused_by, role_now, seen_if, took_allowed, with_phase_taking}
+use Rattle.joint_controls.specs.control_model.Control.{Control, Takes, after}
+use Rattle.joint_controls.specs.phased_control.Phased.{Phased, is_quiet_now}
+use Rattle.joint_controls.specs.phased_control.Taken.{Response, Takes as takes_end, TakesData, answered_if_quiet, answered_kept, ciphered, ciphered_at, ciphered_at_central, does_keep, ended_with, handed_on, is_allowed, keeping, keeps_class, knowing, lacks_room_now, moved_to, phased_after, refused_by, role_now, seen_if, took_allowed, with_phase_taking}
 use Rattle.joint_controls.specs.Ends.{IsSentAs}
 use Rattle.joint_controls.specs.Joint.{is_terminate}
 use Rattle.joint_controls.proofs.Keeping.{ciphered_keeps}

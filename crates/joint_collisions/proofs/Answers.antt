@@ -9,12 +9,12 @@ use Rattle.exclusive_stages.specs.declared.pdus.Pdu.{Pdu}
 use Rattle.exclusive_stages.specs.declared.pdus.Reason.{Reason}
 use Rattle.exclusive_stages.specs.declared.pdus.Reason.TheVariants.{Other as other_reason, OtherKind, SameKind}
 use Rattle.instants.specs.declared.indications.Indication.{Indication}
-use Rattle.procedure_stages.specs.declared.stages.Central.{Central}
-use Rattle.procedure_stages.specs.declared.stages.Progress.TheVariants.{Central as central}
-use Rattle.procedure_stages.specs.declared.steps.Step.{Step as TableStep}
-use Rattle.procedure_stages.specs.Kinds.{role_of}
-use Rattle.procedures.specs.Table.{TableFacts}
-use Rattle.procedures.specs.Taking.{facts_with, lacks_room, outcome_of, took_step}
+use Rattle.collision_steps.specs.procedure_stages.declared.stages.Central.{Central}
+use Rattle.collision_steps.specs.procedure_stages.declared.stages.Progress.TheVariants.{Central as central}
+use Rattle.collision_steps.specs.procedure_stages.declared.steps.Step.{Step as TableStep}
+use Rattle.collision_steps.specs.procedure_stages.Kinds.{role_of}
+use Rattle.collision_steps.specs.procedures.Table.{TableFacts}
+use Rattle.collision_steps.specs.procedures.Taking.{facts_with, lacks_room, outcome_of, took_step}
 use Rattle.collisions.specs.declared.central.Central.{Central as CentralPdus}
 use Rattle.collisions.specs.declared.joint.End.{End}
 use Rattle.collisions.specs.declared.joint.End.TheVariants.{Collided, InstantPassed, Open}
@@ -24,11 +24,11 @@ use Rattle.collision_steps.specs.Answers.{code_of_end, stops_run}
 use Rattle.collision_steps.specs.CentralPart.{answer_to, central_of, step_of_read}
 use Rattle.collision_steps.proofs.CentralTaking as taking
 use Rattle.collision_steps.proofs.CentralTaking.{no_room_left}
-use Rattle.control_model.specs.Control.{Control, Takes, after, indicated_by, taken, took}
-use Rattle.control_model.specs.Waits.{EndsByCollision, last_instant_of}
-use Rattle.control_model.proofs.Calls.{open_step, took_by}
-use Rattle.control_model.proofs.Outcomes.{Hands, fits}
-use Rattle.control_model.proofs.Waiting.{handed}
+use Rattle.joint_controls.specs.control_model.Control.{Control, Takes, after, indicated_by, taken, took}
+use Rattle.joint_controls.specs.control_model.Waits.{EndsByCollision, last_instant_of}
+use Rattle.joint_controls.proofs.control_model.Calls.{open_step, took_by}
+use Rattle.joint_controls.proofs.control_model.Outcomes.{Hands, fits}
+use Rattle.joint_controls.proofs.control_model.Waiting.{handed}
 
 -- ---- how a link ends
 

@@ -5,30 +5,30 @@ use Rattle.ble_base.specs.declared.error_codes.ErrCode.{ErrCode}
 use Rattle.ble_base.specs.declared.roles.Role.{Role}
 use Rattle.ble_base.specs.declared.roles.Role.TheVariants.{Central as central_role}
 use Rattle.data_pdu.specs.declared.ctrl.Ctrl.{Ctrl}
-use Rattle.enc_phase.specs.declared.classes.PduClass.TheVariants.{Request}
-use Rattle.enc_phase.specs.declared.facts.PhaseFacts.{PhaseFacts}
-use Rattle.enc_phase.specs.declared.facts.PhaseFacts.TheVariants.{Asked, Clear as ClearPhase, HalfClear, HalfKeyed, Pausing, Secure}
-use Rattle.enc_phase.specs.Phases.{is_quiet}
-use Rattle.enc_phase.specs.Taking.{allows}
+use Rattle.joint_controls.specs.enc_phase.declared.classes.PduClass.TheVariants.{Request}
+use Rattle.joint_controls.specs.enc_phase.declared.facts.PhaseFacts.{PhaseFacts}
+use Rattle.joint_controls.specs.enc_phase.declared.facts.PhaseFacts.TheVariants.{Asked, Clear as ClearPhase, HalfClear, HalfKeyed, Pausing, Secure}
+use Rattle.joint_controls.specs.enc_phase.Phases.{is_quiet}
+use Rattle.joint_controls.specs.enc_phase.Taking.{allows}
 use Rattle.instants.specs.Track.{event_of}
-use Rattle.procedure_values.specs.Drafts.{ctrl_of_outgoing, is_out}
-use Rattle.procedure_stages.specs.declared.stages.Central.{Central}
-use Rattle.procedure_stages.specs.declared.stages.Progress.TheVariants.{Central as central}
-use Rattle.procedure_stages.specs.InProgress.{is_host_asked}
-use Rattle.procedure_stages.specs.Closing.{is_open}
-use Rattle.procedure_stages.specs.Kinds.{role_of}
-use Rattle.procedures.specs.Going.{host_answer_step, is_answer, terminate_step}
-use Rattle.procedures.specs.Sending.{acked_step}
-use Rattle.procedures.specs.Table.{TableFacts}
+use Rattle.collision_steps.specs.procedure_values.Drafts.{ctrl_of_outgoing, is_out}
+use Rattle.collision_steps.specs.procedure_stages.declared.stages.Central.{Central}
+use Rattle.collision_steps.specs.procedure_stages.declared.stages.Progress.TheVariants.{Central as central}
+use Rattle.collision_steps.specs.procedure_stages.InProgress.{is_host_asked}
+use Rattle.collision_steps.specs.procedure_stages.Closing.{is_open}
+use Rattle.collision_steps.specs.procedure_stages.Kinds.{role_of}
+use Rattle.collision_steps.specs.procedures.Going.{host_answer_step, is_answer, terminate_step}
+use Rattle.collision_steps.specs.procedures.Sending.{acked_step}
+use Rattle.collision_steps.specs.procedures.Table.{TableFacts}
 use Rattle.collisions.specs.declared.joint.Way.{Way}
 use Rattle.collisions.specs.declared.joint.Way.TheVariants.{Clear, OnAir, Taken}
 use Rattle.collisions.specs.JointRun.{pdu_on_air}
 use Rattle.collision_steps.specs.Parts.{outgoing_part}
-use Rattle.control_model.specs.Control.{Answers, Asks, Control, Disconnects, Enters, SeesAcknowledged, Sends, Step, after, following, table_if, went}
-use Rattle.control_model.specs.Waits.{EndsByCollision}
-use Rattle.control_model.proofs.Calls.{open_step}
-use Rattle.phased_control.specs.Phased.{Phased, is_quiet_now, with_step}
-use Rattle.phased_control.specs.Taken.{Enters as enters_end, PhasedStep, SeesAcknowledged as acked_end, Sends as sends_end, phased_after, phased_moved}
+use Rattle.joint_controls.specs.control_model.Control.{Answers, Asks, Control, Disconnects, Enters, SeesAcknowledged, Sends, Step, after, following, table_if, went}
+use Rattle.joint_controls.specs.control_model.Waits.{EndsByCollision}
+use Rattle.joint_controls.proofs.control_model.Calls.{open_step}
+use Rattle.joint_controls.specs.phased_control.Phased.{Phased, is_quiet_now, with_step}
+use Rattle.joint_controls.specs.phased_control.Taken.{Enters as enters_end, PhasedStep, SeesAcknowledged as acked_end, Sends as sends_end, phased_after, phased_moved}
 use Rattle.joint_controls.specs.Joint.{AnswersRequest, AsksFor, Ends, HasKey, HasNoKey, HostStep, host_step, item_by, next_item, next_out}
 use Rattle.joint_controls.proofs.Keeping.{asking_keeps_end, encrypting_if_keeps_end, given_keeps_end, lacking_keeps_end}
 use Rattle.joint_collisions.proofs.Alone.{CentralKnown}

@@ -7,20 +7,20 @@ use Rattle.ble_base.specs.declared.roles.Role.TheVariants.{Central as central_ro
 use Rattle.data_pdu.specs.declared.ctrl.Ctrl.{Ctrl}
 use Rattle.data_pdu.specs.declared.ctrl.Ctrl.TheVariants.{TerminateInd}
 use Rattle.data_pdu.specs.declared.ctrl.CtrlRead.TheVariants.{Known}
-use Rattle.enc_phase.specs.Phases.{seals}
+use Rattle.joint_controls.specs.enc_phase.Phases.{seals}
 use Rattle.exclusive_stages.specs.declared.pdus.Pdu.{Pdu}
 use Rattle.exclusive_stages.specs.Pdus.{is_timed}
 use Rattle.instants.specs.declared.indications.Indication.{Indication}
 use Rattle.instants.specs.Parameters.{instant_of}
 use Rattle.instants.specs.Track.{event_of}
-use Rattle.procedure_values.specs.declared.drafts.Draft.{Draft}
-use Rattle.procedure_values.specs.declared.drafts.Draft.TheVariants.{Grant, Map, Update}
-use Rattle.procedure_values.specs.declared.drafts.Outgoing.{Outgoing}
-use Rattle.procedure_values.specs.declared.drafts.Outgoing.TheVariants.{Disconnect, Nothing, Other, Rejection}
-use Rattle.procedure_values.specs.Drafts.{ctrl_of_draft, ctrl_of_outgoing, instant_at}
-use Rattle.procedure_stages.specs.Exclusive.{pdu_of_outgoing}
-use Rattle.procedure_stages.specs.Kinds.{role_of}
-use Rattle.procedures.specs.Table.{TableFacts}
+use Rattle.collision_steps.specs.procedure_values.declared.drafts.Draft.{Draft}
+use Rattle.collision_steps.specs.procedure_values.declared.drafts.Draft.TheVariants.{Grant, Map, Update}
+use Rattle.collision_steps.specs.procedure_values.declared.drafts.Outgoing.{Outgoing}
+use Rattle.collision_steps.specs.procedure_values.declared.drafts.Outgoing.TheVariants.{Disconnect, Nothing, Other, Rejection}
+use Rattle.collision_steps.specs.procedure_values.Drafts.{ctrl_of_draft, ctrl_of_outgoing, instant_at}
+use Rattle.collision_steps.specs.procedure_stages.Exclusive.{pdu_of_outgoing}
+use Rattle.collision_steps.specs.procedure_stages.Kinds.{role_of}
+use Rattle.collision_steps.specs.procedures.Table.{TableFacts}
 use Rattle.collisions.specs.declared.joint.Way.TheVariants.{Clear as no_pdu, OnAir as on_air_pdu, Taken as pdu_taken}
 use Rattle.collisions.specs.declared.joint.Way.{Way as pdu_way}
 use Rattle.collisions.specs.JointRun.{is_pdu}
@@ -29,11 +29,11 @@ use Rattle.ble_base.specs.ErrorCodes.{mic_failure}
 use Rattle.collision_steps.specs.CentralPart.{passed_from, passed_from_after}
 use Rattle.collision_steps.specs.Parts.{outgoing_part, param_request_opcode, phy_request_opcode, reason_part}
 use Rattle.collision_steps.proofs.CentralGoing.{instant_one}
-use Rattle.control_model.specs.Control.{Control, Enters as control_enters, Sends as control_sends, after, following, went}
-use Rattle.control_model.proofs.Calls.{open_step}
-use Rattle.control_model.specs.Waits.{EndsByCollision, last_instant_of}
-use Rattle.phased_control.specs.Phased.{Phased, is_quiet_now}
-use Rattle.phased_control.specs.Taken.{Enters, SeesAcknowledged, Sends, Takes, TakesData, ended_with, phased_after}
+use Rattle.joint_controls.specs.control_model.Control.{Control, Enters as control_enters, Sends as control_sends, after, following, went}
+use Rattle.joint_controls.proofs.control_model.Calls.{open_step}
+use Rattle.joint_controls.specs.control_model.Waits.{EndsByCollision, last_instant_of}
+use Rattle.joint_controls.specs.phased_control.Phased.{Phased, is_quiet_now}
+use Rattle.joint_controls.specs.phased_control.Taken.{Enters, SeesAcknowledged, Sends, Takes, TakesData, ended_with, phased_after}
 use Rattle.joint_controls.specs.Joint.{CentralAcked, CentralEnters, CentralHost, CentralSends, CentralSendsData, CentralTakes, Clear, Control as control_item, Data, Fixed, HostStep, Item, Joint, OnAir, Taken, Way, act, central_takes as joint_takes, host_step, is_clear, is_free, is_same_event, is_taken, is_terminate, item_by, item_on_air, may, may_act, may_transmit, next_item, next_out, no_response, on_air, sends_data, taking}
 use Rattle.joint_controls.specs.Ends.{IsSentOn, outgoing_in, outgoing_on}
 use Rattle.joint_controls.proofs.EachEnd.{HasLast, enters_kept, hosts_kept, last_kept, takes_kept}

@@ -11,19 +11,19 @@ use Rattle.exclusive_stages.specs.declared.pdus.Pdu.{Pdu}
 use Rattle.exclusive_stages.specs.Kinds.{is_host_asked_at_central}
 use Rattle.instants.specs.declared.track.Change.{Change}
 use Rattle.instants.specs.Track.{TrackFacts, event_of, is_due, next_number, track_after_enter}
-use Rattle.procedure_values.specs.declared.asks.Ask.{Ask}
-use Rattle.procedure_values.specs.declared.asks.Ask.TheVariants.{Update as ask_update}
-use Rattle.procedure_values.specs.Asks.{kind_of_ask}
-use Rattle.procedure_stages.specs.declared.stages.Central.{Central}
-use Rattle.procedure_stages.specs.declared.stages.Progress.{Progress}
-use Rattle.procedure_stages.specs.declared.stages.Progress.TheVariants.{Central as central, Peripheral as peripheral}
-use Rattle.procedure_stages.specs.Closing.{is_open}
-use Rattle.procedure_stages.specs.InProgress.{is_host_asked}
-use Rattle.procedure_stages.specs.Kinds.{begins, own_kind, role_of}
-use Rattle.procedure_stages.specs.Collisions.{peer_lets}
-use Rattle.procedures.specs.Beginning.{ask_at, begin_at, begin_step, is_ready, may_begin, place_to_begin}
-use Rattle.procedures.specs.Going.{entered_step, host_answer_step, is_answer, owe_step, terminate_step}
-use Rattle.procedures.specs.Table.{TableFacts}
+use Rattle.collision_steps.specs.procedure_values.declared.asks.Ask.{Ask}
+use Rattle.collision_steps.specs.procedure_values.declared.asks.Ask.TheVariants.{Update as ask_update}
+use Rattle.collision_steps.specs.procedure_values.Asks.{kind_of_ask}
+use Rattle.collision_steps.specs.procedure_stages.declared.stages.Central.{Central}
+use Rattle.collision_steps.specs.procedure_stages.declared.stages.Progress.{Progress}
+use Rattle.collision_steps.specs.procedure_stages.declared.stages.Progress.TheVariants.{Central as central, Peripheral as peripheral}
+use Rattle.collision_steps.specs.procedure_stages.Closing.{is_open}
+use Rattle.collision_steps.specs.procedure_stages.InProgress.{is_host_asked}
+use Rattle.collision_steps.specs.procedure_stages.Kinds.{begins, own_kind, role_of}
+use Rattle.collision_steps.specs.procedure_stages.Collisions.{peer_lets}
+use Rattle.collision_steps.specs.procedures.Beginning.{ask_at, begin_at, begin_step, is_ready, may_begin, place_to_begin}
+use Rattle.collision_steps.specs.procedures.Going.{entered_step, host_answer_step, is_answer, owe_step, terminate_step}
+use Rattle.collision_steps.specs.procedures.Table.{TableFacts}
 use Rattle.collisions.specs.declared.joint.Way.{Way}
 use Rattle.collisions.specs.CentralTable
 use Rattle.collisions.specs.declared.central.Central.{Central as CentralPdus}
@@ -32,9 +32,9 @@ use Rattle.ble_base.specs.declared.procedure_kinds.Kind.TheVariants.{Map, Phy, U
 use Rattle.collision_steps.specs.Parts.{reason_part}
 use Rattle.collision_steps.proofs.CentralTaking.{over}
 use Rattle.collision_steps.proofs.CentralGoing.{answers_one, begun_may, begun_part, disconnects_one, enters_one, found, owes_one}
-use Rattle.control_model.specs.Control.{Answers, Asks, Control, Disconnects, Enters, Owes, after, table_if}
-use Rattle.control_model.specs.Waits.{last_instant_of}
-use Rattle.control_model.proofs.Calls.{any_step, answered_same, begun_same, given_same, held_over}
+use Rattle.joint_controls.specs.control_model.Control.{Answers, Asks, Control, Disconnects, Enters, Owes, after, table_if}
+use Rattle.joint_controls.specs.control_model.Waits.{last_instant_of}
+use Rattle.joint_controls.proofs.control_model.Calls.{any_step, answered_same, begun_same, given_same, held_over}
 use Rattle.joint_collisions.specs.Views.{View, view_by, waits_part}
 use Rattle.joint_collisions.proofs.Reaching.{IsAtCentral, Seen, begins_central, closes_central, grants, refuses}
 use Rattle.joint_collisions.proofs.Instants.{enters_central, is_due_at, waits_after}

@@ -7,12 +7,12 @@ use Rattle.ble_base.specs.declared.roles.Role.TheVariants.{Central as central_ro
 use Rattle.data_pdu.specs.declared.ctrl.Ctrl.{Ctrl}
 use Rattle.data_pdu.specs.declared.ctrl.CtrlRead.{CtrlRead}
 use Rattle.data_pdu.specs.declared.ctrl.CtrlRead.TheVariants.{Known}
-use Rattle.enc_phase.specs.declared.classes.PduClass.{PduClass}
-use Rattle.enc_phase.specs.declared.classes.PduClass.TheVariants.{Request as request_class}
-use Rattle.enc_phase.specs.declared.facts.PhaseFacts.{PhaseFacts}
-use Rattle.enc_phase.specs.declared.facts.PhaseFacts.TheVariants.{Asked, Clear, HalfClear, HalfKeyed, Pausing, Secure}
-use Rattle.enc_phase.specs.Phases.{is_quiet}
-use Rattle.enc_phase.specs.Taking.{ctrl_class, is_unknown, phase_taking}
+use Rattle.joint_controls.specs.enc_phase.declared.classes.PduClass.{PduClass}
+use Rattle.joint_controls.specs.enc_phase.declared.classes.PduClass.TheVariants.{Request as request_class}
+use Rattle.joint_controls.specs.enc_phase.declared.facts.PhaseFacts.{PhaseFacts}
+use Rattle.joint_controls.specs.enc_phase.declared.facts.PhaseFacts.TheVariants.{Asked, Clear, HalfClear, HalfKeyed, Pausing, Secure}
+use Rattle.joint_controls.specs.enc_phase.Phases.{is_quiet}
+use Rattle.joint_controls.specs.enc_phase.Taking.{ctrl_class, is_unknown, phase_taking}
 use Rattle.exclusive_stages.specs.declared.pdus.Exclusive.{Exclusive}
 use Rattle.exclusive_stages.specs.declared.pdus.Exclusive.TheVariants.{Phy, Request}
 use Rattle.exclusive_stages.specs.declared.pdus.Pdu.{Pdu}
@@ -22,13 +22,13 @@ use Rattle.exclusive_stages.specs.declared.stages.PeerAtCentral.TheVariants.{Abs
 use Rattle.exclusive_stages.specs.Awaited.{peer_answered}
 use Rattle.exclusive_stages.specs.Kinds.{central_kind}
 use Rattle.exclusive_stages.specs.Pdus.{first_kind, reason_of, rejection_of}
-use Rattle.procedure_values.specs.declared.drafts.Draft.{Draft}
-use Rattle.procedure_values.specs.declared.drafts.Draft.TheVariants.{PhyReq as phy_draft, Request as request_draft}
-use Rattle.procedure_values.specs.declared.drafts.Outgoing.{Outgoing}
-use Rattle.procedure_values.specs.declared.drafts.Outgoing.TheVariants.{Other}
-use Rattle.procedure_values.specs.Drafts.{ctrl_of_draft}
-use Rattle.procedure_stages.specs.Exclusive.{pdu_of_draft, pdu_of_outgoing}
-use Rattle.procedure_stages.specs.Kinds.{role_of}
+use Rattle.collision_steps.specs.procedure_values.declared.drafts.Draft.{Draft}
+use Rattle.collision_steps.specs.procedure_values.declared.drafts.Draft.TheVariants.{PhyReq as phy_draft, Request as request_draft}
+use Rattle.collision_steps.specs.procedure_values.declared.drafts.Outgoing.{Outgoing}
+use Rattle.collision_steps.specs.procedure_values.declared.drafts.Outgoing.TheVariants.{Other}
+use Rattle.collision_steps.specs.procedure_values.Drafts.{ctrl_of_draft}
+use Rattle.collision_steps.specs.procedure_stages.Exclusive.{pdu_of_draft, pdu_of_outgoing}
+use Rattle.collision_steps.specs.procedure_stages.Kinds.{role_of}
 use Rattle.collisions.specs.declared.central.Central.{Central as CentralPdus}
 use Rattle.collisions.specs.declared.joint.End.{End}
 use Rattle.collisions.specs.declared.joint.End.TheVariants.{Collided, Open}
@@ -38,9 +38,9 @@ use Rattle.collisions.specs.PeripheralTable
 use Rattle.collisions.specs.JointRun.{is_empty}
 use Rattle.collisions.specs.Meaning.{central_reads, is_ready}
 use Rattle.collision_steps.specs.CentralPart.{answer_to, central_of, step_of_read}
-use Rattle.control_model.specs.Control.{Control, Takes, after}
-use Rattle.phased_control.specs.Phased.{Phased, is_quiet_now}
-use Rattle.phased_control.specs.Taken.{Response, Takes as takes_end, answered_if_quiet, answered_kept, ciphered, ciphered_at, does_keep, ended_with, handed_on, is_allowed, keeping, keeps_class, knowing, lacks_room_now, phased_after, role_now, seen_if, took, took_allowed, with_phase_taking}
+use Rattle.joint_controls.specs.control_model.Control.{Control, Takes, after}
+use Rattle.joint_controls.specs.phased_control.Phased.{Phased, is_quiet_now}
+use Rattle.joint_controls.specs.phased_control.Taken.{Response, Takes as takes_end, answered_if_quiet, answered_kept, ciphered, ciphered_at, does_keep, ended_with, handed_on, is_allowed, keeping, keeps_class, knowing, lacks_room_now, phased_after, role_now, seen_if, took, took_allowed, with_phase_taking}
 use Rattle.joint_controls.specs.Ends.{IsSentAs, IsSentOn}
 use Rattle.joint_controls.specs.Joint.{Joint, Way, is_terminate, item_on_air, no_response}
 use Rattle.joint_collisions.specs.Arrivals.{Collides}

@@ -8,22 +8,22 @@ use Rattle.exclusive_stages.specs.declared.pdus.Pdu.{Pdu}
 use Rattle.exclusive_stages.specs.declared.stages.PeerAtCentral.TheVariants.{Absent}
 use Rattle.exclusive_stages.specs.Pdus.{reason_of, rejection_of}
 use Rattle.instants.specs.Track.{event_of}
-use Rattle.procedure_values.specs.declared.drafts.Outgoing.{Outgoing}
-use Rattle.procedure_values.specs.declared.drafts.Rejection.{Rejection as TheRejection}
-use Rattle.procedure_stages.specs.Closing.{is_disconnecting}
-use Rattle.procedure_stages.specs.Kinds.{role_of}
-use Rattle.procedure_stages.specs.Queue.{next_after_rejections, next_by, next_disconnect}
-use Rattle.procedures.specs.Queue.{next_other}
-use Rattle.procedures.specs.Table.{TableFacts}
-use Rattle.procedure_stages.specs.declared.stages.Central.{Central}
-use Rattle.procedure_stages.specs.declared.stages.Progress.TheVariants.{Central as central}
+use Rattle.collision_steps.specs.procedure_values.declared.drafts.Outgoing.{Outgoing}
+use Rattle.collision_steps.specs.procedure_values.declared.drafts.Rejection.{Rejection as TheRejection}
+use Rattle.collision_steps.specs.procedure_stages.Closing.{is_disconnecting}
+use Rattle.collision_steps.specs.procedure_stages.Kinds.{role_of}
+use Rattle.collision_steps.specs.procedure_stages.Queue.{next_after_rejections, next_by, next_disconnect}
+use Rattle.collision_steps.specs.procedures.Queue.{next_other}
+use Rattle.collision_steps.specs.procedures.Table.{TableFacts}
+use Rattle.collision_steps.specs.procedure_stages.declared.stages.Central.{Central}
+use Rattle.collision_steps.specs.procedure_stages.declared.stages.Progress.TheVariants.{Central as central}
 use Rattle.collisions.specs.declared.central.Central.{Central as CentralPdus}
 use Rattle.collisions.specs.CentralTable
 use Rattle.collision_steps.specs.CentralPart.{central_of}
 use Rattle.collision_steps.specs.Parts.{rejections_part}
 use Rattle.collision_steps.proofs.CentralTaking.{over}
-use Rattle.phased_control.specs.Phased.{Phased, is_open_now, is_quiet_now}
-use Rattle.phased_control.specs.Taken.{Takes as takes_end, phased_after}
+use Rattle.joint_controls.specs.phased_control.Phased.{Phased, is_open_now, is_quiet_now}
+use Rattle.joint_controls.specs.phased_control.Taken.{Takes as takes_end, phased_after}
 use Rattle.joint_controls.specs.Joint.{CentralTakes, Joint, JointStep, Way, after_all, central_takes, is_running, may_act, next_out, no_response}
 use Rattle.joint_controls.proofs.Running.{goes_on}
 use Rattle.joint_collisions.specs.Arrivals.{Collides, RejectsNext, collided, is_silent}

@@ -5,11 +5,11 @@ use Rattle.ble_base.specs.declared.roles.Role.TheVariants.{Peripheral as periphe
 use Rattle.data_pdu.specs.declared.ctrl.Ctrl.{Ctrl}
 use Rattle.data_pdu.specs.declared.ctrl.Ctrl.TheVariants.{EncReq, PauseEncReq, PauseEncRsp, RejectExtInd, StartEncRsp, TerminateInd, UnknownRsp as unknown_rsp}
 use Rattle.data_pdu.specs.declared.ctrl.CtrlRead.TheVariants.{Known}
-use Rattle.enc_phase.specs.declared.classes.PduClass.{PduClass}
-use Rattle.enc_phase.specs.declared.classes.PduClass.TheVariants.{Other as other_class, Request as request_class}
-use Rattle.enc_phase.specs.declared.facts.PhaseFacts.{PhaseFacts}
-use Rattle.enc_phase.specs.declared.facts.PhaseFacts.TheVariants.{Clear, Secure}
-use Rattle.enc_phase.specs.Taking.{ctrl_class, is_unknown}
+use Rattle.joint_controls.specs.enc_phase.declared.classes.PduClass.{PduClass}
+use Rattle.joint_controls.specs.enc_phase.declared.classes.PduClass.TheVariants.{Other as other_class, Request as request_class}
+use Rattle.joint_controls.specs.enc_phase.declared.facts.PhaseFacts.{PhaseFacts}
+use Rattle.joint_controls.specs.enc_phase.declared.facts.PhaseFacts.TheVariants.{Clear, Secure}
+use Rattle.joint_controls.specs.enc_phase.Taking.{ctrl_class, is_unknown}
 use Rattle.exclusive_stages.specs.declared.pdus.Exclusive.{Exclusive}
 use Rattle.exclusive_stages.specs.declared.pdus.Exclusive.TheVariants.{Map as MapOf, Update as UpdateOf}
 use Rattle.exclusive_stages.specs.declared.pdus.Pdu.{Pdu}
@@ -18,23 +18,23 @@ use Rattle.exclusive_stages.specs.declared.pdus.Reason.{Reason}
 use Rattle.exclusive_stages.specs.declared.stages.PeerAtPeripheral.TheVariants.{Absent, MapTaken, PhyRspUnsent}
 use Rattle.exclusive_stages.specs.declared.stages.PeripheralStage.{PeripheralStage}
 use Rattle.exclusive_stages.specs.declared.stages.PeripheralStage.TheVariants.{Idle, PhySent, PhyUnsent, RequestAcknowledged, RequestGranted, RequestSent, RequestUnsent}
-use Rattle.procedure_stages.specs.declared.stages.OwnPeripheral.{OwnPeripheral}
-use Rattle.procedure_stages.specs.declared.stages.OwnPeripheral.TheVariants.{Exchange as exchange, Exclusive as exclusive}
-use Rattle.procedure_stages.specs.declared.stages.Progress.{Progress}
-use Rattle.procedure_stages.specs.declared.stages.Progress.TheVariants.{Central as central, Peripheral as peripheral}
-use Rattle.procedure_stages.specs.Closing.{is_open}
-use Rattle.procedure_stages.specs.Opcodes.{connection_param_req_opcode, first_opcode, is_opcode, opcode_at_peripheral, phy_req_opcode}
+use Rattle.collision_steps.specs.procedure_stages.declared.stages.OwnPeripheral.{OwnPeripheral}
+use Rattle.collision_steps.specs.procedure_stages.declared.stages.OwnPeripheral.TheVariants.{Exchange as exchange, Exclusive as exclusive}
+use Rattle.collision_steps.specs.procedure_stages.declared.stages.Progress.{Progress}
+use Rattle.collision_steps.specs.procedure_stages.declared.stages.Progress.TheVariants.{Central as central, Peripheral as peripheral}
+use Rattle.collision_steps.specs.procedure_stages.Closing.{is_open}
+use Rattle.collision_steps.specs.procedure_stages.Opcodes.{connection_param_req_opcode, first_opcode, is_opcode, opcode_at_peripheral, phy_req_opcode}
 use Rattle.std.proofs.lemmas.Bool.{or_parts}
 use Rattle.exclusive_stages.specs.Awaited.{awaits_phy_ind, central_answered, has_phy_of_central}
 use Rattle.exclusive_stages.specs.Pdus.{is_timed}
 use Rattle.instants.specs.declared.indications.Indication.{Indication}
-use Rattle.procedure_values.specs.declared.drafts.Draft.{Draft}
-use Rattle.procedure_values.specs.declared.drafts.Draft.TheVariants.{Cipher, FeatureReq, FeatureRsp, Grant, LengthReq, LengthRsp, Map, PeripheralFeatureReq, PhyInd, PhyReq, PhyRsp, Request, UnknownRsp, Update, VersionInd}
-use Rattle.procedure_values.specs.declared.drafts.Outgoing.{Outgoing}
-use Rattle.procedure_values.specs.declared.drafts.Outgoing.TheVariants.{Disconnect, Nothing, Other, Rejection}
-use Rattle.procedure_values.specs.Drafts.{ctrl_of_draft}
-use Rattle.procedure_stages.specs.Exclusive.{pdu_of_draft, peripheral_stage}
-use Rattle.procedures.specs.Table.{TableFacts}
+use Rattle.collision_steps.specs.procedure_values.declared.drafts.Draft.{Draft}
+use Rattle.collision_steps.specs.procedure_values.declared.drafts.Draft.TheVariants.{Cipher, FeatureReq, FeatureRsp, Grant, LengthReq, LengthRsp, Map, PeripheralFeatureReq, PhyInd, PhyReq, PhyRsp, Request, UnknownRsp, Update, VersionInd}
+use Rattle.collision_steps.specs.procedure_values.declared.drafts.Outgoing.{Outgoing}
+use Rattle.collision_steps.specs.procedure_values.declared.drafts.Outgoing.TheVariants.{Disconnect, Nothing, Other, Rejection}
+use Rattle.collision_steps.specs.procedure_values.Drafts.{ctrl_of_draft}
+use Rattle.collision_steps.specs.procedure_stages.Exclusive.{pdu_of_draft, peripheral_stage}
+use Rattle.collision_steps.specs.procedures.Table.{TableFacts}
 use Rattle.collisions.specs.declared.peripheral.Peripheral.{Peripheral as PeripheralPdus}
 use Rattle.collisions.specs.declared.joint.End.{End}
 use Rattle.collisions.specs.declared.joint.End.TheVariants.{Collided, Open}
@@ -42,7 +42,7 @@ use Rattle.collisions.specs.PeripheralTable
 use Rattle.collisions.specs.JointRun.{is_pdu}
 use Rattle.collision_steps.specs.Parts.{outgoing_part, param_request_opcode, phy_request_opcode, reason_part, rejection_part}
 use Rattle.collision_steps.specs.PeripheralPart.{answer_to, peripheral_of, refusal_if, step_of_ctrl, step_of_read, view}
-use Rattle.phased_control.specs.Taken.{seen_if}
+use Rattle.joint_controls.specs.phased_control.Taken.{seen_if}
 use Rattle.joint_controls.specs.Ends.{IsSentAs}
 use Rattle.joint_controls.specs.Joint.{is_terminate}
 use Rattle.joint_collisions.specs.Facts.{fits_down, is_cipher_down, is_first_up}

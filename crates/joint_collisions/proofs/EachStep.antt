@@ -7,16 +7,16 @@ use Rattle.exclusive_stages.specs.Pdus.{is_timed}
 use Rattle.instants.specs.declared.indications.Indication.{Indication}
 use Rattle.instants.specs.declared.track.Change.{Change}
 use Rattle.instants.specs.Parameters.{instant_of}
-use Rattle.procedure_values.specs.declared.drafts.Outgoing.{Outgoing}
-use Rattle.procedure_stages.specs.Exclusive.{pdu_of_outgoing}
+use Rattle.collision_steps.specs.procedure_values.declared.drafts.Outgoing.{Outgoing}
+use Rattle.collision_steps.specs.procedure_stages.Exclusive.{pdu_of_outgoing}
 use Rattle.collisions.specs.declared.joint.Way.TheVariants.{Fixed as pdu_fixed, OnAir as on_air_pdu, Taken as pdu_taken}
 use Rattle.collisions.specs.JointRun.{is_pdu, is_taken as is_pdu_taken, pdu_on_air}
 use Rattle.collision_steps.specs.CentralPart.{passed_from, passed_from_of}
 use Rattle.collision_steps.specs.Parts.{outgoing_part}
-use Rattle.control_model.specs.Waits.{EndsByCollision, last_event_of}
-use Rattle.control_model.proofs.Indicating.{Indicates}
-use Rattle.control_model.proofs.Waiting.{Awaits}
-use Rattle.phased_control.specs.Phased.{Phased}
+use Rattle.joint_controls.specs.control_model.Waits.{EndsByCollision, last_event_of}
+use Rattle.joint_controls.proofs.control_model.Indicating.{Indicates}
+use Rattle.joint_controls.proofs.control_model.Waiting.{Awaits}
+use Rattle.joint_controls.specs.phased_control.Phased.{Phased}
 use Rattle.joint_controls.specs.Joint.{Clear, Control as control_item, Data, Fixed, Item, Joint, OnAir, Taken, Way, is_free, is_running, is_taken}
 use Rattle.joint_controls.specs.Ends.{outgoing_in}
 use Rattle.joint_controls.proofs.LastPdus.{Tied}

@@ -10,14 +10,14 @@ use Rattle.exclusive_stages.specs.declared.stages.PeripheralStage.TheVariants.{R
 use Rattle.exclusive_stages.specs.Awaited.{reads_as_answer}
 use Rattle.exclusive_stages.specs.Held.{own_held_at_peripheral}
 use Rattle.exclusive_stages.specs.declared.pdus.Reason.{Reason}
-use Rattle.procedure_values.specs.declared.drafts.Draft.TheVariants.{Grant, Update}
-use Rattle.procedure_values.specs.declared.values.NewParams.{NewParams}
-use Rattle.procedure_values.specs.declared.drafts.Outgoing.TheVariants.{Other, Rejection}
-use Rattle.procedure_values.specs.declared.drafts.Rejection.{Rejection as TheRejection}
+use Rattle.collision_steps.specs.procedure_values.declared.drafts.Draft.TheVariants.{Grant, Update}
+use Rattle.collision_steps.specs.procedure_values.declared.values.NewParams.{NewParams}
+use Rattle.collision_steps.specs.procedure_values.declared.drafts.Outgoing.TheVariants.{Other, Rejection}
+use Rattle.collision_steps.specs.procedure_values.declared.drafts.Rejection.{Rejection as TheRejection}
 use Rattle.exclusive_stages.specs.Pdus.{is_timed}
 use Rattle.instants.specs.declared.track.Change.{Change}
-use Rattle.procedure_values.specs.declared.drafts.Outgoing.{Outgoing}
-use Rattle.procedure_stages.specs.Exclusive.{pdu_of_outgoing}
+use Rattle.collision_steps.specs.procedure_values.declared.drafts.Outgoing.{Outgoing}
+use Rattle.collision_steps.specs.procedure_stages.Exclusive.{pdu_of_outgoing}
 use Rattle.collisions.specs.declared.events.Event.{Event}
 use Rattle.collisions.specs.declared.events.Event.TheVariants.{CentralTakes as takes_up, PeripheralTakes as takes_down}
 use Rattle.collisions.specs.declared.joint.Link.{Link}
@@ -38,7 +38,7 @@ use Rattle.collisions.proofs.Lifting.{moves}
 use Rattle.machines.proofs.Closing.{right_is}
 use Rattle.collision_steps.specs.Parts.{outgoing_part, rejection_part}
 use Rattle.collision_steps.specs.PeripheralPart.{peripheral_of}
-use Rattle.control_model.specs.Waits.{kind_awaited, kind_waiting}
+use Rattle.joint_controls.specs.control_model.Waits.{kind_awaited, kind_waiting}
 use Rattle.joint_controls.specs.Joint.{CentralTakes, Joint, PeripheralTakes, Way, is_late, is_same_event, is_supervised, is_taken, item_on_air}
 use Rattle.joint_controls.proofs.Running.{comes_by}
 use Rattle.joint_collisions.specs.Arrivals.{CentralMayTake, PeripheralMayTake}

@@ -6,16 +6,16 @@ use Rattle.exclusive_stages.specs.declared.pdus.Pdu.{Pdu}
 use Rattle.exclusive_stages.specs.Pdus.{is_timed}
 use Rattle.instants.specs.declared.indications.Indication.{Indication}
 use Rattle.instants.specs.Track.{event_of}
-use Rattle.procedure_values.specs.declared.drafts.Outgoing.{Outgoing}
-use Rattle.procedure_values.specs.declared.drafts.Outgoing.TheVariants.{Nothing}
-use Rattle.procedure_values.specs.Drafts.{is_out}
-use Rattle.procedure_stages.specs.Closing.{is_disconnecting}
-use Rattle.procedure_stages.specs.Exclusive.{pdu_of_outgoing}
-use Rattle.procedure_stages.specs.Kinds.{role_of}
-use Rattle.procedure_stages.specs.declared.stages.Peripheral.{Peripheral}
-use Rattle.procedure_stages.specs.declared.stages.Progress.TheVariants.{Peripheral as peripheral}
-use Rattle.procedures.specs.Queue.{next_of}
-use Rattle.procedures.specs.Sending.{acked_step}
+use Rattle.collision_steps.specs.procedure_values.declared.drafts.Outgoing.{Outgoing}
+use Rattle.collision_steps.specs.procedure_values.declared.drafts.Outgoing.TheVariants.{Nothing}
+use Rattle.collision_steps.specs.procedure_values.Drafts.{is_out}
+use Rattle.collision_steps.specs.procedure_stages.Closing.{is_disconnecting}
+use Rattle.collision_steps.specs.procedure_stages.Exclusive.{pdu_of_outgoing}
+use Rattle.collision_steps.specs.procedure_stages.Kinds.{role_of}
+use Rattle.collision_steps.specs.procedure_stages.declared.stages.Peripheral.{Peripheral}
+use Rattle.collision_steps.specs.procedure_stages.declared.stages.Progress.TheVariants.{Peripheral as peripheral}
+use Rattle.collision_steps.specs.procedures.Queue.{next_of}
+use Rattle.collision_steps.specs.procedures.Sending.{acked_step}
 use Rattle.collisions.specs.declared.joint.Way.{Way}
 use Rattle.collisions.specs.declared.joint.Way.TheVariants.{Clear, Fixed, OnAir, Taken}
 use Rattle.collisions.specs.JointRun.{is_pdu, pdu_on_air}
@@ -23,8 +23,8 @@ use Rattle.collision_steps.specs.Answers.{first_waiting}
 use Rattle.collision_steps.specs.CentralPart.{passed_from}
 use Rattle.collision_steps.specs.PeripheralPart.{ack_of, after_steps, peripheral_of, sending_of}
 use Rattle.collision_steps.proofs.PeripheralGoing.{acked_one, first_one, goes_one, sends_one}
-use Rattle.control_model.specs.Control.{Control, following, table_if, went}
-use Rattle.control_model.proofs.Calls.{acked_same, sent_from}
+use Rattle.joint_controls.specs.control_model.Control.{Control, following, table_if, went}
+use Rattle.joint_controls.proofs.control_model.Calls.{acked_same, sent_from}
 use Rattle.joint_collisions.specs.Views.{way_if}
 use Rattle.joint_collisions.proofs.Reaching.{Seen, fixes, peripheral_acks, sends_fixed}
 use Rattle.joint_collisions.proofs.PeripheralSteps.{SeenAt, view_at}

@@ -30,3 +30,7 @@ pub mod Resting
 pub mod Runs
 pub mod Sending
 pub mod Terminated
+-- what the crates above use of those below
+pub use Rattle.collision_steps.proofs as collision_steps
+pub use Rattle.joint_controls.proofs as joint_controls
+pub use Rattle.joint_controls.proofs.control_model as control_model

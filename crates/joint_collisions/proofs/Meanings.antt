@@ -5,30 +5,30 @@ use Rattle.ble_base.specs.declared.roles.Role.TheVariants.{Central as central_ro
 use Rattle.data_pdu.specs.declared.ctrl.Ctrl.{Ctrl}
 use Rattle.data_pdu.specs.declared.ctrl.Ctrl.TheVariants.{ConnectionParamReq, EncRsp, LengthReq as length_req, PauseEncRsp, PeripheralFeatureReq as peripheral_feature_req, PhyReq as phy_req, RejectExtInd, StartEncReq, StartEncRsp, TerminateInd, UnknownRsp as unknown_rsp, VersionInd as version_ind}
 use Rattle.data_pdu.specs.declared.ctrl.CtrlRead.TheVariants.{Known}
-use Rattle.enc_phase.specs.declared.classes.PduClass.{PduClass}
-use Rattle.enc_phase.specs.declared.classes.PduClass.TheVariants.{Other as other_class, Refusal as refusal_class, Request as request_class}
-use Rattle.enc_phase.specs.declared.facts.PhaseFacts.{PhaseFacts}
-use Rattle.enc_phase.specs.declared.facts.PhaseFacts.TheVariants.{Clear, Secure}
-use Rattle.enc_phase.specs.Taking.{ctrl_class, is_unknown}
+use Rattle.joint_controls.specs.enc_phase.declared.classes.PduClass.{PduClass}
+use Rattle.joint_controls.specs.enc_phase.declared.classes.PduClass.TheVariants.{Other as other_class, Refusal as refusal_class, Request as request_class}
+use Rattle.joint_controls.specs.enc_phase.declared.facts.PhaseFacts.{PhaseFacts}
+use Rattle.joint_controls.specs.enc_phase.declared.facts.PhaseFacts.TheVariants.{Clear, Secure}
+use Rattle.joint_controls.specs.enc_phase.Taking.{ctrl_class, is_unknown}
 use Rattle.exclusive_stages.specs.declared.pdus.Pdu.{Pdu}
 use Rattle.exclusive_stages.specs.declared.pdus.Pdu.TheVariants.{GrantInd, MapInd, ParamReq, PhyInd as PhyIndPdu, PhyReq as PhyReqPdu, PhyRsp as PhyRspPdu, Refusal, UpdateInd}
 use Rattle.exclusive_stages.specs.declared.stages.CentralStage.{CentralStage}
 use Rattle.exclusive_stages.specs.declared.stages.CentralStage.TheVariants.{Idle, MapSent, MapUnsent, PhyAnswered, PhyIndicated, PhySent, PhyUnsent, UpdateSent, UpdateUnsent}
-use Rattle.procedure_values.specs.declared.drafts.Draft.{Draft}
-use Rattle.procedure_values.specs.declared.drafts.Draft.TheVariants.{Cipher, FeatureReq, FeatureRsp, Grant, LengthReq, LengthRsp, Map, PeripheralFeatureReq, PhyInd, PhyReq, PhyRsp, Request, UnknownRsp, Update, VersionInd}
-use Rattle.procedure_values.specs.declared.drafts.Outgoing.{Outgoing}
-use Rattle.procedure_values.specs.declared.drafts.Outgoing.TheVariants.{Disconnect, Nothing, Other, Rejection}
-use Rattle.procedure_values.specs.Drafts.{ctrl_of_draft}
-use Rattle.procedure_values.specs.Values.{are_valid}
-use Rattle.procedure_stages.specs.declared.stages.Central.{Central}
-use Rattle.procedure_stages.specs.declared.stages.Exchange.TheVariants.{FeaturesSent, FeaturesUnsent, LengthSent, LengthUnsent, VersionSent, VersionUnsent}
-use Rattle.procedure_stages.specs.declared.stages.OwnCentral.{OwnCentral}
-use Rattle.procedure_stages.specs.declared.stages.OwnCentral.TheVariants.{EncryptSent, EncryptUnsent, Exchange as exchange, Exclusive as exclusive}
-use Rattle.procedure_stages.specs.declared.stages.Progress.{Progress}
-use Rattle.procedure_stages.specs.declared.stages.Progress.TheVariants.{Central as central}
-use Rattle.procedure_stages.specs.Exclusive.{central_stage, pdu_of_draft, pdu_of_outgoing}
-use Rattle.procedure_stages.specs.Opcodes.{channel_map_ind_opcode, connection_update_ind_opcode, phy_req_opcode, is_opcode, later_opcode_at_central, opcode_at_central}
-use Rattle.procedures.specs.Table.{TableFacts}
+use Rattle.collision_steps.specs.procedure_values.declared.drafts.Draft.{Draft}
+use Rattle.collision_steps.specs.procedure_values.declared.drafts.Draft.TheVariants.{Cipher, FeatureReq, FeatureRsp, Grant, LengthReq, LengthRsp, Map, PeripheralFeatureReq, PhyInd, PhyReq, PhyRsp, Request, UnknownRsp, Update, VersionInd}
+use Rattle.collision_steps.specs.procedure_values.declared.drafts.Outgoing.{Outgoing}
+use Rattle.collision_steps.specs.procedure_values.declared.drafts.Outgoing.TheVariants.{Disconnect, Nothing, Other, Rejection}
+use Rattle.collision_steps.specs.procedure_values.Drafts.{ctrl_of_draft}
+use Rattle.collision_steps.specs.procedure_values.Values.{are_valid}
+use Rattle.collision_steps.specs.procedure_stages.declared.stages.Central.{Central}
+use Rattle.collision_steps.specs.procedure_stages.declared.stages.Exchange.TheVariants.{FeaturesSent, FeaturesUnsent, LengthSent, LengthUnsent, VersionSent, VersionUnsent}
+use Rattle.collision_steps.specs.procedure_stages.declared.stages.OwnCentral.{OwnCentral}
+use Rattle.collision_steps.specs.procedure_stages.declared.stages.OwnCentral.TheVariants.{EncryptSent, EncryptUnsent, Exchange as exchange, Exclusive as exclusive}
+use Rattle.collision_steps.specs.procedure_stages.declared.stages.Progress.{Progress}
+use Rattle.collision_steps.specs.procedure_stages.declared.stages.Progress.TheVariants.{Central as central}
+use Rattle.collision_steps.specs.procedure_stages.Exclusive.{central_stage, pdu_of_draft, pdu_of_outgoing}
+use Rattle.collision_steps.specs.procedure_stages.Opcodes.{channel_map_ind_opcode, connection_update_ind_opcode, phy_req_opcode, is_opcode, later_opcode_at_central, opcode_at_central}
+use Rattle.collision_steps.specs.procedures.Table.{TableFacts}
 use Rattle.collisions.specs.declared.central.Central.{Central as CentralPdus}
 use Rattle.collisions.specs.declared.joint.End.{End}
 use Rattle.collisions.specs.declared.joint.End.TheVariants.{Open}
@@ -36,7 +36,7 @@ use Rattle.collisions.specs.CentralTable
 use Rattle.collisions.specs.JointRun.{is_first, is_judgeable, is_pdu}
 use Rattle.collision_steps.specs.CentralPart.{answer_to, central_of, refusal_if, step_of_ctrl, step_of_read}
 use Rattle.collision_steps.proofs.CentralTaking.{over}
-use Rattle.phased_control.specs.Taken.{seen_if}
+use Rattle.joint_controls.specs.phased_control.Taken.{seen_if}
 use Rattle.joint_controls.specs.Ends.{IsSentAs}
 use Rattle.joint_controls.specs.Joint.{is_terminate}
 use Rattle.joint_collisions.specs.Facts.{fits_up, is_cipher_up, is_first_down}

@@ -12,9 +12,9 @@ use Rattle.exclusive_stages.specs.declared.pdus.Reason.{Reason}
 use Rattle.exclusive_stages.specs.declared.pdus.Reason.TheVariants.{Other as other_reason, OtherKind, SameKind}
 use Rattle.exclusive_stages.specs.Kinds.{kind_of}
 use Rattle.exclusive_stages.specs.Pdus.{first_kind, reason_of, rejection_of}
-use Rattle.procedure_values.specs.declared.drafts.Rejection.{Rejection as TheRejection}
-use Rattle.procedure_stages.specs.Collisions.{collision_code}
-use Rattle.procedure_stages.specs.Opcodes.{opcode_of_kind}
+use Rattle.collision_steps.specs.procedure_values.declared.drafts.Rejection.{Rejection as TheRejection}
+use Rattle.collision_steps.specs.procedure_stages.Collisions.{collision_code}
+use Rattle.collision_steps.specs.procedure_stages.Opcodes.{opcode_of_kind}
 use Rattle.collision_steps.specs.Parts.{param_request_opcode, phy_request_opcode, reason_part, rejection_part, rejections_part, with_part}
 
 -- ---- a rejection, by its opcode and its error

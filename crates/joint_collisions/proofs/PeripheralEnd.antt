@@ -4,26 +4,26 @@ use Rattle.std.proofs.Common.{◌≡◌, ℕ, Bool, true, ◌&&◌, if◌then◌
 use Rattle.ble_base.specs.declared.roles.Role.{Role}
 use Rattle.ble_base.specs.declared.roles.Role.TheVariants.{Central as central_role}
 use Rattle.data_pdu.specs.declared.ctrl.Ctrl.{Ctrl}
-use Rattle.enc_phase.specs.declared.facts.PhaseFacts.{PhaseFacts}
+use Rattle.joint_controls.specs.enc_phase.declared.facts.PhaseFacts.{PhaseFacts}
 use Rattle.exclusive_stages.specs.declared.pdus.Pdu.{Pdu}
 use Rattle.instants.specs.declared.indications.Indication.{Indication}
 use Rattle.instants.specs.Track.{event_of}
-use Rattle.procedure_values.specs.Drafts.{ctrl_of_outgoing, is_out}
-use Rattle.procedure_stages.specs.declared.stages.Peripheral.{Peripheral}
-use Rattle.procedure_stages.specs.declared.stages.Progress.TheVariants.{Peripheral as peripheral}
-use Rattle.procedure_stages.specs.Closing.{is_open}
-use Rattle.procedure_stages.specs.Exclusive.{pdu_of_outgoing}
-use Rattle.procedure_stages.specs.InProgress.{is_host_asked}
-use Rattle.procedure_stages.specs.Kinds.{role_of}
-use Rattle.procedures.specs.Going.{host_answer_step, is_answer, terminate_step}
-use Rattle.procedures.specs.Sending.{acked_step}
+use Rattle.collision_steps.specs.procedure_values.Drafts.{ctrl_of_outgoing, is_out}
+use Rattle.collision_steps.specs.procedure_stages.declared.stages.Peripheral.{Peripheral}
+use Rattle.collision_steps.specs.procedure_stages.declared.stages.Progress.TheVariants.{Peripheral as peripheral}
+use Rattle.collision_steps.specs.procedure_stages.Closing.{is_open}
+use Rattle.collision_steps.specs.procedure_stages.Exclusive.{pdu_of_outgoing}
+use Rattle.collision_steps.specs.procedure_stages.InProgress.{is_host_asked}
+use Rattle.collision_steps.specs.procedure_stages.Kinds.{role_of}
+use Rattle.collision_steps.specs.procedures.Going.{host_answer_step, is_answer, terminate_step}
+use Rattle.collision_steps.specs.procedures.Sending.{acked_step}
 use Rattle.collisions.specs.declared.joint.Way.{Way}
 use Rattle.collisions.specs.declared.joint.Way.TheVariants.{Clear, Fixed, Taken}
-use Rattle.control_model.specs.Control.{Answers, Asks, Control, Disconnects, Enters, SeesAcknowledged, Sends, Step, after, following, went}
-use Rattle.control_model.proofs.Calls.{open_step}
-use Rattle.control_model.proofs.Waiting.{Awaits}
-use Rattle.phased_control.specs.Phased.{Phased, is_quiet_now, with_step}
-use Rattle.phased_control.specs.Taken.{Enters as enters_end, SeesAcknowledged as acked_end, Sends as sends_end, phased_after, phased_moved}
+use Rattle.joint_controls.specs.control_model.Control.{Answers, Asks, Control, Disconnects, Enters, SeesAcknowledged, Sends, Step, after, following, went}
+use Rattle.joint_controls.proofs.control_model.Calls.{open_step}
+use Rattle.joint_controls.proofs.control_model.Waiting.{Awaits}
+use Rattle.joint_controls.specs.phased_control.Phased.{Phased, is_quiet_now, with_step}
+use Rattle.joint_controls.specs.phased_control.Taken.{Enters as enters_end, SeesAcknowledged as acked_end, Sends as sends_end, phased_after, phased_moved}
 use Rattle.joint_controls.specs.Joint.{AnswersRequest, AsksFor, Ends, HasKey, HasNoKey, HostStep, host_step, item_by, next_item, next_out}
 use Rattle.joint_controls.proofs.Keeping.{asking_keeps_end, encrypting_if_keeps_end, given_keeps_end, lacking_keeps_end}
 use Rattle.joint_collisions.specs.Views.{way_if}

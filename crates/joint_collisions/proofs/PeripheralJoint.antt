@@ -7,26 +7,26 @@ use Rattle.ble_base.specs.declared.roles.Role.TheVariants.{Peripheral as periphe
 use Rattle.data_pdu.specs.declared.ctrl.Ctrl.{Ctrl}
 use Rattle.data_pdu.specs.declared.ctrl.Ctrl.TheVariants.{TerminateInd}
 use Rattle.data_pdu.specs.declared.ctrl.CtrlRead.TheVariants.{Known}
-use Rattle.enc_phase.specs.Phases.{seals}
+use Rattle.joint_controls.specs.enc_phase.Phases.{seals}
 use Rattle.exclusive_stages.specs.declared.pdus.Pdu.{Pdu}
 use Rattle.exclusive_stages.specs.declared.pdus.Pdu.TheVariants.{RejectParam, RejectPhy}
 use Rattle.exclusive_stages.specs.Pdus.{is_timed}
 use Rattle.instants.specs.declared.track.Change.{Change}
 use Rattle.instants.specs.Track.{event_of}
-use Rattle.procedure_values.specs.declared.drafts.Draft.{Draft}
-use Rattle.procedure_values.specs.declared.drafts.Draft.TheVariants.{Grant, Map, Update}
-use Rattle.procedure_values.specs.declared.drafts.Outgoing.{Outgoing}
-use Rattle.procedure_values.specs.declared.drafts.Outgoing.TheVariants.{Disconnect, Nothing, Other, Rejection}
-use Rattle.procedure_values.specs.Drafts.{ctrl_of_outgoing, indication_of}
-use Rattle.procedure_stages.specs.Exclusive.{pdu_of_outgoing}
+use Rattle.collision_steps.specs.procedure_values.declared.drafts.Draft.{Draft}
+use Rattle.collision_steps.specs.procedure_values.declared.drafts.Draft.TheVariants.{Grant, Map, Update}
+use Rattle.collision_steps.specs.procedure_values.declared.drafts.Outgoing.{Outgoing}
+use Rattle.collision_steps.specs.procedure_values.declared.drafts.Outgoing.TheVariants.{Disconnect, Nothing, Other, Rejection}
+use Rattle.collision_steps.specs.procedure_values.Drafts.{ctrl_of_outgoing, indication_of}
+use Rattle.collision_steps.specs.procedure_stages.Exclusive.{pdu_of_outgoing}
 use Rattle.collisions.specs.declared.joint.Way.{Way as pdu_way}
 use Rattle.collisions.specs.declared.joint.Way.TheVariants.{Clear as no_pdu, Fixed as pdu_fixed, OnAir as on_air_pdu, Taken as pdu_taken}
 use Rattle.collisions.specs.JointRun.{is_pdu, pdu_on_air}
 use Rattle.collision_steps.specs.CentralPart.{passed_from, passed_from_of}
 use Rattle.collision_steps.specs.Parts.{outgoing_part, param_request_opcode, phy_request_opcode, reason_part}
-use Rattle.control_model.specs.Waits.{EndsByCollision, last_event_of}
-use Rattle.phased_control.specs.Phased.{Phased}
-use Rattle.phased_control.specs.Taken.{Response, Enters, SeesAcknowledged, Sends, Takes, TakesData, ended_with, phased_after}
+use Rattle.joint_controls.specs.control_model.Waits.{EndsByCollision, last_event_of}
+use Rattle.joint_controls.specs.phased_control.Phased.{Phased}
+use Rattle.joint_controls.specs.phased_control.Taken.{Response, Enters, SeesAcknowledged, Sends, Takes, TakesData, ended_with, phased_after}
 use Rattle.joint_controls.specs.Joint.{Clear, Control as control_item, Data, Fixed, HostStep, Item, Joint, OnAir, PeripheralAcked, PeripheralEnters, PeripheralFixes, PeripheralFixesData, PeripheralHost, PeripheralSends, PeripheralTakes, Taken, Way, act, fixed, has_passed, host_step, is_clear, is_fixed, is_free, is_indication, is_item, is_late, is_near, is_same_event, is_supervised, is_taken, is_terminate, item_by, item_on_air, last_change, may_act, next_item, next_out, peripheral_takes as joint_takes, sends_data, sent_up}
 use Rattle.joint_controls.specs.Ends.{IsSentOn, outgoing_in, outgoing_on}
 use Rattle.joint_controls.proofs.Keeping.{choice}

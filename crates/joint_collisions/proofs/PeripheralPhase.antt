@@ -7,19 +7,19 @@ use Rattle.ble_base.specs.declared.roles.Role.TheVariants.{Central as central_ro
 use Rattle.data_pdu.specs.declared.ctrl.Ctrl.{Ctrl}
 use Rattle.data_pdu.specs.declared.ctrl.CtrlRead.{CtrlRead}
 use Rattle.data_pdu.specs.declared.ctrl.CtrlRead.TheVariants.{Known}
-use Rattle.enc_phase.specs.declared.classes.PduClass.{PduClass}
-use Rattle.enc_phase.specs.declared.classes.PduClass.TheVariants.{Request}
-use Rattle.enc_phase.specs.Taking.{ctrl_class, is_unknown}
+use Rattle.joint_controls.specs.enc_phase.declared.classes.PduClass.{PduClass}
+use Rattle.joint_controls.specs.enc_phase.declared.classes.PduClass.TheVariants.{Request}
+use Rattle.joint_controls.specs.enc_phase.Taking.{ctrl_class, is_unknown}
 use Rattle.exclusive_stages.specs.declared.pdus.Pdu.{Pdu}
 use Rattle.exclusive_stages.specs.Pdus.{is_timed}
 use Rattle.instants.specs.declared.indications.Indication.{Indication}
 use Rattle.instants.specs.Parameters.{instant_of}
 use Rattle.instants.specs.Track.{event_of}
-use Rattle.procedure_values.specs.declared.drafts.Outgoing.{Outgoing}
-use Rattle.procedure_stages.specs.declared.stages.Peripheral.{Peripheral}
-use Rattle.procedure_stages.specs.declared.stages.Progress.TheVariants.{Peripheral as peripheral}
-use Rattle.procedure_stages.specs.Kinds.{role_of}
-use Rattle.procedures.specs.Taking.{outcome_of}
+use Rattle.collision_steps.specs.procedure_values.declared.drafts.Outgoing.{Outgoing}
+use Rattle.collision_steps.specs.procedure_stages.declared.stages.Peripheral.{Peripheral}
+use Rattle.collision_steps.specs.procedure_stages.declared.stages.Progress.TheVariants.{Peripheral as peripheral}
+use Rattle.collision_steps.specs.procedure_stages.Kinds.{role_of}
+use Rattle.collision_steps.specs.procedures.Taking.{outcome_of}
 use Rattle.collisions.specs.declared.peripheral.Peripheral.{Peripheral as PeripheralPdus}
 use Rattle.collisions.specs.declared.joint.End.{End}
 use Rattle.collisions.specs.declared.joint.Way.{Way}
@@ -28,11 +28,11 @@ use Rattle.collisions.specs.JointRun.{is_pdu, is_taken}
 use Rattle.collision_steps.specs.CentralPart.{passed_from}
 use Rattle.collision_steps.specs.Parts.{outgoing_part}
 use Rattle.collision_steps.specs.PeripheralPart.{answer_to, peripheral_of, step_of_read}
-use Rattle.control_model.specs.Control.{Control, Owes, Takes, after, indicated_by}
-use Rattle.control_model.specs.Waits.{EndsByCollision}
-use Rattle.control_model.proofs.Calls.{open_step}
-use Rattle.phased_control.specs.Phased.{Phased, is_quiet_now, with_owed}
-use Rattle.phased_control.specs.Taken.{Response, answered_if_quiet, answered_kept, ciphered, does_keep, ended_with, handed_on, is_allowed, keeping, keeps_class, knowing, lacks_room_now, seen_if, took, took_allowed, with_phase_taking}
+use Rattle.joint_controls.specs.control_model.Control.{Control, Owes, Takes, after, indicated_by}
+use Rattle.joint_controls.specs.control_model.Waits.{EndsByCollision}
+use Rattle.joint_controls.proofs.control_model.Calls.{open_step}
+use Rattle.joint_controls.specs.phased_control.Phased.{Phased, is_quiet_now, with_owed}
+use Rattle.joint_controls.specs.phased_control.Taken.{Response, answered_if_quiet, answered_kept, ciphered, does_keep, ended_with, handed_on, is_allowed, keeping, keeps_class, knowing, lacks_room_now, seen_if, took, took_allowed, with_phase_taking}
 use Rattle.joint_controls.specs.Ends.{IsSentAs}
 use Rattle.joint_controls.specs.Joint.{is_terminate}
 use Rattle.joint_controls.proofs.Keeping.{choice, ciphered_keeps_end}

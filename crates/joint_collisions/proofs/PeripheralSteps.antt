@@ -10,18 +10,18 @@ use Rattle.exclusive_stages.specs.declared.pdus.Exclusive.TheVariants.{Phy as Ph
 use Rattle.exclusive_stages.specs.declared.pdus.Pdu.{Pdu}
 use Rattle.instants.specs.declared.track.Change.{Change}
 use Rattle.instants.specs.Track.{event_of, next_number, track_after_enter}
-use Rattle.procedure_values.specs.declared.asks.Ask.{Ask}
-use Rattle.procedure_stages.specs.declared.stages.Ahead.{Ahead}
-use Rattle.procedure_stages.specs.declared.stages.Ahead.TheVariants.{Map as map_ahead, Nothing as nothing_ahead, Update as update_ahead}
-use Rattle.procedure_stages.specs.declared.stages.Peripheral.{Peripheral}
-use Rattle.procedure_stages.specs.declared.stages.Progress.{Progress}
-use Rattle.procedure_stages.specs.declared.stages.Progress.TheVariants.{Central as central, Peripheral as peripheral}
-use Rattle.procedure_stages.specs.Closing.{is_open}
-use Rattle.procedure_stages.specs.InProgress.{is_host_asked}
-use Rattle.procedure_stages.specs.Kinds.{role_of}
-use Rattle.procedures.specs.Beginning.{begin_step}
-use Rattle.procedures.specs.Going.{entered_step, host_answer_step, is_answer, owe_step, terminate_step}
-use Rattle.procedures.specs.Table.{TableFacts}
+use Rattle.collision_steps.specs.procedure_values.declared.asks.Ask.{Ask}
+use Rattle.collision_steps.specs.procedure_stages.declared.stages.Ahead.{Ahead}
+use Rattle.collision_steps.specs.procedure_stages.declared.stages.Ahead.TheVariants.{Map as map_ahead, Nothing as nothing_ahead, Update as update_ahead}
+use Rattle.collision_steps.specs.procedure_stages.declared.stages.Peripheral.{Peripheral}
+use Rattle.collision_steps.specs.procedure_stages.declared.stages.Progress.{Progress}
+use Rattle.collision_steps.specs.procedure_stages.declared.stages.Progress.TheVariants.{Central as central, Peripheral as peripheral}
+use Rattle.collision_steps.specs.procedure_stages.Closing.{is_open}
+use Rattle.collision_steps.specs.procedure_stages.InProgress.{is_host_asked}
+use Rattle.collision_steps.specs.procedure_stages.Kinds.{role_of}
+use Rattle.collision_steps.specs.procedures.Beginning.{begin_step}
+use Rattle.collision_steps.specs.procedures.Going.{entered_step, host_answer_step, is_answer, owe_step, terminate_step}
+use Rattle.collision_steps.specs.procedures.Table.{TableFacts}
 use Rattle.collisions.specs.declared.joint.Way.{Way}
 use Rattle.collisions.specs.declared.events.Place.{Place}
 use Rattle.collisions.specs.declared.events.Place.TheVariants.{After, At, Before, LateAt, LateBefore}
@@ -31,10 +31,10 @@ use Rattle.collisions.proofs.Numbers.{FitsPeripheral}
 use Rattle.collision_steps.specs.PeripheralPart.{after_steps, ahead_part, may_begin_by, peripheral_of, step_of_begun, step_of_given}
 use Rattle.collision_steps.proofs.PeripheralTaking.{over}
 use Rattle.collision_steps.proofs.PeripheralGoing.{begun_may, begun_part, disconnects_one, enters_one, owes_one}
-use Rattle.control_model.specs.Control.{Answers, Asks, Control, Disconnects, Enters, Owes, after, table_if}
-use Rattle.control_model.specs.Waits.{kind_ahead, kind_awaited, kind_waiting}
-use Rattle.control_model.proofs.Calls.{any_step, begun_same, given_same, held_over}
-use Rattle.control_model.proofs.Waiting.{Awaits}
+use Rattle.joint_controls.specs.control_model.Control.{Answers, Asks, Control, Disconnects, Enters, Owes, after, table_if}
+use Rattle.joint_controls.specs.control_model.Waits.{kind_ahead, kind_awaited, kind_waiting}
+use Rattle.joint_controls.proofs.control_model.Calls.{any_step, begun_same, given_same, held_over}
+use Rattle.joint_controls.proofs.control_model.Waiting.{Awaits}
 use Rattle.joint_collisions.specs.Views.{View, view_by, waits_part}
 use Rattle.joint_collisions.proofs.Reaching.{IsAtPeripheral, IsFar, Seen, begins_peripheral, closes_peripheral, now_of, sound_of}
 use Rattle.joint_collisions.proofs.Instants.{enters_peripheral, is_due_at, waits_after}

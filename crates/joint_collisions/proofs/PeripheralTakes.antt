@@ -10,11 +10,11 @@ use Rattle.exclusive_stages.specs.Pdus.{is_timed}
 use Rattle.instants.specs.declared.indications.Indication.{Indication}
 use Rattle.instants.specs.Parameters.{instant_of}
 use Rattle.instants.specs.Track.{TrackFacts, event_of, gap_ahead, track_after_take}
-use Rattle.procedure_stages.specs.declared.stages.Ahead.{Ahead}
-use Rattle.procedure_stages.specs.declared.stages.Ahead.TheVariants.{Map as map_ahead, Nothing as nothing_ahead, Update as update_ahead}
-use Rattle.procedure_stages.specs.Kinds.{role_of}
-use Rattle.procedures.specs.Table.{TableFacts}
-use Rattle.procedures.specs.Taking.{outcome_of}
+use Rattle.collision_steps.specs.procedure_stages.declared.stages.Ahead.{Ahead}
+use Rattle.collision_steps.specs.procedure_stages.declared.stages.Ahead.TheVariants.{Map as map_ahead, Nothing as nothing_ahead, Update as update_ahead}
+use Rattle.collision_steps.specs.procedure_stages.Kinds.{role_of}
+use Rattle.collision_steps.specs.procedures.Table.{TableFacts}
+use Rattle.collision_steps.specs.procedures.Taking.{outcome_of}
 use Rattle.collisions.specs.declared.peripheral.Peripheral.{Peripheral as PeripheralPdus}
 use Rattle.collisions.specs.declared.joint.End.{End}
 use Rattle.collisions.specs.declared.joint.End.TheVariants.{Collided, Open}
@@ -25,8 +25,8 @@ use Rattle.collisions.specs.JointRun.{is_pdu, is_taken}
 use Rattle.collision_steps.specs.CentralPart.{passed_from}
 use Rattle.collision_steps.specs.PeripheralPart.{ahead_part, peripheral_of}
 use Rattle.collision_steps.proofs.PeripheralTaking.{over}
-use Rattle.control_model.specs.Control.{Control, indicated_by}
-use Rattle.control_model.specs.Waits.{EndsByCollision, kind_ahead, kind_awaited}
+use Rattle.joint_controls.specs.control_model.Control.{Control, indicated_by}
+use Rattle.joint_controls.specs.control_model.Waits.{EndsByCollision, kind_ahead, kind_awaited}
 use Rattle.joint_collisions.specs.Views.{View, waits_part, way_if}
 use Rattle.joint_collisions.proofs.Answers.{IsCollided}
 use Rattle.joint_collisions.proofs.DownMeanings.{Means, Untimed, collided_either, means_none, means_one, timed_opens, untimed}

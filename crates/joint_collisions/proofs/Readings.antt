@@ -11,24 +11,24 @@ use Rattle.data_pdu.specs.declared.ctrl.CtrlRead.TheVariants.{Known}
 use Rattle.instants.specs.declared.indications.Indication.{Indication}
 use Rattle.instants.specs.declared.indications.Indication.TheVariants.{Map as map_indication, Update as update_indication}
 use Rattle.instants.specs.Track.{track_after_take}
-use Rattle.procedure_stages.specs.declared.stages.Ahead.{Ahead}
-use Rattle.procedure_stages.specs.declared.stages.Ahead.TheVariants.{Map as map_ahead, Nothing as nothing_ahead, Update as update_ahead}
-use Rattle.procedure_stages.specs.declared.stages.Peripheral.{Peripheral}
-use Rattle.procedure_stages.specs.declared.stages.Progress.{Progress}
-use Rattle.procedure_stages.specs.declared.stages.Progress.TheVariants.{Peripheral as peripheral}
-use Rattle.procedure_stages.specs.declared.steps.Step.{Step as TableStep}
-use Rattle.procedure_stages.specs.Collisions.{collision}
-use Rattle.procedure_stages.specs.Exclusive.{peripheral_stage}
-use Rattle.procedure_stages.specs.Kinds.{kind_at_peripheral, role_of}
+use Rattle.collision_steps.specs.procedure_stages.declared.stages.Ahead.{Ahead}
+use Rattle.collision_steps.specs.procedure_stages.declared.stages.Ahead.TheVariants.{Map as map_ahead, Nothing as nothing_ahead, Update as update_ahead}
+use Rattle.collision_steps.specs.procedure_stages.declared.stages.Peripheral.{Peripheral}
+use Rattle.collision_steps.specs.procedure_stages.declared.stages.Progress.{Progress}
+use Rattle.collision_steps.specs.procedure_stages.declared.stages.Progress.TheVariants.{Peripheral as peripheral}
+use Rattle.collision_steps.specs.procedure_stages.declared.steps.Step.{Step as TableStep}
+use Rattle.collision_steps.specs.procedure_stages.Collisions.{collision}
+use Rattle.collision_steps.specs.procedure_stages.Exclusive.{peripheral_stage}
+use Rattle.collision_steps.specs.procedure_stages.Kinds.{kind_at_peripheral, role_of}
 use Rattle.exclusive_stages.specs.declared.stages.PeerAtPeripheral.TheVariants.{MapTaken}
 use Rattle.exclusive_stages.specs.Awaited.{central_answered, reads_as_answer}
 use Rattle.ble_base.specs.declared.procedure_kinds.Kind.TheVariants.{Map as map_kind}
-use Rattle.procedures.specs.Map.{map_taken}
-use Rattle.procedures.specs.Request.{outlived}
-use Rattle.procedures.specs.Table.{TableFacts}
-use Rattle.procedures.specs.Taking.{facts_with, lacks_room, no_room, outcome_of, taken_by, took_step}
-use Rattle.procedures.specs.Update.{follow, followed, granted, update_begun, update_taken}
-use Rattle.procedures.specs.declared.outcome.Outcome.{Outcome}
+use Rattle.collision_steps.specs.procedures.Map.{map_taken}
+use Rattle.collision_steps.specs.procedures.Request.{outlived}
+use Rattle.collision_steps.specs.procedures.Table.{TableFacts}
+use Rattle.collision_steps.specs.procedures.Taking.{facts_with, lacks_room, no_room, outcome_of, taken_by, took_step}
+use Rattle.collision_steps.specs.procedures.Update.{follow, followed, granted, update_begun, update_taken}
+use Rattle.collision_steps.specs.procedures.declared.outcome.Outcome.{Outcome}
 use Rattle.collisions.specs.declared.peripheral.Peripheral.{Peripheral as PeripheralPdus}
 use Rattle.collisions.specs.declared.joint.End.{End}
 use Rattle.collisions.specs.declared.joint.End.TheVariants.{Open}
@@ -36,10 +36,10 @@ use Rattle.collision_steps.specs.Answers.{stops_run}
 use Rattle.collision_steps.specs.PeripheralPart.{answer_to, peripheral_of, step_of_read}
 use Rattle.collision_steps.proofs.PeripheralTaking as taking
 use Rattle.collision_steps.proofs.PeripheralTaking.{over}
-use Rattle.control_model.specs.Control.{Control, Takes, after, ended, indicated_by, is_to_come, taken, took}
-use Rattle.control_model.specs.Waits.{EndsByCollision, kind_awaited, kind_of_indication}
-use Rattle.control_model.proofs.Calls.{open_step}
-use Rattle.control_model.proofs.Outcomes.{Hands, fits}
+use Rattle.joint_controls.specs.control_model.Control.{Control, Takes, after, ended, indicated_by, is_to_come, taken, took}
+use Rattle.joint_controls.specs.control_model.Waits.{EndsByCollision, kind_awaited, kind_of_indication}
+use Rattle.joint_controls.proofs.control_model.Calls.{open_step}
+use Rattle.joint_controls.proofs.control_model.Outcomes.{Hands, fits}
 use Rattle.joint_collisions.proofs.Answers.{IsCollided, collided_of, not_passed, open_of}
 
 -- ---- the indication in a PDU

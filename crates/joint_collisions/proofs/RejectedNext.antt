@@ -4,28 +4,28 @@ use Rattle.std.proofs.lemmas.Bool.{and_parts}
 use Rattle.ble_base.specs.declared.error_codes.ErrCode.{ErrCode}
 use Rattle.instants.specs.declared.indications.Indication.{Indication}
 use Rattle.instants.specs.Track.{event_of, next_number}
-use Rattle.procedure_values.specs.declared.asks.Ask.{Ask}
-use Rattle.procedure_values.specs.declared.asks.Ask.TheVariants.{Update}
-use Rattle.procedure_values.specs.declared.drafts.Draft.{Draft}
-use Rattle.procedure_values.specs.declared.drafts.Outgoing.TheVariants.{Rejection}
-use Rattle.procedure_values.specs.declared.drafts.Rejection.{Rejection as TheRejection}
-use Rattle.procedure_values.specs.Drafts.{is_out}
-use Rattle.procedure_stages.specs.declared.closing.Closing.{Closing}
-use Rattle.procedure_stages.specs.declared.reply.Reply.{Reply}
-use Rattle.procedure_stages.specs.declared.reply.Reply.TheVariants.{Answer, Nothing as no_reply, Reject}
-use Rattle.procedure_stages.specs.Closing.{is_open}
-use Rattle.procedure_stages.specs.InProgress.{is_host_asked}
-use Rattle.procedure_stages.specs.Queue.{QueueFacts, next_by, with_reply}
-use Rattle.procedures.specs.Beginning.{ask_at, begin_at, first_draft, place_to_begin, with_first_draft}
-use Rattle.procedures.specs.Going.{entered_step, host_answer_step, is_answer, terminate_step}
-use Rattle.procedures.specs.Queue.{next_other}
-use Rattle.procedures.specs.Sending.{acked_step}
-use Rattle.procedures.specs.Table.{TableFacts}
-use Rattle.procedures.specs.Taking.{facts_with, outcome_of}
-use Rattle.control_model.specs.Control.{Answers, Asks, Control, Disconnects, Enters, Owes, SeesAcknowledged, Takes, indicated_by, is_to_come, table_if, taken}
-use Rattle.control_model.proofs.Calls.{any_step, either_way, took_by}
-use Rattle.phased_control.specs.Taken.{Response}
-use Rattle.phased_control.specs.Phased.{is_quiet_now}
+use Rattle.collision_steps.specs.procedure_values.declared.asks.Ask.{Ask}
+use Rattle.collision_steps.specs.procedure_values.declared.asks.Ask.TheVariants.{Update}
+use Rattle.collision_steps.specs.procedure_values.declared.drafts.Draft.{Draft}
+use Rattle.collision_steps.specs.procedure_values.declared.drafts.Outgoing.TheVariants.{Rejection}
+use Rattle.collision_steps.specs.procedure_values.declared.drafts.Rejection.{Rejection as TheRejection}
+use Rattle.collision_steps.specs.procedure_values.Drafts.{is_out}
+use Rattle.collision_steps.specs.procedure_stages.declared.closing.Closing.{Closing}
+use Rattle.collision_steps.specs.procedure_stages.declared.reply.Reply.{Reply}
+use Rattle.collision_steps.specs.procedure_stages.declared.reply.Reply.TheVariants.{Answer, Nothing as no_reply, Reject}
+use Rattle.collision_steps.specs.procedure_stages.Closing.{is_open}
+use Rattle.collision_steps.specs.procedure_stages.InProgress.{is_host_asked}
+use Rattle.collision_steps.specs.procedure_stages.Queue.{QueueFacts, next_by, with_reply}
+use Rattle.collision_steps.specs.procedures.Beginning.{ask_at, begin_at, first_draft, place_to_begin, with_first_draft}
+use Rattle.collision_steps.specs.procedures.Going.{entered_step, host_answer_step, is_answer, terminate_step}
+use Rattle.collision_steps.specs.procedures.Queue.{next_other}
+use Rattle.collision_steps.specs.procedures.Sending.{acked_step}
+use Rattle.collision_steps.specs.procedures.Table.{TableFacts}
+use Rattle.collision_steps.specs.procedures.Taking.{facts_with, outcome_of}
+use Rattle.joint_controls.specs.control_model.Control.{Answers, Asks, Control, Disconnects, Enters, Owes, SeesAcknowledged, Takes, indicated_by, is_to_come, table_if, taken}
+use Rattle.joint_controls.proofs.control_model.Calls.{any_step, either_way, took_by}
+use Rattle.joint_controls.specs.phased_control.Taken.{Response}
+use Rattle.joint_controls.specs.phased_control.Phased.{is_quiet_now}
 use Rattle.joint_controls.specs.Joint.{CentralAcked, CentralEnters, CentralHost, CentralSends, CentralSendsData, CentralTakes, Clear, Fixed, Joint, JointStep, OnAir, PeripheralAcked, PeripheralEnters, PeripheralFixes, PeripheralFixesData, PeripheralHost, PeripheralSends, PeripheralTakes, Shuts, Taken, Way, act, after_all, central_takes, next_out, no_response, peripheral_takes}
 use Rattle.joint_controls.specs.Joint as joint
 use Rattle.joint_controls.proofs.EachEnd.{Keeps, acks_kept, enters_kept, hosts_kept, takes_kept}

@@ -8,31 +8,31 @@ use Rattle.data_pdu.specs.declared.ctrl.Ctrl.TheVariants.{ChannelMapInd, Connect
 use Rattle.data_pdu.specs.declared.ctrl.CtrlRead.TheVariants.{Known}
 use Rattle.data_pdu.specs.Reading.{opcode_of}
 use Rattle.exclusive_stages.specs.Awaited.{awaits_phy_ind, awaits_phy_rsp, central_answered, has_phy_of_central, peer_answered, reads_as_answer}
-use Rattle.procedure_values.specs.declared.drafts.Draft.TheVariants.{UnknownRsp as unknown_rsp}
-use Rattle.procedure_values.specs.Values.{are_valid}
-use Rattle.procedure_stages.specs.declared.reply.Reply.{Reply}
-use Rattle.procedure_stages.specs.declared.reply.Reply.TheVariants.{Answer}
-use Rattle.procedure_stages.specs.declared.stages.Ahead.{Ahead}
-use Rattle.procedure_stages.specs.declared.stages.Ahead.TheVariants.{Map as map_ahead, Nothing, Update as update_ahead}
-use Rattle.procedure_stages.specs.declared.stages.Central.{Central}
-use Rattle.procedure_stages.specs.declared.stages.Peripheral.{Peripheral}
-use Rattle.procedure_stages.specs.declared.stages.Progress.{Progress}
-use Rattle.procedure_stages.specs.declared.stages.Progress.TheVariants.{Central as central, Peripheral as peripheral}
-use Rattle.procedure_stages.specs.Awaited.{awaits_features, awaits_lengths, is_own_encryption}
-use Rattle.procedure_stages.specs.Collisions.{collision}
-use Rattle.procedure_stages.specs.Exclusive.{central_stage, peripheral_stage}
-use Rattle.procedure_stages.specs.Kinds.{kind_at_central, kind_at_peripheral, own_exchange}
-use Rattle.procedure_stages.specs.Opcodes.{connection_param_req_opcode, first_opcode, is_opcode, later_opcode, phy_req_opcode}
-use Rattle.procedures.specs.declared.outcome.Outcome.{Outcome}
-use Rattle.procedures.specs.Encryption.{start_rsp_at_central}
-use Rattle.procedures.specs.Refusals.{refused_if}
-use Rattle.procedures.specs.Request.{after_grant, against_central, collided, outlived, request_judged}
-use Rattle.procedures.specs.Table.{TableFacts}
-use Rattle.procedures.specs.Taking.{outcome_of, taken_by, taken_by_either}
-use Rattle.procedures.specs.Update.{follow}
-use Rattle.procedures.specs.Version.{version_reply}
-use Rattle.phased_control.specs.Taken.{seen_if}
-use Rattle.phased_control.proofs.Unknown.{MayBeUnknown}
+use Rattle.collision_steps.specs.procedure_values.declared.drafts.Draft.TheVariants.{UnknownRsp as unknown_rsp}
+use Rattle.collision_steps.specs.procedure_values.Values.{are_valid}
+use Rattle.collision_steps.specs.procedure_stages.declared.reply.Reply.{Reply}
+use Rattle.collision_steps.specs.procedure_stages.declared.reply.Reply.TheVariants.{Answer}
+use Rattle.collision_steps.specs.procedure_stages.declared.stages.Ahead.{Ahead}
+use Rattle.collision_steps.specs.procedure_stages.declared.stages.Ahead.TheVariants.{Map as map_ahead, Nothing, Update as update_ahead}
+use Rattle.collision_steps.specs.procedure_stages.declared.stages.Central.{Central}
+use Rattle.collision_steps.specs.procedure_stages.declared.stages.Peripheral.{Peripheral}
+use Rattle.collision_steps.specs.procedure_stages.declared.stages.Progress.{Progress}
+use Rattle.collision_steps.specs.procedure_stages.declared.stages.Progress.TheVariants.{Central as central, Peripheral as peripheral}
+use Rattle.collision_steps.specs.procedure_stages.Awaited.{awaits_features, awaits_lengths, is_own_encryption}
+use Rattle.collision_steps.specs.procedure_stages.Collisions.{collision}
+use Rattle.collision_steps.specs.procedure_stages.Exclusive.{central_stage, peripheral_stage}
+use Rattle.collision_steps.specs.procedure_stages.Kinds.{kind_at_central, kind_at_peripheral, own_exchange}
+use Rattle.collision_steps.specs.procedure_stages.Opcodes.{connection_param_req_opcode, first_opcode, is_opcode, later_opcode, phy_req_opcode}
+use Rattle.collision_steps.specs.procedures.declared.outcome.Outcome.{Outcome}
+use Rattle.collision_steps.specs.procedures.Encryption.{start_rsp_at_central}
+use Rattle.collision_steps.specs.procedures.Refusals.{refused_if}
+use Rattle.collision_steps.specs.procedures.Request.{after_grant, against_central, collided, outlived, request_judged}
+use Rattle.collision_steps.specs.procedures.Table.{TableFacts}
+use Rattle.collision_steps.specs.procedures.Taking.{outcome_of, taken_by, taken_by_either}
+use Rattle.collision_steps.specs.procedures.Update.{follow}
+use Rattle.collision_steps.specs.procedures.Version.{version_reply}
+use Rattle.joint_controls.specs.phased_control.Taken.{seen_if}
+use Rattle.joint_controls.proofs.phased_control.Unknown.{MayBeUnknown}
 use Rattle.joint_collisions.specs.Facts.{is_first_down, is_first_up}
 
 -- no such PDU is answered with LL_UNKNOWN_RSP

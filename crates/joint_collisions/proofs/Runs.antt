@@ -3,8 +3,8 @@ use Rattle.std.proofs.Common.{◌≡◌, ℕ, ◌≤◌, true, List, [], ◌∷�
 use Rattle.ble_base.specs.declared.roles.Role.TheVariants.{Central, Peripheral}
 use Rattle.instants.specs.declared.indications.Params.{Params}
 use Rattle.collisions.specs.declared.events.Place.TheVariants.{After as after_instant}
-use Rattle.control_model.specs.Control.{Control, first_control}
-use Rattle.control_model.specs.Waits.{EndsByCollision}
+use Rattle.joint_controls.specs.control_model.Control.{Control, first_control}
+use Rattle.joint_controls.specs.control_model.Waits.{EndsByCollision}
 use Rattle.std.proofs.lemmas.Bool.{and_parts}
 use Rattle.joint_controls.specs.Joint.{CentralAcked, CentralEnters, CentralHost, CentralSends, CentralSendsData, CentralTakes, Joint, JointStep, PeripheralAcked, PeripheralEnters, PeripheralFixes, PeripheralFixesData, PeripheralHost, PeripheralSends, PeripheralTakes, Shuts, act, after, after_all, beginning, is_running, may, may_act}
 use Rattle.joint_controls.specs.Ends.{AreStepsInRange, IsStepInRange}

@@ -6,18 +6,18 @@ use Rattle.exclusive_stages.specs.declared.pdus.Pdu.{Pdu}
 use Rattle.exclusive_stages.specs.declared.pdus.Pdu.TheVariants.{RejectParam, RejectPhy}
 use Rattle.exclusive_stages.specs.Pdus.{is_held_back, is_timed}
 use Rattle.instants.specs.Track.{event_of}
-use Rattle.procedure_values.specs.declared.drafts.Draft.{Draft}
-use Rattle.procedure_values.specs.declared.drafts.Draft.TheVariants.{Grant, Map, PhyInd, PhyReq, PhyRsp, Request, Update}
-use Rattle.procedure_values.specs.declared.drafts.Outgoing.{Outgoing}
-use Rattle.procedure_values.specs.declared.drafts.Outgoing.TheVariants.{Disconnect, Nothing, Other, Rejection}
-use Rattle.procedure_values.specs.Drafts.{indication_of, is_out}
-use Rattle.procedure_stages.specs.Closing.{is_disconnecting, is_open}
-use Rattle.procedure_stages.specs.Kinds.{role_of}
-use Rattle.procedure_stages.specs.declared.stages.Central.{Central}
-use Rattle.procedure_stages.specs.declared.stages.Progress.TheVariants.{Central as central}
-use Rattle.procedures.specs.Queue.{next_of}
-use Rattle.procedures.specs.Sending.{acked_step}
-use Rattle.procedures.specs.Table.{TableFacts}
+use Rattle.collision_steps.specs.procedure_values.declared.drafts.Draft.{Draft}
+use Rattle.collision_steps.specs.procedure_values.declared.drafts.Draft.TheVariants.{Grant, Map, PhyInd, PhyReq, PhyRsp, Request, Update}
+use Rattle.collision_steps.specs.procedure_values.declared.drafts.Outgoing.{Outgoing}
+use Rattle.collision_steps.specs.procedure_values.declared.drafts.Outgoing.TheVariants.{Disconnect, Nothing, Other, Rejection}
+use Rattle.collision_steps.specs.procedure_values.Drafts.{indication_of, is_out}
+use Rattle.collision_steps.specs.procedure_stages.Closing.{is_disconnecting, is_open}
+use Rattle.collision_steps.specs.procedure_stages.Kinds.{role_of}
+use Rattle.collision_steps.specs.procedure_stages.declared.stages.Central.{Central}
+use Rattle.collision_steps.specs.procedure_stages.declared.stages.Progress.TheVariants.{Central as central}
+use Rattle.collision_steps.specs.procedures.Queue.{next_of}
+use Rattle.collision_steps.specs.procedures.Sending.{acked_step}
+use Rattle.collision_steps.specs.procedures.Table.{TableFacts}
 use Rattle.collisions.specs.declared.joint.Way.{Way}
 use Rattle.collisions.specs.declared.joint.Way.TheVariants.{Clear, OnAir, Taken}
 use Rattle.collisions.specs.CentralTable
@@ -27,8 +27,8 @@ use Rattle.collision_steps.specs.CentralPart.{ack_of, after_steps, central_of, m
 use Rattle.collision_steps.specs.Parts.{drafts_part, outgoing_part, param_request_opcode, phy_request_opcode, reason_part}
 use Rattle.collision_steps.proofs.CentralGoing.{acked_one, first_one, goes_one, instant_one, sends_one}
 use Rattle.collision_steps.proofs.CentralTaking.{over}
-use Rattle.control_model.specs.Control.{Control, following, table_if, went}
-use Rattle.control_model.proofs.Calls.{acked_same, sent_from}
+use Rattle.joint_controls.specs.control_model.Control.{Control, following, table_if, went}
+use Rattle.joint_controls.proofs.control_model.Calls.{acked_same, sent_from}
 use Rattle.joint_collisions.specs.Views.{View, waits_part, way_if}
 use Rattle.joint_collisions.proofs.Reaching.{Seen, central_acks}
 use Rattle.joint_collisions.proofs.Instants.{sends_central}

@@ -7,19 +7,19 @@ use Rattle.data_pdu.specs.declared.ctrl.Ctrl.{Ctrl}
 use Rattle.data_pdu.specs.declared.ctrl.Ctrl.TheVariants.{TerminateInd}
 use Rattle.data_pdu.specs.declared.ctrl.CtrlRead.{CtrlRead}
 use Rattle.data_pdu.specs.declared.ctrl.CtrlRead.TheVariants.{Known}
-use Rattle.enc_phase.specs.declared.classes.PduClass.TheVariants.{Terminate}
-use Rattle.enc_phase.specs.declared.facts.PhaseFacts.{PhaseFacts}
-use Rattle.enc_phase.specs.declared.facts.PhaseFacts.TheVariants.{Clear, Secure}
-use Rattle.enc_phase.specs.Taking.{is_unknown}
-use Rattle.procedure_stages.specs.declared.steps.Step.{Step as TableStep}
-use Rattle.procedure_stages.specs.Kinds.{role_of}
-use Rattle.procedures.specs.Taking.{took_step}
+use Rattle.joint_controls.specs.enc_phase.declared.classes.PduClass.TheVariants.{Terminate}
+use Rattle.joint_controls.specs.enc_phase.declared.facts.PhaseFacts.{PhaseFacts}
+use Rattle.joint_controls.specs.enc_phase.declared.facts.PhaseFacts.TheVariants.{Clear, Secure}
+use Rattle.joint_controls.specs.enc_phase.Taking.{is_unknown}
+use Rattle.collision_steps.specs.procedure_stages.declared.steps.Step.{Step as TableStep}
+use Rattle.collision_steps.specs.procedure_stages.Kinds.{role_of}
+use Rattle.collision_steps.specs.procedures.Taking.{took_step}
 use Rattle.collision_steps.proofs.Stopping.{told}
-use Rattle.control_model.specs.Control.{Control, Takes, after, indicated_by, taken}
-use Rattle.control_model.specs.Waits.{EndsByCollision}
-use Rattle.control_model.proofs.Calls.{open_step}
-use Rattle.phased_control.specs.Phased.{Phased, is_quiet_now}
-use Rattle.phased_control.specs.Taken.{Response, answered_if_quiet, answered_kept, ciphered, ciphered_at, does_keep, ended_with, goes_on, handed_on, is_allowed, keeping, knowing, lacks_room_now, role_now, seen_if, took, took_allowed, took_data, with_phase_taking}
+use Rattle.joint_controls.specs.control_model.Control.{Control, Takes, after, indicated_by, taken}
+use Rattle.joint_controls.specs.control_model.Waits.{EndsByCollision}
+use Rattle.joint_controls.proofs.control_model.Calls.{open_step}
+use Rattle.joint_controls.specs.phased_control.Phased.{Phased, is_quiet_now}
+use Rattle.joint_controls.specs.phased_control.Taken.{Response, answered_if_quiet, answered_kept, ciphered, ciphered_at, does_keep, ended_with, goes_on, handed_on, is_allowed, keeping, knowing, lacks_room_now, role_now, seen_if, took, took_allowed, took_data, with_phase_taking}
 use Rattle.joint_controls.proofs.Keeping.{choice}
 use Rattle.joint_collisions.proofs.CentralTakes.{not_forged, not_room}
 

@@ -5,14 +5,14 @@ use Rattle.exclusive_stages.specs.declared.pdus.Exclusive.{Exclusive}
 use Rattle.exclusive_stages.specs.declared.pdus.Pdu.{Pdu}
 use Rattle.exclusive_stages.specs.Kinds.{central_kind, kind_of}
 use Rattle.exclusive_stages.specs.Pdus.{first_kind}
-use Rattle.procedure_values.specs.declared.drafts.Outgoing.{Outgoing}
-use Rattle.procedure_values.specs.declared.drafts.Outgoing.TheVariants.{Rejection}
-use Rattle.procedure_values.specs.declared.drafts.Rejection.{Rejection as TheRejection}
-use Rattle.procedure_stages.specs.Collisions.{collision_code}
-use Rattle.procedure_stages.specs.Exclusive.{pdu_of_outgoing}
-use Rattle.procedure_stages.specs.Opcodes.{opcode_of_kind}
+use Rattle.collision_steps.specs.procedure_values.declared.drafts.Outgoing.{Outgoing}
+use Rattle.collision_steps.specs.procedure_values.declared.drafts.Outgoing.TheVariants.{Rejection}
+use Rattle.collision_steps.specs.procedure_values.declared.drafts.Rejection.{Rejection as TheRejection}
+use Rattle.collision_steps.specs.procedure_stages.Collisions.{collision_code}
+use Rattle.collision_steps.specs.procedure_stages.Exclusive.{pdu_of_outgoing}
+use Rattle.collision_steps.specs.procedure_stages.Opcodes.{opcode_of_kind}
 use Rattle.collision_steps.specs.CentralPart.{central_of}
-use Rattle.phased_control.specs.Taken.{Response}
+use Rattle.joint_controls.specs.phased_control.Taken.{Response}
 use Rattle.joint_controls.specs.Joint.{CentralSends, CentralTakes, Control, Joint, JointStep, OnAir, PeripheralTakes, act, may, next_out}
 
 -- the peripheral may take this PDU, which the central sent as `outgoing`

@@ -5,15 +5,15 @@ use Rattle.std.specs.List.{All}
 use Rattle.ble_base.specs.declared.roles.Role.TheVariants.{Central}
 use Rattle.data_pdu.specs.declared.ctrl.Ctrl.{Ctrl}
 use Rattle.data_pdu.specs.declared.ctrl.Ctrl.TheVariants.{EncReq, EncRsp, PauseEncReq, PauseEncRsp, RejectExtInd, StartEncReq, StartEncRsp, TerminateInd}
-use Rattle.enc_phase.specs.declared.classes.PduClass.TheVariants.{Request}
-use Rattle.enc_phase.specs.Taking.{allows, ctrl_class}
-use Rattle.procedure_values.specs.declared.drafts.Outgoing.{Outgoing}
-use Rattle.procedure_values.specs.declared.drafts.Outgoing.TheVariants.{Other, Rejection}
-use Rattle.procedure_values.specs.declared.drafts.Draft.TheVariants.{Cipher, UnknownRsp}
-use Rattle.procedure_stages.specs.Closing.{is_disconnecting}
-use Rattle.procedure_stages.specs.Opcodes.{channel_map_ind_opcode, connection_param_req_opcode, connection_update_ind_opcode, enc_req_opcode, phy_req_opcode}
+use Rattle.joint_controls.specs.enc_phase.declared.classes.PduClass.TheVariants.{Request}
+use Rattle.joint_controls.specs.enc_phase.Taking.{allows, ctrl_class}
+use Rattle.collision_steps.specs.procedure_values.declared.drafts.Outgoing.{Outgoing}
+use Rattle.collision_steps.specs.procedure_values.declared.drafts.Outgoing.TheVariants.{Other, Rejection}
+use Rattle.collision_steps.specs.procedure_values.declared.drafts.Draft.TheVariants.{Cipher, UnknownRsp}
+use Rattle.collision_steps.specs.procedure_stages.Closing.{is_disconnecting}
+use Rattle.collision_steps.specs.procedure_stages.Opcodes.{channel_map_ind_opcode, connection_param_req_opcode, connection_update_ind_opcode, enc_req_opcode, phy_req_opcode}
 use Rattle.collision_steps.specs.Parts.{rejection_part}
-use Rattle.phased_control.specs.Phased.{Phased, is_open_now, is_pause_rsp, is_quiet_now}
+use Rattle.joint_controls.specs.phased_control.Phased.{Phased, is_open_now, is_pause_rsp, is_quiet_now}
 use Rattle.joint_controls.specs.Joint.{Control, Data, Item, Joint, JointStep, after, after_all, beginning, is_running, item_on_air}
 use Rattle.joint_controls.specs.Ends.{AreStepsInRange}
 use Rattle.instants.specs.declared.indications.Params.{Params}

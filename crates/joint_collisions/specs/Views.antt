@@ -8,8 +8,8 @@ use Rattle.exclusive_stages.specs.declared.pdus.Pdu.{Pdu}
 use Rattle.exclusive_stages.specs.declared.pdus.Pdu.TheVariants.{ParamReq, PhyReq}
 use Rattle.instants.specs.declared.track.Change.{Change}
 use Rattle.instants.specs.Track.{event_of}
-use Rattle.procedure_values.specs.declared.drafts.Outgoing.{Outgoing}
-use Rattle.procedure_stages.specs.Exclusive.{pdu_of_outgoing}
+use Rattle.collision_steps.specs.procedure_values.declared.drafts.Outgoing.{Outgoing}
+use Rattle.collision_steps.specs.procedure_stages.Exclusive.{pdu_of_outgoing}
 use Rattle.collisions.specs.declared.central.Central.{Central}
 use Rattle.collisions.specs.declared.peripheral.Peripheral.{Peripheral}
 use Rattle.collisions.specs.declared.events.Place.{Place}
@@ -24,7 +24,7 @@ use Rattle.machines.specs.Machine.{run}
 use Rattle.collision_steps.specs.CentralPart.{central_of, passed_from}
 use Rattle.collision_steps.specs.Parts.{outgoing_part}
 use Rattle.collision_steps.specs.PeripheralPart.{peripheral_of}
-use Rattle.control_model.specs.Control.{Control}
+use Rattle.joint_controls.specs.control_model.Control.{Control}
 use Rattle.joint_controls.specs.Joint.{Clear, Control as control_item, Data, Fixed, Item, Joint, OnAir, Taken, Way}
 
 -- ---- what is on its way

@@ -6,11 +6,11 @@ use Rattle.data_pdu.specs.declared.ctrl.Ctrl.{Ctrl}
 use Rattle.data_pdu.specs.declared.ctrl.CtrlRead.{CtrlRead}
 use Rattle.data_pdu.specs.declared.ctrl.CtrlRead.TheVariants.{Known}
 use Rattle.instants.specs.declared.indications.Params.{Params}
-use Rattle.control_model.specs.Control.{Answers, Asks, Control, Disconnects, Enters, Owes, SeesAcknowledged, Sends, Step, Takes, after, after_all, ended, first_control, moved}
-use Rattle.control_model.specs.Waits.{AreInRange, IsInRange}
-use Rattle.control_model.proofs.Central.{indicates}
-use Rattle.control_model.proofs.Indicating.{Indicates}
-use Rattle.control_model.proofs.Waiting.{Awaits, awaits}
+use Rattle.phased_control.specs.control_model.Control.{Answers, Asks, Control, Disconnects, Enters, Owes, SeesAcknowledged, Sends, Step, Takes, after, after_all, ended, first_control, moved}
+use Rattle.phased_control.specs.control_model.Waits.{AreInRange, IsInRange}
+use Rattle.phased_control.proofs.control_model.Central.{indicates}
+use Rattle.phased_control.proofs.control_model.Indicating.{Indicates}
+use Rattle.phased_control.proofs.control_model.Waiting.{Awaits, awaits}
 use Rattle.phased_control.specs.Phased.{Phased, is_quiet_now}
 use Rattle.phased_control.specs.Taken.{PhasedStep, Response, Enters as enters, SeesAcknowledged as sees_acknowledged, Sends as sends, phased_after, phased_moved}
 use Rattle.joint_controls.specs.Joint.{AnswersRequest, AsksFor, CentralAcked, CentralEnters, CentralHost, CentralSends, CentralSendsData, CentralTakes, Clear, Control as control_item, Data, Ends, Fixed, HasKey, HasNoKey, HostStep, Item, Joint, JointStep, OnAir, PeripheralAcked, PeripheralEnters, PeripheralFixes, PeripheralFixesData, PeripheralHost, PeripheralSends, PeripheralTakes, Shuts, Taken, Way, act, beginning, central_takes, host_step, may, peripheral_takes, taking}

@@ -8,22 +8,22 @@ use Rattle.data_pdu.specs.declared.ctrl.CtrlRead.{CtrlRead}
 use Rattle.data_pdu.specs.declared.ctrl.CtrlRead.TheVariants.{Known}
 use Rattle.instants.specs.declared.indications.Indication.{Indication}
 use Rattle.instants.specs.Track.{next_number}
-use Rattle.procedure_values.specs.declared.asks.Ask.{Ask}
+use Rattle.phased_control.specs.procedure_values.declared.asks.Ask.{Ask}
 use Rattle.ble_base.specs.declared.counters.EventNo.{EventNo}
-use Rattle.procedure_stages.specs.declared.stages.Progress.{Progress}
-use Rattle.procedure_stages.specs.declared.stages.Progress.TheVariants.{Central as central, Peripheral as peripheral}
-use Rattle.procedure_stages.specs.Kinds.{role_of}
-use Rattle.procedure_values.specs.Drafts.{is_out}
-use Rattle.procedure_stages.specs.Closing.{is_open}
-use Rattle.procedure_stages.specs.InProgress.{is_host_asked}
-use Rattle.procedures.specs.Going.{entered_step, host_answer_step, is_answer, terminate_step}
-use Rattle.procedures.specs.Sending.{acked_step}
-use Rattle.procedures.specs.Table.{TableFacts}
-use Rattle.procedures.specs.Taking.{facts_with, outcome_of}
-use Rattle.control_model.specs.Control.{Answers, Asks, Control, Disconnects, Enters, Owes, SeesAcknowledged, Takes, after, ended, indicated_by, is_to_come, table_if, taken}
-use Rattle.control_model.specs.Waits.{last_instant_of}
-use Rattle.control_model.proofs.Calls.{acked_same, answered_same, any_step, begun_same, either_way, given_same, held_over, took_by}
-use Rattle.control_model.proofs.Outcomes.{Hands, fits}
+use Rattle.phased_control.specs.procedure_stages.declared.stages.Progress.{Progress}
+use Rattle.phased_control.specs.procedure_stages.declared.stages.Progress.TheVariants.{Central as central, Peripheral as peripheral}
+use Rattle.phased_control.specs.procedure_stages.Kinds.{role_of}
+use Rattle.phased_control.specs.procedure_values.Drafts.{is_out}
+use Rattle.phased_control.specs.procedure_stages.Closing.{is_open}
+use Rattle.phased_control.specs.procedure_stages.InProgress.{is_host_asked}
+use Rattle.phased_control.specs.procedures.Going.{entered_step, host_answer_step, is_answer, terminate_step}
+use Rattle.phased_control.specs.procedures.Sending.{acked_step}
+use Rattle.phased_control.specs.procedures.Table.{TableFacts}
+use Rattle.phased_control.specs.procedures.Taking.{facts_with, outcome_of}
+use Rattle.phased_control.specs.control_model.Control.{Answers, Asks, Control, Disconnects, Enters, Owes, SeesAcknowledged, Takes, after, ended, indicated_by, is_to_come, table_if, taken}
+use Rattle.phased_control.specs.control_model.Waits.{last_instant_of}
+use Rattle.phased_control.proofs.control_model.Calls.{acked_same, answered_same, any_step, begun_same, either_way, given_same, held_over, took_by}
+use Rattle.phased_control.proofs.control_model.Outcomes.{Hands, fits}
 use Rattle.phased_control.specs.Phased.{Phased, is_quiet_now}
 use Rattle.phased_control.specs.Taken.{PhasedStep, Response, Enters as enters, SeesAcknowledged as sees_acknowledged, phased_after, phased_moved}
 use Rattle.joint_controls.specs.Joint.{AnswersRequest, AsksFor, Control as control_item, Data, Ends, HasKey, HasNoKey, HostStep, Item, host_step, taking}

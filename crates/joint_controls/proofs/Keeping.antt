@@ -8,14 +8,14 @@ use Rattle.data_pdu.specs.declared.ctrl.Ctrl.{Ctrl}
 use Rattle.data_pdu.specs.declared.ctrl.Ctrl.TheVariants.{EncReq, PauseEncReq, PauseEncRsp, StartEncReq, StartEncRsp}
 use Rattle.data_pdu.specs.declared.ctrl.CtrlRead.{CtrlRead}
 use Rattle.data_pdu.specs.declared.ctrl.CtrlRead.TheVariants.{Bare, Known, Unknown}
-use Rattle.enc_phase.specs.declared.classes.PduClass.{PduClass}
-use Rattle.enc_phase.specs.declared.classes.PduClass.TheVariants.{Refusal}
-use Rattle.enc_phase.specs.declared.facts.PhaseFacts.{PhaseFacts}
-use Rattle.enc_phase.specs.declared.facts.PhaseFacts.TheVariants.{Clear}
-use Rattle.enc_phase.specs.declared.facts.Transition.{Transition}
-use Rattle.enc_phase.specs.declared.facts.Transition.TheVariants.{Ask as AskTransition, Confirm, Pause, Unlock}
-use Rattle.enc_phase.specs.Taking.{ctrl_class}
-use Rattle.control_model.specs.Control.{Control, Owes, Takes, after, ended}
+use Rattle.phased_control.specs.enc_phase.declared.classes.PduClass.{PduClass}
+use Rattle.phased_control.specs.enc_phase.declared.classes.PduClass.TheVariants.{Refusal}
+use Rattle.phased_control.specs.enc_phase.declared.facts.PhaseFacts.{PhaseFacts}
+use Rattle.phased_control.specs.enc_phase.declared.facts.PhaseFacts.TheVariants.{Clear}
+use Rattle.phased_control.specs.enc_phase.declared.facts.Transition.{Transition}
+use Rattle.phased_control.specs.enc_phase.declared.facts.Transition.TheVariants.{Ask as AskTransition, Confirm, Pause, Unlock}
+use Rattle.phased_control.specs.enc_phase.Taking.{ctrl_class}
+use Rattle.phased_control.specs.control_model.Control.{Control, Owes, Takes, after, ended}
 use Rattle.phased_control.specs.Phased.{Phased, asking_if, encrypting, encrypting_if, if_key_asked, is_open_now, key_given, key_lacking, refused_if, with_owed, with_owed_if}
 use Rattle.phased_control.specs.Taken.{Response, answered_if_quiet, answered_kept, asked, ciphered, ciphered_at, ciphered_at_central, ciphered_at_peripheral, goes_on, moved_if, moved_to, refused_by, response_ctrl, started, took, took_allowed, took_data}
 

@@ -10,19 +10,19 @@ use Rattle.data_pdu.specs.declared.ctrl.CtrlRead.TheVariants.{Known}
 use Rattle.instants.specs.declared.indications.Indication.{Indication}
 use Rattle.instants.specs.declared.indications.Params.{Params}
 use Rattle.instants.specs.Track.{event_of, next_number}
-use Rattle.procedure_values.specs.declared.asks.Ask.{Ask}
-use Rattle.procedure_values.specs.declared.asks.Ask.TheVariants.{Update}
-use Rattle.procedure_values.specs.declared.drafts.Outgoing.{Outgoing}
-use Rattle.procedure_values.specs.declared.drafts.Outgoing.TheVariants.{Nothing}
-use Rattle.procedure_values.specs.Drafts.{ctrl_of_outgoing, is_out}
-use Rattle.procedure_stages.specs.Kinds.{role_of}
-use Rattle.procedures.specs.Beginning.{ask_at, begin_at, begin_step, place_to_begin}
-use Rattle.procedures.specs.Going.{entered_step, host_answer_step}
-use Rattle.procedures.specs.Queue.{next_of}
-use Rattle.procedures.specs.Sending.{acked_step}
-use Rattle.procedures.specs.Table.{TableFacts}
-use Rattle.control_model.specs.Control.{Control, Answers, Asks, Disconnects, Enters, Owes, SeesAcknowledged, Sends, Takes, after, ended, following, taken, table_if, went}
-use Rattle.control_model.proofs.Calls.{any_step, either_way, open_step, took_by}
+use Rattle.phased_control.specs.procedure_values.declared.asks.Ask.{Ask}
+use Rattle.phased_control.specs.procedure_values.declared.asks.Ask.TheVariants.{Update}
+use Rattle.phased_control.specs.procedure_values.declared.drafts.Outgoing.{Outgoing}
+use Rattle.phased_control.specs.procedure_values.declared.drafts.Outgoing.TheVariants.{Nothing}
+use Rattle.phased_control.specs.procedure_values.Drafts.{ctrl_of_outgoing, is_out}
+use Rattle.phased_control.specs.procedure_stages.Kinds.{role_of}
+use Rattle.phased_control.specs.procedures.Beginning.{ask_at, begin_at, begin_step, place_to_begin}
+use Rattle.phased_control.specs.procedures.Going.{entered_step, host_answer_step}
+use Rattle.phased_control.specs.procedures.Queue.{next_of}
+use Rattle.phased_control.specs.procedures.Sending.{acked_step}
+use Rattle.phased_control.specs.procedures.Table.{TableFacts}
+use Rattle.phased_control.specs.control_model.Control.{Control, Answers, Asks, Disconnects, Enters, Owes, SeesAcknowledged, Sends, Takes, after, ended, following, taken, table_if, went}
+use Rattle.phased_control.proofs.control_model.Calls.{any_step, either_way, open_step, took_by}
 use Rattle.phased_control.specs.Phased.{Phased, entered as phased_entered, is_quiet_now}
 use Rattle.phased_control.specs.Taken.{PhasedStep, Response, Enters as enters, SeesAcknowledged as sees_acknowledged, Sends as sends, Takes as takes, phased_after, phased_moved}
 use Rattle.joint_controls.specs.Joint.{AnswersRequest, AsksFor, CentralAcked, CentralEnters, CentralHost, CentralSends, CentralSendsData, CentralTakes, Clear, Control as control_item, Data, Ends, Fixed, HasKey, HasNoKey, HostStep, Item, Joint, JointStep, OnAir, PeripheralAcked, PeripheralEnters, PeripheralFixes, PeripheralFixesData, PeripheralHost, PeripheralSends, PeripheralTakes, Shuts, Taken, Way, act, after_all, beginning, central_takes, fixed, host_step, is_clear, is_fixed, is_free, item_by, may, may_transmit, next_item, next_out, on_air, peripheral_takes, sent_up, sends_data, taking}

@@ -1,10 +1,10 @@
 -- What each end does in a joint run, as steps of that end alone, and its last PDU as its table has it (our choice).
 use Rattle.std.specs.Prelude.{◌≡◌, ℕ, List, [], ◌∷◌, ◌++◌, Option, Some, None, Ok, if◌then◌else◌, ⊤}
 use Rattle.data_pdu.specs.declared.ctrl.Ctrl.{Ctrl}
-use Rattle.procedure_values.specs.declared.drafts.Outgoing.{Outgoing}
-use Rattle.procedure_values.specs.declared.drafts.Outgoing.TheVariants.{Nothing}
-use Rattle.procedure_values.specs.Drafts.{ctrl_of_outgoing}
-use Rattle.procedure_values.specs.Wants.{IsAsk}
+use Rattle.phased_control.specs.procedure_values.declared.drafts.Outgoing.{Outgoing}
+use Rattle.phased_control.specs.procedure_values.declared.drafts.Outgoing.TheVariants.{Nothing}
+use Rattle.phased_control.specs.procedure_values.Drafts.{ctrl_of_outgoing}
+use Rattle.phased_control.specs.procedure_values.Wants.{IsAsk}
 use Rattle.phased_control.specs.Taken.{PhasedStep, Response, Enters, SeesAcknowledged, Sends}
 use Rattle.joint_controls.specs.Joint.{AnswersRequest, AsksFor, CentralAcked, CentralEnters, CentralHost, CentralSends, CentralTakes, Clear, Control, Data, Fixed, HostStep, Item, Joint, JointStep, OnAir, PeripheralAcked, PeripheralEnters, PeripheralFixes, PeripheralHost, PeripheralTakes, Taken, Way, after, host_step, item_on_air, may, no_response, taking}
 

@@ -21,17 +21,17 @@ use Rattle.ble_base.specs.declared.roles.Role.TheVariants.{Central, Peripheral}
 use Rattle.data_pdu.specs.declared.ctrl.Ctrl.{Ctrl}
 use Rattle.data_pdu.specs.declared.ctrl.Ctrl.TheVariants.{TerminateInd}
 use Rattle.data_pdu.specs.declared.ctrl.CtrlRead.TheVariants.{Known}
-use Rattle.enc_phase.specs.Phases.{seals}
+use Rattle.phased_control.specs.enc_phase.Phases.{seals}
 use Rattle.instants.specs.declared.indications.Params.{Params}
 use Rattle.instants.specs.declared.track.Change.{Change}
 use Rattle.instants.specs.Track.{event_of}
-use Rattle.procedure_values.specs.declared.asks.Ask.{Ask}
-use Rattle.procedure_values.specs.declared.asks.Ask.TheVariants.{Map}
-use Rattle.procedure_values.specs.Asks.{kind_of_ask, is_same_kind}
-use Rattle.procedure_values.specs.declared.drafts.Outgoing.{Outgoing}
-use Rattle.procedure_values.specs.Drafts.{ctrl_of_outgoing, indication_of}
-use Rattle.procedures.specs.Beginning.{may_ask_of}
-use Rattle.procedures.specs.Queue.{next_of}
+use Rattle.phased_control.specs.procedure_values.declared.asks.Ask.{Ask}
+use Rattle.phased_control.specs.procedure_values.declared.asks.Ask.TheVariants.{Map}
+use Rattle.phased_control.specs.procedure_values.Asks.{kind_of_ask, is_same_kind}
+use Rattle.phased_control.specs.procedure_values.declared.drafts.Outgoing.{Outgoing}
+use Rattle.phased_control.specs.procedure_values.Drafts.{ctrl_of_outgoing, indication_of}
+use Rattle.phased_control.specs.procedures.Beginning.{may_ask_of}
+use Rattle.phased_control.specs.procedures.Queue.{next_of}
 use Rattle.phased_control.specs.Phased.{Phased, first_phased, is_open_now, is_quiet_now}
 use Rattle.phased_control.specs.Taken.{PhasedStep, Response, Answers, Asks, Disconnects, Enters, GivesKey, LacksKey, SeesAcknowledged, Sends, Takes, TakesData, phased_after}
 

@@ -1,8 +1,8 @@
 -- Worked joint runs.
 use Rattle.std.specs.Prelude.{Bool, List, [], ◌∷◌, ◌++◌, replicate}
 use Rattle.ble_base.specs.declared.channel_map.ChannelMap.{ChannelMap}
-use Rattle.control_model.specs.Worked.{six_slots}
-use Rattle.procedure_values.specs.declared.asks.Ask.TheVariants.{Encrypt, Map, Request}
+use Rattle.phased_control.specs.control_model.Worked.{six_slots}
+use Rattle.phased_control.specs.procedure_values.declared.asks.Ask.TheVariants.{Encrypt, Map, Request}
 use Rattle.phased_control.specs.Worked.{zero_response}
 use Rattle.joint_controls.specs.Joint.{Joint, JointStep, AsksFor, CentralAcked, CentralEnters, CentralHost, CentralSends, CentralTakes, HasKey, PeripheralAcked, PeripheralEnters, PeripheralFixes, PeripheralHost, PeripheralSends, PeripheralTakes, after_all, beginning, may_all}
 

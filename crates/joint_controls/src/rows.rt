@@ -1,7 +1,7 @@
 //! Worked joint runs.
 ghost use Rattle.std.specs.Prelude.{◌≡◌, ◌∷◌, [], List, true};
 ghost use Rattle.ble_base.specs.declared.channel_map.ChannelMap.{ChannelMap};
-ghost use Rattle.enc_phase.specs.declared.facts.PhaseFacts.{PhaseFacts};
+ghost use Rattle.phased_control.specs.enc_phase.declared.facts.PhaseFacts.{PhaseFacts};
 ghost use Rattle.joint_controls.specs.Worked.{cross, link_after, may_come, start};
 
 /// Encryption starts at both ends, by steps each of which may come.

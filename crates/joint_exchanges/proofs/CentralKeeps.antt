@@ -2,25 +2,25 @@
 use Rattle.std.proofs.Common.{◌≡◌, ℕ, Bool, true, false, not, List, Option, Some, None, is_some, refl, sym, ◌∙◌, subst}
 use Rattle.ble_base.specs.declared.procedure_kinds.Kind.TheVariants.{Encrypt}
 use Rattle.ble_base.specs.declared.roles.Role.TheVariants.{Central as central_role}
-use Rattle.enc_phase.specs.declared.classes.PduClass.TheVariants.{Request}
-use Rattle.enc_phase.specs.declared.facts.PhaseFacts.{PhaseFacts}
-use Rattle.enc_phase.specs.declared.facts.PhaseFacts.TheVariants.{Asked, Clear, HalfClear, HalfKeyed, Pausing, Secure}
-use Rattle.enc_phase.specs.Phases.{is_quiet}
-use Rattle.enc_phase.specs.Taking.{allows}
+use Rattle.joint_controls.specs.enc_phase.declared.classes.PduClass.TheVariants.{Request}
+use Rattle.joint_controls.specs.enc_phase.declared.facts.PhaseFacts.{PhaseFacts}
+use Rattle.joint_controls.specs.enc_phase.declared.facts.PhaseFacts.TheVariants.{Asked, Clear, HalfClear, HalfKeyed, Pausing, Secure}
+use Rattle.joint_controls.specs.enc_phase.Phases.{is_quiet}
+use Rattle.joint_controls.specs.enc_phase.Taking.{allows}
 use Rattle.instants.specs.declared.indications.Params.{Params}
-use Rattle.procedure_stages.specs.declared.stages.OwnCentral.{OwnCentral}
-use Rattle.procedure_stages.specs.declared.stages.OwnCentral.TheVariants.{EncryptSent, EncryptUnsent}
-use Rattle.procedure_stages.specs.declared.stages.Progress.{Progress}
-use Rattle.procedure_stages.specs.declared.stages.Progress.TheVariants.{Central as central, Peripheral as peripheral}
-use Rattle.procedure_stages.specs.Awaited.{is_own_encryption}
-use Rattle.procedure_stages.specs.Kinds.{kind_at_central, own_kind, role_of}
-use Rattle.table_laws.specs.Encrypting.{has_encryption}
-use Rattle.phased_control.specs.Ends.{is_half_keyed, says_kept}
-use Rattle.phased_control.specs.Phased.{Phased, first_phased, is_quiet_now}
-use Rattle.phased_control.specs.Taken.{PhasedStep, phased_after_all}
-use Rattle.phased_control.proofs.Agreeing.{agrees_now}
-use Rattle.phased_control.proofs.Kept.{none_quietly, said_now}
-use Rattle.phased_control.proofs.Moving.{keeps_role}
+use Rattle.exchange_steps.specs.procedure_stages.declared.stages.OwnCentral.{OwnCentral}
+use Rattle.exchange_steps.specs.procedure_stages.declared.stages.OwnCentral.TheVariants.{EncryptSent, EncryptUnsent}
+use Rattle.exchange_steps.specs.procedure_stages.declared.stages.Progress.{Progress}
+use Rattle.exchange_steps.specs.procedure_stages.declared.stages.Progress.TheVariants.{Central as central, Peripheral as peripheral}
+use Rattle.exchange_steps.specs.procedure_stages.Awaited.{is_own_encryption}
+use Rattle.exchange_steps.specs.procedure_stages.Kinds.{kind_at_central, own_kind, role_of}
+use Rattle.joint_controls.specs.table_laws.Encrypting.{has_encryption}
+use Rattle.joint_controls.specs.phased_control.Ends.{is_half_keyed, says_kept}
+use Rattle.joint_controls.specs.phased_control.Phased.{Phased, first_phased, is_quiet_now}
+use Rattle.joint_controls.specs.phased_control.Taken.{PhasedStep, phased_after_all}
+use Rattle.joint_controls.proofs.phased_control.Agreeing.{agrees_now}
+use Rattle.joint_controls.proofs.phased_control.Kept.{none_quietly, said_now}
+use Rattle.joint_controls.proofs.phased_control.Moving.{keeps_role}
 use Rattle.joint_controls.specs.Ends.{steps_of_central}
 use Rattle.joint_controls.specs.Joint.{Joint, JointStep, after_all, beginning}
 use Rattle.joint_controls.proofs.EndSteps.{central_runs}

@@ -7,17 +7,17 @@ use Rattle.data_pdu.specs.declared.ctrl.Ctrl.{Ctrl}
 use Rattle.data_pdu.specs.declared.ctrl.Ctrl.TheVariants.{EncReq, PauseEncReq, PauseEncRsp, StartEncReq, StartEncRsp}
 use Rattle.data_pdu.specs.declared.ctrl.CtrlRead.{CtrlRead}
 use Rattle.data_pdu.specs.declared.ctrl.CtrlRead.TheVariants.{Bare, Known, Unknown}
-use Rattle.enc_phase.specs.declared.classes.PduClass.{PduClass}
-use Rattle.enc_phase.specs.declared.classes.PduClass.TheVariants.{Refusal}
-use Rattle.enc_phase.specs.declared.facts.PhaseFacts.{PhaseFacts}
-use Rattle.enc_phase.specs.declared.facts.Transition.{Transition}
-use Rattle.enc_phase.specs.declared.facts.Transition.TheVariants.{Ask as AskTransition, Confirm, Pause, Unlock}
-use Rattle.enc_phase.specs.Phases.{is_asked, may_follow, phase_after, phase_starting}
-use Rattle.enc_phase.specs.Taking.{ctrl_class}
-use Rattle.table_laws.specs.Encrypting.{has_encryption}
+use Rattle.joint_controls.specs.enc_phase.declared.classes.PduClass.{PduClass}
+use Rattle.joint_controls.specs.enc_phase.declared.classes.PduClass.TheVariants.{Refusal}
+use Rattle.joint_controls.specs.enc_phase.declared.facts.PhaseFacts.{PhaseFacts}
+use Rattle.joint_controls.specs.enc_phase.declared.facts.Transition.{Transition}
+use Rattle.joint_controls.specs.enc_phase.declared.facts.Transition.TheVariants.{Ask as AskTransition, Confirm, Pause, Unlock}
+use Rattle.joint_controls.specs.enc_phase.Phases.{is_asked, may_follow, phase_after, phase_starting}
+use Rattle.joint_controls.specs.enc_phase.Taking.{ctrl_class}
+use Rattle.joint_controls.specs.table_laws.Encrypting.{has_encryption}
 use Rattle.exchange_steps.specs.Steps.{step_of_given}
-use Rattle.phased_control.specs.Phased.{Phased, is_open_now, with_owed}
-use Rattle.phased_control.specs.Taken.{Response, ciphered, ciphered_at, ciphered_at_central, ciphered_at_peripheral, moved_if, moved_to, refused_by, response_ctrl, role_now}
+use Rattle.joint_controls.specs.phased_control.Phased.{Phased, is_open_now, with_owed}
+use Rattle.joint_controls.specs.phased_control.Taken.{Response, ciphered, ciphered_at, ciphered_at_central, ciphered_at_peripheral, moved_if, moved_to, refused_by, response_ctrl, role_now}
 use Rattle.joint_exchanges.specs.SentByRole.{is_cipher_of}
 
 pub choice : {A : Type 0} (P : A → Type 0) (b : Bool) (x y : A) → P x → P y → P (if b then x else y)

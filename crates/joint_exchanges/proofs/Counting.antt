@@ -4,19 +4,19 @@ use Rattle.ble_base.specs.declared.roles.Role.{Role}
 use Rattle.ble_base.specs.declared.roles.Role.TheVariants.{Central, Peripheral}
 use Rattle.data_pdu.specs.declared.ctrl.Ctrl.{Ctrl}
 use Rattle.data_pdu.specs.declared.ctrl.Ctrl.TheVariants.{PeripheralFeatureReq as ctrl_feature_req}
-use Rattle.procedure_values.specs.declared.drafts.Draft.{Draft}
-use Rattle.procedure_values.specs.declared.drafts.Draft.TheVariants.{FeatureReq, FeatureRsp, LengthReq, LengthRsp, PeripheralFeatureReq, VersionInd}
-use Rattle.procedure_values.specs.declared.drafts.Outgoing.{Outgoing}
-use Rattle.procedure_values.specs.declared.drafts.Outgoing.TheVariants.{Disconnect, Nothing, Other, Rejection}
-use Rattle.table_laws.specs.Waiting.{number_of}
-use Rattle.table_laws.specs.Waiting
-use Rattle.exchange_pairs.specs.Exchange.{Answer, ExchangePdu, Question, count_if, is_answer, is_question}
-use Rattle.exchange_pairs.specs.Exchange
-use Rattle.exchange_pairs.specs.ExchangeLaws
-use Rattle.exchange_pairs.specs.ExchangeRun.{ExchangeLink, is_pdu}
-use Rattle.exchange_pairs.specs.LengthPart.{exchange_link, exchange_way}
-use Rattle.exchange_pairs.specs.LengthRun.{Control as length_control}
-use Rattle.exchange_pairs.specs.Lengths.{LengthPdu}
+use Rattle.exchange_steps.specs.procedure_values.declared.drafts.Draft.{Draft}
+use Rattle.exchange_steps.specs.procedure_values.declared.drafts.Draft.TheVariants.{FeatureReq, FeatureRsp, LengthReq, LengthRsp, PeripheralFeatureReq, VersionInd}
+use Rattle.exchange_steps.specs.procedure_values.declared.drafts.Outgoing.{Outgoing}
+use Rattle.exchange_steps.specs.procedure_values.declared.drafts.Outgoing.TheVariants.{Disconnect, Nothing, Other, Rejection}
+use Rattle.joint_controls.specs.table_laws.Waiting.{number_of}
+use Rattle.joint_controls.specs.table_laws.Waiting
+use Rattle.exchange_steps.specs.exchange_pairs.Exchange.{Answer, ExchangePdu, Question, count_if, is_answer, is_question}
+use Rattle.exchange_steps.specs.exchange_pairs.Exchange
+use Rattle.exchange_steps.specs.exchange_pairs.ExchangeLaws
+use Rattle.exchange_steps.specs.exchange_pairs.ExchangeRun.{ExchangeLink, is_pdu}
+use Rattle.exchange_steps.specs.exchange_pairs.LengthPart.{exchange_link, exchange_way}
+use Rattle.exchange_steps.specs.exchange_pairs.LengthRun.{Control as length_control}
+use Rattle.exchange_steps.specs.exchange_pairs.Lengths.{LengthPdu}
 use Rattle.exchange_steps.specs.Ends.{features_pdu, lengths_pdu, pdus_of, versions_waiting}
 use Rattle.joint_controls.specs.Joint.{Clear, Control, Data, Fixed, Item, Joint, OnAir, Taken, Way}
 use Rattle.joint_exchanges.specs.Agreement.{Asked, Features, Lengths, is_answer_of, is_control, is_draft, is_first_of, is_question_of, is_version_ctrl, is_version_ind, passes, places_of, questions_waiting, untaken}

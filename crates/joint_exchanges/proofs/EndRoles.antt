@@ -13,31 +13,31 @@ use Rattle.data_pdu.specs.declared.ctrl.Ctrl.TheVariants.{ConnectionParamReq, En
 use Rattle.data_pdu.specs.declared.ctrl.CtrlRead.{CtrlRead}
 use Rattle.data_pdu.specs.declared.ctrl.CtrlRead.TheVariants.{Bare, Known, Unknown}
 use Rattle.data_pdu.specs.Reading.{IfKnown, opcode_of}
-use Rattle.enc_phase.specs.declared.classes.PduClass.{PduClass}
-use Rattle.enc_phase.specs.declared.classes.PduClass.TheVariants.{Data, Request}
-use Rattle.enc_phase.specs.declared.facts.PhaseFacts.{PhaseFacts}
-use Rattle.enc_phase.specs.declared.facts.PhaseFacts.TheVariants.{Clear}
-use Rattle.enc_phase.specs.declared.facts.Transition.TheVariants.{Ask as AskTransition, Pause, Refuse}
-use Rattle.enc_phase.specs.Phases.{may_follow, phase_after, phase_starting}
-use Rattle.enc_phase.specs.Taking.{allows, ctrl_class, is_unknown, phase_taking}
+use Rattle.joint_controls.specs.enc_phase.declared.classes.PduClass.{PduClass}
+use Rattle.joint_controls.specs.enc_phase.declared.classes.PduClass.TheVariants.{Data, Request}
+use Rattle.joint_controls.specs.enc_phase.declared.facts.PhaseFacts.{PhaseFacts}
+use Rattle.joint_controls.specs.enc_phase.declared.facts.PhaseFacts.TheVariants.{Clear}
+use Rattle.joint_controls.specs.enc_phase.declared.facts.Transition.TheVariants.{Ask as AskTransition, Pause, Refuse}
+use Rattle.joint_controls.specs.enc_phase.Phases.{may_follow, phase_after, phase_starting}
+use Rattle.joint_controls.specs.enc_phase.Taking.{allows, ctrl_class, is_unknown, phase_taking}
 use Rattle.instants.specs.declared.indications.Indication.{Indication}
 use Rattle.instants.specs.Track.{event_of, next_number}
-use Rattle.procedure_values.specs.declared.asks.Ask.{Ask}
-use Rattle.procedure_values.specs.Asks.{kind_of_ask}
-use Rattle.procedure_values.specs.Drafts.{is_out}
-use Rattle.procedure_stages.specs.InProgress.{is_host_asked}
-use Rattle.procedure_stages.specs.Kinds.{begins, role_of}
-use Rattle.procedure_stages.specs.Opcodes.{enc_req_opcode}
-use Rattle.procedures.specs.Beginning.{ask_at, begin_at, begin_step, place_to_begin}
-use Rattle.procedures.specs.Going.{is_answer}
-use Rattle.procedures.specs.Table.{TableFacts}
-use Rattle.procedures.specs.Taking.{took_step}
-use Rattle.table_laws.proofs.Begun.{begins_of}
-use Rattle.control_model.specs.Control.{Control, Step, Answers as control_answers, Asks as control_asks, Disconnects as control_disconnects, Enters as control_enters, Owes, SeesAcknowledged as control_acked, Sends as control_sends, Takes as control_takes, after, following, goes_out, indicated_by, is_to_come, moved, taken, went}
-use Rattle.control_model.proofs.Calls.{any_step, either_way}
-use Rattle.phased_control.specs.Phased.{Phased, acknowledged, ask_begun, asking_if, asks_again, encrypting, encrypting_if, entered, if_key_asked, is_encrypt, is_open_now, is_quiet_now, key_given, key_lacking, refused_if, request_of, table_entered, with_owed_if, with_step}
-use Rattle.phased_control.specs.Taken.{PhasedStep, Response, Answers, Asks, Disconnects, Enters, GivesKey, LacksKey, SeesAcknowledged, Sends, Takes, TakesData, answered_kept, ciphered, class_of_read, ctrl_in, ended_with, keeps_class, knowing, phased_after, phased_moved, role_now, seen_as, seen_if, took, took_data}
-use Rattle.phased_control.proofs.Unknown.{MayBeUnknown, unknown_is}
+use Rattle.exchange_steps.specs.procedure_values.declared.asks.Ask.{Ask}
+use Rattle.exchange_steps.specs.procedure_values.Asks.{kind_of_ask}
+use Rattle.exchange_steps.specs.procedure_values.Drafts.{is_out}
+use Rattle.exchange_steps.specs.procedure_stages.InProgress.{is_host_asked}
+use Rattle.exchange_steps.specs.procedure_stages.Kinds.{begins, role_of}
+use Rattle.exchange_steps.specs.procedure_stages.Opcodes.{enc_req_opcode}
+use Rattle.exchange_steps.specs.procedures.Beginning.{ask_at, begin_at, begin_step, place_to_begin}
+use Rattle.exchange_steps.specs.procedures.Going.{is_answer}
+use Rattle.exchange_steps.specs.procedures.Table.{TableFacts}
+use Rattle.exchange_steps.specs.procedures.Taking.{took_step}
+use Rattle.joint_controls.proofs.table_laws.Begun.{begins_of}
+use Rattle.joint_controls.specs.control_model.Control.{Control, Step, Answers as control_answers, Asks as control_asks, Disconnects as control_disconnects, Enters as control_enters, Owes, SeesAcknowledged as control_acked, Sends as control_sends, Takes as control_takes, after, following, goes_out, indicated_by, is_to_come, moved, taken, went}
+use Rattle.joint_controls.proofs.control_model.Calls.{any_step, either_way}
+use Rattle.joint_controls.specs.phased_control.Phased.{Phased, acknowledged, ask_begun, asking_if, asks_again, encrypting, encrypting_if, entered, if_key_asked, is_encrypt, is_open_now, is_quiet_now, key_given, key_lacking, refused_if, request_of, table_entered, with_owed_if, with_step}
+use Rattle.joint_controls.specs.phased_control.Taken.{PhasedStep, Response, Answers, Asks, Disconnects, Enters, GivesKey, LacksKey, SeesAcknowledged, Sends, Takes, TakesData, answered_kept, ciphered, class_of_read, ctrl_in, ended_with, keeps_class, knowing, phased_after, phased_moved, role_now, seen_as, seen_if, took, took_data}
+use Rattle.joint_controls.proofs.phased_control.Unknown.{MayBeUnknown, unknown_is}
 use Rattle.joint_exchanges.specs.SentByRole.{AsksAt, IsEndOf, IsKeptBy, IsRequestBy, IsTableOf, is_cipher_of, is_cipher_opcode}
 use Rattle.joint_exchanges.proofs.Ciphered.{Steady, choice, ciphered_keeps}
 use Rattle.joint_exchanges.proofs.EndSteps.{IsRequest, is_request_of}

@@ -7,25 +7,25 @@ use Rattle.ble_base.specs.declared.roles.Role.{Role}
 use Rattle.ble_base.specs.declared.roles.Role.TheVariants.{Central, Peripheral}
 use Rattle.data_pdu.specs.declared.ctrl.Ctrl.{Ctrl}
 use Rattle.data_pdu.specs.declared.ctrl.Ctrl.TheVariants.{EncReq, PauseEncReq, RejectExtInd, StartEncReq, TerminateInd}
-use Rattle.enc_phase.specs.declared.facts.PhaseFacts.{PhaseFacts}
-use Rattle.enc_phase.specs.declared.facts.PhaseFacts.TheVariants.{Clear}
-use Rattle.enc_phase.specs.declared.facts.Transition.TheVariants.{Ask as AskTransition, Pause, Refuse}
-use Rattle.enc_phase.specs.Phases.{may_follow, phase_after, phase_starting}
+use Rattle.joint_controls.specs.enc_phase.declared.facts.PhaseFacts.{PhaseFacts}
+use Rattle.joint_controls.specs.enc_phase.declared.facts.PhaseFacts.TheVariants.{Clear}
+use Rattle.joint_controls.specs.enc_phase.declared.facts.Transition.TheVariants.{Ask as AskTransition, Pause, Refuse}
+use Rattle.joint_controls.specs.enc_phase.Phases.{may_follow, phase_after, phase_starting}
 use Rattle.instants.specs.Track.{next_number}
-use Rattle.procedure_values.specs.declared.asks.Ask.{Ask}
-use Rattle.procedure_values.specs.declared.asks.Ask.TheVariants.{Encrypt as ask_encrypt}
-use Rattle.procedure_values.specs.Drafts.{is_out}
-use Rattle.procedure_stages.specs.InProgress.{is_host_asked}
-use Rattle.procedure_stages.specs.Opcodes.{enc_req_opcode}
-use Rattle.procedures.specs.Calls.{asks, begins_one, disconnects, enters, host_answers, is_acked, is_given}
-use Rattle.procedures.specs.Going.{host_answer_step, is_answer, terminate_step}
-use Rattle.procedures.specs.Sending.{acked_step}
+use Rattle.exchange_steps.specs.procedure_values.declared.asks.Ask.{Ask}
+use Rattle.exchange_steps.specs.procedure_values.declared.asks.Ask.TheVariants.{Encrypt as ask_encrypt}
+use Rattle.exchange_steps.specs.procedure_values.Drafts.{is_out}
+use Rattle.exchange_steps.specs.procedure_stages.InProgress.{is_host_asked}
+use Rattle.exchange_steps.specs.procedure_stages.Opcodes.{enc_req_opcode}
+use Rattle.exchange_steps.specs.procedures.Calls.{asks, begins_one, disconnects, enters, host_answers, is_acked, is_given}
+use Rattle.exchange_steps.specs.procedures.Going.{host_answer_step, is_answer, terminate_step}
+use Rattle.exchange_steps.specs.procedures.Sending.{acked_step}
 use Rattle.exchange_steps.specs.Ends.{ExchangeEnds, ends_of}
 use Rattle.exchange_steps.specs.Steps.{EndStep, after_steps, step_of_ask, step_of_given, terminates}
 use Rattle.exchange_steps.proofs.Calls.{each_call}
-use Rattle.control_model.specs.Control.{Control, Step, Answers as control_answers, Asks as control_asks, Disconnects as control_disconnects, Enters as control_enters, Owes, SeesAcknowledged as control_acked, after, moved, table_if}
-use Rattle.phased_control.specs.Phased.{Phased, acknowledged, ask_begun, asking_if, asks_again, encrypting, encrypting_if, entered, if_key_asked, is_open_now, is_quiet_now, key_given, key_lacking, refused_if, request_of, table_entered, with_owed, with_owed_if, with_step}
-use Rattle.phased_control.specs.Taken.{PhasedStep, phased_after, phased_moved}
+use Rattle.joint_controls.specs.control_model.Control.{Control, Step, Answers as control_answers, Asks as control_asks, Disconnects as control_disconnects, Enters as control_enters, Owes, SeesAcknowledged as control_acked, after, moved, table_if}
+use Rattle.joint_controls.specs.phased_control.Phased.{Phased, acknowledged, ask_begun, asking_if, asks_again, encrypting, encrypting_if, entered, if_key_asked, is_open_now, is_quiet_now, key_given, key_lacking, refused_if, request_of, table_entered, with_owed, with_owed_if, with_step}
+use Rattle.joint_controls.specs.phased_control.Taken.{PhasedStep, phased_after, phased_moved}
 use Rattle.joint_exchanges.specs.JointMoves.{begun_as_entered, terminates_if}
 use Rattle.joint_exchanges.specs.Parts.{exchanges_at}
 use Rattle.joint_exchanges.specs.SentByRole.{IsRequestBy}

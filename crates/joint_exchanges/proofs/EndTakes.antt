@@ -8,23 +8,23 @@ use Rattle.data_pdu.specs.declared.ctrl.Ctrl.{Ctrl}
 use Rattle.data_pdu.specs.declared.ctrl.Ctrl.TheVariants.{ConnectionParamReq, LengthReq, PeripheralFeatureReq, PhyReq, RejectExtInd, VersionInd}
 use Rattle.data_pdu.specs.declared.ctrl.CtrlRead.{CtrlRead}
 use Rattle.data_pdu.specs.declared.ctrl.CtrlRead.TheVariants.{Known}
-use Rattle.enc_phase.specs.declared.classes.PduClass.TheVariants.{Data, Other, Refusal, Request}
-use Rattle.enc_phase.specs.Taking.{allows, ctrl_class, is_unknown}
+use Rattle.joint_controls.specs.enc_phase.declared.classes.PduClass.TheVariants.{Data, Other, Refusal, Request}
+use Rattle.joint_controls.specs.enc_phase.Taking.{allows, ctrl_class, is_unknown}
 use Rattle.instants.specs.declared.indications.Indication.{Indication}
 use Rattle.instants.specs.Track.{event_of, track_after_take}
-use Rattle.procedure_values.specs.declared.drafts.Outgoing.{Outgoing}
-use Rattle.procedure_stages.specs.declared.stages.Progress.{Progress}
-use Rattle.procedure_stages.specs.declared.stages.Progress.TheVariants.{Central as central, Peripheral as peripheral}
-use Rattle.procedure_stages.specs.Kinds.{role_of}
-use Rattle.procedures.specs.Calls.{sends as sends_call, takes as takes_call}
-use Rattle.procedures.specs.Table.{TableFacts}
-use Rattle.procedures.specs.Taking.{took_step}
+use Rattle.exchange_steps.specs.procedure_values.declared.drafts.Outgoing.{Outgoing}
+use Rattle.exchange_steps.specs.procedure_stages.declared.stages.Progress.{Progress}
+use Rattle.exchange_steps.specs.procedure_stages.declared.stages.Progress.TheVariants.{Central as central, Peripheral as peripheral}
+use Rattle.exchange_steps.specs.procedure_stages.Kinds.{role_of}
+use Rattle.exchange_steps.specs.procedures.Calls.{sends as sends_call, takes as takes_call}
+use Rattle.exchange_steps.specs.procedures.Table.{TableFacts}
+use Rattle.exchange_steps.specs.procedures.Taking.{took_step}
 use Rattle.exchange_steps.specs.Ends.{ExchangeEnds, ends_of}
 use Rattle.exchange_steps.specs.Steps.{after_steps, step_of_ctrl, step_of_read, step_of_sent}
 use Rattle.exchange_steps.proofs.Calls.{each_call}
-use Rattle.control_model.specs.Control.{Control, Sends as control_sends, Takes as control_takes, after, ended, following, goes_out, indicated_by, is_to_come, moved, taken, went}
-use Rattle.phased_control.specs.Phased.{Phased, is_quiet_now, with_step}
-use Rattle.phased_control.specs.Taken.{Response, answered_kept, ciphered, ended_with, is_version as is_version_read, role_now, seen_as, seen_if, took_data}
+use Rattle.joint_controls.specs.control_model.Control.{Control, Sends as control_sends, Takes as control_takes, after, ended, following, goes_out, indicated_by, is_to_come, moved, taken, went}
+use Rattle.joint_controls.specs.phased_control.Phased.{Phased, is_quiet_now, with_step}
+use Rattle.joint_controls.specs.phased_control.Taken.{Response, answered_kept, ciphered, ended_with, is_version as is_version_read, role_now, seen_as, seen_if, took_data}
 use Rattle.joint_controls.specs.Joint.{next_out}
 use Rattle.joint_exchanges.specs.Moves.{is_some_version}
 use Rattle.joint_exchanges.specs.Parts.{AnyPdu, exchanges_at, pdu_of_first, pdu_of_outgoing}

@@ -3,9 +3,9 @@ use Rattle.std.proofs.Common.{◌≡◌, false, not, Some, None, is_some, is_non
 use Rattle.ble_base.specs.declared.roles.Role.{Role}
 use Rattle.ble_base.specs.declared.roles.Role.TheVariants.{Central, Peripheral}
 use Rattle.machines.specs.Machine.{run_from}
-use Rattle.exchange_pairs.specs.Exchange.{Answer, Question, is_question}
-use Rattle.exchange_pairs.specs.ExchangeRun
-use Rattle.exchange_pairs.specs.ExchangeRun.{end_sends, end_takes, exchanges, is_pdu}
+use Rattle.exchange_steps.specs.exchange_pairs.Exchange.{Answer, Question, is_question}
+use Rattle.exchange_steps.specs.exchange_pairs.ExchangeRun
+use Rattle.exchange_steps.specs.exchange_pairs.ExchangeRun.{end_sends, end_takes, exchanges, is_pdu}
 use Rattle.exchange_steps.specs.Steps.{EndStep, begins_features, begins_lengths, begins_version, limits, terminates, wants_version}
 use Rattle.joint_exchanges.specs.Machines.{features_event, features_in, features_link}
 use Rattle.joint_exchanges.specs.Moves.{Does, Keeps, MayMove, Move, Sends, Takes, TakesKept, after_move}

@@ -4,14 +4,14 @@ use Rattle.ble_base.specs.declared.error_codes.ErrCode.{ErrCode}
 use Rattle.ble_base.specs.declared.roles.Role.{Role}
 use Rattle.ble_base.specs.declared.roles.Role.TheVariants.{Central, Peripheral}
 use Rattle.instants.specs.declared.indications.Params.{Params}
-use Rattle.procedure_values.specs.declared.drafts.Draft.{Draft}
-use Rattle.procedure_values.specs.declared.drafts.Draft.TheVariants.{Cipher, FeatureReq, FeatureRsp, Grant, LengthReq, LengthRsp, Map, PeripheralFeatureReq, PhyInd, PhyReq, PhyRsp, Request, UnknownRsp, Update, VersionInd}
-use Rattle.procedure_values.specs.declared.drafts.Rejection.{Rejection as TheRejection}
-use Rattle.procedure_stages.specs.Queue.{count_of_disconnect, waiting_in}
-use Rattle.table_laws.specs.Waiting.{number_of}
-use Rattle.table_laws.specs.Waiting
-use Rattle.phased_control.specs.Phased.{Phased}
-use Rattle.exchange_pairs.specs.Exchange.{ExchangeStage, Idle, Sent, Unsent}
+use Rattle.exchange_steps.specs.procedure_values.declared.drafts.Draft.{Draft}
+use Rattle.exchange_steps.specs.procedure_values.declared.drafts.Draft.TheVariants.{Cipher, FeatureReq, FeatureRsp, Grant, LengthReq, LengthRsp, Map, PeripheralFeatureReq, PhyInd, PhyReq, PhyRsp, Request, UnknownRsp, Update, VersionInd}
+use Rattle.exchange_steps.specs.procedure_values.declared.drafts.Rejection.{Rejection as TheRejection}
+use Rattle.exchange_steps.specs.procedure_stages.Queue.{count_of_disconnect, waiting_in}
+use Rattle.joint_controls.specs.table_laws.Waiting.{number_of}
+use Rattle.joint_controls.specs.table_laws.Waiting
+use Rattle.joint_controls.specs.phased_control.Phased.{Phased}
+use Rattle.exchange_steps.specs.exchange_pairs.Exchange.{ExchangeStage, Idle, Sent, Unsent}
 use Rattle.joint_controls.specs.Joint.{Joint, JointStep, after, after_all, beginning}
 use Rattle.joint_exchanges.specs.Agreement.{Asked, Features, Lengths, end_at, is_answer_of, is_question_of, is_version_ind, questions_waiting, stage_at, waiting}
 use Rattle.joint_exchanges.specs.Runs.{AllBefore, GoesOn}

@@ -4,11 +4,11 @@ use Rattle.ble_base.specs.declared.roles.Role.{Role}
 use Rattle.ble_base.specs.declared.roles.Role.TheVariants.{Central, Peripheral}
 use Rattle.data_pdu.specs.declared.ctrl.Ctrl.{Ctrl}
 use Rattle.data_pdu.specs.declared.ctrl.CtrlRead.TheVariants.{Known}
-use Rattle.enc_phase.specs.Taking.{ctrl_class, is_unknown}
-use Rattle.procedure_values.specs.declared.drafts.Outgoing.{Outgoing}
-use Rattle.procedure_values.specs.Drafts.{ctrl_of_outgoing}
-use Rattle.phased_control.specs.Phased.{Phased, is_quiet_now}
-use Rattle.phased_control.specs.Taken.{Response, Enters, SeesAcknowledged, Sends, Takes, TakesData, role_now}
+use Rattle.joint_controls.specs.enc_phase.Taking.{ctrl_class, is_unknown}
+use Rattle.exchange_steps.specs.procedure_values.declared.drafts.Outgoing.{Outgoing}
+use Rattle.exchange_steps.specs.procedure_values.Drafts.{ctrl_of_outgoing}
+use Rattle.joint_controls.specs.phased_control.Phased.{Phased, is_quiet_now}
+use Rattle.joint_controls.specs.phased_control.Taken.{Response, Enters, SeesAcknowledged, Sends, Takes, TakesData, role_now}
 use Rattle.joint_controls.specs.Joint.{AnswersRequest, AsksFor, CentralAcked, CentralEnters, CentralHost, CentralSends, CentralSendsData, CentralTakes, Clear, Control, Data, Ends, Fixed, HasKey, HasNoKey, HostStep, Joint, JointStep, OnAir, PeripheralAcked, PeripheralEnters, PeripheralFixes, PeripheralFixesData, PeripheralHost, PeripheralSends, PeripheralTakes, Shuts, Taken, Way, act, event_now, fixed, host_step, item_by, latency_now, next_out, no_response, on_air, sent_up}
 use Rattle.joint_exchanges.specs.SentByRole.{AreOfRoles, HasMeaning, HaveMeaning, IsEndOf, IsWayOf, is_outgoing_of}
 use Rattle.joint_exchanges.proofs.EndRoles.{Comes, Means, step_end}

@@ -3,16 +3,16 @@ use Rattle.std.proofs.Common.{◌≡◌, ℕ, Bool, true, false, not, ◌&&◌, 
 use Rattle.std.proofs.lemmas.Bool.{and_parts}
 use Rattle.ble_base.specs.declared.roles.Role.TheVariants.{Central, Peripheral}
 use Rattle.data_pdu.specs.declared.ctrl.Ctrl.{Ctrl}
-use Rattle.enc_phase.specs.declared.facts.Transition.TheVariants.{Refuse}
-use Rattle.enc_phase.specs.Phases.{may_follow, seals}
-use Rattle.procedure_values.specs.declared.drafts.Draft.TheVariants.{FeatureReq, FeatureRsp, LengthReq as length_req, LengthRsp, PeripheralFeatureReq as feature_req_up, VersionInd as version_ind}
-use Rattle.procedure_values.specs.declared.drafts.Outgoing.{Outgoing}
-use Rattle.procedure_values.specs.declared.drafts.Outgoing.TheVariants.{Disconnect, Nothing, Other, Rejection}
-use Rattle.procedures.specs.Calls.{sends as sends_call}
+use Rattle.joint_controls.specs.enc_phase.declared.facts.Transition.TheVariants.{Refuse}
+use Rattle.joint_controls.specs.enc_phase.Phases.{may_follow, seals}
+use Rattle.exchange_steps.specs.procedure_values.declared.drafts.Draft.TheVariants.{FeatureReq, FeatureRsp, LengthReq as length_req, LengthRsp, PeripheralFeatureReq as feature_req_up, VersionInd as version_ind}
+use Rattle.exchange_steps.specs.procedure_values.declared.drafts.Outgoing.{Outgoing}
+use Rattle.exchange_steps.specs.procedure_values.declared.drafts.Outgoing.TheVariants.{Disconnect, Nothing, Other, Rejection}
+use Rattle.exchange_steps.specs.procedures.Calls.{sends as sends_call}
 use Rattle.exchange_steps.specs.Steps.{EndStep, MayCome, after_steps, step_of_sent}
 use Rattle.exchange_steps.proofs.Calls.{each_comes}
-use Rattle.phased_control.specs.Phased.{is_open_now, is_quiet_now}
-use Rattle.phased_control.specs.Taken.{Enters, PhasedStep, SeesAcknowledged, Sends, phased_moved}
+use Rattle.joint_controls.specs.phased_control.Phased.{is_open_now, is_quiet_now}
+use Rattle.joint_controls.specs.phased_control.Taken.{Enters, PhasedStep, SeesAcknowledged, Sends, phased_moved}
 use Rattle.joint_controls.specs.Joint.{AnswersRequest, AsksFor, CentralAcked, CentralSends, CentralSendsData, Clear, Control, Data, Ends, Fixed, HasKey, HasNoKey, HostStep, Joint, OnAir, PeripheralAcked, PeripheralFixes, PeripheralFixesData, PeripheralSends, Taken, Way, act, fixed, host_step, is_clear, is_running, is_taken, item_by, event_now, latency_now, may, may_host, next_item, next_out, on_air, sent_up, with_central, with_peripheral}
 use Rattle.joint_exchanges.specs.JointMoves
 use Rattle.joint_exchanges.specs.JointMoves.{does, host_does, keeps, kept_taken, moves_of, sends, takes, terminates_if}

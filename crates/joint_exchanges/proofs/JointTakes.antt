@@ -5,13 +5,13 @@ use Rattle.ble_base.specs.declared.roles.Role.TheVariants.{Central, Peripheral}
 use Rattle.data_pdu.specs.declared.ctrl.Ctrl.{Ctrl}
 use Rattle.data_pdu.specs.declared.ctrl.Ctrl.TheVariants.{LengthReq, PeripheralFeatureReq, TerminateInd, VersionInd}
 use Rattle.data_pdu.specs.declared.ctrl.CtrlRead.TheVariants.{Known}
-use Rattle.enc_phase.specs.declared.classes.PduClass.{PduClass}
-use Rattle.enc_phase.specs.declared.classes.PduClass.TheVariants.{Request}
-use Rattle.enc_phase.specs.Taking.{allows, ctrl_class}
-use Rattle.procedure_values.specs.declared.drafts.Outgoing.{Outgoing}
-use Rattle.exchange_pairs.specs.Exchange.{Question}
-use Rattle.phased_control.specs.Phased.{Phased, is_quiet_now}
-use Rattle.phased_control.specs.Taken.{Response, Takes, TakesData, answered_if_quiet, answered_kept, ciphered, does_keep, is_allowed, keeping, keeps_class, phased_after, role_now, took}
+use Rattle.joint_controls.specs.enc_phase.declared.classes.PduClass.{PduClass}
+use Rattle.joint_controls.specs.enc_phase.declared.classes.PduClass.TheVariants.{Request}
+use Rattle.joint_controls.specs.enc_phase.Taking.{allows, ctrl_class}
+use Rattle.exchange_steps.specs.procedure_values.declared.drafts.Outgoing.{Outgoing}
+use Rattle.exchange_steps.specs.exchange_pairs.Exchange.{Question}
+use Rattle.joint_controls.specs.phased_control.Phased.{Phased, is_quiet_now}
+use Rattle.joint_controls.specs.phased_control.Taken.{Response, Takes, TakesData, answered_if_quiet, answered_kept, ciphered, does_keep, is_allowed, keeping, keeps_class, phased_after, role_now, took}
 use Rattle.joint_controls.specs.Joint.{Clear, Control, Data, Fixed, Joint, OnAir, Taken, Way, CentralTakes, PeripheralTakes, act, is_terminate, item_on_air, no_response}
 use Rattle.joint_exchanges.specs.JointMoves
 use Rattle.joint_exchanges.specs.JointMoves.{keeps as keeps_moves, kept_taken, moves_of, takes}

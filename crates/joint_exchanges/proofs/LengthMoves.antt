@@ -3,10 +3,10 @@ use Rattle.std.proofs.Common.{◌≡◌, ℕ, true, not, [], ◌∷◌, Option, 
 use Rattle.ble_base.specs.declared.roles.Role.{Role}
 use Rattle.ble_base.specs.declared.roles.Role.TheVariants.{Central, Peripheral}
 use Rattle.machines.specs.Machine.{run_from}
-use Rattle.exchange_pairs.specs.Exchange.{is_question}
-use Rattle.exchange_pairs.specs.LengthRun
-use Rattle.exchange_pairs.specs.LengthRun.{Control, LengthLink, LengthWay, central_keeps, central_takes_kept, end_sends, end_takes, is_question_way, length_exchanges}
-use Rattle.exchange_pairs.specs.Lengths.{LengthPdu}
+use Rattle.exchange_steps.specs.exchange_pairs.Exchange.{is_question}
+use Rattle.exchange_steps.specs.exchange_pairs.LengthRun
+use Rattle.exchange_steps.specs.exchange_pairs.LengthRun.{Control, LengthLink, LengthWay, central_keeps, central_takes_kept, end_sends, end_takes, is_question_way, length_exchanges}
+use Rattle.exchange_steps.specs.exchange_pairs.Lengths.{LengthPdu}
 use Rattle.exchange_steps.specs.Steps.{EndStep, begins_features, begins_lengths, begins_version, limits, terminates, wants_version}
 use Rattle.joint_exchanges.specs.Machines.{SentMaxima, lengths_event, lengths_in, lengths_link, maxima_after}
 use Rattle.joint_exchanges.specs.Moves.{Does, Keeps, MayMove, Move, Sends, Takes, TakesKept, after_move}

@@ -2,10 +2,10 @@
 use Rattle.std.proofs.Common.{◌≡◌, ℕ, true, List, [], ◌∷◌, ◌++◌, refl, ap, sym, ◌∙◌}
 use Rattle.instants.specs.declared.indications.Params.{Params}
 use Rattle.machines.specs.Machine.{run, run_from}
-use Rattle.exchange_pairs.specs.ExchangeRun.{exchanges}
-use Rattle.exchange_pairs.specs.LengthLaws.{none_accepts}
-use Rattle.exchange_pairs.specs.LengthRun.{LengthEvent, length_exchanges}
-use Rattle.exchange_pairs.specs.VersionRun.{versions}
+use Rattle.exchange_steps.specs.exchange_pairs.ExchangeRun.{exchanges}
+use Rattle.exchange_steps.specs.exchange_pairs.LengthLaws.{none_accepts}
+use Rattle.exchange_steps.specs.exchange_pairs.LengthRun.{LengthEvent, length_exchanges}
+use Rattle.exchange_steps.specs.exchange_pairs.VersionRun.{versions}
 use Rattle.exchange_steps.specs.Steps.{begins_lengths, limits, terminates}
 use Rattle.joint_controls.specs.Joint.{Joint, JointStep, after_all, beginning, is_running}
 use Rattle.joint_exchanges.specs.Machines.{SentMaxima, events_of, features_event, features_link, lengths_event, lengths_link, maxima_after, maxima_after_all, none_sent, versions_event, versions_link}

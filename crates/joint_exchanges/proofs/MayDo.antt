@@ -5,27 +5,27 @@ use Rattle.ble_base.specs.declared.procedure_kinds.Kind.{Kind}
 use Rattle.ble_base.specs.declared.procedure_kinds.Kind.TheVariants.{Encrypt, Features, Length, Version}
 use Rattle.ble_base.specs.declared.roles.Role.{Role}
 use Rattle.instants.specs.Track.{next_number}
-use Rattle.procedure_values.specs.declared.asks.Ask.{Ask}
-use Rattle.procedure_values.specs.declared.asks.Ask.TheVariants.{Length as ask_length, Version as ask_version}
-use Rattle.procedure_values.specs.Wants.{count_of, is_wanted}
-use Rattle.procedure_values.proofs.Counts.{wanted-counted}
-use Rattle.procedure_stages.specs.declared.stages.Exchange.TheVariants.{FeaturesUnsent, FeaturesSent, VersionUnsent, VersionSent, LengthUnsent, LengthSent}
-use Rattle.procedure_stages.specs.declared.stages.OwnCentral.{OwnCentral}
-use Rattle.procedure_stages.specs.declared.stages.OwnCentral.TheVariants.{Exchange as exchange}
-use Rattle.procedure_stages.specs.declared.stages.OwnPeripheral.{OwnPeripheral}
-use Rattle.procedure_stages.specs.declared.stages.OwnPeripheral.TheVariants.{Exchange as exchange_p}
-use Rattle.procedure_stages.specs.declared.stages.Progress.{Progress}
-use Rattle.procedure_stages.specs.declared.stages.Progress.TheVariants.{Central as central, Peripheral as peripheral}
-use Rattle.procedure_stages.specs.Kinds.{exchange_at_central, exchange_at_peripheral, is_kind, kind_at_central, kind_at_peripheral, own_exchange, own_kind}
-use Rattle.procedures.specs.Beginning.{ask_at, begin_at, begin_step, may_ask_of, place_to_begin}
-use Rattle.procedures.specs.Calls.{begins_one, enters}
-use Rattle.procedures.specs.Table.{TableFacts}
-use Rattle.table_laws.proofs.Begun.{begins_of}
-use Rattle.exchange_pairs.specs.Exchange.{is_idle}
+use Rattle.exchange_steps.specs.procedure_values.declared.asks.Ask.{Ask}
+use Rattle.exchange_steps.specs.procedure_values.declared.asks.Ask.TheVariants.{Length as ask_length, Version as ask_version}
+use Rattle.exchange_steps.specs.procedure_values.Wants.{count_of, is_wanted}
+use Rattle.exchange_steps.proofs.procedure_values.Counts.{wanted-counted}
+use Rattle.exchange_steps.specs.procedure_stages.declared.stages.Exchange.TheVariants.{FeaturesUnsent, FeaturesSent, VersionUnsent, VersionSent, LengthUnsent, LengthSent}
+use Rattle.exchange_steps.specs.procedure_stages.declared.stages.OwnCentral.{OwnCentral}
+use Rattle.exchange_steps.specs.procedure_stages.declared.stages.OwnCentral.TheVariants.{Exchange as exchange}
+use Rattle.exchange_steps.specs.procedure_stages.declared.stages.OwnPeripheral.{OwnPeripheral}
+use Rattle.exchange_steps.specs.procedure_stages.declared.stages.OwnPeripheral.TheVariants.{Exchange as exchange_p}
+use Rattle.exchange_steps.specs.procedure_stages.declared.stages.Progress.{Progress}
+use Rattle.exchange_steps.specs.procedure_stages.declared.stages.Progress.TheVariants.{Central as central, Peripheral as peripheral}
+use Rattle.exchange_steps.specs.procedure_stages.Kinds.{exchange_at_central, exchange_at_peripheral, is_kind, kind_at_central, kind_at_peripheral, own_exchange, own_kind}
+use Rattle.exchange_steps.specs.procedures.Beginning.{ask_at, begin_at, begin_step, may_ask_of, place_to_begin}
+use Rattle.exchange_steps.specs.procedures.Calls.{begins_one, enters}
+use Rattle.exchange_steps.specs.procedures.Table.{TableFacts}
+use Rattle.joint_controls.proofs.table_laws.Begun.{begins_of}
+use Rattle.exchange_steps.specs.exchange_pairs.Exchange.{is_idle}
 use Rattle.exchange_steps.specs.Ends.{version_stage}
 use Rattle.exchange_steps.specs.Steps.{MayCome, step_of_ask, step_of_begun}
 use Rattle.exchange_steps.proofs.Calls.{each_call, each_comes}
-use Rattle.phased_control.specs.Phased.{Phased, is_open_now, is_quiet_now, table_entered}
+use Rattle.joint_controls.specs.phased_control.Phased.{Phased, is_open_now, is_quiet_now, table_entered}
 use Rattle.joint_controls.specs.Joint.{may_ask}
 use Rattle.joint_exchanges.specs.JointMoves.{begun_as_entered, terminates_if}
 use Rattle.joint_exchanges.specs.Moves.{end_of, keeps_version, knows}

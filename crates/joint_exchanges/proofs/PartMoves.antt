@@ -4,7 +4,7 @@ use Rattle.std.specs.Bool.{⊤}
 use Rattle.ble_base.specs.declared.roles.Role.{Role}
 use Rattle.ble_base.specs.declared.roles.Role.TheVariants.{Central, Peripheral}
 use Rattle.data_pdu.specs.declared.ctrl.Ctrl.{Ctrl}
-use Rattle.exchange_pairs.specs.Exchange.{is_idle}
+use Rattle.exchange_steps.specs.exchange_pairs.Exchange.{is_idle}
 use Rattle.exchange_steps.specs.Steps.{EndStep, MayCome, after_steps}
 use Rattle.joint_exchanges.specs.JointMoves.{does, keeps, kept_taken, sends, takes}
 use Rattle.joint_exchanges.specs.Moves.{IsFirst, MayDo, MayMoveAll, Move, after_move, after_moves, is_some_version, sending}

@@ -7,37 +7,37 @@ use Rattle.ble_base.specs.declared.roles.Role.TheVariants.{Central as central_ro
 use Rattle.data_pdu.specs.declared.ctrl.Ctrl.{Ctrl}
 use Rattle.data_pdu.specs.declared.ctrl.Ctrl.TheVariants.{EncReq, EncRsp, PauseEncReq, PauseEncRsp, RejectExtInd, StartEncReq, StartEncRsp, TerminateInd}
 use Rattle.data_pdu.specs.declared.ctrl.CtrlRead.TheVariants.{Known}
-use Rattle.enc_phase.specs.declared.classes.PduClass.{PduClass}
-use Rattle.enc_phase.specs.declared.classes.PduClass.TheVariants.{Other as other_class, Request as request_class}
-use Rattle.enc_phase.specs.declared.facts.PhaseFacts.{PhaseFacts}
-use Rattle.enc_phase.specs.declared.facts.PhaseFacts.TheVariants.{Clear, Asked, HalfKeyed, Secure, Pausing, HalfClear}
-use Rattle.enc_phase.specs.Taking.{ctrl_class, is_unknown}
-use Rattle.procedure_values.specs.declared.asks.Ask.{Ask}
-use Rattle.procedure_values.specs.declared.drafts.Draft.{Draft}
-use Rattle.procedure_values.specs.declared.drafts.Draft.TheVariants.{Cipher, FeatureReq, FeatureRsp, Grant, LengthReq, LengthRsp, Map, PeripheralFeatureReq, PhyInd, PhyReq, PhyRsp, Request, UnknownRsp, Update, VersionInd}
-use Rattle.procedure_values.specs.declared.drafts.Outgoing.{Outgoing}
-use Rattle.procedure_values.specs.declared.drafts.Outgoing.TheVariants.{Disconnect, Nothing, Other, Rejection}
-use Rattle.procedure_values.specs.declared.drafts.Rejection.{Rejection as TheRejection}
-use Rattle.procedure_values.specs.declared.lengths.Lengths.{Lengths}
-use Rattle.procedure_values.specs.Drafts.{ctrl_of_draft, ctrl_of_outgoing}
-use Rattle.procedure_stages.specs.declared.stages.Central.{Central}
-use Rattle.procedure_stages.specs.declared.stages.Exchange.{Exchange}
-use Rattle.procedure_stages.specs.declared.stages.Exchange.TheVariants.{FeaturesUnsent, FeaturesSent, VersionUnsent, VersionSent, LengthUnsent, LengthSent}
-use Rattle.procedure_stages.specs.declared.stages.OwnCentral.{OwnCentral}
-use Rattle.procedure_stages.specs.declared.stages.OwnCentral.TheVariants.{Exchange as exchange}
-use Rattle.procedure_stages.specs.declared.stages.OwnPeripheral.{OwnPeripheral}
-use Rattle.procedure_stages.specs.declared.stages.OwnPeripheral.TheVariants.{Exchange as exchange_p}
-use Rattle.procedure_stages.specs.declared.stages.Peripheral.{Peripheral}
-use Rattle.procedure_stages.specs.declared.stages.Progress.{Progress}
-use Rattle.procedure_stages.specs.declared.stages.Progress.TheVariants.{Central as central, Peripheral as peripheral}
-use Rattle.procedure_stages.specs.Closing.{is_open}
-use Rattle.procedure_stages.specs.Kinds.{own_exchange, role_of}
-use Rattle.procedure_stages.specs.Opcodes.{connection_param_req_opcode, enc_req_opcode, enc_rsp_opcode, feature_req_opcode, first_opcode, is_opcode, later_opcode, length_req_opcode, pause_enc_req_opcode, peripheral_feature_req_opcode, phy_req_opcode, start_enc_req_opcode, version_ind_opcode}
-use Rattle.procedures.specs.Table.{TableFacts}
-use Rattle.exchange_pairs.specs.ExchangeRun.{other_role}
+use Rattle.joint_controls.specs.enc_phase.declared.classes.PduClass.{PduClass}
+use Rattle.joint_controls.specs.enc_phase.declared.classes.PduClass.TheVariants.{Other as other_class, Request as request_class}
+use Rattle.joint_controls.specs.enc_phase.declared.facts.PhaseFacts.{PhaseFacts}
+use Rattle.joint_controls.specs.enc_phase.declared.facts.PhaseFacts.TheVariants.{Clear, Asked, HalfKeyed, Secure, Pausing, HalfClear}
+use Rattle.joint_controls.specs.enc_phase.Taking.{ctrl_class, is_unknown}
+use Rattle.exchange_steps.specs.procedure_values.declared.asks.Ask.{Ask}
+use Rattle.exchange_steps.specs.procedure_values.declared.drafts.Draft.{Draft}
+use Rattle.exchange_steps.specs.procedure_values.declared.drafts.Draft.TheVariants.{Cipher, FeatureReq, FeatureRsp, Grant, LengthReq, LengthRsp, Map, PeripheralFeatureReq, PhyInd, PhyReq, PhyRsp, Request, UnknownRsp, Update, VersionInd}
+use Rattle.exchange_steps.specs.procedure_values.declared.drafts.Outgoing.{Outgoing}
+use Rattle.exchange_steps.specs.procedure_values.declared.drafts.Outgoing.TheVariants.{Disconnect, Nothing, Other, Rejection}
+use Rattle.exchange_steps.specs.procedure_values.declared.drafts.Rejection.{Rejection as TheRejection}
+use Rattle.exchange_steps.specs.procedure_values.declared.lengths.Lengths.{Lengths}
+use Rattle.exchange_steps.specs.procedure_values.Drafts.{ctrl_of_draft, ctrl_of_outgoing}
+use Rattle.exchange_steps.specs.procedure_stages.declared.stages.Central.{Central}
+use Rattle.exchange_steps.specs.procedure_stages.declared.stages.Exchange.{Exchange}
+use Rattle.exchange_steps.specs.procedure_stages.declared.stages.Exchange.TheVariants.{FeaturesUnsent, FeaturesSent, VersionUnsent, VersionSent, LengthUnsent, LengthSent}
+use Rattle.exchange_steps.specs.procedure_stages.declared.stages.OwnCentral.{OwnCentral}
+use Rattle.exchange_steps.specs.procedure_stages.declared.stages.OwnCentral.TheVariants.{Exchange as exchange}
+use Rattle.exchange_steps.specs.procedure_stages.declared.stages.OwnPeripheral.{OwnPeripheral}
+use Rattle.exchange_steps.specs.procedure_stages.declared.stages.OwnPeripheral.TheVariants.{Exchange as exchange_p}
+use Rattle.exchange_steps.specs.procedure_stages.declared.stages.Peripheral.{Peripheral}
+use Rattle.exchange_steps.specs.procedure_stages.declared.stages.Progress.{Progress}
+use Rattle.exchange_steps.specs.procedure_stages.declared.stages.Progress.TheVariants.{Central as central, Peripheral as peripheral}
+use Rattle.exchange_steps.specs.procedure_stages.Closing.{is_open}
+use Rattle.exchange_steps.specs.procedure_stages.Kinds.{own_exchange, role_of}
+use Rattle.exchange_steps.specs.procedure_stages.Opcodes.{connection_param_req_opcode, enc_req_opcode, enc_rsp_opcode, feature_req_opcode, first_opcode, is_opcode, later_opcode, length_req_opcode, pause_enc_req_opcode, peripheral_feature_req_opcode, phy_req_opcode, start_enc_req_opcode, version_ind_opcode}
+use Rattle.exchange_steps.specs.procedures.Table.{TableFacts}
+use Rattle.exchange_steps.specs.exchange_pairs.ExchangeRun.{other_role}
 use Rattle.exchange_steps.specs.Ends.{ExchangeEnds, ends_by, ends_of}
 use Rattle.exchange_steps.specs.Steps.{after_step, after_steps, is_refused, refusal_if, step_of_ctrl}
-use Rattle.phased_control.specs.Taken.{is_version as is_version_read}
+use Rattle.joint_controls.specs.phased_control.Taken.{is_version as is_version_read}
 use Rattle.joint_exchanges.specs.Moves.{is_some_version, taking}
 use Rattle.joint_exchanges.specs.Parts.{AnyPdu, pdu_of_first, pdu_of_outgoing}
 use Rattle.joint_exchanges.specs.SentByRole.{IsSentBy, is_cipher_opcode, is_outgoing_of}

@@ -7,26 +7,26 @@ use Rattle.ble_base.specs.declared.roles.Role.{Role}
 use Rattle.ble_base.specs.declared.roles.Role.TheVariants.{Central, Peripheral}
 use Rattle.data_pdu.specs.declared.ctrl.Ctrl.{Ctrl}
 use Rattle.instants.specs.declared.indications.Params.{Params}
-use Rattle.procedure_values.specs.Limits.{tx_of}
-use Rattle.procedure_values.specs.Wants.{count_of}
+use Rattle.exchange_steps.specs.procedure_values.Limits.{tx_of}
+use Rattle.exchange_steps.specs.procedure_values.Wants.{count_of}
 use Rattle.machines.specs.Machine.{run}
-use Rattle.table_laws.specs.Waiting
-use Rattle.exchange_pairs.specs.Exchange.{ExchangeStage, Idle, Sent, Unsent, count_if, is_idle}
-use Rattle.exchange_pairs.specs.ExchangeLaws
-use Rattle.exchange_pairs.specs.ExchangeRun
-use Rattle.exchange_pairs.specs.ExchangeRun.{ExchangeEvent, ExchangeLink, exchanges, other_role}
-use Rattle.exchange_pairs.specs.LengthPart.{exchange_link}
-use Rattle.exchange_pairs.specs.LengthRun.{LengthLink, length_exchanges}
-use Rattle.exchange_pairs.specs.VersionLaws
-use Rattle.exchange_pairs.specs.VersionRun
-use Rattle.exchange_pairs.specs.VersionRun.{VersionEvent, VersionLink, versions}
-use Rattle.exchange_pairs.proofs.Exchanges.{idle, sent, unsent}
-use Rattle.exchange_pairs.proofs.LengthParts.{parts}
-use Rattle.exchange_pairs.proofs.LengthsFixed.{known_fixed, stays}
-use Rattle.exchange_pairs.proofs.LengthsKept.{transmits_within}
-use Rattle.exchange_pairs.proofs.Versions
-use Rattle.exchange_pairs.proofs.Versions.{known_then_idle, once, sent_is_coming, still_answering, unsent_waits, used_unknown}
-use Rattle.phased_control.specs.Phased.{is_open_now, is_quiet_now}
+use Rattle.joint_controls.specs.table_laws.Waiting
+use Rattle.exchange_steps.specs.exchange_pairs.Exchange.{ExchangeStage, Idle, Sent, Unsent, count_if, is_idle}
+use Rattle.exchange_steps.specs.exchange_pairs.ExchangeLaws
+use Rattle.exchange_steps.specs.exchange_pairs.ExchangeRun
+use Rattle.exchange_steps.specs.exchange_pairs.ExchangeRun.{ExchangeEvent, ExchangeLink, exchanges, other_role}
+use Rattle.exchange_steps.specs.exchange_pairs.LengthPart.{exchange_link}
+use Rattle.exchange_steps.specs.exchange_pairs.LengthRun.{LengthLink, length_exchanges}
+use Rattle.exchange_steps.specs.exchange_pairs.VersionLaws
+use Rattle.exchange_steps.specs.exchange_pairs.VersionRun
+use Rattle.exchange_steps.specs.exchange_pairs.VersionRun.{VersionEvent, VersionLink, versions}
+use Rattle.exchange_steps.proofs.exchange_pairs.Exchanges.{idle, sent, unsent}
+use Rattle.exchange_steps.proofs.exchange_pairs.LengthParts.{parts}
+use Rattle.exchange_steps.proofs.exchange_pairs.LengthsFixed.{known_fixed, stays}
+use Rattle.exchange_steps.proofs.exchange_pairs.LengthsKept.{transmits_within}
+use Rattle.exchange_steps.proofs.exchange_pairs.Versions
+use Rattle.exchange_steps.proofs.exchange_pairs.Versions.{known_then_idle, once, sent_is_coming, still_answering, unsent_waits, used_unknown}
+use Rattle.joint_controls.specs.phased_control.Phased.{is_open_now, is_quiet_now}
 use Rattle.joint_controls.specs.Joint.{Joint, JointStep, after_all, beginning}
 use Rattle.joint_exchanges.specs.Agreement.{Asked, Features, Lengths, coming_to, end_at, first_rx_at, is_answer_of, is_first_of, is_question_of, is_version_ctrl, is_version_ind, kept_of, passes, places_of, questions_waiting, sent_from, stage_at, untaken, version_coming, version_places, version_stage_at, waiting}
 use Rattle.joint_exchanges.specs.Machines.{events_of, features_event, lengths_event, lengths_link, maxima_after_all, none_sent, versions_event, versions_link}

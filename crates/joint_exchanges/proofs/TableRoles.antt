@@ -11,56 +11,56 @@ use Rattle.data_pdu.specs.declared.ctrl.Ctrl.{Ctrl}
 use Rattle.data_pdu.specs.declared.ctrl.Ctrl.TheVariants.{ChannelMapInd, ConnectionParamReq, ConnectionUpdateInd, EncRsp, FeatureRsp as ctrl_feature_rsp, LengthReq as ctrl_length_req, LengthRsp as ctrl_length_rsp, PauseEncRsp, PhyReq as ctrl_phy_req, PhyRsp as ctrl_phy_rsp, PhyUpdateInd, RejectExtInd, RejectInd, StartEncReq, StartEncRsp, TerminateInd, UnknownRsp as ctrl_unknown_rsp, VersionInd as ctrl_version_ind}
 use Rattle.data_pdu.specs.declared.ctrl.CtrlRead.{CtrlRead}
 use Rattle.data_pdu.specs.declared.ctrl.CtrlRead.TheVariants.{Bare, Known, Unknown}
-use Rattle.procedure_values.specs.declared.asks.Ask.{Ask}
-use Rattle.procedure_values.specs.declared.asks.Ask.TheVariants.{Update as ask_update, Request as ask_request, Map as ask_map, Phy as ask_phy, Features as ask_features, Version as ask_version, Length as ask_length, Encrypt as ask_encrypt}
-use Rattle.procedure_values.specs.declared.drafts.Draft.{Draft}
-use Rattle.procedure_values.specs.declared.drafts.Draft.TheVariants.{Cipher, FeatureReq, FeatureRsp, Grant, LengthRsp, PeripheralFeatureReq, PhyInd, PhyRsp, UnknownRsp, VersionInd}
-use Rattle.procedure_values.specs.declared.drafts.Rejection.{Rejection as TheRejection}
-use Rattle.procedure_values.specs.declared.drafts.Outgoing.{Outgoing}
-use Rattle.procedure_values.specs.declared.drafts.Outgoing.TheVariants.{Disconnect, Nothing, Other, Rejection}
-use Rattle.procedure_values.specs.Asks.{kind_of_ask}
-use Rattle.procedure_values.specs.Drafts.{waits_for_instant}
-use Rattle.procedure_values.specs.Values.{are_valid}
-use Rattle.procedure_stages.specs.declared.reply.Reply.{Reply}
-use Rattle.procedure_stages.specs.declared.reply.Reply.TheVariants.{Nothing as no_reply, Reject, Answer}
-use Rattle.procedure_stages.specs.declared.stages.Ahead.{Ahead}
-use Rattle.procedure_stages.specs.declared.stages.Central.{Central}
-use Rattle.procedure_stages.specs.declared.stages.Peripheral.{Peripheral}
-use Rattle.procedure_stages.specs.declared.stages.Progress.{Progress}
-use Rattle.procedure_stages.specs.declared.stages.Progress.TheVariants.{Central as central, Peripheral as peripheral}
-use Rattle.procedure_stages.specs.declared.steps.Step.{Step}
+use Rattle.exchange_steps.specs.procedure_values.declared.asks.Ask.{Ask}
+use Rattle.exchange_steps.specs.procedure_values.declared.asks.Ask.TheVariants.{Update as ask_update, Request as ask_request, Map as ask_map, Phy as ask_phy, Features as ask_features, Version as ask_version, Length as ask_length, Encrypt as ask_encrypt}
+use Rattle.exchange_steps.specs.procedure_values.declared.drafts.Draft.{Draft}
+use Rattle.exchange_steps.specs.procedure_values.declared.drafts.Draft.TheVariants.{Cipher, FeatureReq, FeatureRsp, Grant, LengthRsp, PeripheralFeatureReq, PhyInd, PhyRsp, UnknownRsp, VersionInd}
+use Rattle.exchange_steps.specs.procedure_values.declared.drafts.Rejection.{Rejection as TheRejection}
+use Rattle.exchange_steps.specs.procedure_values.declared.drafts.Outgoing.{Outgoing}
+use Rattle.exchange_steps.specs.procedure_values.declared.drafts.Outgoing.TheVariants.{Disconnect, Nothing, Other, Rejection}
+use Rattle.exchange_steps.specs.procedure_values.Asks.{kind_of_ask}
+use Rattle.exchange_steps.specs.procedure_values.Drafts.{waits_for_instant}
+use Rattle.exchange_steps.specs.procedure_values.Values.{are_valid}
+use Rattle.exchange_steps.specs.procedure_stages.declared.reply.Reply.{Reply}
+use Rattle.exchange_steps.specs.procedure_stages.declared.reply.Reply.TheVariants.{Nothing as no_reply, Reject, Answer}
+use Rattle.exchange_steps.specs.procedure_stages.declared.stages.Ahead.{Ahead}
+use Rattle.exchange_steps.specs.procedure_stages.declared.stages.Central.{Central}
+use Rattle.exchange_steps.specs.procedure_stages.declared.stages.Peripheral.{Peripheral}
+use Rattle.exchange_steps.specs.procedure_stages.declared.stages.Progress.{Progress}
+use Rattle.exchange_steps.specs.procedure_stages.declared.stages.Progress.TheVariants.{Central as central, Peripheral as peripheral}
+use Rattle.exchange_steps.specs.procedure_stages.declared.steps.Step.{Step}
 use Rattle.exclusive_stages.specs.declared.stages.PeerAtCentral.TheVariants.{Absent, HostAsked, PhyIndUnsent}
 use Rattle.exclusive_stages.specs.declared.stages.PeerAtPeripheral.TheVariants.{PhyRspUnsent}
 use Rattle.exclusive_stages.specs.Awaited.{awaits_phy_ind, awaits_phy_rsp, central_answered, has_phy_of_central, peer_answered, reads_as_answer}
-use Rattle.procedure_stages.specs.declared.steps.Effect.TheVariants.{AskHost}
-use Rattle.procedure_stages.specs.Awaited.{awaits_features, awaits_lengths, is_own_encryption}
-use Rattle.procedure_stages.specs.Acked.{progress_acked}
-use Rattle.procedure_stages.specs.Begun.{progress_begun, version_draft}
-use Rattle.procedure_stages.specs.Held.{progress_held}
-use Rattle.procedure_stages.specs.InProgress.{is_host_asked}
-use Rattle.procedure_stages.specs.Sent.{progress_after_sending}
-use Rattle.procedure_stages.specs.Closing.{is_disconnecting, is_open}
-use Rattle.procedure_stages.specs.Exclusive.{central_stage, peripheral_stage}
-use Rattle.procedure_stages.specs.Collisions.{collision}
-use Rattle.procedure_stages.specs.Kinds.{begins, kind_at_central, kind_at_peripheral, own_exchange, role_of}
-use Rattle.procedure_stages.specs.Foreign.{is_foreign}
-use Rattle.procedure_stages.specs.Opcodes.{connection_param_req_opcode, phy_req_opcode}
-use Rattle.procedure_stages.specs.Queue.{QueueFacts, is_past_instant, next_by, next_disconnect, next_draft, with_draft, with_rejection, with_reply, without_next}
-use Rattle.procedures.specs.declared.outcome.Outcome.{Outcome}
-use Rattle.procedures.specs.Beginning.{ask_at, ask_step, begin_at, begin_step, facts_begun, first_draft, place_to_begin, with_first_draft}
-use Rattle.procedures.specs.Encryption.{is_rejection, progress_given}
-use Rattle.procedures.specs.Going.{entered_step, host_answer_step, owe_step, terminate_step}
-use Rattle.procedures.specs.Outcomes.{ended, moved, moved_and_answered, rejected, unchanged, with_effect}
-use Rattle.procedures.specs.Queue.{next_of}
-use Rattle.procedures.specs.Refusals.{refused}
-use Rattle.procedures.specs.Request.{collided, outlived, request_judged}
-use Rattle.procedures.specs.Sending.{acked_step, went_step}
-use Rattle.procedures.specs.Table.{TableFacts}
-use Rattle.procedures.specs.Taking.{facts_with, lacks_room, outcome_of, taken_by_role, taken_by, taken_by_central, taken_by_either, taken_by_peripheral, took_step}
-use Rattle.procedures.specs.Update.{follow}
-use Rattle.procedures.specs.Version.{version_reply}
-use Rattle.table_laws.proofs.Begun.{begins_of}
-use Rattle.table_laws.proofs.Outcomes.{Took, is_reply, took}
+use Rattle.exchange_steps.specs.procedure_stages.declared.steps.Effect.TheVariants.{AskHost}
+use Rattle.exchange_steps.specs.procedure_stages.Awaited.{awaits_features, awaits_lengths, is_own_encryption}
+use Rattle.exchange_steps.specs.procedure_stages.Acked.{progress_acked}
+use Rattle.exchange_steps.specs.procedure_stages.Begun.{progress_begun, version_draft}
+use Rattle.exchange_steps.specs.procedure_stages.Held.{progress_held}
+use Rattle.exchange_steps.specs.procedure_stages.InProgress.{is_host_asked}
+use Rattle.exchange_steps.specs.procedure_stages.Sent.{progress_after_sending}
+use Rattle.exchange_steps.specs.procedure_stages.Closing.{is_disconnecting, is_open}
+use Rattle.exchange_steps.specs.procedure_stages.Exclusive.{central_stage, peripheral_stage}
+use Rattle.exchange_steps.specs.procedure_stages.Collisions.{collision}
+use Rattle.exchange_steps.specs.procedure_stages.Kinds.{begins, kind_at_central, kind_at_peripheral, own_exchange, role_of}
+use Rattle.exchange_steps.specs.procedure_stages.Foreign.{is_foreign}
+use Rattle.exchange_steps.specs.procedure_stages.Opcodes.{connection_param_req_opcode, phy_req_opcode}
+use Rattle.exchange_steps.specs.procedure_stages.Queue.{QueueFacts, is_past_instant, next_by, next_disconnect, next_draft, with_draft, with_rejection, with_reply, without_next}
+use Rattle.exchange_steps.specs.procedures.declared.outcome.Outcome.{Outcome}
+use Rattle.exchange_steps.specs.procedures.Beginning.{ask_at, ask_step, begin_at, begin_step, facts_begun, first_draft, place_to_begin, with_first_draft}
+use Rattle.exchange_steps.specs.procedures.Encryption.{is_rejection, progress_given}
+use Rattle.exchange_steps.specs.procedures.Going.{entered_step, host_answer_step, owe_step, terminate_step}
+use Rattle.exchange_steps.specs.procedures.Outcomes.{ended, moved, moved_and_answered, rejected, unchanged, with_effect}
+use Rattle.exchange_steps.specs.procedures.Queue.{next_of}
+use Rattle.exchange_steps.specs.procedures.Refusals.{refused}
+use Rattle.exchange_steps.specs.procedures.Request.{collided, outlived, request_judged}
+use Rattle.exchange_steps.specs.procedures.Sending.{acked_step, went_step}
+use Rattle.exchange_steps.specs.procedures.Table.{TableFacts}
+use Rattle.exchange_steps.specs.procedures.Taking.{facts_with, lacks_room, outcome_of, taken_by_role, taken_by, taken_by_central, taken_by_either, taken_by_peripheral, took_step}
+use Rattle.exchange_steps.specs.procedures.Update.{follow}
+use Rattle.exchange_steps.specs.procedures.Version.{version_reply}
+use Rattle.joint_controls.proofs.table_laws.Begun.{begins_of}
+use Rattle.joint_controls.proofs.table_laws.Outcomes.{Took, is_reply, took}
 use Rattle.joint_exchanges.specs.SentByRole.{IsTableOf, is_cipher_of, is_cipher_opcode, is_draft_of, is_outgoing_of, is_rejection_of}
 
 abbrev pub AreDrafts : Bool → Role → List Draft → Type 0

@@ -2,9 +2,9 @@
 use Rattle.std.proofs.Common.{◌≡◌, ℕ, Bool, true, false, if◌then◌else◌, Option, Some, None, is_none, refl}
 use Rattle.ble_base.specs.ErrorCodes.{memory_capacity_exceeded, mic_failure}
 use Rattle.data_pdu.specs.declared.ctrl.CtrlRead.{CtrlRead}
-use Rattle.control_model.specs.Control.{Takes as control_takes}
-use Rattle.phased_control.specs.Phased.{Phased, is_quiet_now, with_step}
-use Rattle.phased_control.specs.Taken.{Response, answered_if_quiet, ciphered, does_keep, ended_with, handed_on, is_allowed, keeping, knowing, lacks_room_now, seen_as, took, took_allowed, with_phase_taking}
+use Rattle.joint_controls.specs.control_model.Control.{Takes as control_takes}
+use Rattle.joint_controls.specs.phased_control.Phased.{Phased, is_quiet_now, with_step}
+use Rattle.joint_controls.specs.phased_control.Taken.{Response, answered_if_quiet, ciphered, does_keep, ended_with, handed_on, is_allowed, keeping, knowing, lacks_room_now, seen_as, took, took_allowed, with_phase_taking}
 
 -- after the procedures have seen it
 abbrev pub handed : ℕ → CtrlRead → Phased → Phased

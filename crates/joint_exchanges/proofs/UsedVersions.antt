@@ -4,8 +4,8 @@ use Rattle.std.specs.Bool.{⊤}
 use Rattle.std.proofs.lemmas.Bool.{and_parts}
 use Rattle.ble_base.specs.declared.roles.Role.{Role}
 use Rattle.ble_base.specs.declared.roles.Role.TheVariants.{Central, Peripheral}
-use Rattle.exchange_pairs.specs.Exchange.{ExchangeStage, Idle, Question, Sent, Unsent, is_idle, own_after_answer, own_after_sending}
-use Rattle.exchange_pairs.specs.Version.{VersionEnd, begun, may_begin, taken, with_version}
+use Rattle.exchange_steps.specs.exchange_pairs.Exchange.{ExchangeStage, Idle, Question, Sent, Unsent, is_idle, own_after_answer, own_after_sending}
+use Rattle.exchange_steps.specs.exchange_pairs.Version.{VersionEnd, begun, may_begin, taken, with_version}
 use Rattle.exchange_steps.specs.Ends.{ExchangeEnds}
 use Rattle.exchange_steps.specs.Steps.{EndStep, after_step, begins_version, is_refused, sends_version, takes_version}
 use Rattle.joint_exchanges.specs.Moves.{Does, Keeps, MayMove, MayMoveAll, Move, Sends, Takes, TakesKept, after_move, after_moves, end_of, is_version, sending, taking}

@@ -3,8 +3,8 @@ use Rattle.std.proofs.Common.{◌≡◌, Bool, true, false, not, ◌||◌, [], �
 use Rattle.ble_base.specs.declared.roles.Role.{Role}
 use Rattle.ble_base.specs.declared.roles.Role.TheVariants.{Central, Peripheral}
 use Rattle.machines.specs.Machine.{run_from}
-use Rattle.exchange_pairs.specs.VersionRun
-use Rattle.exchange_pairs.specs.VersionRun.{VersionEvent, VersionLink, versions}
+use Rattle.exchange_steps.specs.exchange_pairs.VersionRun
+use Rattle.exchange_steps.specs.exchange_pairs.VersionRun.{VersionEvent, VersionLink, versions}
 use Rattle.exchange_steps.specs.Steps.{EndStep, begins_features, begins_lengths, begins_version, limits, terminates, wants_version}
 use Rattle.joint_exchanges.specs.Machines.{versions_event, versions_link}
 use Rattle.joint_exchanges.specs.Moves.{Does, Keeps, MayMove, Move, Sends, Takes, TakesKept, after_move, is_some_version, is_version}

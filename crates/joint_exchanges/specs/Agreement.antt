@@ -5,16 +5,16 @@ use Rattle.ble_base.specs.declared.roles.Role.{Role}
 use Rattle.ble_base.specs.declared.roles.Role.TheVariants.{Central, Peripheral}
 use Rattle.data_pdu.specs.declared.ctrl.Ctrl.{Ctrl}
 use Rattle.data_pdu.specs.declared.ctrl.Ctrl.TheVariants.{LengthReq as ctrl_length_req, PeripheralFeatureReq as ctrl_feature_req, VersionInd as ctrl_version_ind}
-use Rattle.procedure_values.specs.declared.drafts.Draft.{Draft}
-use Rattle.procedure_values.specs.declared.drafts.Draft.TheVariants.{FeatureReq, FeatureRsp, LengthReq, LengthRsp, PeripheralFeatureReq, VersionInd}
-use Rattle.procedure_values.specs.declared.drafts.Outgoing.{Outgoing}
-use Rattle.procedure_values.specs.declared.drafts.Outgoing.TheVariants.{Other}
-use Rattle.procedure_stages.specs.Kinds.{own_exchange}
-use Rattle.table_laws.specs.Waiting.{count_if, number_of}
-use Rattle.exchange_pairs.specs.Exchange.{ExchangeStage}
-use Rattle.exchange_pairs.specs.ExchangeRun.{other_role}
+use Rattle.exchange_steps.specs.procedure_values.declared.drafts.Draft.{Draft}
+use Rattle.exchange_steps.specs.procedure_values.declared.drafts.Draft.TheVariants.{FeatureReq, FeatureRsp, LengthReq, LengthRsp, PeripheralFeatureReq, VersionInd}
+use Rattle.exchange_steps.specs.procedure_values.declared.drafts.Outgoing.{Outgoing}
+use Rattle.exchange_steps.specs.procedure_values.declared.drafts.Outgoing.TheVariants.{Other}
+use Rattle.exchange_steps.specs.procedure_stages.Kinds.{own_exchange}
+use Rattle.joint_controls.specs.table_laws.Waiting.{count_if, number_of}
+use Rattle.exchange_steps.specs.exchange_pairs.Exchange.{ExchangeStage}
+use Rattle.exchange_steps.specs.exchange_pairs.ExchangeRun.{other_role}
 use Rattle.exchange_steps.specs.Ends.{features_stage, lengths_stage, version_stage}
-use Rattle.phased_control.specs.Phased.{Phased}
+use Rattle.joint_controls.specs.phased_control.Phased.{Phased}
 use Rattle.joint_controls.specs.Joint.{Clear, Control, Data, Fixed, Item, Joint, OnAir, Taken, Way}
 
 -- ---- the ends, by role

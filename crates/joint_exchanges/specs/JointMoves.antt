@@ -4,11 +4,11 @@ use Rattle.std.specs.Prelude.{ℕ, Bool, not, ◌&&◌, List, [], ◌∷◌, ◌
 use Rattle.ble_base.specs.declared.roles.Role.{Role}
 use Rattle.ble_base.specs.declared.roles.Role.TheVariants.{Central, Peripheral}
 use Rattle.data_pdu.specs.declared.ctrl.Ctrl.{Ctrl}
-use Rattle.enc_phase.specs.declared.facts.Transition.TheVariants.{Refuse}
-use Rattle.enc_phase.specs.Phases.{may_follow}
-use Rattle.procedures.specs.Beginning.{begin_step}
+use Rattle.joint_controls.specs.enc_phase.declared.facts.Transition.TheVariants.{Refuse}
+use Rattle.joint_controls.specs.enc_phase.Phases.{may_follow}
+use Rattle.exchange_steps.specs.procedures.Beginning.{begin_step}
 use Rattle.exchange_steps.specs.Steps.{EndStep, step_of_ask, step_of_begun, terminates}
-use Rattle.phased_control.specs.Phased.{Phased, is_open_now, is_quiet_now, table_entered}
+use Rattle.joint_controls.specs.phased_control.Phased.{Phased, is_open_now, is_quiet_now, table_entered}
 use Rattle.joint_controls.specs.Joint.{AsksFor, CentralEnters, CentralHost, CentralSends, CentralTakes, Ends, HasNoKey, HostStep, Joint, JointStep, PeripheralEnters, PeripheralFixes, PeripheralHost, PeripheralTakes, act, next_out}
 use Rattle.joint_exchanges.specs.Moves.{Does, Keeps, Move, Sends, Takes, TakesKept}
 use Rattle.joint_exchanges.specs.Parts.{AnyPdu, pdu_kept, pdu_of_outgoing, pdu_on}

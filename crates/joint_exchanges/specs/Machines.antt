@@ -2,14 +2,14 @@
 -- 5.2, volume 6 part B, sections 5.1.4, 5.1.5 and 5.1.9).
 use Rattle.std.specs.Prelude.{ℕ, List, [], ◌∷◌, ◌++◌, Option, Some, None, is_some, option_map}
 use Rattle.ble_base.specs.declared.roles.Role.TheVariants.{Central, Peripheral}
-use Rattle.exchange_pairs.specs.Exchange.{ExchangePdu}
-use Rattle.exchange_pairs.specs.ExchangeRun
-use Rattle.exchange_pairs.specs.ExchangeRun.{ExchangeEvent, ExchangeLink}
-use Rattle.exchange_pairs.specs.LengthRun
-use Rattle.exchange_pairs.specs.LengthRun.{Control, LengthEvent, LengthLink}
-use Rattle.exchange_pairs.specs.Lengths.{LengthPdu}
-use Rattle.exchange_pairs.specs.VersionRun
-use Rattle.exchange_pairs.specs.VersionRun.{VersionEvent, VersionLink}
+use Rattle.exchange_steps.specs.exchange_pairs.Exchange.{ExchangePdu}
+use Rattle.exchange_steps.specs.exchange_pairs.ExchangeRun
+use Rattle.exchange_steps.specs.exchange_pairs.ExchangeRun.{ExchangeEvent, ExchangeLink}
+use Rattle.exchange_steps.specs.exchange_pairs.LengthRun
+use Rattle.exchange_steps.specs.exchange_pairs.LengthRun.{Control, LengthEvent, LengthLink}
+use Rattle.exchange_steps.specs.exchange_pairs.Lengths.{LengthPdu}
+use Rattle.exchange_steps.specs.exchange_pairs.VersionRun
+use Rattle.exchange_steps.specs.exchange_pairs.VersionRun.{VersionEvent, VersionLink}
 use Rattle.exchange_steps.specs.Steps.{begins_features, begins_lengths, begins_version, limits, terminates, wants_version}
 use Rattle.joint_exchanges.specs.Moves.{Does, Keeps, Move, Sends, Takes, TakesKept, is_some_version}
 use Rattle.joint_exchanges.specs.Parts.{AnyPdu, ExchangeParts, of_features, of_lengths, of_versions}

@@ -3,7 +3,7 @@
 use Rattle.std.specs.Prelude.{◌≡◌, ⊤, ◌==◌, Bool, true, false, ◌||◌, List, [], ◌∷◌, Option, Some, None}
 use Rattle.ble_base.specs.declared.roles.Role.{Role}
 use Rattle.ble_base.specs.declared.roles.Role.TheVariants.{Central, Peripheral}
-use Rattle.exchange_pairs.specs.Exchange.{Answer, Question, is_idle}
+use Rattle.exchange_steps.specs.exchange_pairs.Exchange.{Answer, Question, is_idle}
 use Rattle.exchange_steps.specs.Ends.{ExchangeEnds}
 use Rattle.exchange_steps.specs.Steps.{EndStep, MayCome, after_step, begins_features, begins_lengths, begins_version, limits, sends_features, sends_lengths, sends_version, takes_features, takes_lengths, takes_version, terminates, wants_version}
 use Rattle.joint_exchanges.specs.Parts.{AnyPdu, ExchangeParts, of_features, of_lengths, of_versions}

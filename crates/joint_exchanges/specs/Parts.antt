@@ -4,14 +4,14 @@
 use Rattle.std.specs.Prelude.{Bool, Option, Some, None}
 use Rattle.data_pdu.specs.declared.ctrl.Ctrl.{Ctrl}
 use Rattle.data_pdu.specs.declared.ctrl.Ctrl.TheVariants.{LengthReq as ctrl_length_req, PeripheralFeatureReq as ctrl_feature_req, VersionInd as ctrl_version_ind}
-use Rattle.procedure_values.specs.declared.drafts.Draft.{Draft}
-use Rattle.procedure_values.specs.declared.drafts.Draft.TheVariants.{FeatureReq, FeatureRsp, LengthReq, LengthRsp, PeripheralFeatureReq, VersionInd}
-use Rattle.procedure_values.specs.declared.drafts.Outgoing.{Outgoing}
-use Rattle.procedure_values.specs.declared.drafts.Outgoing.TheVariants.{Other}
-use Rattle.exchange_pairs.specs.Exchange.{Answer, ExchangePdu, Question}
-use Rattle.exchange_pairs.specs.Lengths.{LengthPdu}
+use Rattle.exchange_steps.specs.procedure_values.declared.drafts.Draft.{Draft}
+use Rattle.exchange_steps.specs.procedure_values.declared.drafts.Draft.TheVariants.{FeatureReq, FeatureRsp, LengthReq, LengthRsp, PeripheralFeatureReq, VersionInd}
+use Rattle.exchange_steps.specs.procedure_values.declared.drafts.Outgoing.{Outgoing}
+use Rattle.exchange_steps.specs.procedure_values.declared.drafts.Outgoing.TheVariants.{Other}
+use Rattle.exchange_steps.specs.exchange_pairs.Exchange.{Answer, ExchangePdu, Question}
+use Rattle.exchange_steps.specs.exchange_pairs.Lengths.{LengthPdu}
 use Rattle.exchange_steps.specs.Ends.{ExchangeEnds, ends_of}
-use Rattle.phased_control.specs.Phased.{Phased}
+use Rattle.joint_controls.specs.phased_control.Phased.{Phased}
 use Rattle.joint_controls.specs.Joint.{Clear, Control, Data, Fixed, Item, Joint, OnAir, Taken, Way}
 
 -- a PDU of one of the exchanges

@@ -8,18 +8,18 @@ use Rattle.ble_base.specs.declared.roles.Role.{Role}
 use Rattle.ble_base.specs.declared.roles.Role.TheVariants.{Central, Peripheral}
 use Rattle.data_pdu.specs.declared.ctrl.Ctrl.{Ctrl}
 use Rattle.data_pdu.specs.declared.ctrl.Ctrl.TheVariants.{EncReq, EncRsp, PauseEncReq, PauseEncRsp, RejectExtInd, StartEncReq, StartEncRsp, TerminateInd}
-use Rattle.enc_phase.specs.declared.classes.PduClass.TheVariants.{Request as request_class}
-use Rattle.enc_phase.specs.Taking.{ctrl_class, is_unknown}
-use Rattle.procedure_values.specs.declared.drafts.Draft.{Draft}
-use Rattle.procedure_values.specs.declared.drafts.Draft.TheVariants.{Cipher, FeatureReq, FeatureRsp, Grant, LengthReq, LengthRsp, Map, PeripheralFeatureReq, PhyInd, PhyReq, PhyRsp, Request, UnknownRsp, Update, VersionInd}
-use Rattle.procedure_values.specs.declared.drafts.Outgoing.{Outgoing}
-use Rattle.procedure_values.specs.declared.drafts.Outgoing.TheVariants.{Disconnect, Nothing, Other, Rejection}
-use Rattle.procedure_values.specs.declared.drafts.Rejection.{Rejection as TheRejection}
-use Rattle.procedure_values.specs.Drafts.{ctrl_of_outgoing}
-use Rattle.procedure_stages.specs.Kinds.{role_of}
-use Rattle.procedure_stages.specs.Opcodes.{connection_param_req_opcode, enc_req_opcode, enc_rsp_opcode, pause_enc_req_opcode, phy_req_opcode, start_enc_req_opcode}
-use Rattle.procedures.specs.Table.{TableFacts}
-use Rattle.phased_control.specs.Phased.{Phased}
+use Rattle.joint_controls.specs.enc_phase.declared.classes.PduClass.TheVariants.{Request as request_class}
+use Rattle.joint_controls.specs.enc_phase.Taking.{ctrl_class, is_unknown}
+use Rattle.exchange_steps.specs.procedure_values.declared.drafts.Draft.{Draft}
+use Rattle.exchange_steps.specs.procedure_values.declared.drafts.Draft.TheVariants.{Cipher, FeatureReq, FeatureRsp, Grant, LengthReq, LengthRsp, Map, PeripheralFeatureReq, PhyInd, PhyReq, PhyRsp, Request, UnknownRsp, Update, VersionInd}
+use Rattle.exchange_steps.specs.procedure_values.declared.drafts.Outgoing.{Outgoing}
+use Rattle.exchange_steps.specs.procedure_values.declared.drafts.Outgoing.TheVariants.{Disconnect, Nothing, Other, Rejection}
+use Rattle.exchange_steps.specs.procedure_values.declared.drafts.Rejection.{Rejection as TheRejection}
+use Rattle.exchange_steps.specs.procedure_values.Drafts.{ctrl_of_outgoing}
+use Rattle.exchange_steps.specs.procedure_stages.Kinds.{role_of}
+use Rattle.exchange_steps.specs.procedure_stages.Opcodes.{connection_param_req_opcode, enc_req_opcode, enc_rsp_opcode, pause_enc_req_opcode, phy_req_opcode, start_enc_req_opcode}
+use Rattle.exchange_steps.specs.procedures.Table.{TableFacts}
+use Rattle.joint_controls.specs.phased_control.Phased.{Phased}
 use Rattle.joint_controls.specs.Joint.{Clear, Control, Data, Fixed, Item, Joint, OnAir, Taken, Way}
 
 -- ---- what waits

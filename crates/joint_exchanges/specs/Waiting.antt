@@ -1,10 +1,10 @@
 -- The control PDUs that wait at an end of a joint run, by the kinds of procedures (Core 5.2, volume 6 part B,
 -- section 5).
 use Rattle.std.specs.Prelude.{ℕ, ◌+◌, Bool, true, false, length}
-use Rattle.procedure_values.specs.declared.drafts.Draft.{Draft}
-use Rattle.procedure_values.specs.declared.drafts.Draft.TheVariants.{Cipher, Grant, Map, PhyInd, PhyReq, PhyRsp, Request, UnknownRsp, Update}
-use Rattle.procedure_stages.specs.Queue.{count_of_disconnect}
-use Rattle.phased_control.specs.Phased.{Phased}
+use Rattle.exchange_steps.specs.procedure_values.declared.drafts.Draft.{Draft}
+use Rattle.exchange_steps.specs.procedure_values.declared.drafts.Draft.TheVariants.{Cipher, Grant, Map, PhyInd, PhyReq, PhyRsp, Request, UnknownRsp, Update}
+use Rattle.exchange_steps.specs.procedure_stages.Queue.{count_of_disconnect}
+use Rattle.joint_controls.specs.phased_control.Phased.{Phased}
 use Rattle.joint_exchanges.specs.Agreement.{Asked, Features, Lengths, is_answer_of, is_question_of, is_version_ind, waiting}
 
 -- of the procedures that exclude each other

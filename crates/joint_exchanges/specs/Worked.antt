@@ -2,11 +2,11 @@
 use Rattle.std.specs.Prelude.{List, [], ◌∷◌, ◌++◌, replicate}
 use Rattle.ble_base.specs.declared.channel_map.ChannelMap.{ChannelMap}
 use Rattle.ble_base.specs.declared.roles.Role.TheVariants.{Central, Peripheral}
-use Rattle.control_model.specs.Worked.{six_slots}
-use Rattle.procedure_values.specs.declared.asks.Ask.TheVariants.{Encrypt, Features, Length}
+use Rattle.joint_controls.specs.control_model.Worked.{six_slots}
+use Rattle.exchange_steps.specs.procedure_values.declared.asks.Ask.TheVariants.{Encrypt, Features, Length}
 use Rattle.joint_controls.specs.Joint.{AsksFor, CentralHost, CentralTakes, HasKey, Joint, JointStep, PeripheralAcked, PeripheralFixes, PeripheralHost, PeripheralSends, beginning}
 use Rattle.joint_controls.specs.Worked.{enter, goes_down, goes_down_again, goes_up, goes_up_again}
-use Rattle.exchange_pairs.specs.Exchange.{Answer, Question}
+use Rattle.exchange_steps.specs.exchange_pairs.Exchange.{Answer, Question}
 use Rattle.exchange_steps.specs.Steps.{begins_features, begins_lengths, limits}
 use Rattle.joint_exchanges.specs.Moves.{Does, Keeps, Move, Sends, Takes, TakesKept}
 use Rattle.joint_exchanges.specs.Parts.{AnyPdu, of_features, of_lengths}

@@ -7,29 +7,29 @@ use Rattle.exclusive_stages.specs.declared.stages.CentralStage.TheVariants.{PhyU
 use Rattle.exclusive_stages.specs.declared.stages.PeerAtCentral.{PeerAtCentral}
 use Rattle.ble_base.specs.declared.counters.EventNo.{EventNo}
 use Rattle.instants.specs.declared.indications.Params.{Params}
-use Rattle.procedure_values.specs.declared.drafts.Draft.{Draft}
-use Rattle.procedure_values.specs.declared.drafts.Draft.TheVariants.{Cipher, FeatureReq, LengthReq, PhyReq, VersionInd}
-use Rattle.procedure_values.specs.declared.drafts.Rejection.{Rejection as TheRejection}
-use Rattle.procedure_values.specs.declared.drafts.Outgoing.{Outgoing}
-use Rattle.procedure_values.specs.declared.drafts.Outgoing.TheVariants.{Disconnect, Nothing, Other, Rejection}
-use Rattle.procedure_values.specs.Drafts.{ctrl_of_draft, ctrl_of_outgoing}
-use Rattle.procedure_stages.specs.declared.stages.Exchange.TheVariants.{FeaturesUnsent, LengthUnsent, VersionUnsent}
-use Rattle.procedure_stages.specs.declared.stages.OwnCentral.{OwnCentral}
-use Rattle.procedure_stages.specs.declared.stages.OwnCentral.TheVariants.{Exchange as exchange, Exclusive as exclusive}
-use Rattle.procedure_stages.specs.declared.stages.Progress.{Progress}
-use Rattle.procedure_stages.specs.declared.stages.Progress.TheVariants.{Central as central, Peripheral as peripheral}
-use Rattle.procedure_stages.specs.Exclusive.{central_stage}
-use Rattle.procedure_stages.specs.Kinds.{own_exchange, role_of}
+use Rattle.joint_parameters.specs.procedure_values.declared.drafts.Draft.{Draft}
+use Rattle.joint_parameters.specs.procedure_values.declared.drafts.Draft.TheVariants.{Cipher, FeatureReq, LengthReq, PhyReq, VersionInd}
+use Rattle.joint_parameters.specs.procedure_values.declared.drafts.Rejection.{Rejection as TheRejection}
+use Rattle.joint_parameters.specs.procedure_values.declared.drafts.Outgoing.{Outgoing}
+use Rattle.joint_parameters.specs.procedure_values.declared.drafts.Outgoing.TheVariants.{Disconnect, Nothing, Other, Rejection}
+use Rattle.joint_parameters.specs.procedure_values.Drafts.{ctrl_of_draft, ctrl_of_outgoing}
+use Rattle.joint_parameters.specs.procedure_stages.declared.stages.Exchange.TheVariants.{FeaturesUnsent, LengthUnsent, VersionUnsent}
+use Rattle.joint_parameters.specs.procedure_stages.declared.stages.OwnCentral.{OwnCentral}
+use Rattle.joint_parameters.specs.procedure_stages.declared.stages.OwnCentral.TheVariants.{Exchange as exchange, Exclusive as exclusive}
+use Rattle.joint_parameters.specs.procedure_stages.declared.stages.Progress.{Progress}
+use Rattle.joint_parameters.specs.procedure_stages.declared.stages.Progress.TheVariants.{Central as central, Peripheral as peripheral}
+use Rattle.joint_parameters.specs.procedure_stages.Exclusive.{central_stage}
+use Rattle.joint_parameters.specs.procedure_stages.Kinds.{own_exchange, role_of}
 use Rattle.collisions.specs.Agreement.{is_phy_request}
-use Rattle.collision_steps.specs.CentralPart.{view}
-use Rattle.collision_steps.specs.Parts.{drafts_part}
-use Rattle.exchange_pairs.specs.Exchange.{ExchangeStage, Idle, Sent, Unsent, is_idle}
-use Rattle.exchange_steps.specs.Ends.{features_stage, lengths_stage, version_stage}
-use Rattle.phase_pairs.specs.JointRun.{is_pause_rsp as is_pause_class, is_pause_rsp_taken}
-use Rattle.phased_control.specs.Phased.{is_pause_rsp}
-use Rattle.joint_controls.specs.Ends.{IsSentOn, outgoing_on}
-use Rattle.joint_controls.specs.Joint.{Joint, JointStep, Way, Control, Data, Taken, after_all, beginning, is_taken}
-use Rattle.joint_controls.proofs.LastPdus.{first_tied, tied}
+use Rattle.joint_collisions.specs.collision_steps.CentralPart.{view}
+use Rattle.joint_collisions.specs.collision_steps.Parts.{drafts_part}
+use Rattle.joint_exchanges.specs.exchange_pairs.Exchange.{ExchangeStage, Idle, Sent, Unsent, is_idle}
+use Rattle.joint_exchanges.specs.exchange_steps.Ends.{features_stage, lengths_stage, version_stage}
+use Rattle.joint_phases.specs.phase_pairs.JointRun.{is_pause_rsp as is_pause_class, is_pause_rsp_taken}
+use Rattle.joint_parameters.specs.phased_control.Phased.{is_pause_rsp}
+use Rattle.joint_parameters.specs.joint_controls.Ends.{IsSentOn, outgoing_on}
+use Rattle.joint_parameters.specs.joint_controls.Joint.{Joint, JointStep, Way, Control, Data, Taken, after_all, beginning, is_taken}
+use Rattle.joint_parameters.proofs.joint_controls.LastPdus.{first_tied, tied}
 use Rattle.joint_collisions.specs.Views.{IsReached, view_of}
 use Rattle.joint_exchanges.specs.Agreement.{Asked, Features, Lengths, is_version_ind, questions_waiting, stage_at, version_stage_at, waiting}
 use Rattle.joint_exchanges.specs.Runs.{GoesOn}

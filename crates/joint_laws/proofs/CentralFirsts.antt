@@ -6,14 +6,14 @@ use Rattle.ble_base.specs.declared.roles.Role.TheVariants.{Central}
 use Rattle.data_pdu.specs.declared.ctrl.Ctrl.{Ctrl}
 use Rattle.data_pdu.specs.declared.ctrl.Ctrl.TheVariants.{EncReq, PauseEncReq, PauseEncRsp, StartEncRsp}
 use Rattle.exclusive_stages.specs.declared.pdus.Pdu.{Pdu}
-use Rattle.procedure_values.specs.declared.drafts.Draft.{Draft}
-use Rattle.procedure_values.specs.declared.drafts.Draft.TheVariants.{Cipher, FeatureReq, LengthReq, PeripheralFeatureReq, PhyReq, PhyRsp, Request, VersionInd}
-use Rattle.procedure_stages.specs.declared.stages.Progress.{Progress}
-use Rattle.procedure_stages.specs.Exclusive.{pdu_of_draft}
-use Rattle.table_laws.specs.Waiting.{number_of}
+use Rattle.joint_parameters.specs.procedure_values.declared.drafts.Draft.{Draft}
+use Rattle.joint_parameters.specs.procedure_values.declared.drafts.Draft.TheVariants.{Cipher, FeatureReq, LengthReq, PeripheralFeatureReq, PhyReq, PhyRsp, Request, VersionInd}
+use Rattle.joint_parameters.specs.procedure_stages.declared.stages.Progress.{Progress}
+use Rattle.joint_parameters.specs.procedure_stages.Exclusive.{pdu_of_draft}
+use Rattle.joint_parameters.specs.table_laws.Waiting.{number_of}
 use Rattle.collisions.specs.Agreement.{is_phy_request}
-use Rattle.collision_steps.specs.Parts.{drafts_part, with_part}
-use Rattle.phase_pairs.specs.JointRun.{is_request}
+use Rattle.joint_collisions.specs.collision_steps.Parts.{drafts_part, with_part}
+use Rattle.joint_phases.specs.phase_pairs.JointRun.{is_request}
 use Rattle.joint_exchanges.specs.Agreement.{Features, Lengths, is_question_of, is_version_ind}
 use Rattle.joint_exchanges.specs.SentByRole.{is_cipher_of, is_draft_of}
 use Rattle.joint_phases.specs.Classes.{class_down, draft_down}

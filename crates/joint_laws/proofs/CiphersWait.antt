@@ -5,14 +5,14 @@ use Rattle.std.proofs.lemmas.Bool.{and_parts}
 use Rattle.ble_base.specs.declared.roles.Role.TheVariants.{Central, Peripheral}
 use Rattle.data_pdu.specs.declared.ctrl.Ctrl.{Ctrl}
 use Rattle.data_pdu.specs.declared.ctrl.Ctrl.TheVariants.{EncReq as enc_req, EncRsp as enc_rsp, PauseEncReq as pause_enc_req, PauseEncRsp as pause_enc_rsp, RejectExtInd, StartEncReq as start_enc_req, StartEncRsp as start_enc_rsp, TerminateInd}
-use Rattle.enc_phase.specs.declared.classes.PduClass.{PduClass}
-use Rattle.enc_phase.specs.declared.classes.PduClass.TheVariants.{Data, Empty, EncReq, EncRsp, Other, PauseEncReq, PauseEncRsp, Refusal, Request, StartEncReq, StartEncRsp, Terminate}
-use Rattle.procedure_values.specs.declared.drafts.Draft.{Draft}
-use Rattle.procedure_values.specs.declared.drafts.Draft.TheVariants.{Cipher}
-use Rattle.table_laws.specs.Waiting.{count_if, number_of}
-use Rattle.phase_pairs.specs.declared.peripheral.PhasePeripheral.{PhasePeripheral}
-use Rattle.phase_pairs.specs.Agreement.{encryption_pdu, is_encryption}
-use Rattle.phase_pairs.specs.Central.{is_queued}
+use Rattle.joint_parameters.specs.enc_phase.declared.classes.PduClass.{PduClass}
+use Rattle.joint_parameters.specs.enc_phase.declared.classes.PduClass.TheVariants.{Data, Empty, EncReq, EncRsp, Other, PauseEncReq, PauseEncRsp, Refusal, Request, StartEncReq, StartEncRsp, Terminate}
+use Rattle.joint_parameters.specs.procedure_values.declared.drafts.Draft.{Draft}
+use Rattle.joint_parameters.specs.procedure_values.declared.drafts.Draft.TheVariants.{Cipher}
+use Rattle.joint_parameters.specs.table_laws.Waiting.{count_if, number_of}
+use Rattle.joint_phases.specs.phase_pairs.declared.peripheral.PhasePeripheral.{PhasePeripheral}
+use Rattle.joint_phases.specs.phase_pairs.Agreement.{encryption_pdu, is_encryption}
+use Rattle.joint_phases.specs.phase_pairs.Central.{is_queued}
 use Rattle.joint_exchanges.specs.SentByRole.{is_cipher_of, is_draft_of}
 use Rattle.joint_exchanges.specs.Waiting.{is_cipher}
 use Rattle.joint_phases.specs.Classes.{class_down, class_up, draft_down, draft_up}

@@ -1,8 +1,8 @@
 -- Lemmas on tests, control PDUs and outcomes that several files use.
 use Rattle.std.proofs.Common.{◌≡◌, Bool, true, false, not, ◌||◌, Option, Some, None, if◌then◌else◌, refl, ap}
 use Rattle.data_pdu.specs.declared.ctrl.Ctrl.{Ctrl}
-use Rattle.procedure_stages.specs.declared.steps.Step.{Step}
-use Rattle.procedures.specs.Table.{TableFacts}
+use Rattle.joint_parameters.specs.procedure_stages.declared.steps.Step.{Step}
+use Rattle.joint_parameters.specs.procedures.Table.{TableFacts}
 
 pub not_true : (b : Bool) → not b ≡ true → b ≡ false
 not_true true is = absurd (cc)

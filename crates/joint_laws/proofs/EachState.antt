@@ -3,9 +3,9 @@
 use Rattle.std.proofs.Common.{◌≡◌, ◌≤◌, ℕ, true, List, [], ◌∷◌, ◌++◌, refl, ap, sym, subst}
 use Rattle.instants.specs.declared.indications.Params.{Params}
 use Rattle.machines.specs.Machine.{run}
-use Rattle.phase_pairs.specs.JointRun.{encryption}
-use Rattle.joint_controls.specs.Ends.{AreStepsInRange, IsStepInRange}
-use Rattle.joint_controls.specs.Joint.{Joint, JointStep, after, after_all, beginning, is_running}
+use Rattle.joint_phases.specs.phase_pairs.JointRun.{encryption}
+use Rattle.joint_parameters.specs.joint_controls.Ends.{AreStepsInRange, IsStepInRange}
+use Rattle.joint_parameters.specs.joint_controls.Joint.{Joint, JointStep, after, after_all, beginning, is_running}
 use Rattle.joint_collisions.specs.Facts.{AllFacts, Facts as ExclusiveFacts}
 use Rattle.joint_collisions.specs.Views.{IsReached, view_of}
 use Rattle.joint_collisions.proofs.Runs.{walk}

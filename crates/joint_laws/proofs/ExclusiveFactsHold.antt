@@ -6,32 +6,32 @@ use Rattle.std.proofs.lemmas.List.Elements.{All-from_recursion}
 use Rattle.ble_base.specs.declared.roles.Role.TheVariants.{Central, Peripheral}
 use Rattle.data_pdu.specs.declared.ctrl.Ctrl.{Ctrl}
 use Rattle.data_pdu.specs.declared.ctrl.Ctrl.TheVariants.{EncReq, EncRsp, PauseEncReq, PauseEncRsp, RejectExtInd, StartEncReq, StartEncRsp, TerminateInd}
-use Rattle.enc_phase.specs.declared.classes.PduClass.TheVariants.{Request}
-use Rattle.enc_phase.specs.declared.facts.PhaseFacts.{PhaseFacts}
-use Rattle.enc_phase.specs.declared.facts.PhaseFacts.TheVariants.{Asked, Clear, HalfClear, HalfKeyed, Pausing, Secure}
-use Rattle.enc_phase.specs.Phases.{is_quiet}
-use Rattle.enc_phase.specs.Taking.{allows}
+use Rattle.joint_parameters.specs.enc_phase.declared.classes.PduClass.TheVariants.{Request}
+use Rattle.joint_parameters.specs.enc_phase.declared.facts.PhaseFacts.{PhaseFacts}
+use Rattle.joint_parameters.specs.enc_phase.declared.facts.PhaseFacts.TheVariants.{Asked, Clear, HalfClear, HalfKeyed, Pausing, Secure}
+use Rattle.joint_parameters.specs.enc_phase.Phases.{is_quiet}
+use Rattle.joint_parameters.specs.enc_phase.Taking.{allows}
 use Rattle.instants.specs.declared.indications.Params.{Params}
 use Rattle.machines.specs.Machine.{run}
-use Rattle.procedure_values.specs.declared.drafts.Draft.TheVariants.{Cipher, UnknownRsp}
-use Rattle.procedure_values.specs.declared.drafts.Outgoing.{Outgoing}
-use Rattle.procedure_values.specs.declared.drafts.Outgoing.TheVariants.{Disconnect, Nothing, Other, Rejection}
-use Rattle.procedure_values.specs.declared.drafts.Rejection.{Rejection as TheRejection}
-use Rattle.procedure_stages.specs.declared.closing.Closing.{Closing}
-use Rattle.procedure_stages.specs.Closing.{is_disconnecting, is_open}
-use Rattle.collision_steps.specs.Parts.{reason_part, rejection_part}
-use Rattle.phase_pairs.specs.declared.joint.PhaseEvent.{PhaseEvent}
-use Rattle.phase_pairs.specs.JointRun.{encryption}
-use Rattle.phased_control.specs.Ends.{IsFirst, is_half_keyed, says_kept}
-use Rattle.phased_control.specs.Phased.{Phased, first_phased, is_quiet_now}
-use Rattle.phased_control.specs.Taken.{phased_after_all}
+use Rattle.joint_parameters.specs.procedure_values.declared.drafts.Draft.TheVariants.{Cipher, UnknownRsp}
+use Rattle.joint_parameters.specs.procedure_values.declared.drafts.Outgoing.{Outgoing}
+use Rattle.joint_parameters.specs.procedure_values.declared.drafts.Outgoing.TheVariants.{Disconnect, Nothing, Other, Rejection}
+use Rattle.joint_parameters.specs.procedure_values.declared.drafts.Rejection.{Rejection as TheRejection}
+use Rattle.joint_parameters.specs.procedure_stages.declared.closing.Closing.{Closing}
+use Rattle.joint_parameters.specs.procedure_stages.Closing.{is_disconnecting, is_open}
+use Rattle.joint_collisions.specs.collision_steps.Parts.{reason_part, rejection_part}
+use Rattle.joint_phases.specs.phase_pairs.declared.joint.PhaseEvent.{PhaseEvent}
+use Rattle.joint_phases.specs.phase_pairs.JointRun.{encryption}
+use Rattle.joint_parameters.specs.phased_control.Ends.{IsFirst, is_half_keyed, says_kept}
+use Rattle.joint_parameters.specs.phased_control.Phased.{Phased, first_phased, is_quiet_now}
+use Rattle.joint_parameters.specs.phased_control.Taken.{phased_after_all}
 use Rattle.exclusive_stages.specs.declared.pdus.Pdu.{Pdu}
 use Rattle.exclusive_stages.specs.declared.pdus.Pdu.TheVariants.{RejectParam, RejectPhy}
-use Rattle.procedure_stages.specs.Opcodes.{connection_param_req_opcode, enc_req_opcode, phy_req_opcode}
-use Rattle.phased_control.proofs.Kept.{first_now, none_quietly, said_now}
-use Rattle.joint_controls.specs.Ends.{steps_of_central}
-use Rattle.joint_controls.specs.Joint.{Joint, JointStep, Way, Clear as clear_way, Control, Data, Fixed, Item, OnAir, Taken, after_all, beginning, item_on_air}
-use Rattle.joint_controls.proofs.EndSteps.{central_runs}
+use Rattle.joint_parameters.specs.procedure_stages.Opcodes.{connection_param_req_opcode, enc_req_opcode, phy_req_opcode}
+use Rattle.joint_parameters.proofs.phased_control.Kept.{first_now, none_quietly, said_now}
+use Rattle.joint_parameters.specs.joint_controls.Ends.{steps_of_central}
+use Rattle.joint_parameters.specs.joint_controls.Joint.{Joint, JointStep, Way, Clear as clear_way, Control, Data, Fixed, Item, OnAir, Taken, after_all, beginning, item_on_air}
+use Rattle.joint_parameters.proofs.joint_controls.EndSteps.{central_runs}
 use Rattle.joint_collisions.specs.Facts.{CentralFacts, Facts, fits_down, fits_if, fits_up, is_cipher_down, is_cipher_up, item_fits}
 use Rattle.joint_exchanges.specs.Runs.{AllBefore, GoesOn}
 use Rattle.joint_exchanges.specs.SentByRole.{AreOfRoles, HaveMeaning, IsItemOf, IsWayOf, is_cipher_of, is_outgoing_of, is_rejection_of}
@@ -39,10 +39,10 @@ use Rattle.joint_exchanges.proofs.Few.{meant_roles}
 use Rattle.joint_phases.specs.Parts.{IsShown, closing_down, way_down}
 use Rattle.joint_laws.proofs.CentralFacts.{outgoing_out}
 use Rattle.joint_laws.proofs.PausePlaces.{pausing}
-use Rattle.joint_controls.proofs.LastPdus.{first_tied, tied}
-use Rattle.joint_controls.specs.Ends.{IsSentOn, outgoing_on}
-use Rattle.phased_control.specs.Phased.{is_pause_rsp}
-use Rattle.phase_pairs.specs.JointRun.{is_coming, is_pause_rsp as is_pause_class, is_pause_rsp_taken}
+use Rattle.joint_parameters.proofs.joint_controls.LastPdus.{first_tied, tied}
+use Rattle.joint_parameters.specs.joint_controls.Ends.{IsSentOn, outgoing_on}
+use Rattle.joint_parameters.specs.phased_control.Phased.{is_pause_rsp}
+use Rattle.joint_phases.specs.phase_pairs.JointRun.{is_coming, is_pause_rsp as is_pause_class, is_pause_rsp_taken}
 use Rattle.joint_laws.proofs.Common.{not_true, implied}
 
 -- ---- what a central keeps

@@ -1,11 +1,11 @@
 -- What the machine of phases asks of the other procedures holds in each state of a joint run in which that goes on.
 use Rattle.std.proofs.Common.{◌≡◌, ℕ, true, List, sym, subst}
 use Rattle.instants.specs.declared.indications.Params.{Params}
-use Rattle.procedure_stages.specs.InProgress.{is_host_asked}
-use Rattle.phased_control.specs.Phased.{Phased, is_quiet_now}
-use Rattle.joint_controls.specs.Ends.{steps_of_central}
-use Rattle.joint_controls.specs.Joint.{Joint, JointStep, after_all, beginning}
-use Rattle.joint_controls.proofs.EndSteps.{central_runs}
+use Rattle.joint_parameters.specs.procedure_stages.InProgress.{is_host_asked}
+use Rattle.joint_parameters.specs.phased_control.Phased.{Phased, is_quiet_now}
+use Rattle.joint_parameters.specs.joint_controls.Ends.{steps_of_central}
+use Rattle.joint_parameters.specs.joint_controls.Joint.{Joint, JointStep, after_all, beginning}
+use Rattle.joint_parameters.proofs.joint_controls.EndSteps.{central_runs}
 use Rattle.joint_collisions.specs.Views.{IsReached, view_of}
 use Rattle.joint_exchanges.specs.Runs.{GoesOn}
 use Rattle.joint_phases.specs.Facts.{Facts}

@@ -6,30 +6,30 @@ use Rattle.ble_base.specs.declared.roles.Role.TheVariants.{Central, Peripheral}
 use Rattle.exclusive_stages.specs.declared.pdus.Pdu.{Pdu}
 use Rattle.instants.specs.declared.indications.Params.{Params}
 use Rattle.machines.specs.Machine.{run}
-use Rattle.procedure_values.specs.declared.drafts.Draft.{Draft}
-use Rattle.procedure_values.specs.declared.drafts.Draft.TheVariants.{Update}
-use Rattle.procedure_values.specs.declared.drafts.Rejection.{Rejection as TheRejection}
-use Rattle.procedure_stages.specs.declared.stages.Progress.{Progress}
-use Rattle.procedure_stages.specs.declared.stages.Progress.TheVariants.{Central as central, Peripheral as peripheral}
-use Rattle.procedure_stages.specs.Exclusive.{pdu_of_draft}
-use Rattle.procedure_stages.specs.Kinds.{role_of}
-use Rattle.procedure_stages.specs.Queue.{count_of_disconnect, waiting_in}
-use Rattle.procedure_stages.specs.Closing.{is_open}
+use Rattle.joint_parameters.specs.procedure_values.declared.drafts.Draft.{Draft}
+use Rattle.joint_parameters.specs.procedure_values.declared.drafts.Draft.TheVariants.{Update}
+use Rattle.joint_parameters.specs.procedure_values.declared.drafts.Rejection.{Rejection as TheRejection}
+use Rattle.joint_parameters.specs.procedure_stages.declared.stages.Progress.{Progress}
+use Rattle.joint_parameters.specs.procedure_stages.declared.stages.Progress.TheVariants.{Central as central, Peripheral as peripheral}
+use Rattle.joint_parameters.specs.procedure_stages.Exclusive.{pdu_of_draft}
+use Rattle.joint_parameters.specs.procedure_stages.Kinds.{role_of}
+use Rattle.joint_parameters.specs.procedure_stages.Queue.{count_of_disconnect, waiting_in}
+use Rattle.joint_parameters.specs.procedure_stages.Closing.{is_open}
 use Rattle.ble_base.specs.declared.error_codes.ErrCode.{ErrCode}
-use Rattle.table_laws.specs.Waiting.{count_if, number_of}
+use Rattle.joint_parameters.specs.table_laws.Waiting.{count_if, number_of}
 use Rattle.collisions.specs.declared.joint.Link.{Link}
 use Rattle.collisions.specs.JointRun.{collisions}
 use Rattle.collisions.proofs.Collisions.{few_wait}
 use Rattle.collisions.proofs.Gaps.{is_run}
-use Rattle.collision_steps.specs.CentralPart
-use Rattle.collision_steps.specs.Parts.{drafts_part, rejection_part, rejections_part, with_part}
-use Rattle.collision_steps.specs.PeripheralPart
-use Rattle.phase_pairs.specs.declared.joint.PhaseEvent.{PhaseEvent}
-use Rattle.phase_pairs.specs.Agreement.{is_encryption, waiting_pdu}
-use Rattle.phase_pairs.specs.JointRun.{encryption}
-use Rattle.enc_phase.specs.declared.classes.PduClass.{PduClass}
-use Rattle.phased_control.specs.Phased.{Phased}
-use Rattle.joint_controls.specs.Joint.{Joint, JointStep, after_all, beginning}
+use Rattle.joint_collisions.specs.collision_steps.CentralPart
+use Rattle.joint_collisions.specs.collision_steps.Parts.{drafts_part, rejection_part, rejections_part, with_part}
+use Rattle.joint_collisions.specs.collision_steps.PeripheralPart
+use Rattle.joint_phases.specs.phase_pairs.declared.joint.PhaseEvent.{PhaseEvent}
+use Rattle.joint_phases.specs.phase_pairs.Agreement.{is_encryption, waiting_pdu}
+use Rattle.joint_phases.specs.phase_pairs.JointRun.{encryption}
+use Rattle.joint_parameters.specs.enc_phase.declared.classes.PduClass.{PduClass}
+use Rattle.joint_parameters.specs.phased_control.Phased.{Phased}
+use Rattle.joint_parameters.specs.joint_controls.Joint.{Joint, JointStep, after_all, beginning}
 use Rattle.joint_collisions.specs.Views.{IsReached, View, numbered_of, view_of}
 use Rattle.joint_exchanges.specs.Agreement.{Features, Lengths, end_at, waiting}
 use Rattle.joint_exchanges.specs.Runs.{AllBefore, GoesOn}

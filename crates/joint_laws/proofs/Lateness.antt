@@ -9,29 +9,29 @@ use Rattle.data_pdu.specs.declared.ctrl.Ctrl.TheVariants.{TerminateInd}
 use Rattle.data_pdu.specs.declared.ctrl.CtrlRead.{CtrlRead}
 use Rattle.data_pdu.specs.declared.ctrl.CtrlRead.TheVariants.{Known, Unknown}
 use Rattle.data_pdu.specs.Reading.{opcode_of}
-use Rattle.enc_phase.specs.declared.facts.PhaseFacts.{PhaseFacts}
-use Rattle.enc_phase.specs.Taking.{ctrl_class, is_unknown}
+use Rattle.joint_parameters.specs.enc_phase.declared.facts.PhaseFacts.{PhaseFacts}
+use Rattle.joint_parameters.specs.enc_phase.Taking.{ctrl_class, is_unknown}
 use Rattle.exclusive_stages.specs.declared.pdus.Pdu.{Pdu}
 use Rattle.exclusive_stages.specs.Pdus.{is_timed}
 use Rattle.instants.specs.declared.indications.Indication.{Indication}
 use Rattle.instants.specs.declared.track.Change.{Change}
 use Rattle.instants.specs.Track.{event_of, gap_ahead}
-use Rattle.procedure_values.specs.declared.drafts.Outgoing.{Outgoing}
-use Rattle.joint_controls.specs.Joint.{Control, Joint, OnAir, Way, has_passed, is_indication, is_item, is_late, item_on_air, last_change}
-use Rattle.collision_steps.specs.CentralPart.{passed_from, passed_from_of}
-use Rattle.collision_steps.specs.Parts.{outgoing_part}
+use Rattle.joint_parameters.specs.procedure_values.declared.drafts.Outgoing.{Outgoing}
+use Rattle.joint_parameters.specs.joint_controls.Joint.{Control, Joint, OnAir, Way, has_passed, is_indication, is_item, is_late, item_on_air, last_change}
+use Rattle.joint_collisions.specs.collision_steps.CentralPart.{passed_from, passed_from_of}
+use Rattle.joint_collisions.specs.collision_steps.Parts.{outgoing_part}
 use Rattle.collisions.specs.JointRun.{is_pdu, pdu_on_air}
 use Rattle.collisions.specs.declared.joint.Way.TheVariants.{OnAir as on_air_pdu}
 use Rattle.joint_collisions.specs.Views.{view_of, way_if, way_part}
 use Rattle.ble_base.specs.declared.procedure_kinds.Kind.{Kind}
 use Rattle.collisions.specs.declared.joint.End.{End}
 use Rattle.collisions.specs.declared.peripheral.Peripheral.{Peripheral as PeripheralPdus}
-use Rattle.collision_steps.specs.Answers.{stops_run}
-use Rattle.collision_steps.specs.PeripheralPart.{answer_to, peripheral_of, step_of_read}
-use Rattle.collision_steps.proofs.PeripheralTaking
-use Rattle.control_model.specs.Control.{indicated_by}
-use Rattle.control_model.specs.Waits.{kind_awaited}
-use Rattle.control_model.proofs.Outcomes.{Hands, HandsOn, fits}
+use Rattle.joint_collisions.specs.collision_steps.Answers.{stops_run}
+use Rattle.joint_collisions.specs.collision_steps.PeripheralPart.{answer_to, peripheral_of, step_of_read}
+use Rattle.joint_collisions.proofs.collision_steps.PeripheralTaking
+use Rattle.joint_parameters.specs.control_model.Control.{indicated_by}
+use Rattle.joint_parameters.specs.control_model.Waits.{kind_awaited}
+use Rattle.joint_parameters.proofs.control_model.Outcomes.{Hands, HandsOn, fits}
 use Rattle.exclusive_stages.specs.declared.pdus.Exclusive.{Exclusive}
 use Rattle.joint_collisions.proofs.DownMeanings.{Means, down_means, means_none, means_one, timed_has, untimed}
 use Rattle.joint_collisions.proofs.EachStep.{Before, passed_is_last}
@@ -45,26 +45,26 @@ use Rattle.joint_collisions.proofs.PeripheralSteps.{is_peripheral}
 use Rattle.joint_collisions.proofs.PeripheralTakes.{ahead_is}
 use Rattle.joint_collisions.proofs.Reaching.{sound_of}
 use Rattle.joint_collisions.specs.Facts.{fits_if}
-use Rattle.joint_controls.specs.Ends.{IsSentOn}
-use Rattle.joint_controls.specs.Joint.{is_same_event, is_taken}
-use Rattle.phased_control.specs.Phased.{is_quiet_now}
-use Rattle.phased_control.specs.Taken.{seen_as}
-use Rattle.procedure_stages.specs.Exclusive.{pdu_of_outgoing}
+use Rattle.joint_parameters.specs.joint_controls.Ends.{IsSentOn}
+use Rattle.joint_parameters.specs.joint_controls.Joint.{is_same_event, is_taken}
+use Rattle.joint_parameters.specs.phased_control.Phased.{is_quiet_now}
+use Rattle.joint_parameters.specs.phased_control.Taken.{seen_as}
+use Rattle.joint_parameters.specs.procedure_stages.Exclusive.{pdu_of_outgoing}
 use Rattle.joint_laws.proofs.TakenEnds.{IsLate}
 use Rattle.joint_collisions.proofs.Readings.{hears, indication_in, same_indication}
 use Rattle.joint_collisions.specs.Facts.{fits_down}
-use Rattle.joint_controls.specs.Ends.{IsSentAs}
-use Rattle.joint_controls.specs.Joint.{is_terminate}
-use Rattle.phased_control.specs.Taken.{seen_if}
-use Rattle.procedure_stages.specs.declared.stages.Peripheral.{Peripheral as ThePeripheral}
-use Rattle.procedure_stages.specs.declared.stages.Progress.{Progress}
-use Rattle.procedure_stages.specs.declared.stages.Progress.TheVariants.{Peripheral as peripheral}
-use Rattle.procedure_stages.specs.declared.steps.Step.{Step as the_step}
-use Rattle.procedure_stages.specs.Kinds.{role_of}
-use Rattle.procedure_stages.specs.Queue.{waiting_in}
-use Rattle.procedures.specs.declared.outcome.Outcome.{Outcome}
-use Rattle.procedures.specs.Table.{TableFacts}
-use Rattle.procedures.specs.Taking.{facts_with, lacks_room, no_room, outcome_of, taken_by, took_step}
+use Rattle.joint_parameters.specs.joint_controls.Ends.{IsSentAs}
+use Rattle.joint_parameters.specs.joint_controls.Joint.{is_terminate}
+use Rattle.joint_parameters.specs.phased_control.Taken.{seen_if}
+use Rattle.joint_parameters.specs.procedure_stages.declared.stages.Peripheral.{Peripheral as ThePeripheral}
+use Rattle.joint_parameters.specs.procedure_stages.declared.stages.Progress.{Progress}
+use Rattle.joint_parameters.specs.procedure_stages.declared.stages.Progress.TheVariants.{Peripheral as peripheral}
+use Rattle.joint_parameters.specs.procedure_stages.declared.steps.Step.{Step as the_step}
+use Rattle.joint_parameters.specs.procedure_stages.Kinds.{role_of}
+use Rattle.joint_parameters.specs.procedure_stages.Queue.{waiting_in}
+use Rattle.joint_parameters.specs.procedures.declared.outcome.Outcome.{Outcome}
+use Rattle.joint_parameters.specs.procedures.Table.{TableFacts}
+use Rattle.joint_parameters.specs.procedures.Taking.{facts_with, lacks_room, no_room, outcome_of, taken_by, took_step}
 use Rattle.joint_laws.proofs.TakenEnds.{has_room}
 use Rattle.joint_laws.proofs.Common.{settled_of}
 

@@ -25,3 +25,9 @@ pub mod Lateness
 pub mod SoundStates
 pub mod PausePlaces
 pub mod Rejected
+-- what the crates above use of those below
+pub use Rattle.joint_exchanges.proofs as joint_exchanges
+pub use Rattle.joint_phases.proofs as joint_phases
+pub use Rattle.joint_parameters.proofs as joint_parameters
+pub use Rattle.joint_collisions.proofs.joint_controls as joint_controls
+pub use Rattle.joint_collisions.proofs.control_model as control_model

@@ -7,18 +7,18 @@ use Rattle.ble_base.specs.declared.roles.Role.{Role}
 use Rattle.ble_base.specs.declared.roles.Role.TheVariants.{Central, Peripheral}
 use Rattle.data_pdu.specs.declared.ctrl.Ctrl.{Ctrl}
 use Rattle.data_pdu.specs.declared.ctrl.CtrlRead.TheVariants.{Known}
-use Rattle.enc_phase.specs.Taking.{allows, ctrl_class}
+use Rattle.joint_parameters.specs.enc_phase.Taking.{allows, ctrl_class}
 use Rattle.instants.specs.declared.indications.Params.{Params}
-use Rattle.procedure_stages.specs.Queue.{waiting_in}
-use Rattle.procedure_values.specs.declared.drafts.Outgoing.{Outgoing}
-use Rattle.control_model.specs.Waits.{EndsByCollision}
-use Rattle.phase_pairs.specs.Agreement.{has_meaning}
-use Rattle.phased_control.specs.Phased.{Phased, is_quiet_now}
-use Rattle.phased_control.specs.Taken.{PhasedStep, Response, Enters, SeesAcknowledged, Sends, Takes, phased_after, phased_after_all, role_now, seen_as}
-use Rattle.joint_controls.specs.Ends.{IsStepInRange, central_does, peripheral_does, takes_if}
-use Rattle.joint_controls.specs.Joint.{AnswersRequest, AsksFor, CentralAcked, CentralEnters, CentralHost, CentralSends, CentralTakes, Clear, Control, Data, Ends, Fixed, HasKey, HasNoKey, HostStep, Item, Joint, JointStep, OnAir, PeripheralAcked, PeripheralEnters, PeripheralFixes, PeripheralHost, PeripheralTakes, Taken, Way, act, after, after_all, beginning, host_step, is_late, is_running, is_same_event, is_supervised, is_taken, item_on_air, may, may_act, no_response}
-use Rattle.joint_controls.proofs.EndSteps.{central_acts, peripheral_acts}
-use Rattle.joint_controls.proofs.Running.{goes_on}
+use Rattle.joint_parameters.specs.procedure_stages.Queue.{waiting_in}
+use Rattle.joint_parameters.specs.procedure_values.declared.drafts.Outgoing.{Outgoing}
+use Rattle.joint_parameters.specs.control_model.Waits.{EndsByCollision}
+use Rattle.joint_phases.specs.phase_pairs.Agreement.{has_meaning}
+use Rattle.joint_parameters.specs.phased_control.Phased.{Phased, is_quiet_now}
+use Rattle.joint_parameters.specs.phased_control.Taken.{PhasedStep, Response, Enters, SeesAcknowledged, Sends, Takes, phased_after, phased_after_all, role_now, seen_as}
+use Rattle.joint_parameters.specs.joint_controls.Ends.{IsStepInRange, central_does, peripheral_does, takes_if}
+use Rattle.joint_parameters.specs.joint_controls.Joint.{AnswersRequest, AsksFor, CentralAcked, CentralEnters, CentralHost, CentralSends, CentralTakes, Clear, Control, Data, Ends, Fixed, HasKey, HasNoKey, HostStep, Item, Joint, JointStep, OnAir, PeripheralAcked, PeripheralEnters, PeripheralFixes, PeripheralHost, PeripheralTakes, Taken, Way, act, after, after_all, beginning, host_step, is_late, is_running, is_same_event, is_supervised, is_taken, item_on_air, may, may_act, no_response}
+use Rattle.joint_parameters.proofs.joint_controls.EndSteps.{central_acts, peripheral_acts}
+use Rattle.joint_parameters.proofs.joint_controls.Running.{goes_on}
 use Rattle.joint_collisions.proofs.Runs.{Walk, before, walk, walk_step}
 use Rattle.joint_collisions.proofs.EachStep.{Before}
 use Rattle.joint_laws.specs.Ends.{EndsLateAlone}

@@ -5,20 +5,20 @@ use Rattle.ble_base.specs.declared.roles.Role.{Role}
 use Rattle.ble_base.specs.declared.roles.Role.TheVariants.{Central, Peripheral}
 use Rattle.data_pdu.specs.declared.ctrl.Ctrl.{Ctrl}
 use Rattle.data_pdu.specs.declared.ctrl.Ctrl.TheVariants.{ConnectionParamRsp, FeatureReq, RejectExtInd, VersionInd}
-use Rattle.enc_phase.specs.declared.classes.PduClass.{PduClass}
-use Rattle.enc_phase.specs.declared.classes.PduClass.TheVariants.{EncReq, EncRsp, Other, PauseEncReq, Refusal, Request, StartEncReq, StartEncRsp}
-use Rattle.enc_phase.specs.declared.facts.PhaseFacts.{PhaseFacts}
-use Rattle.enc_phase.specs.declared.facts.PhaseFacts.TheVariants.{Asked, Clear, HalfKeyed, Pausing, Secure}
-use Rattle.enc_phase.specs.Taking.{ctrl_class, is_unknown}
+use Rattle.joint_parameters.specs.enc_phase.declared.classes.PduClass.{PduClass}
+use Rattle.joint_parameters.specs.enc_phase.declared.classes.PduClass.TheVariants.{EncReq, EncRsp, Other, PauseEncReq, Refusal, Request, StartEncReq, StartEncRsp}
+use Rattle.joint_parameters.specs.enc_phase.declared.facts.PhaseFacts.{PhaseFacts}
+use Rattle.joint_parameters.specs.enc_phase.declared.facts.PhaseFacts.TheVariants.{Asked, Clear, HalfKeyed, Pausing, Secure}
+use Rattle.joint_parameters.specs.enc_phase.Taking.{ctrl_class, is_unknown}
 use Rattle.machines.specs.Machine.{run}
-use Rattle.phase_pairs.specs.declared.joint.PhaseEvent.{PhaseEvent}
-use Rattle.phase_pairs.specs.declared.joint.PhaseLink.{PhaseLink}
-use Rattle.phase_pairs.specs.Agreement.{are_those, are_to_come, encryption_pdu, from_central, from_peripheral, is_encryption, is_pair, response_then, untaken_pdu, waiting_pdu}
-use Rattle.phase_pairs.specs.Central.{is_class}
-use Rattle.phase_pairs.specs.JointRun.{encryption}
-use Rattle.phase_pairs.specs.Peripheral.{is_open}
-use Rattle.phase_pairs.proofs.Proved.{paired}
-use Rattle.joint_controls.specs.Joint.{Joint, Way, Control, OnAir}
+use Rattle.joint_phases.specs.phase_pairs.declared.joint.PhaseEvent.{PhaseEvent}
+use Rattle.joint_phases.specs.phase_pairs.declared.joint.PhaseLink.{PhaseLink}
+use Rattle.joint_phases.specs.phase_pairs.Agreement.{are_those, are_to_come, encryption_pdu, from_central, from_peripheral, is_encryption, is_pair, response_then, untaken_pdu, waiting_pdu}
+use Rattle.joint_phases.specs.phase_pairs.Central.{is_class}
+use Rattle.joint_phases.specs.phase_pairs.JointRun.{encryption}
+use Rattle.joint_phases.specs.phase_pairs.Peripheral.{is_open}
+use Rattle.joint_phases.proofs.phase_pairs.Proved.{paired}
+use Rattle.joint_parameters.specs.joint_controls.Joint.{Joint, Way, Control, OnAir}
 use Rattle.joint_exchanges.specs.SentByRole.{HasMeaning, HaveMeaning}
 use Rattle.joint_phases.specs.Classes.{class_down, class_up}
 use Rattle.joint_phases.specs.Parts.{IsShown, way_down, way_up}

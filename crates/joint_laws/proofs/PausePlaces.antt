@@ -5,13 +5,13 @@ use Rattle.machines.specs.Machine.{run}
 use Rattle.machines.proofs.Closing.{run_is_known}
 use Rattle.machines.proofs.Trees.{all_tree, find, find_is}
 use Rattle.machines.proofs.Digits.{digits_of, nth, number_of}
-use Rattle.phase_pairs.specs.declared.joint.PhaseEvent.{PhaseEvent}
-use Rattle.phase_pairs.specs.declared.joint.PhaseLink.{PhaseLink}
-use Rattle.phase_pairs.specs.JointRun.{encryption, phases_start}
-use Rattle.phase_pairs.proofs.Closed.{all_closed, start_known}
-use Rattle.phase_pairs.proofs.Events.{coded, is_coded}
-use Rattle.phase_pairs.proofs.StateCodes.{back, bool_num, bool_of, class_num, class_of, closing_num, closing_of, code, decode, fields_of, link_of, phase_num, phase_of, queued_num, queued_of, request_num, request_of, stage_num, way_mark, way_of, way_pdu}
-use Rattle.phase_pairs.proofs.States.{part0, part1, part2, part3, part4, part5, part6, part7, states}
+use Rattle.joint_phases.specs.phase_pairs.declared.joint.PhaseEvent.{PhaseEvent}
+use Rattle.joint_phases.specs.phase_pairs.declared.joint.PhaseLink.{PhaseLink}
+use Rattle.joint_phases.specs.phase_pairs.JointRun.{encryption, phases_start}
+use Rattle.joint_phases.proofs.phase_pairs.Closed.{all_closed, start_known}
+use Rattle.joint_phases.proofs.phase_pairs.Events.{coded, is_coded}
+use Rattle.joint_phases.proofs.phase_pairs.StateCodes.{back, bool_num, bool_of, class_num, class_of, closing_num, closing_of, code, decode, fields_of, link_of, phase_num, phase_of, queued_num, queued_of, request_num, request_of, stage_num, way_mark, way_of, way_pdu}
+use Rattle.joint_phases.proofs.phase_pairs.States.{part0, part1, part2, part3, part4, part5, part6, part7, states}
 use Rattle.joint_laws.specs.Pauses.{pauses_right}
 
 abbrev right : ℕ → Bool

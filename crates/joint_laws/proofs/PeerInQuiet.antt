@@ -8,35 +8,35 @@ use Rattle.ble_base.specs.declared.roles.Role.TheVariants.{Central}
 use Rattle.data_pdu.specs.declared.ctrl.Ctrl.{Ctrl}
 use Rattle.data_pdu.specs.declared.ctrl.Ctrl.TheVariants.{ConnectionParamReq, PhyReq as phy_pdu}
 use Rattle.data_pdu.specs.declared.ctrl.CtrlRead.{CtrlRead}
-use Rattle.enc_phase.specs.declared.classes.PduClass.TheVariants.{Request}
+use Rattle.joint_parameters.specs.enc_phase.declared.classes.PduClass.TheVariants.{Request}
 use Rattle.data_pdu.specs.declared.ctrl.CtrlRead.TheVariants.{Bare, Known, Unknown}
 use Rattle.instants.specs.declared.indications.Params.{Params}
 use Rattle.instants.specs.Track.{event_of, next_number}
-use Rattle.procedure_values.specs.Drafts.{is_out}
-use Rattle.procedure_stages.specs.Closing.{is_open}
+use Rattle.joint_parameters.specs.procedure_values.Drafts.{is_out}
+use Rattle.joint_parameters.specs.procedure_stages.Closing.{is_open}
 use Rattle.exclusive_stages.specs.declared.stages.PeerAtCentral.{PeerAtCentral}
 use Rattle.exclusive_stages.specs.declared.stages.PeerAtCentral.TheVariants.{HostAsked}
 use Rattle.exclusive_stages.specs.Kinds.{has_peer_at_central, is_host_asked_at_central}
-use Rattle.procedure_stages.specs.declared.stages.Progress.{Progress}
-use Rattle.procedure_stages.specs.declared.stages.Progress.TheVariants.{Central as central, Peripheral as peripheral}
-use Rattle.procedure_stages.specs.InProgress.{has_peer, is_host_asked}
-use Rattle.procedure_stages.specs.Kinds.{role_of}
-use Rattle.procedures.specs.Going.{is_answer}
-use Rattle.procedures.specs.Queue.{next_of}
-use Rattle.procedures.specs.Table.{TableFacts}
-use Rattle.table_laws.specs.Encrypting.{has_encryption}
-use Rattle.control_model.specs.Control.{Control, Step, after, after_all, goes_out, moved, table_if, went}
-use Rattle.control_model.specs.Control.{Answers as control_answers, Asks as control_asks, Disconnects as control_disconnects, Enters as control_enters, Owes, SeesAcknowledged as control_sees_acknowledged, Sends as control_sends, Takes as control_takes}
-use Rattle.control_model.proofs.Calls.{any_step, either_way}
-use Rattle.phased_control.specs.Phased.{Phased, first_phased, is_quiet_now}
-use Rattle.phased_control.specs.Taken.{PhasedStep, Response, Answers, Asks, Disconnects, Enters, GivesKey, LacksKey, SeesAcknowledged, Sends, Takes, TakesData, answered_kept, ciphered, does_keep, keeps_class, phased_after, phased_after_all, role_now, seen_as, seen_if, took}
-use Rattle.phased_control.specs.Steps.{control_steps, end_by_phase, ended_if, owed_steps, read_answer, seen_by_procedures}
-use Rattle.phased_control.proofs.Agreeing.{Agrees, Sound, agrees_after, agrees_first, agrees_taking, lasts_answered, sound_after, sound_first}
-use Rattle.phased_control.proofs.Answering.{answers}
-use Rattle.phased_control.proofs.Moving.{moves_by_steps, open_phased, same_after}
-use Rattle.control_model.proofs.Moving.{same_role}
-use Rattle.phased_control.proofs.Tables.{following_table, takes_as}
-use Rattle.phased_control.proofs.Taking.{handed_ways, took_ways}
+use Rattle.joint_parameters.specs.procedure_stages.declared.stages.Progress.{Progress}
+use Rattle.joint_parameters.specs.procedure_stages.declared.stages.Progress.TheVariants.{Central as central, Peripheral as peripheral}
+use Rattle.joint_parameters.specs.procedure_stages.InProgress.{has_peer, is_host_asked}
+use Rattle.joint_parameters.specs.procedure_stages.Kinds.{role_of}
+use Rattle.joint_parameters.specs.procedures.Going.{is_answer}
+use Rattle.joint_parameters.specs.procedures.Queue.{next_of}
+use Rattle.joint_parameters.specs.procedures.Table.{TableFacts}
+use Rattle.joint_parameters.specs.table_laws.Encrypting.{has_encryption}
+use Rattle.joint_parameters.specs.control_model.Control.{Control, Step, after, after_all, goes_out, moved, table_if, went}
+use Rattle.joint_parameters.specs.control_model.Control.{Answers as control_answers, Asks as control_asks, Disconnects as control_disconnects, Enters as control_enters, Owes, SeesAcknowledged as control_sees_acknowledged, Sends as control_sends, Takes as control_takes}
+use Rattle.joint_parameters.proofs.control_model.Calls.{any_step, either_way}
+use Rattle.joint_parameters.specs.phased_control.Phased.{Phased, first_phased, is_quiet_now}
+use Rattle.joint_parameters.specs.phased_control.Taken.{PhasedStep, Response, Answers, Asks, Disconnects, Enters, GivesKey, LacksKey, SeesAcknowledged, Sends, Takes, TakesData, answered_kept, ciphered, does_keep, keeps_class, phased_after, phased_after_all, role_now, seen_as, seen_if, took}
+use Rattle.joint_parameters.specs.phased_control.Steps.{control_steps, end_by_phase, ended_if, owed_steps, read_answer, seen_by_procedures}
+use Rattle.joint_parameters.proofs.phased_control.Agreeing.{Agrees, Sound, agrees_after, agrees_first, agrees_taking, lasts_answered, sound_after, sound_first}
+use Rattle.joint_parameters.proofs.phased_control.Answering.{answers}
+use Rattle.joint_parameters.proofs.phased_control.Moving.{moves_by_steps, open_phased, same_after}
+use Rattle.joint_parameters.proofs.control_model.Moving.{same_role}
+use Rattle.joint_parameters.proofs.phased_control.Tables.{following_table, takes_as}
+use Rattle.joint_parameters.proofs.phased_control.Taking.{handed_ways, took_ways}
 use Rattle.joint_laws.proofs.PeerOrEncryption.{acked_none, answers_none, enters_none, given_none, is_both, is_exclusive_first, parts_of_both, sends_none, takes_none}
 
 abbrev NoneOf : Control → Type 0

@@ -12,51 +12,51 @@ use Rattle.exclusive_stages.specs.declared.pdus.Pdu.TheVariants.{GrantInd, PhyIn
 use Rattle.exclusive_stages.specs.declared.stages.CentralStage.{CentralStage}
 use Rattle.exclusive_stages.specs.declared.stages.CentralStage.TheVariants.{PhyAnswered}
 use Rattle.exclusive_stages.specs.Awaited.{awaits_phy_rsp}
-use Rattle.procedure_values.specs.declared.drafts.Rejection.{Rejection as TheRejection}
+use Rattle.joint_parameters.specs.procedure_values.declared.drafts.Rejection.{Rejection as TheRejection}
 use Rattle.exclusive_stages.specs.declared.stages.PeerAtCentral.{PeerAtCentral}
 use Rattle.exclusive_stages.specs.declared.stages.PeerAtCentral.TheVariants.{Absent, HostAsked, GrantSent, GrantUnsent, PhyIndSent, PhyIndUnsent}
 use Rattle.exclusive_stages.specs.Acked.{own_acked_at_central, peer_acked_at_central}
 use Rattle.exclusive_stages.specs.Held.{own_held_at_central, peer_held_at_central}
 use Rattle.exclusive_stages.specs.Kinds.{has_peer_at_central, is_host_asked_at_central}
-use Rattle.procedure_values.specs.declared.asks.Ask.{Ask}
-use Rattle.procedure_values.specs.declared.asks.Ask.TheVariants.{Encrypt as ask_encrypt, Request as ask_request, Update as ask_update}
-use Rattle.procedure_values.specs.declared.drafts.Draft.{Draft}
-use Rattle.procedure_values.specs.declared.drafts.Draft.TheVariants.{Cipher}
-use Rattle.procedure_stages.specs.declared.stages.Exchange.{Exchange}
-use Rattle.procedure_values.specs.declared.drafts.Outgoing.{Outgoing}
-use Rattle.procedure_values.specs.declared.drafts.Outgoing.TheVariants.{Other}
-use Rattle.procedure_values.specs.Asks.{kind_of_ask}
-use Rattle.procedure_stages.specs.declared.stages.Central.{Central}
-use Rattle.procedure_stages.specs.declared.stages.OwnCentral.{OwnCentral}
-use Rattle.procedure_stages.specs.declared.stages.OwnCentral.TheVariants.{EncryptSent, EncryptUnsent, Exchange as exchange, Exclusive as exclusive}
-use Rattle.procedure_stages.specs.declared.stages.Progress.{Progress}
-use Rattle.procedure_stages.specs.declared.stages.Progress.TheVariants.{Central as central, Peripheral as peripheral}
-use Rattle.procedure_stages.specs.Acked.{central_acked, progress_acked}
-use Rattle.procedure_stages.specs.Awaited.{is_own_encryption}
-use Rattle.procedure_stages.specs.Begun.{progress_begun}
-use Rattle.procedure_stages.specs.Collisions.{peer_lets}
-use Rattle.procedure_stages.specs.Exclusive.{on_central_stage, pdu_of_draft, pdu_of_outgoing}
-use Rattle.procedure_stages.specs.Held.{progress_held}
-use Rattle.procedure_stages.specs.InProgress.{has_peer, is_host_asked, peer_becomes}
-use Rattle.procedure_stages.specs.Kinds.{begins, role_of}
-use Rattle.procedure_stages.specs.Sent.{exchange_sent, exclusive_sent_by_central, own_draft_sent_by_central, peer_draft_sent_by_central, progress_after_sending}
-use Rattle.procedure_stages.specs.declared.steps.Step.{Step as the_step}
-use Rattle.procedures.specs.declared.outcome.Outcome.{Outcome}
-use Rattle.procedures.specs.Beginning.{ask_at, begin_at, begin_step, place_to_begin}
-use Rattle.procedures.specs.Calls.{takes}
-use Rattle.procedures.specs.Encryption.{is_rejection, progress_given}
-use Rattle.procedures.specs.Going.{entered_step, granted_by, host_answer_step}
-use Rattle.procedures.specs.Table.{TableFacts}
-use Rattle.procedures.specs.Taking.{facts_with, lacks_room, no_room, outcome_of, taken_by, took_step}
-use Rattle.table_laws.specs.Encrypting.{MayBeginBy, has_encryption}
-use Rattle.table_laws.proofs.Begun.{begins_of}
-use Rattle.table_laws.proofs.Encrypting.{begins_by}
-use Rattle.table_laws.proofs.Outcomes.{took as took_outcome}
+use Rattle.joint_parameters.specs.procedure_values.declared.asks.Ask.{Ask}
+use Rattle.joint_parameters.specs.procedure_values.declared.asks.Ask.TheVariants.{Encrypt as ask_encrypt, Request as ask_request, Update as ask_update}
+use Rattle.joint_parameters.specs.procedure_values.declared.drafts.Draft.{Draft}
+use Rattle.joint_parameters.specs.procedure_values.declared.drafts.Draft.TheVariants.{Cipher}
+use Rattle.joint_parameters.specs.procedure_stages.declared.stages.Exchange.{Exchange}
+use Rattle.joint_parameters.specs.procedure_values.declared.drafts.Outgoing.{Outgoing}
+use Rattle.joint_parameters.specs.procedure_values.declared.drafts.Outgoing.TheVariants.{Other}
+use Rattle.joint_parameters.specs.procedure_values.Asks.{kind_of_ask}
+use Rattle.joint_parameters.specs.procedure_stages.declared.stages.Central.{Central}
+use Rattle.joint_parameters.specs.procedure_stages.declared.stages.OwnCentral.{OwnCentral}
+use Rattle.joint_parameters.specs.procedure_stages.declared.stages.OwnCentral.TheVariants.{EncryptSent, EncryptUnsent, Exchange as exchange, Exclusive as exclusive}
+use Rattle.joint_parameters.specs.procedure_stages.declared.stages.Progress.{Progress}
+use Rattle.joint_parameters.specs.procedure_stages.declared.stages.Progress.TheVariants.{Central as central, Peripheral as peripheral}
+use Rattle.joint_parameters.specs.procedure_stages.Acked.{central_acked, progress_acked}
+use Rattle.joint_parameters.specs.procedure_stages.Awaited.{is_own_encryption}
+use Rattle.joint_parameters.specs.procedure_stages.Begun.{progress_begun}
+use Rattle.joint_parameters.specs.procedure_stages.Collisions.{peer_lets}
+use Rattle.joint_parameters.specs.procedure_stages.Exclusive.{on_central_stage, pdu_of_draft, pdu_of_outgoing}
+use Rattle.joint_parameters.specs.procedure_stages.Held.{progress_held}
+use Rattle.joint_parameters.specs.procedure_stages.InProgress.{has_peer, is_host_asked, peer_becomes}
+use Rattle.joint_parameters.specs.procedure_stages.Kinds.{begins, role_of}
+use Rattle.joint_parameters.specs.procedure_stages.Sent.{exchange_sent, exclusive_sent_by_central, own_draft_sent_by_central, peer_draft_sent_by_central, progress_after_sending}
+use Rattle.joint_parameters.specs.procedure_stages.declared.steps.Step.{Step as the_step}
+use Rattle.joint_parameters.specs.procedures.declared.outcome.Outcome.{Outcome}
+use Rattle.joint_parameters.specs.procedures.Beginning.{ask_at, begin_at, begin_step, place_to_begin}
+use Rattle.joint_parameters.specs.procedures.Calls.{takes}
+use Rattle.joint_parameters.specs.procedures.Encryption.{is_rejection, progress_given}
+use Rattle.joint_parameters.specs.procedures.Going.{entered_step, granted_by, host_answer_step}
+use Rattle.joint_parameters.specs.procedures.Table.{TableFacts}
+use Rattle.joint_parameters.specs.procedures.Taking.{facts_with, lacks_room, no_room, outcome_of, taken_by, took_step}
+use Rattle.joint_parameters.specs.table_laws.Encrypting.{MayBeginBy, has_encryption}
+use Rattle.joint_parameters.proofs.table_laws.Begun.{begins_of}
+use Rattle.joint_parameters.proofs.table_laws.Encrypting.{begins_by}
+use Rattle.joint_parameters.proofs.table_laws.Outcomes.{took as took_outcome}
 use Rattle.collisions.specs.CentralTable
 use Rattle.collisions.specs.declared.central.Central.{Central as TheCentral}
-use Rattle.collision_steps.specs.Answers.{stops_run}
-use Rattle.collision_steps.specs.CentralPart.{answer_to, central_of, refusal_if, step_of_read, view}
-use Rattle.collision_steps.proofs.CentralTaking.{no_room_left, took as took_exactly}
+use Rattle.joint_collisions.specs.collision_steps.Answers.{stops_run}
+use Rattle.joint_collisions.specs.collision_steps.CentralPart.{answer_to, central_of, refusal_if, step_of_read, view}
+use Rattle.joint_collisions.proofs.collision_steps.CentralTaking.{no_room_left, took as took_exactly}
 use Rattle.joint_laws.proofs.Common.{settled_of}
 
 -- both at once

@@ -2,36 +2,36 @@
 use Rattle.std.proofs.Common.{◌≡◌, ℕ, Bool, true, false, not, ◌&&◌, List, Option, Some, None, is_some, refl, ap, sym, subst, ◌∙◌, arith}
 use Rattle.ble_base.specs.declared.roles.Role.TheVariants.{Central, Peripheral}
 use Rattle.data_pdu.specs.declared.ctrl.Ctrl.{Ctrl}
-use Rattle.enc_phase.specs.declared.facts.PhaseFacts.{PhaseFacts}
-use Rattle.enc_phase.specs.declared.facts.PhaseFacts.TheVariants.{HalfKeyed}
+use Rattle.joint_parameters.specs.enc_phase.declared.facts.PhaseFacts.{PhaseFacts}
+use Rattle.joint_parameters.specs.enc_phase.declared.facts.PhaseFacts.TheVariants.{HalfKeyed}
 use Rattle.exclusive_stages.specs.declared.stages.PeripheralStage.TheVariants.{Idle as idle, RequestGranted}
 use Rattle.exclusive_stages.specs.Held.{own_held_at_peripheral}
 use Rattle.instants.specs.declared.indications.Params.{Params}
 use Rattle.instants.specs.Track.{next_number}
-use Rattle.procedure_values.specs.declared.asks.Ask.{Ask}
-use Rattle.procedure_values.specs.declared.drafts.Draft.{Draft}
-use Rattle.procedure_stages.specs.declared.stages.OwnPeripheral.{OwnPeripheral}
-use Rattle.procedure_stages.specs.declared.stages.OwnPeripheral.TheVariants.{Exclusive as exclusive_p, Exchange as exchange_p}
-use Rattle.procedure_stages.specs.declared.stages.Progress.{Progress}
-use Rattle.procedure_stages.specs.declared.stages.Progress.TheVariants.{Central as central, Peripheral as peripheral}
-use Rattle.procedure_stages.specs.Exclusive.{on_peripheral_stage, peripheral_stage}
-use Rattle.procedure_stages.specs.Held.{progress_held}
-use Rattle.procedure_stages.specs.Kinds.{exchange_at_peripheral, kind_at_peripheral, own_exchange, own_kind, role_of}
-use Rattle.procedures.specs.Beginning.{ask_at, place_to_begin}
-use Rattle.procedures.specs.Going.{entered_step}
-use Rattle.procedures.specs.Table.{TableFacts}
-use Rattle.table_laws.proofs.Begun.{begins_of}
-use Rattle.collision_steps.specs.PeripheralPart.{view}
-use Rattle.collision_steps.specs.Parts.{drafts_part}
-use Rattle.exchange_pairs.specs.Exchange.{Idle, is_idle}
-use Rattle.exchange_steps.specs.Ends.{features_stage, lengths_stage, version_stage}
-use Rattle.phase_pairs.specs.JointRun.{keeps_request}
-use Rattle.phased_control.specs.Ends.{IsFirst, is_half_keyed, says_kept}
-use Rattle.phased_control.specs.Phased.{Phased, ask_begun, is_quiet_now, table_entered}
-use Rattle.phased_control.proofs.Kept.{first_now, said_now}
-use Rattle.joint_controls.specs.Joint.{Joint, JointStep, after_all, beginning, is_item}
-use Rattle.joint_controls.specs.Ends.{steps_of_central}
-use Rattle.joint_controls.proofs.EndSteps.{central_runs}
+use Rattle.joint_parameters.specs.procedure_values.declared.asks.Ask.{Ask}
+use Rattle.joint_parameters.specs.procedure_values.declared.drafts.Draft.{Draft}
+use Rattle.joint_parameters.specs.procedure_stages.declared.stages.OwnPeripheral.{OwnPeripheral}
+use Rattle.joint_parameters.specs.procedure_stages.declared.stages.OwnPeripheral.TheVariants.{Exclusive as exclusive_p, Exchange as exchange_p}
+use Rattle.joint_parameters.specs.procedure_stages.declared.stages.Progress.{Progress}
+use Rattle.joint_parameters.specs.procedure_stages.declared.stages.Progress.TheVariants.{Central as central, Peripheral as peripheral}
+use Rattle.joint_parameters.specs.procedure_stages.Exclusive.{on_peripheral_stage, peripheral_stage}
+use Rattle.joint_parameters.specs.procedure_stages.Held.{progress_held}
+use Rattle.joint_parameters.specs.procedure_stages.Kinds.{exchange_at_peripheral, kind_at_peripheral, own_exchange, own_kind, role_of}
+use Rattle.joint_parameters.specs.procedures.Beginning.{ask_at, place_to_begin}
+use Rattle.joint_parameters.specs.procedures.Going.{entered_step}
+use Rattle.joint_parameters.specs.procedures.Table.{TableFacts}
+use Rattle.joint_parameters.proofs.table_laws.Begun.{begins_of}
+use Rattle.joint_collisions.specs.collision_steps.PeripheralPart.{view}
+use Rattle.joint_collisions.specs.collision_steps.Parts.{drafts_part}
+use Rattle.joint_exchanges.specs.exchange_pairs.Exchange.{Idle, is_idle}
+use Rattle.joint_exchanges.specs.exchange_steps.Ends.{features_stage, lengths_stage, version_stage}
+use Rattle.joint_phases.specs.phase_pairs.JointRun.{keeps_request}
+use Rattle.joint_parameters.specs.phased_control.Ends.{IsFirst, is_half_keyed, says_kept}
+use Rattle.joint_parameters.specs.phased_control.Phased.{Phased, ask_begun, is_quiet_now, table_entered}
+use Rattle.joint_parameters.proofs.phased_control.Kept.{first_now, said_now}
+use Rattle.joint_parameters.specs.joint_controls.Joint.{Joint, JointStep, after_all, beginning, is_item}
+use Rattle.joint_parameters.specs.joint_controls.Ends.{steps_of_central}
+use Rattle.joint_parameters.proofs.joint_controls.EndSteps.{central_runs}
 use Rattle.joint_collisions.specs.Views.{IsReached, view_of}
 use Rattle.joint_exchanges.specs.Agreement.{Asked, Features, Lengths, is_first_of, is_question_of, passes, places_of, questions_waiting, stage_at, untaken}
 use Rattle.joint_exchanges.specs.Runs.{GoesOn}

@@ -4,28 +4,28 @@ use Rattle.std.specs.List.{AllByRecursion}
 use Rattle.ble_base.specs.declared.roles.Role.TheVariants.{Peripheral}
 use Rattle.data_pdu.specs.declared.ctrl.Ctrl.{Ctrl}
 use Rattle.data_pdu.specs.declared.ctrl.Ctrl.TheVariants.{ConnectionParamReq, EncRsp, LengthReq as length_pdu, PauseEncRsp, PeripheralFeatureReq as feature_pdu, PhyReq as phy_pdu, RejectExtInd, StartEncReq, StartEncRsp, TerminateInd, VersionInd as version_pdu}
-use Rattle.enc_phase.specs.declared.classes.PduClass.TheVariants.{Other as other_class, Refusal, Request as request_class}
+use Rattle.joint_parameters.specs.enc_phase.declared.classes.PduClass.TheVariants.{Other as other_class, Refusal, Request as request_class}
 use Rattle.exclusive_stages.specs.declared.pdus.Pdu.{Pdu}
-use Rattle.procedure_values.specs.declared.drafts.Draft.{Draft}
-use Rattle.procedure_values.specs.declared.drafts.Draft.TheVariants.{Update, Cipher, LengthReq, PeripheralFeatureReq, PhyReq, Request, VersionInd}
-use Rattle.procedure_values.specs.declared.drafts.Outgoing.{Outgoing}
-use Rattle.procedure_values.specs.declared.drafts.Outgoing.TheVariants.{Disconnect, Nothing, Other, Rejection}
-use Rattle.procedure_values.specs.Drafts.{ctrl_of_draft, ctrl_of_outgoing}
-use Rattle.procedure_stages.specs.Exclusive.{pdu_of_draft, pdu_of_outgoing}
-use Rattle.table_laws.specs.Waiting.{count_if, number_of}
+use Rattle.joint_parameters.specs.procedure_values.declared.drafts.Draft.{Draft}
+use Rattle.joint_parameters.specs.procedure_values.declared.drafts.Draft.TheVariants.{Update, Cipher, LengthReq, PeripheralFeatureReq, PhyReq, Request, VersionInd}
+use Rattle.joint_parameters.specs.procedure_values.declared.drafts.Outgoing.{Outgoing}
+use Rattle.joint_parameters.specs.procedure_values.declared.drafts.Outgoing.TheVariants.{Disconnect, Nothing, Other, Rejection}
+use Rattle.joint_parameters.specs.procedure_values.Drafts.{ctrl_of_draft, ctrl_of_outgoing}
+use Rattle.joint_parameters.specs.procedure_stages.Exclusive.{pdu_of_draft, pdu_of_outgoing}
+use Rattle.joint_parameters.specs.table_laws.Waiting.{count_if, number_of}
 use Rattle.collisions.specs.Agreement
 use Rattle.collisions.specs.declared.joint.Way.{Way as the_way}
 use Rattle.collisions.specs.declared.joint.Way.TheVariants.{Fixed as the_fixed, OnAir as the_on_air}
 use Rattle.collisions.specs.JointRun.{is_pdu}
-use Rattle.collision_steps.specs.Parts.{drafts_part, with_part}
-use Rattle.phase_pairs.specs.JointRun.{is_request}
+use Rattle.joint_collisions.specs.collision_steps.Parts.{drafts_part, with_part}
+use Rattle.joint_phases.specs.phase_pairs.JointRun.{is_request}
 use Rattle.joint_collisions.specs.Views.{item_part, kept_part, way_if, way_part}
-use Rattle.joint_controls.specs.Joint.{Clear, Control, Data, Fixed, Item, OnAir, Taken, Way, is_item}
+use Rattle.joint_parameters.specs.joint_controls.Joint.{Clear, Control, Data, Fixed, Item, OnAir, Taken, Way, is_item}
 use Rattle.joint_exchanges.specs.Agreement.{Features, Lengths, is_control, is_draft, is_first_of, is_question_of, is_version_ctrl, is_version_ind, passes, untaken}
 use Rattle.joint_exchanges.specs.SentByRole.{IsItemOf, IsWayOf, is_cipher_of, is_draft_of, is_outgoing_of}
 use Rattle.joint_phases.specs.Classes.{class_up, draft_up, has_request}
 use Rattle.joint_phases.specs.Facts.{is_first_up, item_untaken}
-use Rattle.phased_control.specs.Ends.{IsFirst}
+use Rattle.joint_parameters.specs.phased_control.Ends.{IsFirst}
 use Rattle.joint_laws.specs.Firsts.{has, is_first}
 use Rattle.joint_laws.proofs.VersionPdus.{count_none}
 use Rattle.joint_laws.proofs.Common.{some_ctrl}

@@ -2,7 +2,7 @@
 use Rattle.std.proofs.Common.{◌≡◌, ℕ, true, List}
 use Rattle.std.proofs.lemmas.Bool.{and_parts}
 use Rattle.instants.specs.declared.indications.Params.{Params}
-use Rattle.joint_controls.specs.Joint.{Joint, JointStep, after_all, beginning, is_running, may, may_act}
+use Rattle.joint_parameters.specs.joint_controls.Joint.{Joint, JointStep, after_all, beginning, is_running, may, may_act}
 use Rattle.joint_phases.specs.Agreement.{is_sealing_agreed, is_taken_right}
 use Rattle.joint_phases.proofs.Agreeing.{sealing_agreed, taken_right}
 use Rattle.joint_phases.proofs.Steps.{shows_run}

@@ -3,8 +3,8 @@ use Rattle.std.proofs.Common.{◌≡◌, ℕ, Bool, true, List, [], ◌∷◌, �
 use Rattle.data_pdu.specs.declared.ctrl.Ctrl.{Ctrl}
 use Rattle.exclusive_stages.specs.declared.pdus.Exclusive.{Exclusive}
 use Rattle.instants.specs.declared.indications.Params.{Params}
-use Rattle.procedure_values.specs.declared.drafts.Outgoing.{Outgoing}
-use Rattle.joint_controls.specs.Joint.{CentralTakes, Joint, JointStep, act, after, after_all, beginning, is_running}
+use Rattle.joint_parameters.specs.procedure_values.declared.drafts.Outgoing.{Outgoing}
+use Rattle.joint_parameters.specs.joint_controls.Joint.{CentralTakes, Joint, JointStep, act, after, after_all, beginning, is_running}
 use Rattle.joint_collisions.specs.Arrivals.{Collides, collided}
 use Rattle.joint_collisions.specs.Facts.{CentralFacts, IsState}
 use Rattle.joint_collisions.proofs.CollisionLaws.{no_peer_then, own_stays, rejected_later, terminates_next}

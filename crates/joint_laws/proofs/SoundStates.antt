@@ -3,13 +3,13 @@ use Rattle.std.proofs.Common.{◌≡◌, ℕ, true, not, List, refl, sym, subst}
 use Rattle.ble_base.specs.declared.roles.Role.{Role}
 use Rattle.ble_base.specs.declared.roles.Role.TheVariants.{Central, Peripheral}
 use Rattle.instants.specs.declared.indications.Params.{Params}
-use Rattle.table_laws.specs.Encrypting.{has_encryption}
-use Rattle.exchange_pairs.specs.Exchange.{ExchangeStage, Idle, Sent, Unsent}
-use Rattle.phased_control.specs.Phased.{Phased, is_quiet_now}
-use Rattle.phased_control.proofs.Agreeing.{agrees_now}
-use Rattle.joint_controls.specs.Ends.{steps_of_central, steps_of_peripheral}
-use Rattle.joint_controls.specs.Joint.{Joint, JointStep, after_all, beginning, is_running}
-use Rattle.joint_controls.proofs.EndSteps.{central_runs, peripheral_runs}
+use Rattle.joint_parameters.specs.table_laws.Encrypting.{has_encryption}
+use Rattle.joint_exchanges.specs.exchange_pairs.Exchange.{ExchangeStage, Idle, Sent, Unsent}
+use Rattle.joint_parameters.specs.phased_control.Phased.{Phased, is_quiet_now}
+use Rattle.joint_parameters.proofs.phased_control.Agreeing.{agrees_now}
+use Rattle.joint_parameters.specs.joint_controls.Ends.{steps_of_central, steps_of_peripheral}
+use Rattle.joint_parameters.specs.joint_controls.Joint.{Joint, JointStep, after_all, beginning, is_running}
+use Rattle.joint_parameters.proofs.joint_controls.EndSteps.{central_runs, peripheral_runs}
 use Rattle.joint_collisions.proofs.Agreeing.{agrees}
 use Rattle.joint_exchanges.specs.Agreement.{Asked, end_at, stage_at, version_stage_at}
 use Rattle.joint_exchanges.specs.Runs.{GoesOn}

@@ -9,36 +9,36 @@ use Rattle.ble_base.specs.declared.roles.Role.TheVariants.{Central, Peripheral}
 use Rattle.data_pdu.specs.declared.ctrl.Ctrl.{Ctrl}
 use Rattle.data_pdu.specs.declared.ctrl.CtrlRead.{CtrlRead}
 use Rattle.data_pdu.specs.declared.ctrl.CtrlRead.TheVariants.{Known}
-use Rattle.enc_phase.specs.declared.classes.PduClass.TheVariants.{Data}
-use Rattle.enc_phase.specs.Taking.{allows}
+use Rattle.joint_parameters.specs.enc_phase.declared.classes.PduClass.TheVariants.{Data}
+use Rattle.joint_parameters.specs.enc_phase.Taking.{allows}
 use Rattle.instants.specs.declared.indications.Indication.{Indication}
-use Rattle.procedure_values.specs.declared.drafts.Draft.{Draft}
-use Rattle.procedure_values.specs.declared.drafts.Draft.TheVariants.{Cipher}
-use Rattle.procedure_values.specs.Drafts.{is_out}
-use Rattle.procedure_stages.specs.declared.closing.Closing.{Closing}
-use Rattle.procedure_stages.specs.declared.reply.Reply.{Reply}
-use Rattle.procedure_stages.specs.declared.reply.Reply.TheVariants.{Answer, Nothing as no_reply, Reject}
-use Rattle.procedure_stages.specs.declared.steps.Step.{Step as the_step}
-use Rattle.procedure_stages.specs.Closing.{is_open}
-use Rattle.procedure_stages.specs.InProgress.{is_host_asked}
-use Rattle.procedure_stages.specs.Kinds.{role_of}
-use Rattle.procedure_stages.specs.Queue.{QueueFacts, waiting_in, with_reply}
-use Rattle.procedures.specs.Going.{is_answer}
-use Rattle.procedures.specs.Table.{TableFacts}
-use Rattle.procedures.specs.Taking.{facts_with, lacks_room, no_room, outcome_of, took_step}
-use Rattle.control_model.specs.Control.{Control, Step, after, after_all, following, goes_out, moved, table_if, went}
-use Rattle.control_model.specs.Control.{Answers as control_answers, Asks as control_asks, Disconnects as control_disconnects, Enters as control_enters, Owes, SeesAcknowledged as control_sees_acknowledged, Sends as control_sends, Takes as control_takes}
-use Rattle.control_model.specs.Waits.{EndsByCollision}
-use Rattle.control_model.proofs.Calls.{any_step, either_way}
-use Rattle.phased_control.specs.Phased.{Phased, is_open_now, is_quiet_now}
-use Rattle.phased_control.specs.Taken.{PhasedStep, Response, Answers, Asks, Disconnects, Enters, GivesKey, LacksKey, SeesAcknowledged, Sends, Takes, TakesData, answered_kept, ciphered, ended_with, is_allowed, is_answered, lacks_room_now, phased_after, role_now, seen_as, took}
-use Rattle.phased_control.specs.Steps.{control_steps, end_by_phase, ended_if, owed_steps, read_answer, seen_by_procedures}
-use Rattle.phased_control.proofs.Agreeing.{lasts_answered}
-use Rattle.phased_control.proofs.Answering.{answers}
-use Rattle.phased_control.proofs.Moving.{moves_by_steps, open_phased, same_kept}
-use Rattle.control_model.proofs.Moving.{same_role}
-use Rattle.phased_control.proofs.Tables.{takes_as}
-use Rattle.phased_control.proofs.Taking.{handed_ways, took_ways}
+use Rattle.joint_parameters.specs.procedure_values.declared.drafts.Draft.{Draft}
+use Rattle.joint_parameters.specs.procedure_values.declared.drafts.Draft.TheVariants.{Cipher}
+use Rattle.joint_parameters.specs.procedure_values.Drafts.{is_out}
+use Rattle.joint_parameters.specs.procedure_stages.declared.closing.Closing.{Closing}
+use Rattle.joint_parameters.specs.procedure_stages.declared.reply.Reply.{Reply}
+use Rattle.joint_parameters.specs.procedure_stages.declared.reply.Reply.TheVariants.{Answer, Nothing as no_reply, Reject}
+use Rattle.joint_parameters.specs.procedure_stages.declared.steps.Step.{Step as the_step}
+use Rattle.joint_parameters.specs.procedure_stages.Closing.{is_open}
+use Rattle.joint_parameters.specs.procedure_stages.InProgress.{is_host_asked}
+use Rattle.joint_parameters.specs.procedure_stages.Kinds.{role_of}
+use Rattle.joint_parameters.specs.procedure_stages.Queue.{QueueFacts, waiting_in, with_reply}
+use Rattle.joint_parameters.specs.procedures.Going.{is_answer}
+use Rattle.joint_parameters.specs.procedures.Table.{TableFacts}
+use Rattle.joint_parameters.specs.procedures.Taking.{facts_with, lacks_room, no_room, outcome_of, took_step}
+use Rattle.joint_parameters.specs.control_model.Control.{Control, Step, after, after_all, following, goes_out, moved, table_if, went}
+use Rattle.joint_parameters.specs.control_model.Control.{Answers as control_answers, Asks as control_asks, Disconnects as control_disconnects, Enters as control_enters, Owes, SeesAcknowledged as control_sees_acknowledged, Sends as control_sends, Takes as control_takes}
+use Rattle.joint_parameters.specs.control_model.Waits.{EndsByCollision}
+use Rattle.joint_parameters.proofs.control_model.Calls.{any_step, either_way}
+use Rattle.joint_parameters.specs.phased_control.Phased.{Phased, is_open_now, is_quiet_now}
+use Rattle.joint_parameters.specs.phased_control.Taken.{PhasedStep, Response, Answers, Asks, Disconnects, Enters, GivesKey, LacksKey, SeesAcknowledged, Sends, Takes, TakesData, answered_kept, ciphered, ended_with, is_allowed, is_answered, lacks_room_now, phased_after, role_now, seen_as, took}
+use Rattle.joint_parameters.specs.phased_control.Steps.{control_steps, end_by_phase, ended_if, owed_steps, read_answer, seen_by_procedures}
+use Rattle.joint_parameters.proofs.phased_control.Agreeing.{lasts_answered}
+use Rattle.joint_parameters.proofs.phased_control.Answering.{answers}
+use Rattle.joint_parameters.proofs.phased_control.Moving.{moves_by_steps, open_phased, same_kept}
+use Rattle.joint_parameters.proofs.control_model.Moving.{same_role}
+use Rattle.joint_parameters.proofs.phased_control.Tables.{takes_as}
+use Rattle.joint_parameters.proofs.phased_control.Taking.{handed_ways, took_ways}
 use Rattle.joint_laws.proofs.PeerInQuiet.{ArePlain, IsPlain, owed_plain}
 use Rattle.joint_laws.proofs.TakenEnds.{IsLate, TakenEnd, by_collision, no_end, takes_end, too_late}
 use Rattle.joint_laws.proofs.Common.{settled_of}

@@ -16,31 +16,31 @@ use Rattle.exclusive_stages.specs.declared.pdus.Reason.TheVariants.{SameKind}
 use Rattle.exclusive_stages.specs.Awaited.{central_answered, peer_answered}
 use Rattle.exclusive_stages.specs.Kinds.{central_kind}
 use Rattle.instants.specs.declared.indications.Indication.{Indication}
-use Rattle.procedure_stages.specs.declared.stages.Progress.{Progress}
-use Rattle.procedure_stages.specs.declared.stages.Progress.TheVariants.{Central as central, Peripheral as peripheral}
-use Rattle.procedure_stages.specs.declared.steps.Step.{Step as the_step}
-use Rattle.procedure_stages.specs.Closing.{is_open}
-use Rattle.procedure_stages.specs.Kinds.{role_of}
-use Rattle.procedure_stages.specs.Queue.{has_reply, waiting_in}
-use Rattle.procedure_stages.specs.Steps.{asks_host}
-use Rattle.procedures.specs.Table.{TableFacts}
-use Rattle.procedures.specs.Taking.{lacks_room, outcome_of, taken_by, took_step}
+use Rattle.joint_parameters.specs.procedure_stages.declared.stages.Progress.{Progress}
+use Rattle.joint_parameters.specs.procedure_stages.declared.stages.Progress.TheVariants.{Central as central, Peripheral as peripheral}
+use Rattle.joint_parameters.specs.procedure_stages.declared.steps.Step.{Step as the_step}
+use Rattle.joint_parameters.specs.procedure_stages.Closing.{is_open}
+use Rattle.joint_parameters.specs.procedure_stages.Kinds.{role_of}
+use Rattle.joint_parameters.specs.procedure_stages.Queue.{has_reply, waiting_in}
+use Rattle.joint_parameters.specs.procedure_stages.Steps.{asks_host}
+use Rattle.joint_parameters.specs.procedures.Table.{TableFacts}
+use Rattle.joint_parameters.specs.procedures.Taking.{lacks_room, outcome_of, taken_by, took_step}
 use Rattle.collisions.specs.CentralTable
 use Rattle.collisions.specs.PeripheralTable
 use Rattle.collisions.specs.declared.central.Central.{Central as TheCentral}
 use Rattle.collisions.specs.declared.joint.End.{End}
 use Rattle.collisions.specs.declared.joint.End.TheVariants.{Collided, InstantPassed, Open}
 use Rattle.collisions.specs.declared.peripheral.Peripheral.{Peripheral as ThePeripheral}
-use Rattle.collision_steps.specs.Answers.{code_of_end, stops_run}
-use Rattle.collision_steps.specs.CentralPart
-use Rattle.collision_steps.specs.PeripheralPart
-use Rattle.collision_steps.proofs.CentralTaking
-use Rattle.collision_steps.proofs.CentralTaking.{step_of_settled}
-use Rattle.collision_steps.proofs.PeripheralTaking
-use Rattle.control_model.specs.Control.{Control, Takes, after, ended, indicated_by, is_to_come, taken}
-use Rattle.control_model.specs.Waits.{EndsByCollision}
-use Rattle.control_model.proofs.Calls.{open_step}
-use Rattle.control_model.proofs.Outcomes.{Hands, fits}
+use Rattle.joint_collisions.specs.collision_steps.Answers.{code_of_end, stops_run}
+use Rattle.joint_collisions.specs.collision_steps.CentralPart
+use Rattle.joint_collisions.specs.collision_steps.PeripheralPart
+use Rattle.joint_collisions.proofs.collision_steps.CentralTaking
+use Rattle.joint_collisions.proofs.collision_steps.CentralTaking.{step_of_settled}
+use Rattle.joint_collisions.proofs.collision_steps.PeripheralTaking
+use Rattle.joint_parameters.specs.control_model.Control.{Control, Takes, after, ended, indicated_by, is_to_come, taken}
+use Rattle.joint_parameters.specs.control_model.Waits.{EndsByCollision}
+use Rattle.joint_parameters.proofs.control_model.Calls.{open_step}
+use Rattle.joint_parameters.proofs.control_model.Outcomes.{Hands, fits}
 
 -- ---- an end by the procedures that exclude each other
 

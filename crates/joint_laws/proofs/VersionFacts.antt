@@ -3,14 +3,14 @@ use Rattle.std.proofs.Common.{◌≡◌, ◌≤◌, ℕ, ◌+◌, Bool, true, fa
 use Rattle.ble_base.specs.declared.roles.Role.{Role}
 use Rattle.ble_base.specs.declared.roles.Role.TheVariants.{Central, Peripheral}
 use Rattle.instants.specs.declared.indications.Params.{Params}
-use Rattle.procedure_stages.specs.declared.stages.Exchange.{Exchange}
-use Rattle.procedure_stages.specs.declared.stages.Exchange.TheVariants.{VersionSent}
-use Rattle.procedure_stages.specs.Kinds.{own_exchange}
-use Rattle.table_laws.specs.Waiting.{count_if}
-use Rattle.exchange_pairs.specs.Exchange.{Sent, is_idle}
-use Rattle.exchange_steps.specs.Ends.{version_stage}
-use Rattle.joint_controls.specs.Joint.{Joint, JointStep, Way, Clear, Fixed, OnAir, Taken, after_all, beginning, is_fixed, is_item, item_on_air}
-use Rattle.joint_controls.proofs.LastPdus.{first_tied, tied}
+use Rattle.joint_parameters.specs.procedure_stages.declared.stages.Exchange.{Exchange}
+use Rattle.joint_parameters.specs.procedure_stages.declared.stages.Exchange.TheVariants.{VersionSent}
+use Rattle.joint_parameters.specs.procedure_stages.Kinds.{own_exchange}
+use Rattle.joint_parameters.specs.table_laws.Waiting.{count_if}
+use Rattle.joint_exchanges.specs.exchange_pairs.Exchange.{Sent, is_idle}
+use Rattle.joint_exchanges.specs.exchange_steps.Ends.{version_stage}
+use Rattle.joint_parameters.specs.joint_controls.Joint.{Joint, JointStep, Way, Clear, Fixed, OnAir, Taken, after_all, beginning, is_fixed, is_item, item_on_air}
+use Rattle.joint_parameters.proofs.joint_controls.LastPdus.{first_tied, tied}
 use Rattle.joint_exchanges.specs.Agreement.{coming_to, end_at, is_version_ind, kept_of, passes, sent_from, untaken, version_stage_at, waiting}
 use Rattle.joint_exchanges.specs.Agreement
 use Rattle.joint_exchanges.specs.Runs.{GoesOn}
@@ -19,7 +19,7 @@ use Rattle.joint_exchanges.proofs.Few.{all_roles}
 use Rattle.joint_exchanges.proofs.States.{version_kept_unused, version_known_used, version_once, version_running, version_sent, version_used_for}
 use Rattle.joint_phases.specs.Classes.{has_version, is_version}
 use Rattle.joint_phases.specs.Facts.{drafts_of, is_version_coming, is_version_kept, is_version_sent}
-use Rattle.phased_control.specs.Phased.{is_open_now}
+use Rattle.joint_parameters.specs.phased_control.Phased.{is_open_now}
 use Rattle.joint_laws.proofs.VersionPdus.{count_none, count_some, kept_same, queue_none, queue_some, way_same}
 
 -- what was sent and not taken is fixed or on the air

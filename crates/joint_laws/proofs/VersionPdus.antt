@@ -5,13 +5,13 @@ use Rattle.ble_base.specs.declared.roles.Role.{Role}
 use Rattle.ble_base.specs.declared.roles.Role.TheVariants.{Central, Peripheral}
 use Rattle.data_pdu.specs.declared.ctrl.Ctrl.{Ctrl}
 use Rattle.data_pdu.specs.declared.ctrl.Ctrl.TheVariants.{VersionInd as version_pdu}
-use Rattle.procedure_values.specs.declared.drafts.Draft.{Draft}
-use Rattle.procedure_values.specs.declared.drafts.Draft.TheVariants.{Cipher}
-use Rattle.procedure_values.specs.declared.drafts.Outgoing.{Outgoing}
-use Rattle.procedure_values.specs.declared.drafts.Outgoing.TheVariants.{Disconnect, Nothing, Other, Rejection}
-use Rattle.procedure_values.specs.Drafts.{ctrl_of_draft, ctrl_of_outgoing}
-use Rattle.table_laws.specs.Waiting.{count_if, number_of}
-use Rattle.joint_controls.specs.Joint.{Clear, Control, Data, Fixed, Item, OnAir, Taken, Way}
+use Rattle.joint_parameters.specs.procedure_values.declared.drafts.Draft.{Draft}
+use Rattle.joint_parameters.specs.procedure_values.declared.drafts.Draft.TheVariants.{Cipher}
+use Rattle.joint_parameters.specs.procedure_values.declared.drafts.Outgoing.{Outgoing}
+use Rattle.joint_parameters.specs.procedure_values.declared.drafts.Outgoing.TheVariants.{Disconnect, Nothing, Other, Rejection}
+use Rattle.joint_parameters.specs.procedure_values.Drafts.{ctrl_of_draft, ctrl_of_outgoing}
+use Rattle.joint_parameters.specs.table_laws.Waiting.{count_if, number_of}
+use Rattle.joint_parameters.specs.joint_controls.Joint.{Clear, Control, Data, Fixed, Item, OnAir, Taken, Way}
 use Rattle.joint_exchanges.specs.Agreement
 use Rattle.joint_exchanges.specs.Agreement.{is_draft, is_version_ind, passes, untaken}
 use Rattle.joint_exchanges.specs.SentByRole.{IsItemOf, IsWayOf, is_cipher_of, is_draft_of, is_outgoing_of}

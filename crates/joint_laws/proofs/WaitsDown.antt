@@ -1,12 +1,12 @@
 -- The PDUs of the encryption that wait at a central are those that the machine of phases has, one for one.
 use Rattle.std.proofs.Common.{◌≡◌, true, List, [], ◌∷◌, ◌++◌, Option, Some, None, refl, ap, sym, ◌∙◌}
 use Rattle.std.proofs.lemmas.Bool.{and_parts}
-use Rattle.enc_phase.specs.declared.classes.PduClass.{PduClass}
-use Rattle.enc_phase.specs.declared.classes.PduClass.TheVariants.{Data, Empty, EncReq, EncRsp, Other, PauseEncReq, PauseEncRsp, Refusal, Request, StartEncReq, StartEncRsp, Terminate}
-use Rattle.enc_phase.specs.declared.facts.PhaseFacts.{PhaseFacts}
-use Rattle.procedure_values.specs.declared.drafts.Draft.{Draft}
-use Rattle.phase_pairs.specs.Agreement.{encryption_pdu, waiting_pdu}
-use Rattle.phase_pairs.specs.Central.{is_class, is_queued}
+use Rattle.joint_parameters.specs.enc_phase.declared.classes.PduClass.{PduClass}
+use Rattle.joint_parameters.specs.enc_phase.declared.classes.PduClass.TheVariants.{Data, Empty, EncReq, EncRsp, Other, PauseEncReq, PauseEncRsp, Refusal, Request, StartEncReq, StartEncRsp, Terminate}
+use Rattle.joint_parameters.specs.enc_phase.declared.facts.PhaseFacts.{PhaseFacts}
+use Rattle.joint_parameters.specs.procedure_values.declared.drafts.Draft.{Draft}
+use Rattle.joint_phases.specs.phase_pairs.Agreement.{encryption_pdu, waiting_pdu}
+use Rattle.joint_phases.specs.phase_pairs.Central.{is_class, is_queued}
 use Rattle.joint_phases.specs.Parts.{goes_down, queued_then, wait_down}
 use Rattle.joint_phases.specs.Pairs.{encryption_waiting}
 

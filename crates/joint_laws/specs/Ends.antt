@@ -2,7 +2,7 @@
 use Rattle.std.specs.Prelude.{◌≡◌, ◌⊎◌, true, Option, Some, None}
 use Rattle.ble_base.specs.ErrorCodes.{instant_passed}
 use Rattle.ble_base.specs.declared.error_codes.ErrCode.{ErrCode}
-use Rattle.joint_controls.specs.Joint.{Joint, is_late}
+use Rattle.joint_parameters.specs.joint_controls.Joint.{Joint, is_late}
 
 -- at a peripheral that has passed the Instant of the indication that it takes, by no code but that for this
 abbrev pub EndsLateAlone : Joint → Option ErrCode → Type 0

@@ -1,8 +1,8 @@
 -- LL_PAUSE_ENC_RSP of a central in a joint run of phases (Core 5.2, volume 6 part B, section 5.1.3.2).
 use Rattle.std.specs.Prelude.{Bool, not, ◌||◌}
-use Rattle.enc_phase.specs.Phases.{is_quiet}
-use Rattle.phase_pairs.specs.declared.joint.PhaseLink.{PhaseLink}
-use Rattle.phase_pairs.specs.JointRun.{is_coming, is_pause_rsp, is_pause_rsp_taken}
+use Rattle.joint_parameters.specs.enc_phase.Phases.{is_quiet}
+use Rattle.joint_phases.specs.phase_pairs.declared.joint.PhaseLink.{PhaseLink}
+use Rattle.joint_phases.specs.phase_pairs.JointRun.{is_coming, is_pause_rsp, is_pause_rsp_taken}
 
 -- it is fixed, sent or taken, and its sender has not seen it acknowledged
 abbrev pub is_pausing_down : PhaseLink → Bool

@@ -3,11 +3,11 @@ use Rattle.std.specs.Prelude.{◌≡◌, true, false, List}
 use Rattle.data_pdu.specs.declared.ctrl.Ctrl.{Ctrl}
 use Rattle.exclusive_stages.specs.declared.pdus.Exclusive.{Exclusive}
 use Rattle.exclusive_stages.specs.declared.stages.PeerAtCentral.TheVariants.{Absent}
-use Rattle.procedure_values.specs.declared.drafts.Outgoing.{Outgoing}
-use Rattle.procedure_stages.specs.Queue.{next_disconnect}
-use Rattle.collision_steps.specs.CentralPart.{central_of}
-use Rattle.phased_control.specs.Phased.{is_open_now}
-use Rattle.joint_controls.specs.Joint.{Joint, JointStep, after_all, next_out}
+use Rattle.joint_parameters.specs.procedure_values.declared.drafts.Outgoing.{Outgoing}
+use Rattle.joint_parameters.specs.procedure_stages.Queue.{next_disconnect}
+use Rattle.joint_collisions.specs.collision_steps.CentralPart.{central_of}
+use Rattle.joint_parameters.specs.phased_control.Phased.{is_open_now}
+use Rattle.joint_parameters.specs.joint_controls.Joint.{Joint, JointStep, after_all, next_out}
 use Rattle.joint_collisions.specs.Arrivals.{Collides, RejectsNext, collided, is_silent}
 
 -- the central has procedure p in progress, and has taken the first PDU of the peripheral's q

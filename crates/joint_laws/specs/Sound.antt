@@ -3,14 +3,14 @@
 use Rattle.std.specs.Prelude.{◌≡◌, ◌≤◌, ◌⊎◌, ⊤, true, false, not}
 use Rattle.ble_base.specs.declared.procedure_kinds.Kind.TheVariants.{Version}
 use Rattle.ble_base.specs.declared.roles.Role.{Role}
-use Rattle.procedure_values.specs.Wants.{count_of}
-use Rattle.procedure_stages.specs.Queue.{waiting_in}
-use Rattle.table_laws.specs.Encrypting.{has_encryption}
-use Rattle.table_laws.specs.Waiting.{count_if}
-use Rattle.exchange_pairs.specs.Exchange.{ExchangeStage, Idle, Sent, Unsent}
-use Rattle.exchange_pairs.specs.ExchangeRun.{other_role}
-use Rattle.phased_control.specs.Phased.{is_open_now, is_quiet_now}
-use Rattle.joint_controls.specs.Joint.{Joint, is_same_event}
+use Rattle.joint_parameters.specs.procedure_values.Wants.{count_of}
+use Rattle.joint_parameters.specs.procedure_stages.Queue.{waiting_in}
+use Rattle.joint_parameters.specs.table_laws.Encrypting.{has_encryption}
+use Rattle.joint_parameters.specs.table_laws.Waiting.{count_if}
+use Rattle.joint_exchanges.specs.exchange_pairs.Exchange.{ExchangeStage, Idle, Sent, Unsent}
+use Rattle.joint_exchanges.specs.exchange_pairs.ExchangeRun.{other_role}
+use Rattle.joint_parameters.specs.phased_control.Phased.{is_open_now, is_quiet_now}
+use Rattle.joint_parameters.specs.joint_controls.Joint.{Joint, is_same_event}
 use Rattle.joint_collisions.specs.Views.{TablesAgree}
 use Rattle.joint_exchanges.specs.Agreement.{Asked, end_at, is_version_ind, places_of, questions_waiting, stage_at, version_coming, version_places, version_stage_at, waiting}
 use Rattle.joint_parameters.specs.Views.{HaveEqual}

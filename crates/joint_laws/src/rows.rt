@@ -1,9 +1,9 @@
 //! Worked joint runs that meet the premises of the laws.
 ghost use Rattle.std.specs.Prelude.{◌≡◌, true};
 ghost use Rattle.ble_base.specs.declared.channel_map.ChannelMap.{ChannelMap};
-ghost use Rattle.control_model.specs.Worked.{six_slots};
-ghost use Rattle.joint_controls.specs.Joint.{is_running};
-ghost use Rattle.joint_controls.specs.Worked.{cross, link_after, start};
+ghost use Rattle.joint_parameters.specs.control_model.Worked.{six_slots};
+ghost use Rattle.joint_parameters.specs.joint_controls.Joint.{is_running};
+ghost use Rattle.joint_parameters.specs.joint_controls.Worked.{cross, link_after, start};
 ghost use Rattle.joint_laws.specs.Runs.{IsRun};
 
 /// Encryption starts at both ends in a run that meets the premises of the laws, and goes on.

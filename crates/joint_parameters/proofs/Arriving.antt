@@ -8,14 +8,14 @@ use Rattle.data_pdu.specs.declared.ctrl.Ctrl.{Ctrl}
 use Rattle.instants.specs.declared.indications.Indication.{Indication}
 use Rattle.instants.specs.declared.indications.Params.{Params}
 use Rattle.instants.specs.declared.track.Change.{Change}
-use Rattle.procedure_values.specs.Drafts.{ctrl_of_outgoing, indication_of}
+use Rattle.joint_controls.specs.procedure_values.Drafts.{ctrl_of_outgoing, indication_of}
 use Rattle.two_tracks.specs.TwoEnds.{MayIndicate, MayIndicateIf, TwoEnds, change_of}
 use Rattle.two_tracks.specs.TwoEnds as two_ends
-use Rattle.control_model.specs.Control.{Control}
-use Rattle.control_model.proofs.Sending.{may_of}
-use Rattle.control_model.specs.Waits.{kind_awaited, kind_waiting}
-use Rattle.phased_control.specs.Phased.{Phased, is_quiet_now}
-use Rattle.phased_control.specs.Taken.{Response, phased_after}
+use Rattle.joint_controls.specs.control_model.Control.{Control}
+use Rattle.joint_controls.proofs.control_model.Sending.{may_of}
+use Rattle.joint_controls.specs.control_model.Waits.{kind_awaited, kind_waiting}
+use Rattle.joint_controls.specs.phased_control.Phased.{Phased, is_quiet_now}
+use Rattle.joint_controls.specs.phased_control.Taken.{Response, phased_after}
 use Rattle.joint_controls.specs.Joint.{CentralSends, Clear, Control as control_item, Data, Fixed, Item, Joint, JointStep, OnAir, PeripheralTakes, Taken, Way, after, after_all, beginning, event_now, has_passed, instant_now, is_indication, is_item, is_late, is_running, item_by, item_on_air, last_change, latency_now, may, may_act, next_item, next_out, peripheral_takes, taking}
 use Rattle.joint_controls.specs.Ends.{AreStepsInRange, steps_of_central}
 use Rattle.joint_controls.proofs.ControlRuns.{peripheral_awaits}

@@ -6,18 +6,18 @@ use Rattle.ble_base.specs.declared.roles.Role.{Role}
 use Rattle.ble_base.specs.declared.roles.Role.TheVariants.{Central, Peripheral}
 use Rattle.data_pdu.specs.declared.ctrl.CtrlRead.{CtrlRead}
 use Rattle.data_pdu.specs.declared.ctrl.CtrlRead.TheVariants.{Known, Unknown, Bare}
-use Rattle.enc_phase.specs.declared.classes.PduClass.TheVariants.{Data}
-use Rattle.enc_phase.specs.Taking.{allows}
+use Rattle.joint_controls.specs.enc_phase.declared.classes.PduClass.TheVariants.{Data}
+use Rattle.joint_controls.specs.enc_phase.Taking.{allows}
 use Rattle.instants.specs.declared.indications.Indication.{Indication}
 use Rattle.instants.specs.declared.indications.Params.{Params}
-use Rattle.procedure_stages.specs.Kinds.{role_of}
-use Rattle.control_model.specs.Control.{Control, Step, after, after_all, moved}
-use Rattle.control_model.specs.Control.{Answers as control_answers, Asks as control_asks, Disconnects as control_disconnects, Enters as control_enters, Owes, SeesAcknowledged as control_sees_acknowledged, Sends as control_sends, Takes as control_takes}
-use Rattle.phased_control.specs.Phased.{Phased, first_phased}
-use Rattle.phased_control.specs.Taken.{PhasedStep, Takes, TakesData, does_keep, is_allowed, lacks_room_now, phased_after, phased_after_all, phased_moved, role_now}
-use Rattle.phased_control.specs.Steps.{code_if, control_steps, end_by_phase, ended_if}
-use Rattle.phased_control.proofs.Moving.{moves_by_steps}
-use Rattle.control_model.proofs.Moving.{same_role}
+use Rattle.joint_controls.specs.procedure_stages.Kinds.{role_of}
+use Rattle.joint_controls.specs.control_model.Control.{Control, Step, after, after_all, moved}
+use Rattle.joint_controls.specs.control_model.Control.{Answers as control_answers, Asks as control_asks, Disconnects as control_disconnects, Enters as control_enters, Owes, SeesAcknowledged as control_sees_acknowledged, Sends as control_sends, Takes as control_takes}
+use Rattle.joint_controls.specs.phased_control.Phased.{Phased, first_phased}
+use Rattle.joint_controls.specs.phased_control.Taken.{PhasedStep, Takes, TakesData, does_keep, is_allowed, lacks_room_now, phased_after, phased_after_all, phased_moved, role_now}
+use Rattle.joint_controls.specs.phased_control.Steps.{code_if, control_steps, end_by_phase, ended_if}
+use Rattle.joint_controls.proofs.phased_control.Moving.{moves_by_steps}
+use Rattle.joint_controls.proofs.control_model.Moving.{same_role}
 use Rattle.joint_parameters.proofs.Ends.{ends_all, is_taking}
 use Rattle.joint_parameters.proofs.Outcomes.{IsOther, indication_by}
 use Rattle.joint_parameters.proofs.Taking.{TakenAs, takes_as}

@@ -8,29 +8,29 @@ use Rattle.ble_base.specs.declared.roles.Role.{Role}
 use Rattle.ble_base.specs.declared.roles.Role.TheVariants.{Central as central_role, Peripheral as peripheral_role}
 use Rattle.instants.specs.declared.indications.Indication.{Indication}
 use Rattle.instants.specs.Track.{event_of, next_number}
-use Rattle.procedure_values.specs.declared.asks.Ask.{Ask}
-use Rattle.procedure_values.specs.declared.asks.Ask.TheVariants.{Update as ask_update, Features as ask_features, Version as ask_version, Encrypt as ask_encrypt}
-use Rattle.procedure_values.specs.declared.drafts.Draft.{Draft}
-use Rattle.procedure_values.specs.declared.drafts.Outgoing.{Outgoing}
-use Rattle.procedure_values.specs.declared.drafts.Outgoing.TheVariants.{Nothing, Rejection, Disconnect, Other}
-use Rattle.procedure_values.specs.declared.drafts.Rejection.{Rejection as TheRejection}
-use Rattle.procedure_values.specs.Drafts.{is_out, waits_for_instant}
-use Rattle.procedure_stages.specs.declared.closing.Closing.{Closing}
-use Rattle.procedure_stages.specs.declared.reply.Reply.{Reply}
-use Rattle.procedure_stages.specs.declared.reply.Reply.TheVariants.{Nothing as no_reply, Reject, Answer}
-use Rattle.procedure_stages.specs.Begun.{draft_begun, feature_draft}
-use Rattle.procedure_stages.specs.Closing.{is_disconnecting, is_open}
-use Rattle.procedure_stages.specs.InProgress.{is_host_asked}
-use Rattle.procedure_stages.specs.Kinds.{role_of}
-use Rattle.procedure_stages.specs.Queue.{QueueFacts, is_past_instant, next_by, next_disconnect, next_draft, with_reply, without_next}
-use Rattle.procedures.specs.Beginning.{ask_at, begin_at, first_draft, place_to_begin, with_first_draft}
-use Rattle.procedures.specs.Going.{entered_step, host_answer_step, is_answer}
-use Rattle.procedures.specs.Queue.{next_of}
-use Rattle.procedures.specs.Sending.{acked_step}
-use Rattle.procedures.specs.Table.{TableFacts}
-use Rattle.procedures.specs.Taking.{facts_with, outcome_of}
-use Rattle.control_model.specs.Control.{Control, Step, Enters, Asks, Answers, Disconnects, Sends, SeesAcknowledged, Takes, Owes, after, after_all, following, goes_out, indicated_by, is_to_come, moved, taken, table_if, went}
-use Rattle.control_model.proofs.Calls.{any_step, either_way, took_by}
+use Rattle.joint_controls.specs.procedure_values.declared.asks.Ask.{Ask}
+use Rattle.joint_controls.specs.procedure_values.declared.asks.Ask.TheVariants.{Update as ask_update, Features as ask_features, Version as ask_version, Encrypt as ask_encrypt}
+use Rattle.joint_controls.specs.procedure_values.declared.drafts.Draft.{Draft}
+use Rattle.joint_controls.specs.procedure_values.declared.drafts.Outgoing.{Outgoing}
+use Rattle.joint_controls.specs.procedure_values.declared.drafts.Outgoing.TheVariants.{Nothing, Rejection, Disconnect, Other}
+use Rattle.joint_controls.specs.procedure_values.declared.drafts.Rejection.{Rejection as TheRejection}
+use Rattle.joint_controls.specs.procedure_values.Drafts.{is_out, waits_for_instant}
+use Rattle.joint_controls.specs.procedure_stages.declared.closing.Closing.{Closing}
+use Rattle.joint_controls.specs.procedure_stages.declared.reply.Reply.{Reply}
+use Rattle.joint_controls.specs.procedure_stages.declared.reply.Reply.TheVariants.{Nothing as no_reply, Reject, Answer}
+use Rattle.joint_controls.specs.procedure_stages.Begun.{draft_begun, feature_draft}
+use Rattle.joint_controls.specs.procedure_stages.Closing.{is_disconnecting, is_open}
+use Rattle.joint_controls.specs.procedure_stages.InProgress.{is_host_asked}
+use Rattle.joint_controls.specs.procedure_stages.Kinds.{role_of}
+use Rattle.joint_controls.specs.procedure_stages.Queue.{QueueFacts, is_past_instant, next_by, next_disconnect, next_draft, with_reply, without_next}
+use Rattle.joint_controls.specs.procedures.Beginning.{ask_at, begin_at, first_draft, place_to_begin, with_first_draft}
+use Rattle.joint_controls.specs.procedures.Going.{entered_step, host_answer_step, is_answer}
+use Rattle.joint_controls.specs.procedures.Queue.{next_of}
+use Rattle.joint_controls.specs.procedures.Sending.{acked_step}
+use Rattle.joint_controls.specs.procedures.Table.{TableFacts}
+use Rattle.joint_controls.specs.procedures.Taking.{facts_with, outcome_of}
+use Rattle.joint_controls.specs.control_model.Control.{Control, Step, Enters, Asks, Answers, Disconnects, Sends, SeesAcknowledged, Takes, Owes, after, after_all, following, goes_out, indicated_by, is_to_come, moved, taken, table_if, went}
+use Rattle.joint_controls.proofs.control_model.Calls.{any_step, either_way, took_by}
 use Rattle.joint_parameters.specs.Indications.{indication_in}
 use Rattle.joint_parameters.proofs.Outcomes.{IsPlain, IsPlainReply, reads}
 

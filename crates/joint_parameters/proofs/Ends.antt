@@ -9,30 +9,30 @@ use Rattle.data_pdu.specs.declared.ctrl.Ctrl.{Ctrl}
 use Rattle.data_pdu.specs.declared.ctrl.Ctrl.TheVariants.{ConnectionUpdateInd, ChannelMapInd}
 use Rattle.data_pdu.specs.declared.ctrl.CtrlRead.{CtrlRead}
 use Rattle.data_pdu.specs.declared.ctrl.CtrlRead.TheVariants.{Known}
-use Rattle.enc_phase.specs.declared.classes.PduClass.{PduClass}
-use Rattle.enc_phase.specs.declared.classes.PduClass.TheVariants.{Data, Other, Request}
-use Rattle.enc_phase.specs.declared.facts.PhaseFacts.{PhaseFacts}
-use Rattle.enc_phase.specs.declared.facts.PhaseFacts.TheVariants.{Clear, Secure}
-use Rattle.enc_phase.specs.Taking.{allows, is_unknown}
+use Rattle.joint_controls.specs.enc_phase.declared.classes.PduClass.{PduClass}
+use Rattle.joint_controls.specs.enc_phase.declared.classes.PduClass.TheVariants.{Data, Other, Request}
+use Rattle.joint_controls.specs.enc_phase.declared.facts.PhaseFacts.{PhaseFacts}
+use Rattle.joint_controls.specs.enc_phase.declared.facts.PhaseFacts.TheVariants.{Clear, Secure}
+use Rattle.joint_controls.specs.enc_phase.Taking.{allows, is_unknown}
 use Rattle.instants.specs.declared.indications.Indication.{Indication}
 use Rattle.instants.specs.declared.track.Change.{Change}
 use Rattle.instants.specs.Track.{track_after_enter}
-use Rattle.procedure_values.specs.Drafts.{is_out}
-use Rattle.procedure_stages.specs.Closing.{is_open}
-use Rattle.procedure_stages.specs.InProgress.{is_host_asked}
-use Rattle.procedure_stages.specs.Kinds.{role_of}
-use Rattle.procedure_stages.specs.Queue.{waiting_in}
-use Rattle.procedures.specs.Going.{is_answer}
-use Rattle.procedures.specs.Table.{TableFacts}
+use Rattle.joint_controls.specs.procedure_values.Drafts.{is_out}
+use Rattle.joint_controls.specs.procedure_stages.Closing.{is_open}
+use Rattle.joint_controls.specs.procedure_stages.InProgress.{is_host_asked}
+use Rattle.joint_controls.specs.procedure_stages.Kinds.{role_of}
+use Rattle.joint_controls.specs.procedure_stages.Queue.{waiting_in}
+use Rattle.joint_controls.specs.procedures.Going.{is_answer}
+use Rattle.joint_controls.specs.procedures.Table.{TableFacts}
 use Rattle.two_tracks.specs.TwoEnds.{TwoEnds, after_sending}
-use Rattle.control_model.specs.Control.{Control, Step, after, after_all, following, goes_out, is_to_come, moved, table_if, taken, went}
-use Rattle.control_model.specs.Control.{Answers as control_answers, Asks as control_asks, Disconnects as control_disconnects, Enters as control_enters, Owes, SeesAcknowledged as control_sees_acknowledged, Sends as control_sends, Takes as control_takes}
-use Rattle.control_model.proofs.Calls.{any_step, either_way}
-use Rattle.control_model.proofs.Moving.{central_takes, enters_track, peripheral_sends, sends_all, sends_track, table_alone, same_role}
-use Rattle.phased_control.specs.Phased.{is_open_now, Phased, is_quiet_now}
-use Rattle.phased_control.specs.Taken.{PhasedStep, Response, Answers, Asks, Disconnects, Enters, GivesKey, LacksKey, SeesAcknowledged, Sends, Takes, TakesData, ciphered, class_of_read, does_keep, is_allowed, is_answered_at, keeps_class, lacks_room_now, phased_after, role_now, seen_as, seen_if}
-use Rattle.phased_control.specs.Steps.{code_if, control_steps, end_by_phase, ended_if, kept_steps, later_steps, owed_entering, read_answer, owed_steps, seen_by_procedures}
-use Rattle.phased_control.proofs.Moving.{moves_by_steps}
+use Rattle.joint_controls.specs.control_model.Control.{Control, Step, after, after_all, following, goes_out, is_to_come, moved, table_if, taken, went}
+use Rattle.joint_controls.specs.control_model.Control.{Answers as control_answers, Asks as control_asks, Disconnects as control_disconnects, Enters as control_enters, Owes, SeesAcknowledged as control_sees_acknowledged, Sends as control_sends, Takes as control_takes}
+use Rattle.joint_controls.proofs.control_model.Calls.{any_step, either_way}
+use Rattle.joint_controls.proofs.control_model.Moving.{central_takes, enters_track, peripheral_sends, sends_all, sends_track, table_alone, same_role}
+use Rattle.joint_controls.specs.phased_control.Phased.{is_open_now, Phased, is_quiet_now}
+use Rattle.joint_controls.specs.phased_control.Taken.{PhasedStep, Response, Answers, Asks, Disconnects, Enters, GivesKey, LacksKey, SeesAcknowledged, Sends, Takes, TakesData, ciphered, class_of_read, does_keep, is_allowed, is_answered_at, keeps_class, lacks_room_now, phased_after, role_now, seen_as, seen_if}
+use Rattle.joint_controls.specs.phased_control.Steps.{code_if, control_steps, end_by_phase, ended_if, kept_steps, later_steps, owed_entering, read_answer, owed_steps, seen_by_procedures}
+use Rattle.joint_controls.proofs.phased_control.Moving.{moves_by_steps}
 use Rattle.joint_parameters.specs.Indications.{EndsLate, indication_in}
 use Rattle.joint_parameters.proofs.Outcomes.{indication_by}
 use Rattle.joint_parameters.proofs.Taking.{TakenAs, is_over, late_end, takes_as}

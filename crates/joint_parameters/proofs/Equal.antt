@@ -9,8 +9,8 @@ use Rattle.instants.specs.Follows.{Follows}
 use Rattle.instants.specs.Track.{event_of}
 use Rattle.two_tracks.specs.TwoEnds.{TwoEnds}
 use Rattle.two_tracks.specs.TwoEnds as two_ends
-use Rattle.phased_control.specs.Phased.{Phased}
-use Rattle.phased_control.specs.Taken.{Enters, PhasedStep, SeesAcknowledged, Sends, phased_after, phased_after_all, role_now}
+use Rattle.joint_controls.specs.phased_control.Phased.{Phased}
+use Rattle.joint_controls.specs.phased_control.Taken.{Enters, PhasedStep, SeesAcknowledged, Sends, phased_after, phased_after_all, role_now}
 use Rattle.joint_controls.specs.Joint.{CentralAcked, CentralEnters, CentralHost, CentralSends, CentralSendsData, CentralTakes, Item, Joint, JointStep, PeripheralAcked, PeripheralEnters, PeripheralFixes, PeripheralFixesData, PeripheralHost, PeripheralSends, PeripheralTakes, Shuts, act, after, after_all, beginning, event_now, host_step, is_same_event, item_on_air, may, no_response, taking}
 use Rattle.joint_controls.specs.Ends.{AreStepsInRange, central_does, takes_if}
 use Rattle.joint_controls.proofs.EndSteps.{central_acts}

@@ -6,11 +6,11 @@ use Rattle.ble_base.specs.declared.error_codes.ErrCode.{ErrCode}
 use Rattle.instants.specs.declared.indications.Indication.{Indication}
 use Rattle.instants.specs.declared.track.Change.{Change}
 use Rattle.instants.specs.Track.{TrackFacts, event_of, track_after_take}
-use Rattle.control_model.specs.Control.{Control}
+use Rattle.joint_controls.specs.control_model.Control.{Control}
 use Rattle.two_tracks.specs.TwoEnds.{LastPdu, Untaken, Acknowledged, TwoEnds, after_indication, after_pdu, heard_by_peripheral, last_after_reply}
 use Rattle.two_tracks.specs.TwoEnds as two_ends
 use Rattle.two_tracks.specs.Reached.{untaken}
-use Rattle.phased_control.specs.Taken.{PhasedStep, Response, SeesAcknowledged, Sends, phased_after}
+use Rattle.joint_controls.specs.phased_control.Taken.{PhasedStep, Response, SeesAcknowledged, Sends, phased_after}
 use Rattle.joint_controls.specs.Joint.{CentralAcked, CentralTakes, Clear, Control as control_item, Data, Fixed, Item, Joint, JointStep, OnAir, PeripheralAcked, PeripheralFixes, PeripheralFixesData, PeripheralTakes, Taken, Way, act, after_all, central_takes, fixed, has_passed, is_clear, is_free, is_last, is_late, is_near, is_running, is_same_event, is_taken, item_on_air, may, next_item, peripheral_takes, sends_data, taking}
 use Rattle.joint_controls.specs.Ends.{AreStepsInRange, IsStepInRange}
 use Rattle.joint_controls.proofs.Running.{GoesOn, goes_on}

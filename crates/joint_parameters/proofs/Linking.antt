@@ -12,9 +12,9 @@ use Rattle.two_tracks.specs.Reached.{AllMay, IsLate, untaken}
 use Rattle.two_tracks.specs.Reached as by_turns
 use Rattle.two_tracks.proofs.Reaching.{reached_first, reached_next as turns_next}
 use Rattle.two_tracks.proofs.Read.{near, packets, replies}
-use Rattle.control_model.proofs.Sending.{may_of}
-use Rattle.phased_control.specs.Phased.{is_quiet_now}
-use Rattle.phased_control.specs.Taken.{Sends}
+use Rattle.joint_controls.proofs.control_model.Sending.{may_of}
+use Rattle.joint_controls.specs.phased_control.Phased.{is_quiet_now}
+use Rattle.joint_controls.specs.phased_control.Taken.{Sends}
 use Rattle.joint_controls.specs.Joint.{CentralAcked, CentralEnters, CentralHost, CentralSends, CentralSendsData, CentralTakes, Joint, JointStep, PeripheralAcked, PeripheralEnters, PeripheralFixes, PeripheralFixesData, PeripheralHost, PeripheralSends, PeripheralTakes, Shuts, act, after, after_all, beginning, has_passed, host_step, is_near, is_running, is_taken, may, may_all}
 use Rattle.joint_controls.specs.Ends.{AreStepsInRange, IsStepInRange}
 use Rattle.joint_controls.proofs.Running.{GoesOn, goes_on}

@@ -13,40 +13,40 @@ use Rattle.data_pdu.specs.declared.ctrl.CtrlRead.{CtrlRead}
 use Rattle.data_pdu.specs.declared.ctrl.CtrlRead.TheVariants.{Known, Unknown, Bare}
 use Rattle.instants.specs.declared.indications.Indication.{Indication}
 use Rattle.instants.specs.declared.indications.Indication.TheVariants.{Update as update_indication}
-use Rattle.procedure_values.specs.Asks.{is_same_kind}
-use Rattle.procedure_values.specs.declared.drafts.Draft.{Draft}
-use Rattle.procedure_values.specs.declared.drafts.Draft.TheVariants.{Cipher}
-use Rattle.procedure_values.specs.Values.{are_valid}
-use Rattle.procedure_stages.specs.declared.reply.Reply.{Reply}
-use Rattle.procedure_stages.specs.declared.reply.Reply.TheVariants.{Answer}
-use Rattle.procedure_stages.specs.declared.stages.Ahead.{Ahead}
-use Rattle.procedure_stages.specs.declared.stages.Ahead.TheVariants.{Nothing, Update as update_ahead, Map as map_ahead}
-use Rattle.procedure_stages.specs.declared.stages.Central.{Central}
-use Rattle.procedure_stages.specs.declared.stages.Peripheral.{Peripheral}
-use Rattle.procedure_stages.specs.declared.stages.Progress.{Progress}
-use Rattle.procedure_stages.specs.declared.stages.Progress.TheVariants.{Central as central, Peripheral as peripheral}
+use Rattle.joint_controls.specs.procedure_values.Asks.{is_same_kind}
+use Rattle.joint_controls.specs.procedure_values.declared.drafts.Draft.{Draft}
+use Rattle.joint_controls.specs.procedure_values.declared.drafts.Draft.TheVariants.{Cipher}
+use Rattle.joint_controls.specs.procedure_values.Values.{are_valid}
+use Rattle.joint_controls.specs.procedure_stages.declared.reply.Reply.{Reply}
+use Rattle.joint_controls.specs.procedure_stages.declared.reply.Reply.TheVariants.{Answer}
+use Rattle.joint_controls.specs.procedure_stages.declared.stages.Ahead.{Ahead}
+use Rattle.joint_controls.specs.procedure_stages.declared.stages.Ahead.TheVariants.{Nothing, Update as update_ahead, Map as map_ahead}
+use Rattle.joint_controls.specs.procedure_stages.declared.stages.Central.{Central}
+use Rattle.joint_controls.specs.procedure_stages.declared.stages.Peripheral.{Peripheral}
+use Rattle.joint_controls.specs.procedure_stages.declared.stages.Progress.{Progress}
+use Rattle.joint_controls.specs.procedure_stages.declared.stages.Progress.TheVariants.{Central as central, Peripheral as peripheral}
 use Rattle.exclusive_stages.specs.Awaited.{awaits_phy_ind, awaits_phy_rsp, central_answered, has_phy_of_central, peer_answered, reads_as_answer}
-use Rattle.procedure_stages.specs.Exclusive.{central_stage, peripheral_stage}
-use Rattle.procedure_stages.specs.Awaited.{awaits_features, awaits_lengths, is_own_encryption}
-use Rattle.procedure_stages.specs.Collisions.{are_incompatible, collision, collision_code}
-use Rattle.procedure_stages.specs.Kinds.{kind_at_central, kind_at_peripheral, own_exchange, role_of}
-use Rattle.procedure_stages.specs.Opcodes.{connection_param_req_opcode, first_opcode, later_opcode, is_opcode, phy_req_opcode}
-use Rattle.procedures.specs.declared.outcome.Outcome.{Outcome}
-use Rattle.procedures.specs.Encryption.{cipher_at_central, start_rsp_at_central}
-use Rattle.procedures.specs.Features.{features_taken}
-use Rattle.procedures.specs.Length.{length_taken}
-use Rattle.procedures.specs.Outcomes.{ended, unchanged}
-use Rattle.procedures.specs.Phy.{phy_ind_taken}
-use Rattle.procedures.specs.Refusals.{refused_if}
-use Rattle.procedures.specs.Request.{after_grant, against_central, collided, outlived, request_judged}
-use Rattle.procedures.specs.Table.{TableFacts}
-use Rattle.procedures.specs.Taking.{outcome_of, taken_by, taken_by_either}
-use Rattle.procedures.specs.Update.{follow, update_taken}
-use Rattle.procedures.specs.Version.{version_reply, version_taken}
-use Rattle.procedure_stages.specs.Queue.{has_reply}
-use Rattle.procedure_stages.specs.Steps.{asks_host}
-use Rattle.control_model.specs.Control.{indicated_by}
-use Rattle.control_model.specs.Waits.{EndsByCollision}
+use Rattle.joint_controls.specs.procedure_stages.Exclusive.{central_stage, peripheral_stage}
+use Rattle.joint_controls.specs.procedure_stages.Awaited.{awaits_features, awaits_lengths, is_own_encryption}
+use Rattle.joint_controls.specs.procedure_stages.Collisions.{are_incompatible, collision, collision_code}
+use Rattle.joint_controls.specs.procedure_stages.Kinds.{kind_at_central, kind_at_peripheral, own_exchange, role_of}
+use Rattle.joint_controls.specs.procedure_stages.Opcodes.{connection_param_req_opcode, first_opcode, later_opcode, is_opcode, phy_req_opcode}
+use Rattle.joint_controls.specs.procedures.declared.outcome.Outcome.{Outcome}
+use Rattle.joint_controls.specs.procedures.Encryption.{cipher_at_central, start_rsp_at_central}
+use Rattle.joint_controls.specs.procedures.Features.{features_taken}
+use Rattle.joint_controls.specs.procedures.Length.{length_taken}
+use Rattle.joint_controls.specs.procedures.Outcomes.{ended, unchanged}
+use Rattle.joint_controls.specs.procedures.Phy.{phy_ind_taken}
+use Rattle.joint_controls.specs.procedures.Refusals.{refused_if}
+use Rattle.joint_controls.specs.procedures.Request.{after_grant, against_central, collided, outlived, request_judged}
+use Rattle.joint_controls.specs.procedures.Table.{TableFacts}
+use Rattle.joint_controls.specs.procedures.Taking.{outcome_of, taken_by, taken_by_either}
+use Rattle.joint_controls.specs.procedures.Update.{follow, update_taken}
+use Rattle.joint_controls.specs.procedures.Version.{version_reply, version_taken}
+use Rattle.joint_controls.specs.procedure_stages.Queue.{has_reply}
+use Rattle.joint_controls.specs.procedure_stages.Steps.{asks_host}
+use Rattle.joint_controls.specs.control_model.Control.{indicated_by}
+use Rattle.joint_controls.specs.control_model.Waits.{EndsByCollision}
 use Rattle.joint_parameters.specs.Indications.{indication_in}
 
 -- a PDU of the encryption that waits is no indication

@@ -4,14 +4,14 @@ use Rattle.std.proofs.lemmas.Bool.{and_from, and_parts}
 use Rattle.ble_base.specs.declared.error_codes.ErrCode.{ErrCode}
 use Rattle.ble_base.specs.declared.roles.Role.TheVariants.{Central, Peripheral}
 use Rattle.data_pdu.specs.declared.ctrl.Ctrl.{Ctrl}
-use Rattle.enc_phase.specs.Phases.{seals}
+use Rattle.joint_controls.specs.enc_phase.Phases.{seals}
 use Rattle.instants.specs.declared.indications.Indication.{Indication}
 use Rattle.instants.specs.Track.{event_of, track_after_enter}
-use Rattle.procedure_values.specs.Drafts.{ctrl_of_outgoing, indication_of}
+use Rattle.joint_controls.specs.procedure_values.Drafts.{ctrl_of_outgoing, indication_of}
 use Rattle.two_tracks.specs.TwoEnds.{LastPdu, Untaken, Acknowledged, TwoEnds, after_indication, after_pdu, after_sending, track_if}
 use Rattle.two_tracks.specs.TwoEnds as two_ends
 use Rattle.two_tracks.specs.Reached.{untaken}
-use Rattle.phased_control.specs.Taken.{Enters, Sends, phased_after, role_now}
+use Rattle.joint_controls.specs.phased_control.Taken.{Enters, Sends, phased_after, role_now}
 use Rattle.joint_controls.specs.Joint.{CentralEnters, CentralSends, CentralSendsData, Clear, Control as control_item, Data, Fixed, Item, Joint, JointStep, OnAir, PeripheralEnters, Taken, Way, act, after, after_all, event_now, is_clear, is_free, is_running, item_by, last_change, latency_now, may, may_act, may_transmit, next_item, next_out, on_air, sends_data, may_all}
 use Rattle.joint_controls.proofs.Running.{GoesOn, goes_on}
 use Rattle.joint_parameters.specs.Turns.{IsPairedWith, fits, next_indication, step_if}

@@ -9,24 +9,24 @@ use Rattle.data_pdu.specs.declared.ctrl.Ctrl.{Ctrl}
 use Rattle.data_pdu.specs.declared.ctrl.Ctrl.TheVariants.{StartEncReq, PauseEncRsp}
 use Rattle.data_pdu.specs.declared.ctrl.CtrlRead.{CtrlRead}
 use Rattle.data_pdu.specs.declared.ctrl.CtrlRead.TheVariants.{Known, Unknown, Bare}
-use Rattle.enc_phase.specs.declared.facts.PhaseFacts.{PhaseFacts}
-use Rattle.enc_phase.specs.declared.facts.PhaseFacts.TheVariants.{Clear}
-use Rattle.enc_phase.specs.declared.facts.Transition.TheVariants.{Refuse, Unlock}
-use Rattle.enc_phase.specs.Phases.{is_asked, may_follow}
+use Rattle.joint_controls.specs.enc_phase.declared.facts.PhaseFacts.{PhaseFacts}
+use Rattle.joint_controls.specs.enc_phase.declared.facts.PhaseFacts.TheVariants.{Clear}
+use Rattle.joint_controls.specs.enc_phase.declared.facts.Transition.TheVariants.{Refuse, Unlock}
+use Rattle.joint_controls.specs.enc_phase.Phases.{is_asked, may_follow}
 use Rattle.instants.specs.declared.indications.Params.{Params}
-use Rattle.procedure_values.specs.declared.asks.Ask.{Ask}
-use Rattle.procedure_values.specs.declared.asks.Ask.TheVariants.{Encrypt}
-use Rattle.procedure_stages.specs.Kinds.{role_of}
-use Rattle.procedures.specs.Beginning.{begin_step}
-use Rattle.control_model.specs.Control.{Control, Step, after, after_all}
-use Rattle.phased_control.specs.Phased.{Phased, ask_begun, asking_if, asks_again, encrypting, encrypting_if, first_phased, is_encrypt, is_open_now, is_quiet_now, key_given, key_lacking, refused_if, request_of, table_entered, with_owed_if}
-use Rattle.phased_control.specs.Taken.{PhasedStep, Response, Answers, Asks, Disconnects, Enters, GivesKey, LacksKey, SeesAcknowledged, Sends, Takes, TakesData, answered_kept, ciphered, does_keep, is_allowed, lacks_room_now, phased_after, phased_after_all, phased_moved, role_now, seen_as, took}
-use Rattle.phased_control.specs.Steps.{control_steps, ctrl_if, end_by_phase, ended_if, first_owed, first_owed_if, kept_steps, later_steps, central_answer, read_answer, owed_steps, seen_by_procedures}
-use Rattle.phased_control.proofs.Answering.{answers}
-use Rattle.phased_control.proofs.Moving.{moves_by_steps}
-use Rattle.control_model.proofs.Moving.{same_role}
-use Rattle.phased_control.proofs.Taking.{handed_ways, took_ways}
-use Rattle.control_model.specs.Control.{Takes as control_takes}
+use Rattle.joint_controls.specs.procedure_values.declared.asks.Ask.{Ask}
+use Rattle.joint_controls.specs.procedure_values.declared.asks.Ask.TheVariants.{Encrypt}
+use Rattle.joint_controls.specs.procedure_stages.Kinds.{role_of}
+use Rattle.joint_controls.specs.procedures.Beginning.{begin_step}
+use Rattle.joint_controls.specs.control_model.Control.{Control, Step, after, after_all}
+use Rattle.joint_controls.specs.phased_control.Phased.{Phased, ask_begun, asking_if, asks_again, encrypting, encrypting_if, first_phased, is_encrypt, is_open_now, is_quiet_now, key_given, key_lacking, refused_if, request_of, table_entered, with_owed_if}
+use Rattle.joint_controls.specs.phased_control.Taken.{PhasedStep, Response, Answers, Asks, Disconnects, Enters, GivesKey, LacksKey, SeesAcknowledged, Sends, Takes, TakesData, answered_kept, ciphered, does_keep, is_allowed, lacks_room_now, phased_after, phased_after_all, phased_moved, role_now, seen_as, took}
+use Rattle.joint_controls.specs.phased_control.Steps.{control_steps, ctrl_if, end_by_phase, ended_if, first_owed, first_owed_if, kept_steps, later_steps, central_answer, read_answer, owed_steps, seen_by_procedures}
+use Rattle.joint_controls.proofs.phased_control.Answering.{answers}
+use Rattle.joint_controls.proofs.phased_control.Moving.{moves_by_steps}
+use Rattle.joint_controls.proofs.control_model.Moving.{same_role}
+use Rattle.joint_controls.proofs.phased_control.Taking.{handed_ways, took_ways}
+use Rattle.joint_controls.specs.control_model.Control.{Takes as control_takes}
 use Rattle.joint_controls.proofs.Keeping.{choice}
 use Rattle.joint_parameters.specs.Indications.{indication_in}
 use Rattle.joint_parameters.proofs.Drafts.{ArePlainSteps, HasPlain, steps_plain}

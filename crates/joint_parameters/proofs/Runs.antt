@@ -6,25 +6,25 @@ use Rattle.ble_base.specs.declared.error_codes.ErrCode.{ErrCode}
 use Rattle.ble_base.specs.declared.roles.Role.{Role}
 use Rattle.ble_base.specs.declared.roles.Role.TheVariants.{Central, Peripheral}
 use Rattle.data_pdu.specs.declared.ctrl.Ctrl.{Ctrl}
-use Rattle.enc_phase.specs.Phases.{seals}
+use Rattle.joint_controls.specs.enc_phase.Phases.{seals}
 use Rattle.instants.specs.declared.indications.Params.{Params}
 use Rattle.instants.specs.declared.indications.Indication.{Indication}
 use Rattle.instants.specs.declared.track.Change.{Change}
 use Rattle.instants.specs.Track.{TrackFacts, event_of, track_after_enter, track_after_take}
-use Rattle.procedure_values.specs.declared.drafts.Draft.{Draft}
-use Rattle.procedure_values.specs.declared.drafts.Draft.TheVariants.{Cipher}
-use Rattle.procedure_values.specs.declared.drafts.Draft.TheVariants as draft
-use Rattle.procedure_values.specs.declared.drafts.Outgoing.{Outgoing}
-use Rattle.procedure_values.specs.declared.drafts.Outgoing.TheVariants.{Nothing, Rejection, Disconnect, Other}
-use Rattle.procedure_values.specs.Drafts.{ctrl_of_draft, ctrl_of_outgoing, indication_of, indication_of_draft}
+use Rattle.joint_controls.specs.procedure_values.declared.drafts.Draft.{Draft}
+use Rattle.joint_controls.specs.procedure_values.declared.drafts.Draft.TheVariants.{Cipher}
+use Rattle.joint_controls.specs.procedure_values.declared.drafts.Draft.TheVariants as draft
+use Rattle.joint_controls.specs.procedure_values.declared.drafts.Outgoing.{Outgoing}
+use Rattle.joint_controls.specs.procedure_values.declared.drafts.Outgoing.TheVariants.{Nothing, Rejection, Disconnect, Other}
+use Rattle.joint_controls.specs.procedure_values.Drafts.{ctrl_of_draft, ctrl_of_outgoing, indication_of, indication_of_draft}
 use Rattle.two_tracks.specs.TwoEnds.{MayIndicate, MayIndicateIf, TwoEnds, change_of}
 use Rattle.two_tracks.specs.TwoEnds as two_ends
-use Rattle.control_model.proofs.Indicating.{Indicates}
-use Rattle.control_model.proofs.Sending.{may_of}
-use Rattle.phased_control.specs.Phased.{Phased, is_quiet_now}
-use Rattle.phased_control.specs.Taken.{PhasedStep, Response, SeesAcknowledged, Sends, phased_after, role_now}
-use Rattle.phased_control.proofs.Kept.{none_at_peripheral}
-use Rattle.phased_control.proofs.Moving.{keeps_role}
+use Rattle.joint_controls.proofs.control_model.Indicating.{Indicates}
+use Rattle.joint_controls.proofs.control_model.Sending.{may_of}
+use Rattle.joint_controls.specs.phased_control.Phased.{Phased, is_quiet_now}
+use Rattle.joint_controls.specs.phased_control.Taken.{PhasedStep, Response, SeesAcknowledged, Sends, phased_after, role_now}
+use Rattle.joint_controls.proofs.phased_control.Kept.{none_at_peripheral}
+use Rattle.joint_controls.proofs.phased_control.Moving.{keeps_role}
 use Rattle.joint_controls.specs.Joint.{AnswersRequest, AsksFor, CentralAcked, CentralEnters, CentralHost, CentralSends, CentralSendsData, CentralTakes, Clear, Control as control_item, Data, Ends, Fixed, HasKey, HasNoKey, HostStep, Item, Joint, JointStep, OnAir, PeripheralAcked, PeripheralEnters, PeripheralFixes, PeripheralFixesData, PeripheralHost, PeripheralSends, PeripheralTakes, Shuts, Taken, Way, act, after, after_all, beginning, central_takes, event_now, has_passed, host_step, instant_now, is_clear, is_free, is_indication, is_item, is_last, is_late, is_near, is_running, is_same_event, is_supervised, is_taken, item_by, item_on_air, last_change, latency_now, may, may_act, may_transmit, next_item, next_out, no_response, on_air, peripheral_takes, sends_data, taking}
 use Rattle.joint_controls.specs.Ends.{AreStepsInRange, IsStepInRange, steps_of_central, steps_of_peripheral}
 use Rattle.joint_controls.proofs.ControlRuns.{central_indicates}

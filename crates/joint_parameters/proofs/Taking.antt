@@ -7,16 +7,16 @@ use Rattle.ble_base.specs.declared.roles.Role.TheVariants.{Peripheral}
 use Rattle.data_pdu.specs.declared.ctrl.Ctrl.{Ctrl}
 use Rattle.data_pdu.specs.declared.ctrl.CtrlRead.{CtrlRead}
 use Rattle.data_pdu.specs.declared.ctrl.CtrlRead.TheVariants.{Known}
-use Rattle.procedure_stages.specs.Closing.{is_open}
-use Rattle.procedure_stages.specs.Queue.{waiting_in}
+use Rattle.joint_controls.specs.procedure_stages.Closing.{is_open}
+use Rattle.joint_controls.specs.procedure_stages.Queue.{waiting_in}
 use Rattle.instants.specs.declared.indications.Indication.{Indication}
 use Rattle.instants.specs.Track.{TrackFacts, track_after_take}
-use Rattle.procedure_stages.specs.declared.steps.Step.{Step as TableStep}
-use Rattle.procedure_stages.specs.Kinds.{role_of}
-use Rattle.procedures.specs.Table.{TableFacts}
-use Rattle.procedures.specs.Taking.{facts_with, lacks_room, outcome_of}
-use Rattle.control_model.specs.Control.{Control, Takes, after, ended, indicated_by, is_to_come, taken, took}
-use Rattle.control_model.proofs.Calls.{open_step, settled_as, taken_by_step}
+use Rattle.joint_controls.specs.procedure_stages.declared.steps.Step.{Step as TableStep}
+use Rattle.joint_controls.specs.procedure_stages.Kinds.{role_of}
+use Rattle.joint_controls.specs.procedures.Table.{TableFacts}
+use Rattle.joint_controls.specs.procedures.Taking.{facts_with, lacks_room, outcome_of}
+use Rattle.joint_controls.specs.control_model.Control.{Control, Takes, after, ended, indicated_by, is_to_come, taken, took}
+use Rattle.joint_controls.proofs.control_model.Calls.{open_step, settled_as, taken_by_step}
 use Rattle.joint_parameters.specs.Indications.{EndsLate, indication_in}
 use Rattle.joint_parameters.proofs.Outcomes.{IsCollision, IsOther, direct, indication_by, reads}
 

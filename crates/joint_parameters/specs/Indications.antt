@@ -8,7 +8,7 @@ use Rattle.data_pdu.specs.declared.ctrl.Ctrl.TheVariants.{ConnectionUpdateInd, C
 use Rattle.instants.specs.declared.indications.Indication.{Indication}
 use Rattle.instants.specs.declared.indications.Indication.TheVariants.{Update, Map}
 use Rattle.instants.specs.declared.track.Change.{Change}
-use Rattle.control_model.specs.Waits.{EndsByCollision}
+use Rattle.joint_controls.specs.control_model.Waits.{EndsByCollision}
 use Rattle.joint_controls.specs.Joint.{Control, Data, Item, Joint, JointStep, PeripheralTakes, after, is_late}
 
 -- ---- what is read of a PDU

@@ -3,13 +3,13 @@
 use Rattle.std.specs.Prelude.{◌≡◌, ℕ, ◌≤◌, Bool, true, false, not, ◌||◌, List, [], ◌∷◌, ◌++◌, Option, Some, None, is_some, if◌then◌else◌, ⊤}
 use Rattle.instants.specs.declared.indications.Indication.{Indication}
 use Rattle.instants.specs.declared.indications.Params.{Params}
-use Rattle.procedure_values.specs.Drafts.{indication_of}
+use Rattle.joint_controls.specs.procedure_values.Drafts.{indication_of}
 use Rattle.two_tracks.specs.TwoEnds.{TwoEnds, Step, TurnBegins, PeripheralHears, CentralHears, CentralEnds, PeripheralEnds, LastPdu, Untaken, Acknowledged, MayReach, enters}
 use Rattle.two_tracks.specs.TwoEnds as two_ends
 use Rattle.two_tracks.specs.Reached.{untaken}
 use Rattle.two_tracks.specs.Reached as reached
-use Rattle.phased_control.specs.Taken.{Response}
-use Rattle.phased_control.specs.Phased.{Phased}
+use Rattle.joint_controls.specs.phased_control.Taken.{Response}
+use Rattle.joint_controls.specs.phased_control.Phased.{Phased}
 use Rattle.joint_controls.specs.Joint.{CentralAcked, CentralEnters, CentralHost, CentralSends, CentralSendsData, CentralTakes, Clear, Control, Data, Item, Joint, JointStep, OnAir, PeripheralAcked, PeripheralEnters, PeripheralFixes, PeripheralFixesData, PeripheralHost, PeripheralSends, PeripheralTakes, Shuts, Taken, Way, after_all, beginning, event_now, is_clear, is_free, is_running, is_taken, item_on_air, latency_now, may, next_item, next_out, sends_data}
 use Rattle.joint_controls.specs.Ends.{IsStepInRange}
 use Rattle.joint_parameters.specs.Views.{View, change_on_air, view}

@@ -2,9 +2,9 @@
 -- Instant is event 6.
 use Rattle.std.specs.Prelude.{true, ℕ, zero, suc, List, [], ◌∷◌, ◌++◌}
 use Rattle.ble_base.specs.declared.channel_map.ChannelMap.{ChannelMap}
-use Rattle.control_model.specs.Worked.{six_slots}
-use Rattle.procedure_values.specs.declared.asks.Ask.TheVariants.{Map, Request, Update}
-use Rattle.phased_control.specs.Worked.{zero_response}
+use Rattle.joint_controls.specs.control_model.Worked.{six_slots}
+use Rattle.joint_controls.specs.procedure_values.declared.asks.Ask.TheVariants.{Map, Request, Update}
+use Rattle.joint_controls.specs.phased_control.Worked.{zero_response}
 use Rattle.joint_controls.specs.Joint.{AsksFor, CentralHost, CentralSends, JointStep, PeripheralHost, PeripheralSends, PeripheralTakes}
 use Rattle.joint_controls.specs.Worked.{enter}
 use Rattle.joint_parameters.specs.Turns.{Alone, Begins, FixesControl, FixesData, FixesNothing, IsAnswered, IsHeard, Link, LinkStep, SendsControl, first_link, link_after_all}

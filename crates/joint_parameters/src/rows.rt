@@ -2,8 +2,8 @@
 ghost use Rattle.std.specs.Prelude.{◌≡◌, [], ◌∷◌, ◌++◌, ℕ, List, Some, None, length, true};
 ghost use Rattle.ble_base.specs.ErrorCodes.{instant_passed};
 ghost use Rattle.ble_base.specs.declared.channel_map.ChannelMap.{ChannelMap};
-ghost use Rattle.control_model.specs.Worked.{six_slots};
-ghost use Rattle.phased_control.specs.Worked.{zero_response};
+ghost use Rattle.joint_controls.specs.control_model.Worked.{six_slots};
+ghost use Rattle.joint_controls.specs.phased_control.Worked.{zero_response};
 ghost use Rattle.joint_controls.specs.Joint.{PeripheralAcked, PeripheralFixes, PeripheralTakes};
 ghost use Rattle.joint_controls.specs.Joint.{beginning, is_clear, is_fixed, is_running};
 ghost use Rattle.joint_controls.specs.Joint.{is_same_event, is_taken};

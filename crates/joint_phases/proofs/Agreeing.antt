@@ -5,12 +5,12 @@ use Rattle.ble_base.specs.declared.roles.Role.{Role}
 use Rattle.ble_base.specs.declared.roles.Role.TheVariants.{Central as central_role, Peripheral as peripheral_role}
 use Rattle.data_pdu.specs.declared.ctrl.Ctrl.{Ctrl}
 use Rattle.data_pdu.specs.declared.ctrl.Ctrl.TheVariants.{ConnectionParamRsp, FeatureReq, RejectExtInd, TerminateInd, VersionInd}
-use Rattle.enc_phase.specs.declared.classes.PduClass.{PduClass}
-use Rattle.enc_phase.specs.declared.classes.PduClass.TheVariants.{Data as data_class, Other, Request, Terminate}
-use Rattle.enc_phase.specs.declared.facts.PhaseFacts.{PhaseFacts}
-use Rattle.enc_phase.specs.declared.facts.PhaseFacts.TheVariants.{Asked, Clear as clear_phase, Secure}
-use Rattle.enc_phase.specs.Phases.{is_quiet}
-use Rattle.enc_phase.specs.Taking.{allows, ctrl_class}
+use Rattle.phase_pairs.specs.enc_phase.declared.classes.PduClass.{PduClass}
+use Rattle.phase_pairs.specs.enc_phase.declared.classes.PduClass.TheVariants.{Data as data_class, Other, Request, Terminate}
+use Rattle.phase_pairs.specs.enc_phase.declared.facts.PhaseFacts.{PhaseFacts}
+use Rattle.phase_pairs.specs.enc_phase.declared.facts.PhaseFacts.TheVariants.{Asked, Clear as clear_phase, Secure}
+use Rattle.phase_pairs.specs.enc_phase.Phases.{is_quiet}
+use Rattle.phase_pairs.specs.enc_phase.Taking.{allows, ctrl_class}
 use Rattle.phase_pairs.specs.declared.joint.PhaseEvent.{PhaseEvent}
 use Rattle.phase_pairs.specs.declared.joint.PhaseEvent.TheVariants.{CentralTakes as central_takes_event, PeripheralTakes as peripheral_takes_event}
 use Rattle.phase_pairs.specs.declared.joint.PhaseLink.{PhaseLink}
@@ -19,7 +19,7 @@ use Rattle.phase_pairs.specs.Agreement as machine
 use Rattle.phase_pairs.specs.Agreement.{has_meaning, has_place, is_equal, is_sealing_right, is_step_right}
 use Rattle.phase_pairs.specs.JointRun.{is_way_taken, phases_may}
 use Rattle.phase_pairs.proofs.Proved.{sealing_right}
-use Rattle.phased_control.specs.Taken.{Response}
+use Rattle.joint_controls.specs.phased_control.Taken.{Response}
 use Rattle.joint_controls.specs.Joint.{Joint, JointStep, Way, CentralTakes, Clear, Control, Data, Fixed, OnAir, PeripheralTakes, Taken, is_running, is_taken, is_terminate, item_on_air, may_act}
 use Rattle.joint_phases.specs.Agreement.{is_allowed_right, is_opened_right, is_sealing_agreed, is_taken_right}
 use Rattle.joint_phases.specs.Classes.{class_down, class_up}

@@ -3,42 +3,42 @@ use Rattle.std.proofs.Common.{◌≡◌, ℕ, Bool, true, false, not, ◌&&◌, 
 use Rattle.std.proofs.lemmas.Bool.{and_parts, false_from_ne_true}
 use Rattle.ble_base.specs.declared.roles.Role.TheVariants.{Central as central_role}
 use Rattle.data_pdu.specs.declared.ctrl.Ctrl.TheVariants.{EncReq as enc_req, PauseEncReq as pause_enc_req}
-use Rattle.enc_phase.specs.declared.classes.PduClass.{PduClass}
-use Rattle.enc_phase.specs.declared.classes.PduClass.TheVariants.{EncReq, PauseEncReq}
-use Rattle.enc_phase.specs.declared.facts.PhaseFacts.{PhaseFacts}
-use Rattle.enc_phase.specs.declared.facts.PhaseFacts.TheVariants.{Asked, Clear, Pausing, Secure}
-use Rattle.enc_phase.specs.Phases.{is_quiet}
+use Rattle.phase_pairs.specs.enc_phase.declared.classes.PduClass.{PduClass}
+use Rattle.phase_pairs.specs.enc_phase.declared.classes.PduClass.TheVariants.{EncReq, PauseEncReq}
+use Rattle.phase_pairs.specs.enc_phase.declared.facts.PhaseFacts.{PhaseFacts}
+use Rattle.phase_pairs.specs.enc_phase.declared.facts.PhaseFacts.TheVariants.{Asked, Clear, Pausing, Secure}
+use Rattle.phase_pairs.specs.enc_phase.Phases.{is_quiet}
 use Rattle.instants.specs.Track.{TrackFacts, next_number, track_after_enter}
-use Rattle.procedure_values.specs.declared.asks.Ask.{Ask}
-use Rattle.procedure_values.specs.declared.asks.Ask.TheVariants.{Encrypt, Features, Length, Map, Phy, Request as ask_request, Update, Version}
-use Rattle.procedure_values.specs.declared.drafts.Draft.{Draft}
-use Rattle.procedure_values.specs.declared.drafts.Draft.TheVariants.{Cipher, FeatureReq, LengthReq, PhyReq, VersionInd}
-use Rattle.procedure_values.specs.Asks.{kind_of_ask}
+use Rattle.joint_controls.specs.procedure_values.declared.asks.Ask.{Ask}
+use Rattle.joint_controls.specs.procedure_values.declared.asks.Ask.TheVariants.{Encrypt, Features, Length, Map, Phy, Request as ask_request, Update, Version}
+use Rattle.joint_controls.specs.procedure_values.declared.drafts.Draft.{Draft}
+use Rattle.joint_controls.specs.procedure_values.declared.drafts.Draft.TheVariants.{Cipher, FeatureReq, LengthReq, PhyReq, VersionInd}
+use Rattle.joint_controls.specs.procedure_values.Asks.{kind_of_ask}
 use Rattle.exclusive_stages.specs.declared.stages.CentralStage.TheVariants.{MapSent, MapUnsent, PhyUnsent, UpdateSent, UpdateUnsent}
 use Rattle.exclusive_stages.specs.Held.{own_held_at_central}
-use Rattle.procedure_stages.specs.declared.closing.Closing.{Closing}
-use Rattle.procedure_stages.specs.declared.closing.Closing.TheVariants.{Closed, Disconnecting, Open}
-use Rattle.procedure_stages.specs.declared.stages.Central.{Central}
-use Rattle.procedure_stages.specs.declared.stages.Exchange.TheVariants.{FeaturesUnsent, LengthUnsent, VersionSent, VersionUnsent}
-use Rattle.procedure_stages.specs.declared.stages.OwnCentral.{OwnCentral}
-use Rattle.procedure_stages.specs.declared.stages.OwnCentral.TheVariants.{Exchange as exchange, Exclusive as exclusive}
-use Rattle.procedure_stages.specs.declared.stages.Progress.{Progress}
-use Rattle.procedure_stages.specs.declared.stages.Progress.TheVariants.{Central as central, Peripheral as peripheral}
-use Rattle.procedure_stages.specs.Closing.{is_open}
-use Rattle.procedure_stages.specs.Exclusive.{on_central_stage}
-use Rattle.procedure_stages.specs.Held.{progress_held}
-use Rattle.procedure_stages.specs.Kinds.{begins, kind_at_central, own_kind, role_of}
-use Rattle.procedures.specs.Beginning.{ask_at, begin_at, facts_begun, place_to_begin}
-use Rattle.procedures.specs.Going.{entered_step}
-use Rattle.procedures.specs.Table.{TableFacts}
-use Rattle.table_laws.specs.Encrypting.{has_encryption}
-use Rattle.table_laws.proofs.Begun.{Begins, begins_of}
-use Rattle.control_model.specs.Control.{Control}
+use Rattle.joint_controls.specs.procedure_stages.declared.closing.Closing.{Closing}
+use Rattle.joint_controls.specs.procedure_stages.declared.closing.Closing.TheVariants.{Closed, Disconnecting, Open}
+use Rattle.joint_controls.specs.procedure_stages.declared.stages.Central.{Central}
+use Rattle.joint_controls.specs.procedure_stages.declared.stages.Exchange.TheVariants.{FeaturesUnsent, LengthUnsent, VersionSent, VersionUnsent}
+use Rattle.joint_controls.specs.procedure_stages.declared.stages.OwnCentral.{OwnCentral}
+use Rattle.joint_controls.specs.procedure_stages.declared.stages.OwnCentral.TheVariants.{Exchange as exchange, Exclusive as exclusive}
+use Rattle.joint_controls.specs.procedure_stages.declared.stages.Progress.{Progress}
+use Rattle.joint_controls.specs.procedure_stages.declared.stages.Progress.TheVariants.{Central as central, Peripheral as peripheral}
+use Rattle.joint_controls.specs.procedure_stages.Closing.{is_open}
+use Rattle.joint_controls.specs.procedure_stages.Exclusive.{on_central_stage}
+use Rattle.joint_controls.specs.procedure_stages.Held.{progress_held}
+use Rattle.joint_controls.specs.procedure_stages.Kinds.{begins, kind_at_central, own_kind, role_of}
+use Rattle.joint_controls.specs.procedures.Beginning.{ask_at, begin_at, facts_begun, place_to_begin}
+use Rattle.joint_controls.specs.procedures.Going.{entered_step}
+use Rattle.joint_controls.specs.procedures.Table.{TableFacts}
+use Rattle.joint_controls.specs.table_laws.Encrypting.{has_encryption}
+use Rattle.joint_controls.proofs.table_laws.Begun.{Begins, begins_of}
+use Rattle.joint_controls.specs.control_model.Control.{Control}
 use Rattle.phase_pairs.specs.declared.central.PhaseCentral.{PhaseCentral}
 use Rattle.phase_pairs.specs.Central.{central_encrypts, may_encrypt}
 use Rattle.phase_pairs.specs.JointRun.{is_request}
-use Rattle.phased_control.specs.Phased.{Phased, encrypting_if, is_encrypt, request_of}
-use Rattle.phased_control.specs.Taken.{Enters, phased_after}
+use Rattle.joint_controls.specs.phased_control.Phased.{Phased, encrypting_if, is_encrypt, request_of}
+use Rattle.joint_controls.specs.phased_control.Taken.{Enters, phased_after}
 use Rattle.joint_phases.specs.Classes.{draft_down, has_request}
 use Rattle.joint_phases.specs.Events.{does_encrypt}
 use Rattle.joint_phases.specs.Facts.{are_of_own, is_first_of, is_unsent_first}

@@ -4,39 +4,39 @@ use Rattle.ble_base.specs.declared.error_codes.ErrCode.{ErrCode}
 use Rattle.ble_base.specs.declared.roles.Role.TheVariants.{Central as central_role}
 use Rattle.data_pdu.specs.declared.ctrl.Ctrl.{Ctrl}
 use Rattle.data_pdu.specs.declared.ctrl.Ctrl.TheVariants.{EncReq as enc_req}
-use Rattle.enc_phase.specs.declared.classes.PduClass.{PduClass}
-use Rattle.enc_phase.specs.declared.classes.PduClass.TheVariants.{EncReq}
-use Rattle.enc_phase.specs.declared.facts.PhaseFacts.{PhaseFacts}
-use Rattle.enc_phase.specs.declared.facts.PhaseFacts.TheVariants.{Asked, HalfClear}
-use Rattle.enc_phase.specs.declared.facts.Transition.TheVariants.{Ask as AskTransition}
-use Rattle.enc_phase.specs.Phases.{is_quiet, may_follow}
-use Rattle.procedure_values.specs.declared.asks.Ask.{Ask}
-use Rattle.procedure_values.specs.declared.asks.Ask.TheVariants.{Update as ask_update}
-use Rattle.procedure_values.specs.declared.drafts.Draft.TheVariants.{Grant}
-use Rattle.procedure_values.specs.declared.drafts.Outgoing.{Outgoing}
-use Rattle.procedure_values.specs.declared.drafts.Outgoing.TheVariants.{Other}
-use Rattle.procedure_values.specs.declared.drafts.Rejection.{Rejection}
-use Rattle.procedure_values.specs.Drafts.{is_out}
+use Rattle.phase_pairs.specs.enc_phase.declared.classes.PduClass.{PduClass}
+use Rattle.phase_pairs.specs.enc_phase.declared.classes.PduClass.TheVariants.{EncReq}
+use Rattle.phase_pairs.specs.enc_phase.declared.facts.PhaseFacts.{PhaseFacts}
+use Rattle.phase_pairs.specs.enc_phase.declared.facts.PhaseFacts.TheVariants.{Asked, HalfClear}
+use Rattle.phase_pairs.specs.enc_phase.declared.facts.Transition.TheVariants.{Ask as AskTransition}
+use Rattle.phase_pairs.specs.enc_phase.Phases.{is_quiet, may_follow}
+use Rattle.joint_controls.specs.procedure_values.declared.asks.Ask.{Ask}
+use Rattle.joint_controls.specs.procedure_values.declared.asks.Ask.TheVariants.{Update as ask_update}
+use Rattle.joint_controls.specs.procedure_values.declared.drafts.Draft.TheVariants.{Grant}
+use Rattle.joint_controls.specs.procedure_values.declared.drafts.Outgoing.{Outgoing}
+use Rattle.joint_controls.specs.procedure_values.declared.drafts.Outgoing.TheVariants.{Other}
+use Rattle.joint_controls.specs.procedure_values.declared.drafts.Rejection.{Rejection}
+use Rattle.joint_controls.specs.procedure_values.Drafts.{is_out}
 use Rattle.exclusive_stages.specs.declared.stages.PeerAtCentral.{PeerAtCentral}
-use Rattle.procedure_stages.specs.declared.closing.Closing.{Closing}
-use Rattle.procedure_stages.specs.declared.closing.Closing.TheVariants.{Open}
-use Rattle.procedure_stages.specs.declared.stages.Progress.{Progress}
-use Rattle.procedure_stages.specs.declared.stages.Progress.TheVariants.{Central as central, Peripheral as peripheral}
-use Rattle.procedure_stages.specs.Acked.{progress_acked}
-use Rattle.procedure_stages.specs.Closing.{is_open}
-use Rattle.procedure_stages.specs.InProgress.{is_host_asked, peer_becomes}
-use Rattle.procedure_stages.specs.Kinds.{role_of}
-use Rattle.procedure_stages.specs.Queue.{QueueFacts}
-use Rattle.procedures.specs.Encryption.{progress_given}
-use Rattle.procedures.specs.Going.{host_answer_step, is_answer, owe_step, terminate_step}
-use Rattle.procedures.specs.Sending.{acked_step}
-use Rattle.procedures.specs.Table.{TableFacts}
-use Rattle.table_laws.specs.Encrypting.{has_encryption}
-use Rattle.control_model.specs.Control.{Control, table_if}
+use Rattle.joint_controls.specs.procedure_stages.declared.closing.Closing.{Closing}
+use Rattle.joint_controls.specs.procedure_stages.declared.closing.Closing.TheVariants.{Open}
+use Rattle.joint_controls.specs.procedure_stages.declared.stages.Progress.{Progress}
+use Rattle.joint_controls.specs.procedure_stages.declared.stages.Progress.TheVariants.{Central as central, Peripheral as peripheral}
+use Rattle.joint_controls.specs.procedure_stages.Acked.{progress_acked}
+use Rattle.joint_controls.specs.procedure_stages.Closing.{is_open}
+use Rattle.joint_controls.specs.procedure_stages.InProgress.{is_host_asked, peer_becomes}
+use Rattle.joint_controls.specs.procedure_stages.Kinds.{role_of}
+use Rattle.joint_controls.specs.procedure_stages.Queue.{QueueFacts}
+use Rattle.joint_controls.specs.procedures.Encryption.{progress_given}
+use Rattle.joint_controls.specs.procedures.Going.{host_answer_step, is_answer, owe_step, terminate_step}
+use Rattle.joint_controls.specs.procedures.Sending.{acked_step}
+use Rattle.joint_controls.specs.procedures.Table.{TableFacts}
+use Rattle.joint_controls.specs.table_laws.Encrypting.{has_encryption}
+use Rattle.joint_controls.specs.control_model.Control.{Control, table_if}
 use Rattle.phase_pairs.specs.declared.central.PhaseCentral.{PhaseCentral}
 use Rattle.phase_pairs.specs.Central.{central_asking}
-use Rattle.phased_control.specs.Phased.{Phased, asking_if, is_pause_rsp}
-use Rattle.phased_control.specs.Taken.{Answers, Asks, Disconnects, GivesKey, LacksKey, SeesAcknowledged, phased_after}
+use Rattle.joint_controls.specs.phased_control.Phased.{Phased, asking_if, is_pause_rsp}
+use Rattle.joint_controls.specs.phased_control.Taken.{Answers, Asks, Disconnects, GivesKey, LacksKey, SeesAcknowledged, phased_after}
 use Rattle.joint_phases.specs.Classes.{draft_down}
 use Rattle.joint_phases.specs.Parts.{IsCentral, closing_down, is_awaiting, is_enc_req, wait_down}
 use Rattle.joint_phases.proofs.CentralEnters.{open_down, opened, quiet_step}

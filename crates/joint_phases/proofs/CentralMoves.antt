@@ -8,22 +8,22 @@ use Rattle.ble_base.specs.declared.roles.Role.TheVariants.{Central as central_ro
 use Rattle.data_pdu.specs.declared.ctrl.Ctrl.{Ctrl}
 use Rattle.data_pdu.specs.declared.ctrl.Ctrl.TheVariants.{ConnectionParamReq, EncRsp as enc_rsp, LengthReq, PauseEncRsp as pause_enc_rsp, PeripheralFeatureReq, PhyReq, RejectExtInd, RejectInd, StartEncReq as start_enc_req, StartEncRsp as start_enc_rsp, TerminateInd, VersionInd}
 use Rattle.data_pdu.specs.declared.ctrl.CtrlRead.TheVariants.{Known}
-use Rattle.enc_phase.specs.declared.classes.PduClass.{PduClass}
-use Rattle.enc_phase.specs.declared.classes.PduClass.TheVariants.{EncReq, EncRsp, Other, PauseEncReq, PauseEncRsp, Refusal, Request, StartEncReq, StartEncRsp}
-use Rattle.enc_phase.specs.declared.facts.PhaseFacts.{PhaseFacts}
-use Rattle.enc_phase.specs.declared.facts.PhaseFacts.TheVariants.{Asked, Clear, HalfClear, HalfKeyed, Pausing, Secure}
-use Rattle.enc_phase.specs.declared.facts.Transition.TheVariants.{Confirm, Refuse}
-use Rattle.enc_phase.specs.Phases.{is_quiet, phase_after}
-use Rattle.enc_phase.specs.Taking.{allows, ctrl_class, is_unknown, phase_taking}
-use Rattle.procedures.specs.Encryption.{progress_given}
-use Rattle.procedure_stages.specs.declared.stages.Progress.{Progress}
-use Rattle.procedure_stages.specs.declared.stages.Progress.TheVariants.{Central as central, Peripheral as peripheral}
-use Rattle.table_laws.specs.Encrypting.{has_encryption}
-use Rattle.control_model.specs.Control.{Control, Takes as control_takes, took}
+use Rattle.phase_pairs.specs.enc_phase.declared.classes.PduClass.{PduClass}
+use Rattle.phase_pairs.specs.enc_phase.declared.classes.PduClass.TheVariants.{EncReq, EncRsp, Other, PauseEncReq, PauseEncRsp, Refusal, Request, StartEncReq, StartEncRsp}
+use Rattle.phase_pairs.specs.enc_phase.declared.facts.PhaseFacts.{PhaseFacts}
+use Rattle.phase_pairs.specs.enc_phase.declared.facts.PhaseFacts.TheVariants.{Asked, Clear, HalfClear, HalfKeyed, Pausing, Secure}
+use Rattle.phase_pairs.specs.enc_phase.declared.facts.Transition.TheVariants.{Confirm, Refuse}
+use Rattle.phase_pairs.specs.enc_phase.Phases.{is_quiet, phase_after}
+use Rattle.phase_pairs.specs.enc_phase.Taking.{allows, ctrl_class, is_unknown, phase_taking}
+use Rattle.joint_controls.specs.procedures.Encryption.{progress_given}
+use Rattle.joint_controls.specs.procedure_stages.declared.stages.Progress.{Progress}
+use Rattle.joint_controls.specs.procedure_stages.declared.stages.Progress.TheVariants.{Central as central, Peripheral as peripheral}
+use Rattle.joint_controls.specs.table_laws.Encrypting.{has_encryption}
+use Rattle.joint_controls.specs.control_model.Control.{Control, Takes as control_takes, took}
 use Rattle.phase_pairs.specs.declared.central.PhaseCentral.{PhaseCentral}
 use Rattle.phase_pairs.specs.Central.{central_starting, central_taken, central_unlocking}
-use Rattle.phased_control.specs.Phased.{Phased, with_step}
-use Rattle.phased_control.specs.Taken.{Response, Takes, answered_if_quiet, answered_kept, ciphered, ciphered_at, ciphered_at_central, ended_with, goes_on, is_version, keeping, keeps_class, knowing, lacks_room_now, phased_after, refused_by, role_now, seen_if, with_phase_taking}
+use Rattle.joint_controls.specs.phased_control.Phased.{Phased, with_step}
+use Rattle.joint_controls.specs.phased_control.Taken.{Response, Takes, answered_if_quiet, answered_kept, ciphered, ciphered_at, ciphered_at_central, ended_with, goes_on, is_version, keeping, keeps_class, knowing, lacks_room_now, phased_after, refused_by, role_now, seen_if, with_phase_taking}
 use Rattle.joint_controls.specs.Joint.{is_terminate}
 use Rattle.phase_pairs.specs.Agreement.{is_encryption}
 use Rattle.phase_pairs.specs.JointRun.{is_request}

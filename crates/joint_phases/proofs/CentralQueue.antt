@@ -3,14 +3,14 @@ use Rattle.std.proofs.Common.{◌≡◌, Bool, true, false, ◌||◌, List, [], 
 use Rattle.std.proofs.lemmas.Bool.{and_from, and_parts, or_left, or_right}
 use Rattle.data_pdu.specs.declared.ctrl.Ctrl.{Ctrl}
 use Rattle.data_pdu.specs.declared.ctrl.Ctrl.TheVariants.{VersionInd}
-use Rattle.enc_phase.specs.declared.classes.PduClass.{PduClass}
-use Rattle.enc_phase.specs.declared.classes.PduClass.TheVariants.{Other, Request}
-use Rattle.enc_phase.specs.declared.facts.PhaseFacts.{PhaseFacts}
-use Rattle.enc_phase.specs.declared.facts.PhaseFacts.TheVariants.{Asked, Pausing}
-use Rattle.enc_phase.specs.Phases.{is_quiet}
-use Rattle.procedure_values.specs.declared.drafts.Draft.{Draft}
-use Rattle.procedure_values.specs.declared.drafts.Rejection.{Rejection}
-use Rattle.procedure_values.specs.Drafts.{ctrl_of_draft}
+use Rattle.phase_pairs.specs.enc_phase.declared.classes.PduClass.{PduClass}
+use Rattle.phase_pairs.specs.enc_phase.declared.classes.PduClass.TheVariants.{Other, Request}
+use Rattle.phase_pairs.specs.enc_phase.declared.facts.PhaseFacts.{PhaseFacts}
+use Rattle.phase_pairs.specs.enc_phase.declared.facts.PhaseFacts.TheVariants.{Asked, Pausing}
+use Rattle.phase_pairs.specs.enc_phase.Phases.{is_quiet}
+use Rattle.joint_controls.specs.procedure_values.declared.drafts.Draft.{Draft}
+use Rattle.joint_controls.specs.procedure_values.declared.drafts.Rejection.{Rejection}
+use Rattle.joint_controls.specs.procedure_values.Drafts.{ctrl_of_draft}
 use Rattle.phase_pairs.specs.Central.{is_ahead}
 use Rattle.phase_pairs.specs.JointRun.{is_request}
 use Rattle.joint_phases.specs.Classes.{class_down, draft_down, has_request}

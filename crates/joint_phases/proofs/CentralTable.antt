@@ -7,31 +7,31 @@ use Rattle.ble_base.specs.declared.roles.Role.TheVariants.{Central as central_ro
 use Rattle.data_pdu.specs.declared.ctrl.Ctrl.{Ctrl}
 use Rattle.data_pdu.specs.declared.ctrl.Ctrl.TheVariants.{EncRsp, PauseEncRsp, RejectExtInd, RejectInd, StartEncReq, StartEncRsp}
 use Rattle.data_pdu.specs.declared.ctrl.CtrlRead.TheVariants.{Known}
-use Rattle.enc_phase.specs.declared.classes.PduClass.{PduClass}
-use Rattle.enc_phase.specs.declared.classes.PduClass.TheVariants.{Other, Refusal}
-use Rattle.enc_phase.specs.Taking.{ctrl_class}
+use Rattle.phase_pairs.specs.enc_phase.declared.classes.PduClass.{PduClass}
+use Rattle.phase_pairs.specs.enc_phase.declared.classes.PduClass.TheVariants.{Other, Refusal}
+use Rattle.phase_pairs.specs.enc_phase.Taking.{ctrl_class}
 use Rattle.instants.specs.declared.indications.Indication.{Indication}
 use Rattle.instants.specs.Track.{track_after_take}
-use Rattle.procedure_stages.specs.declared.reply.Reply.{Reply}
-use Rattle.procedure_stages.specs.declared.reply.Reply.TheVariants.{Nothing as no_reply}
-use Rattle.procedure_stages.specs.declared.stages.OwnCentral.{OwnCentral}
-use Rattle.procedure_stages.specs.declared.stages.OwnCentral.TheVariants.{EncryptSent, EncryptUnsent, Exclusive as exclusive}
+use Rattle.joint_controls.specs.procedure_stages.declared.reply.Reply.{Reply}
+use Rattle.joint_controls.specs.procedure_stages.declared.reply.Reply.TheVariants.{Nothing as no_reply}
+use Rattle.joint_controls.specs.procedure_stages.declared.stages.OwnCentral.{OwnCentral}
+use Rattle.joint_controls.specs.procedure_stages.declared.stages.OwnCentral.TheVariants.{EncryptSent, EncryptUnsent, Exclusive as exclusive}
 use Rattle.exclusive_stages.specs.declared.stages.CentralStage.TheVariants.{Idle}
-use Rattle.procedure_stages.specs.declared.stages.Progress.{Progress}
-use Rattle.procedure_stages.specs.declared.stages.Progress.TheVariants.{Central as central, Peripheral as peripheral}
-use Rattle.procedure_stages.specs.declared.steps.Effect.TheVariants.{Cipher}
-use Rattle.procedure_stages.specs.Awaited.{is_own_encryption}
-use Rattle.procedure_stages.specs.Kinds.{role_of, without_own}
-use Rattle.procedure_stages.specs.Opcodes.{first_opcode, is_opcode, later_opcode, opcode_at_central}
-use Rattle.procedure_stages.specs.Queue.{with_reply}
-use Rattle.procedures.specs.declared.outcome.Outcome.{Outcome}
-use Rattle.procedures.specs.Outcomes.{moved, unchanged, with_done, with_effect}
-use Rattle.procedures.specs.Refusals.{refused_if}
-use Rattle.procedures.specs.Table.{TableFacts}
-use Rattle.procedures.specs.Taking.{facts_with, outcome_of, taken_by}
-use Rattle.table_laws.specs.Encrypting.{has_encryption}
-use Rattle.table_laws.proofs.Outcomes.{took as table_took}
-use Rattle.control_model.specs.Control.{Control, ended, indicated_by, is_to_come, taken, took}
+use Rattle.joint_controls.specs.procedure_stages.declared.stages.Progress.{Progress}
+use Rattle.joint_controls.specs.procedure_stages.declared.stages.Progress.TheVariants.{Central as central, Peripheral as peripheral}
+use Rattle.joint_controls.specs.procedure_stages.declared.steps.Effect.TheVariants.{Cipher}
+use Rattle.joint_controls.specs.procedure_stages.Awaited.{is_own_encryption}
+use Rattle.joint_controls.specs.procedure_stages.Kinds.{role_of, without_own}
+use Rattle.joint_controls.specs.procedure_stages.Opcodes.{first_opcode, is_opcode, later_opcode, opcode_at_central}
+use Rattle.joint_controls.specs.procedure_stages.Queue.{with_reply}
+use Rattle.joint_controls.specs.procedures.declared.outcome.Outcome.{Outcome}
+use Rattle.joint_controls.specs.procedures.Outcomes.{moved, unchanged, with_done, with_effect}
+use Rattle.joint_controls.specs.procedures.Refusals.{refused_if}
+use Rattle.joint_controls.specs.procedures.Table.{TableFacts}
+use Rattle.joint_controls.specs.procedures.Taking.{facts_with, outcome_of, taken_by}
+use Rattle.joint_controls.specs.table_laws.Encrypting.{has_encryption}
+use Rattle.joint_controls.proofs.table_laws.Outcomes.{took as table_took}
+use Rattle.joint_controls.specs.control_model.Control.{Control, ended, indicated_by, is_to_come, taken, took}
 use Rattle.joint_controls.specs.Joint.{is_terminate}
 use Rattle.joint_phases.specs.Parts.{is_encryption_unsent, is_encryption_unsent_at}
 use Rattle.joint_phases.proofs.CentralCipher.{SameTable}

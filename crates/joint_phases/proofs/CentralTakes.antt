@@ -6,38 +6,38 @@ use Rattle.ble_base.specs.declared.roles.Role.TheVariants.{Central as central_ro
 use Rattle.data_pdu.specs.declared.ctrl.Ctrl.{Ctrl}
 use Rattle.data_pdu.specs.declared.ctrl.CtrlRead.{CtrlRead}
 use Rattle.data_pdu.specs.declared.ctrl.CtrlRead.TheVariants.{Known}
-use Rattle.enc_phase.specs.declared.classes.PduClass.{PduClass}
-use Rattle.enc_phase.specs.declared.facts.PhaseFacts.{PhaseFacts}
-use Rattle.enc_phase.specs.Phases.{is_quiet}
-use Rattle.enc_phase.specs.Taking.{ctrl_class}
+use Rattle.phase_pairs.specs.enc_phase.declared.classes.PduClass.{PduClass}
+use Rattle.phase_pairs.specs.enc_phase.declared.facts.PhaseFacts.{PhaseFacts}
+use Rattle.phase_pairs.specs.enc_phase.Phases.{is_quiet}
+use Rattle.phase_pairs.specs.enc_phase.Taking.{ctrl_class}
 use Rattle.instants.specs.declared.indications.Indication.{Indication}
-use Rattle.procedure_values.specs.declared.drafts.Draft.{Draft}
-use Rattle.procedure_values.specs.declared.drafts.Draft.TheVariants.{FeatureRsp, LengthRsp, PhyInd, UnknownRsp, VersionInd as version_draft}
-use Rattle.procedure_values.specs.declared.drafts.Rejection.{Rejection}
-use Rattle.procedure_stages.specs.declared.closing.Closing.{Closing}
-use Rattle.procedure_stages.specs.declared.reply.Reply.{Reply}
-use Rattle.procedure_stages.specs.declared.reply.Reply.TheVariants.{Answer, Nothing as no_reply, Reject}
-use Rattle.procedure_stages.specs.declared.stages.Progress.{Progress}
-use Rattle.procedure_stages.specs.declared.stages.Progress.TheVariants.{Central as central, Peripheral as peripheral}
-use Rattle.procedure_stages.specs.Closing.{is_open}
-use Rattle.procedure_stages.specs.Queue.{QueueFacts, with_reply}
-use Rattle.procedures.specs.declared.outcome.Outcome.{Outcome}
-use Rattle.procedures.specs.Calls.{takes}
-use Rattle.procedures.specs.Table.{TableFacts}
-use Rattle.procedures.specs.Taking.{facts_with, lacks_room, outcome_of}
-use Rattle.table_laws.specs.Encrypting.{MayBeginBy, has_encryption}
-use Rattle.table_laws.proofs.Outcomes.{is_answer, is_reply, took as table_took}
+use Rattle.joint_controls.specs.procedure_values.declared.drafts.Draft.{Draft}
+use Rattle.joint_controls.specs.procedure_values.declared.drafts.Draft.TheVariants.{FeatureRsp, LengthRsp, PhyInd, UnknownRsp, VersionInd as version_draft}
+use Rattle.joint_controls.specs.procedure_values.declared.drafts.Rejection.{Rejection}
+use Rattle.joint_controls.specs.procedure_stages.declared.closing.Closing.{Closing}
+use Rattle.joint_controls.specs.procedure_stages.declared.reply.Reply.{Reply}
+use Rattle.joint_controls.specs.procedure_stages.declared.reply.Reply.TheVariants.{Answer, Nothing as no_reply, Reject}
+use Rattle.joint_controls.specs.procedure_stages.declared.stages.Progress.{Progress}
+use Rattle.joint_controls.specs.procedure_stages.declared.stages.Progress.TheVariants.{Central as central, Peripheral as peripheral}
+use Rattle.joint_controls.specs.procedure_stages.Closing.{is_open}
+use Rattle.joint_controls.specs.procedure_stages.Queue.{QueueFacts, with_reply}
+use Rattle.joint_controls.specs.procedures.declared.outcome.Outcome.{Outcome}
+use Rattle.joint_controls.specs.procedures.Calls.{takes}
+use Rattle.joint_controls.specs.procedures.Table.{TableFacts}
+use Rattle.joint_controls.specs.procedures.Taking.{facts_with, lacks_room, outcome_of}
+use Rattle.joint_controls.specs.table_laws.Encrypting.{MayBeginBy, has_encryption}
+use Rattle.joint_controls.proofs.table_laws.Outcomes.{is_answer, is_reply, took as table_took}
 use Rattle.ble_base.specs.ErrorCodes.{instant_passed}
 use Rattle.instants.specs.Track.{track_after_take}
-use Rattle.procedure_stages.specs.Kinds.{role_of}
-use Rattle.control_model.specs.Control.{Control, ended, indicated_by, is_to_come, taken, took}
+use Rattle.joint_controls.specs.procedure_stages.Kinds.{role_of}
+use Rattle.joint_controls.specs.control_model.Control.{Control, ended, indicated_by, is_to_come, taken, took}
 use Rattle.phase_pairs.specs.declared.central.PhaseCentral.{PhaseCentral}
 use Rattle.ble_base.specs.ErrorCodes.{memory_capacity_exceeded, mic_failure}
-use Rattle.procedure_stages.specs.Queue.{waiting_in}
+use Rattle.joint_controls.specs.procedure_stages.Queue.{waiting_in}
 use Rattle.phase_pairs.specs.Agreement.{is_encryption}
-use Rattle.control_model.specs.Control.{Takes as control_takes}
-use Rattle.phased_control.specs.Phased.{Phased, is_quiet_now, with_step}
-use Rattle.phased_control.specs.Taken.{Response, Takes, answered_if_quiet, answered_kept, ciphered, ciphered_at, ended_with, goes_on, is_answered_at, is_version, keeping, knowing, phased_after, role_now, seen_if, with_phase_taking}
+use Rattle.joint_controls.specs.control_model.Control.{Takes as control_takes}
+use Rattle.joint_controls.specs.phased_control.Phased.{Phased, is_quiet_now, with_step}
+use Rattle.joint_controls.specs.phased_control.Taken.{Response, Takes, answered_if_quiet, answered_kept, ciphered, ciphered_at, ended_with, goes_on, is_answered_at, is_version, keeping, knowing, phased_after, role_now, seen_if, with_phase_taking}
 use Rattle.joint_phases.proofs.Plain.{allows_quiet, keeps_quiet, never_unknown, plain_at_central, room_now, taking_quiet, unanswered}
 use Rattle.joint_controls.specs.Joint.{is_terminate}
 use Rattle.joint_phases.specs.Classes.{draft_down}

@@ -11,29 +11,29 @@ use Rattle.data_pdu.specs.declared.ctrl.CtrlRead.TheVariants.{Bare, Known, Unkno
 use Rattle.exclusive_stages.specs.Awaited.{awaits_phy_ind, awaits_phy_rsp, central_answered, has_phy_of_central, peer_answered, reads_as_answer}
 use Rattle.instants.specs.declared.indications.Indication.{Indication}
 use Rattle.instants.specs.Track.{track_after_take}
-use Rattle.procedure_values.specs.Asks.{is_same_kind}
-use Rattle.procedure_values.specs.Values.{are_valid}
-use Rattle.procedure_stages.specs.declared.stages.Ahead.{Ahead}
-use Rattle.procedure_stages.specs.declared.stages.Ahead.TheVariants.{Map as map_ahead, Nothing as nothing_ahead, Update as update_ahead}
-use Rattle.procedure_stages.specs.declared.stages.Central.{Central}
-use Rattle.procedure_stages.specs.declared.stages.Peripheral.{Peripheral}
-use Rattle.procedure_stages.specs.declared.stages.Progress.{Progress}
-use Rattle.procedure_stages.specs.declared.stages.Progress.TheVariants.{Central as central, Peripheral as peripheral}
-use Rattle.procedure_stages.specs.declared.steps.Step.{Step}
-use Rattle.procedure_stages.specs.Awaited.{awaits_features, awaits_lengths, is_own_encryption}
-use Rattle.procedure_stages.specs.Collisions.{are_incompatible, collision, collision_code}
-use Rattle.procedure_stages.specs.Exclusive.{central_stage, peripheral_stage}
-use Rattle.procedure_stages.specs.Kinds.{kind_at_central, kind_at_peripheral, own_exchange}
-use Rattle.procedure_stages.specs.Opcodes.{connection_param_req_opcode, first_opcode, is_opcode, later_opcode, phy_req_opcode}
-use Rattle.procedures.specs.declared.outcome.Outcome.{Outcome}
-use Rattle.procedures.specs.Refusals.{refused_if}
-use Rattle.procedures.specs.Request.{after_grant, collided, outlived, request_judged}
-use Rattle.procedures.specs.Table.{TableFacts}
-use Rattle.procedures.specs.Taking.{facts_with, lacks_room, outcome_of, taken_by, taken_by_either}
-use Rattle.procedures.specs.Update.{follow}
-use Rattle.control_model.specs.Control.{Control, ended, indicated_by, is_to_come, taken, took}
+use Rattle.joint_controls.specs.procedure_values.Asks.{is_same_kind}
+use Rattle.joint_controls.specs.procedure_values.Values.{are_valid}
+use Rattle.joint_controls.specs.procedure_stages.declared.stages.Ahead.{Ahead}
+use Rattle.joint_controls.specs.procedure_stages.declared.stages.Ahead.TheVariants.{Map as map_ahead, Nothing as nothing_ahead, Update as update_ahead}
+use Rattle.joint_controls.specs.procedure_stages.declared.stages.Central.{Central}
+use Rattle.joint_controls.specs.procedure_stages.declared.stages.Peripheral.{Peripheral}
+use Rattle.joint_controls.specs.procedure_stages.declared.stages.Progress.{Progress}
+use Rattle.joint_controls.specs.procedure_stages.declared.stages.Progress.TheVariants.{Central as central, Peripheral as peripheral}
+use Rattle.joint_controls.specs.procedure_stages.declared.steps.Step.{Step}
+use Rattle.joint_controls.specs.procedure_stages.Awaited.{awaits_features, awaits_lengths, is_own_encryption}
+use Rattle.joint_controls.specs.procedure_stages.Collisions.{are_incompatible, collision, collision_code}
+use Rattle.joint_controls.specs.procedure_stages.Exclusive.{central_stage, peripheral_stage}
+use Rattle.joint_controls.specs.procedure_stages.Kinds.{kind_at_central, kind_at_peripheral, own_exchange}
+use Rattle.joint_controls.specs.procedure_stages.Opcodes.{connection_param_req_opcode, first_opcode, is_opcode, later_opcode, phy_req_opcode}
+use Rattle.joint_controls.specs.procedures.declared.outcome.Outcome.{Outcome}
+use Rattle.joint_controls.specs.procedures.Refusals.{refused_if}
+use Rattle.joint_controls.specs.procedures.Request.{after_grant, collided, outlived, request_judged}
+use Rattle.joint_controls.specs.procedures.Table.{TableFacts}
+use Rattle.joint_controls.specs.procedures.Taking.{facts_with, lacks_room, outcome_of, taken_by, taken_by_either}
+use Rattle.joint_controls.specs.procedures.Update.{follow}
+use Rattle.joint_controls.specs.control_model.Control.{Control, ended, indicated_by, is_to_come, taken, took}
 use Rattle.joint_phases.specs.Agreement.{is_integrity_failure}
-use Rattle.control_model.proofs.Calls.{settled_as, taken_by_step}
+use Rattle.joint_controls.proofs.control_model.Calls.{settled_as, taken_by_step}
 
 -- ---- a PDU that the table sees
 

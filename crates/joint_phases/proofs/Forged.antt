@@ -7,22 +7,22 @@ use Rattle.data_pdu.specs.declared.ctrl.Ctrl.{Ctrl}
 use Rattle.data_pdu.specs.declared.ctrl.Ctrl.TheVariants.{EncReq, PauseEncReq, PauseEncRsp, RejectExtInd, StartEncReq, StartEncRsp, TerminateInd}
 use Rattle.data_pdu.specs.declared.ctrl.CtrlRead.{CtrlRead}
 use Rattle.data_pdu.specs.declared.ctrl.CtrlRead.TheVariants.{Known}
-use Rattle.enc_phase.specs.declared.classes.PduClass.{PduClass}
-use Rattle.enc_phase.specs.declared.classes.PduClass.TheVariants.{Data as data_class, Refusal}
-use Rattle.enc_phase.specs.declared.facts.PhaseFacts.{PhaseFacts}
-use Rattle.enc_phase.specs.declared.facts.PhaseFacts.TheVariants.{Clear as clear_phase, Secure}
-use Rattle.enc_phase.specs.declared.facts.Transition.{Transition}
-use Rattle.enc_phase.specs.declared.facts.Transition.TheVariants.{Ask as AskTransition, Confirm, Pause, Refuse as RefuseTransition, Unlock}
-use Rattle.enc_phase.specs.Phases.{is_asked, may_follow, phase_after, phase_starting}
-use Rattle.procedure_stages.specs.Opcodes.{enc_req_opcode}
-use Rattle.table_laws.specs.Encrypting.{has_encryption}
-use Rattle.enc_phase.specs.Taking.{allows, ctrl_class}
+use Rattle.phase_pairs.specs.enc_phase.declared.classes.PduClass.{PduClass}
+use Rattle.phase_pairs.specs.enc_phase.declared.classes.PduClass.TheVariants.{Data as data_class, Refusal}
+use Rattle.phase_pairs.specs.enc_phase.declared.facts.PhaseFacts.{PhaseFacts}
+use Rattle.phase_pairs.specs.enc_phase.declared.facts.PhaseFacts.TheVariants.{Clear as clear_phase, Secure}
+use Rattle.phase_pairs.specs.enc_phase.declared.facts.Transition.{Transition}
+use Rattle.phase_pairs.specs.enc_phase.declared.facts.Transition.TheVariants.{Ask as AskTransition, Confirm, Pause, Refuse as RefuseTransition, Unlock}
+use Rattle.phase_pairs.specs.enc_phase.Phases.{is_asked, may_follow, phase_after, phase_starting}
+use Rattle.joint_controls.specs.procedure_stages.Opcodes.{enc_req_opcode}
+use Rattle.joint_controls.specs.table_laws.Encrypting.{has_encryption}
+use Rattle.phase_pairs.specs.enc_phase.Taking.{allows, ctrl_class}
 use Rattle.instants.specs.declared.indications.Indication.{Indication}
-use Rattle.procedure_stages.specs.Kinds.{role_of}
-use Rattle.control_model.specs.Control.{Control, Step, Answers as control_answers, Asks as control_asks, Disconnects as control_disconnects, Enters as control_enters, Owes, SeesAcknowledged as control_acked, Sends as control_sends, Takes as control_takes, after, following, goes_out, moved, table_if}
-use Rattle.control_model.specs.Control as control
-use Rattle.phased_control.specs.Phased.{Phased, asking_if, asks_again, encrypting, encrypting_if, is_open_now, is_quiet_now, key_given, key_lacking, refused_if, with_owed, with_owed_if, with_step}
-use Rattle.phased_control.specs.Taken.{PhasedStep, Response, Answers, Asks, Disconnects, Enters, GivesKey, LacksKey, SeesAcknowledged, Sends, Takes, TakesData, answered_if_quiet, answered_kept, ciphered, ciphered_at, ciphered_at_central, ciphered_at_peripheral, does_keep, ended_with, goes_on, handed_on, is_allowed, keeping, knowing, lacks_room_now, moved_if, moved_to, phased_after, phased_moved, refused_by, response_ctrl, role_now, seen_as, took, took_allowed, took_data, with_phase_taking}
+use Rattle.joint_controls.specs.procedure_stages.Kinds.{role_of}
+use Rattle.joint_controls.specs.control_model.Control.{Control, Step, Answers as control_answers, Asks as control_asks, Disconnects as control_disconnects, Enters as control_enters, Owes, SeesAcknowledged as control_acked, Sends as control_sends, Takes as control_takes, after, following, goes_out, moved, table_if}
+use Rattle.joint_controls.specs.control_model.Control as control
+use Rattle.joint_controls.specs.phased_control.Phased.{Phased, asking_if, asks_again, encrypting, encrypting_if, is_open_now, is_quiet_now, key_given, key_lacking, refused_if, with_owed, with_owed_if, with_step}
+use Rattle.joint_controls.specs.phased_control.Taken.{PhasedStep, Response, Answers, Asks, Disconnects, Enters, GivesKey, LacksKey, SeesAcknowledged, Sends, Takes, TakesData, answered_if_quiet, answered_kept, ciphered, ciphered_at, ciphered_at_central, ciphered_at_peripheral, does_keep, ended_with, goes_on, handed_on, is_allowed, keeping, knowing, lacks_room_now, moved_if, moved_to, phased_after, phased_moved, refused_by, response_ctrl, role_now, seen_as, took, took_allowed, took_data, with_phase_taking}
 use Rattle.joint_phases.specs.Agreement.{is_integrity_failure}
 use Rattle.joint_phases.proofs.Codes.{took_spares}
 

@@ -2,12 +2,12 @@
 use Rattle.std.proofs.Common.{◌≡◌, ℕ, Bool, true, false, not, Option, Some, None, is_none, is_some, refl, ap, sym, ◌∙◌, if◌then◌else◌}
 use Rattle.std.proofs.lemmas.Bool.{and_from, and_parts, or_left}
 use Rattle.ble_base.specs.declared.roles.Role.TheVariants.{Central as central_role}
-use Rattle.enc_phase.specs.declared.classes.PduClass.{PduClass}
-use Rattle.enc_phase.specs.declared.classes.PduClass.TheVariants.{Data as data_class}
-use Rattle.enc_phase.specs.declared.facts.PhaseFacts.{PhaseFacts}
-use Rattle.enc_phase.specs.Phases.{is_quiet, seals}
-use Rattle.procedure_stages.specs.Closing.{is_open}
-use Rattle.procedure_stages.specs.InProgress.{is_host_asked}
+use Rattle.phase_pairs.specs.enc_phase.declared.classes.PduClass.{PduClass}
+use Rattle.phase_pairs.specs.enc_phase.declared.classes.PduClass.TheVariants.{Data as data_class}
+use Rattle.phase_pairs.specs.enc_phase.declared.facts.PhaseFacts.{PhaseFacts}
+use Rattle.phase_pairs.specs.enc_phase.Phases.{is_quiet, seals}
+use Rattle.joint_controls.specs.procedure_stages.Closing.{is_open}
+use Rattle.joint_controls.specs.procedure_stages.InProgress.{is_host_asked}
 use Rattle.phase_pairs.specs.declared.central.PhaseCentral.{PhaseCentral}
 use Rattle.phase_pairs.specs.declared.joint.PhaseEvent.{PhaseEvent}
 use Rattle.phase_pairs.specs.declared.joint.PhaseEvent.TheVariants.{CentralCloses, CentralEncrypts}
@@ -15,8 +15,8 @@ use Rattle.phase_pairs.specs.declared.joint.PhaseLink.{PhaseLink}
 use Rattle.phase_pairs.specs.declared.joint.PhaseWay.TheVariants.{OnAir as way_on_air}
 use Rattle.phase_pairs.specs.Central.{central_asking, central_encrypts, central_sent, may_send_pdu}
 use Rattle.phase_pairs.specs.JointRun.{is_control_coming, is_pause_rsp_taken, is_way_clear, is_way_taken, phases_act, phases_may}
-use Rattle.phased_control.specs.Phased.{Phased, is_pause_rsp, is_quiet_now}
-use Rattle.phased_control.specs.Taken.{PhasedStep, Answers, Asks, Disconnects, Enters, GivesKey, LacksKey, SeesAcknowledged, Sends, phased_after}
+use Rattle.joint_controls.specs.phased_control.Phased.{Phased, is_pause_rsp, is_quiet_now}
+use Rattle.joint_controls.specs.phased_control.Taken.{PhasedStep, Answers, Asks, Disconnects, Enters, GivesKey, LacksKey, SeesAcknowledged, Sends, phased_after}
 use Rattle.joint_controls.specs.Joint.{HostStep, Item, Joint, Way, AnswersRequest, AsksFor, CentralAcked, CentralEnters, CentralHost, CentralSends, CentralSendsData, Clear, Control, Data, Ends, Fixed, HasKey, HasNoKey, OnAir, Taken, act, is_clear, is_free, is_running, is_taken, may_act, may_transmit, next_item, on_air, sends_data}
 use Rattle.joint_phases.specs.Classes.{class_down, draft_down, item_class}
 use Rattle.joint_phases.specs.Events.{does_encrypt, event_if, event_of_step, item_or_none}

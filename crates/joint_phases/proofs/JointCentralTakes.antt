@@ -6,13 +6,13 @@ use Rattle.ble_base.specs.declared.roles.Role.TheVariants.{Central as central_ro
 use Rattle.data_pdu.specs.declared.ctrl.Ctrl.{Ctrl}
 use Rattle.data_pdu.specs.declared.ctrl.Ctrl.TheVariants.{VersionInd}
 use Rattle.data_pdu.specs.declared.ctrl.CtrlRead.TheVariants.{Known}
-use Rattle.enc_phase.specs.declared.classes.PduClass.{PduClass}
-use Rattle.enc_phase.specs.declared.classes.PduClass.TheVariants.{Data as data_class, Other, Request}
-use Rattle.enc_phase.specs.Phases.{is_quiet}
-use Rattle.enc_phase.specs.Taking.{allows, ctrl_class}
-use Rattle.procedure_values.specs.declared.drafts.Outgoing.{Outgoing}
-use Rattle.procedure_stages.specs.Kinds.{own_exchange}
-use Rattle.procedures.specs.Taking.{outcome_of}
+use Rattle.phase_pairs.specs.enc_phase.declared.classes.PduClass.{PduClass}
+use Rattle.phase_pairs.specs.enc_phase.declared.classes.PduClass.TheVariants.{Data as data_class, Other, Request}
+use Rattle.phase_pairs.specs.enc_phase.Phases.{is_quiet}
+use Rattle.phase_pairs.specs.enc_phase.Taking.{allows, ctrl_class}
+use Rattle.joint_controls.specs.procedure_values.declared.drafts.Outgoing.{Outgoing}
+use Rattle.joint_controls.specs.procedure_stages.Kinds.{own_exchange}
+use Rattle.joint_controls.specs.procedures.Taking.{outcome_of}
 use Rattle.phase_pairs.specs.declared.central.PhaseCentral.{PhaseCentral}
 use Rattle.phase_pairs.specs.declared.joint.PhaseEvent.{PhaseEvent}
 use Rattle.phase_pairs.specs.declared.joint.PhaseEvent.TheVariants.{CentralTakes as central_takes_event}
@@ -22,8 +22,8 @@ use Rattle.phase_pairs.specs.declared.joint.PhaseWay.TheVariants.{OnAir as way_o
 use Rattle.phase_pairs.specs.Agreement.{has_meaning, is_encryption, is_step_right}
 use Rattle.phase_pairs.specs.Central.{central_taken}
 use Rattle.phase_pairs.specs.JointRun.{is_crossing_down, is_on_air, is_request, is_way_fixed, is_way_taken, phases_act, phases_may, way_kept}
-use Rattle.phased_control.specs.Phased.{Phased}
-use Rattle.phased_control.specs.Taken.{Takes, TakesData, ended_with, is_version as is_version_read, phased_after}
+use Rattle.joint_controls.specs.phased_control.Phased.{Phased}
+use Rattle.joint_controls.specs.phased_control.Taken.{Takes, TakesData, ended_with, is_version as is_version_read, phased_after}
 use Rattle.joint_controls.specs.Joint.{Item, Joint, Way, CentralTakes, Clear, Control, Data, Fixed, OnAir, Taken, act, is_item, is_running, is_taken, is_terminate, item_on_air, may_act, no_response}
 use Rattle.joint_phases.specs.Classes.{class_up, is_version, is_version_ctrl, version_class}
 use Rattle.joint_phases.specs.Events.{does_cross_up, event_if, event_of_step}

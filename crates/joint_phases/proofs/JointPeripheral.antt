@@ -4,11 +4,11 @@ use Rattle.std.proofs.lemmas.Bool.{and_from, and_parts, or_from}
 use Rattle.ble_base.specs.declared.roles.Role.TheVariants.{Peripheral as peripheral_role}
 use Rattle.data_pdu.specs.declared.ctrl.Ctrl.{Ctrl}
 use Rattle.data_pdu.specs.declared.ctrl.Ctrl.TheVariants.{RejectExtInd, VersionInd}
-use Rattle.enc_phase.specs.declared.classes.PduClass.{PduClass}
-use Rattle.enc_phase.specs.declared.classes.PduClass.TheVariants.{Data as data_class, Other, Refusal}
-use Rattle.enc_phase.specs.declared.facts.PhaseFacts.{PhaseFacts}
-use Rattle.enc_phase.specs.Phases.{is_quiet, seals}
-use Rattle.procedure_stages.specs.Closing.{is_open}
+use Rattle.phase_pairs.specs.enc_phase.declared.classes.PduClass.{PduClass}
+use Rattle.phase_pairs.specs.enc_phase.declared.classes.PduClass.TheVariants.{Data as data_class, Other, Refusal}
+use Rattle.phase_pairs.specs.enc_phase.declared.facts.PhaseFacts.{PhaseFacts}
+use Rattle.phase_pairs.specs.enc_phase.Phases.{is_quiet, seals}
+use Rattle.joint_controls.specs.procedure_stages.Closing.{is_open}
 use Rattle.phase_pairs.specs.declared.joint.PhaseEvent.TheVariants.{KeyGiven, KeyRefused, PeripheralBegins, PeripheralCloses}
 use Rattle.phase_pairs.specs.declared.joint.PhaseLink.{PhaseLink}
 use Rattle.phase_pairs.specs.declared.joint.PhaseWay.{PhaseWay}
@@ -16,8 +16,8 @@ use Rattle.phase_pairs.specs.declared.joint.PhaseWay.TheVariants.{Fixed as way_f
 use Rattle.phase_pairs.specs.declared.peripheral.PhasePeripheral.{PhasePeripheral}
 use Rattle.phase_pairs.specs.JointRun.{is_coming, is_control_coming, is_data, is_request, is_way_clear, is_way_fixed, is_way_taken, keeps_request, peripheral_sends}
 use Rattle.phase_pairs.specs.Peripheral.{has_unsent, is_unsent, may_fix, peripheral_begins, peripheral_closes, peripheral_fixed, peripheral_with_key, peripheral_without_key}
-use Rattle.phased_control.specs.Phased.{Phased}
-use Rattle.phased_control.specs.Taken.{PhasedStep, Answers, Asks, Disconnects, Enters, GivesKey, LacksKey, SeesAcknowledged, Sends, phased_after}
+use Rattle.joint_controls.specs.phased_control.Phased.{Phased}
+use Rattle.joint_controls.specs.phased_control.Taken.{PhasedStep, Answers, Asks, Disconnects, Enters, GivesKey, LacksKey, SeesAcknowledged, Sends, phased_after}
 use Rattle.joint_controls.specs.Joint.{HostStep, Item, Joint, Way, AnswersRequest, AsksFor, Clear, Control, Data, Ends, Fixed, HasKey, HasNoKey, OnAir, PeripheralAcked, PeripheralEnters, PeripheralFixes, PeripheralFixesData, PeripheralHost, PeripheralSends, Taken, act, fixed, is_clear, is_fixed, is_free, is_item, is_taken, may_act, next_item, sends_data, sent_up}
 use Rattle.joint_phases.specs.Classes.{class_up, draft_up, has_request, item_class, version_class}
 use Rattle.joint_phases.specs.Events.{does_begin, event_if, event_of_step, item_or_none}

@@ -6,17 +6,17 @@ use Rattle.ble_base.specs.declared.roles.Role.TheVariants.{Peripheral as periphe
 use Rattle.data_pdu.specs.declared.ctrl.Ctrl.{Ctrl}
 use Rattle.data_pdu.specs.declared.ctrl.Ctrl.TheVariants.{VersionInd}
 use Rattle.data_pdu.specs.declared.ctrl.CtrlRead.TheVariants.{Known}
-use Rattle.enc_phase.specs.declared.classes.PduClass.{PduClass}
-use Rattle.enc_phase.specs.declared.classes.PduClass.TheVariants.{Data as data_class, Other, Request}
-use Rattle.enc_phase.specs.Phases.{is_quiet}
-use Rattle.enc_phase.specs.Taking.{allows, ctrl_class}
-use Rattle.procedure_values.specs.declared.drafts.Draft.{Draft}
-use Rattle.procedure_values.specs.declared.drafts.Draft.TheVariants.{VersionInd as version_draft}
-use Rattle.procedure_values.specs.declared.drafts.Outgoing.{Outgoing}
-use Rattle.procedure_stages.specs.declared.reply.Reply.{Reply}
-use Rattle.procedure_stages.specs.declared.reply.Reply.TheVariants.{Answer, Nothing as no_reply}
-use Rattle.procedures.specs.Taking.{outcome_of}
-use Rattle.procedures.specs.Version.{version_reply}
+use Rattle.phase_pairs.specs.enc_phase.declared.classes.PduClass.{PduClass}
+use Rattle.phase_pairs.specs.enc_phase.declared.classes.PduClass.TheVariants.{Data as data_class, Other, Request}
+use Rattle.phase_pairs.specs.enc_phase.Phases.{is_quiet}
+use Rattle.phase_pairs.specs.enc_phase.Taking.{allows, ctrl_class}
+use Rattle.joint_controls.specs.procedure_values.declared.drafts.Draft.{Draft}
+use Rattle.joint_controls.specs.procedure_values.declared.drafts.Draft.TheVariants.{VersionInd as version_draft}
+use Rattle.joint_controls.specs.procedure_values.declared.drafts.Outgoing.{Outgoing}
+use Rattle.joint_controls.specs.procedure_stages.declared.reply.Reply.{Reply}
+use Rattle.joint_controls.specs.procedure_stages.declared.reply.Reply.TheVariants.{Answer, Nothing as no_reply}
+use Rattle.joint_controls.specs.procedures.Taking.{outcome_of}
+use Rattle.joint_controls.specs.procedures.Version.{version_reply}
 use Rattle.phase_pairs.specs.declared.joint.PhaseEvent.{PhaseEvent}
 use Rattle.phase_pairs.specs.declared.joint.PhaseEvent.TheVariants.{PeripheralTakes as peripheral_takes_event}
 use Rattle.phase_pairs.specs.declared.joint.PhaseLink.{PhaseLink}
@@ -26,8 +26,8 @@ use Rattle.phase_pairs.specs.declared.peripheral.PhasePeripheral.{PhasePeriphera
 use Rattle.phase_pairs.specs.Agreement.{has_meaning, has_place, is_encryption, is_step_right}
 use Rattle.phase_pairs.specs.JointRun.{is_coming, is_crossing_up, is_pause_rsp, is_request, is_way_taken, peripheral_takes, phases_may, way_kept}
 use Rattle.phase_pairs.specs.Peripheral.{has_unsent, peripheral_answering, peripheral_taken}
-use Rattle.phased_control.specs.Phased.{Phased}
-use Rattle.phased_control.specs.Taken.{Response, Takes, TakesData, ended_with, is_version as is_version_read, phased_after}
+use Rattle.joint_controls.specs.phased_control.Phased.{Phased}
+use Rattle.joint_controls.specs.phased_control.Taken.{Response, Takes, TakesData, ended_with, is_version as is_version_read, phased_after}
 use Rattle.joint_controls.specs.Joint.{Item, Joint, Way, Clear, Control, Data, Fixed, OnAir, PeripheralTakes, Taken, act, is_running, is_taken, is_terminate, item_on_air, may_act}
 use Rattle.joint_phases.specs.Classes.{class_down, draft_up, has_version, is_version_ctrl, version_class}
 use Rattle.joint_phases.specs.Events.{does_cross_down, event_if, event_of_step}

@@ -7,17 +7,17 @@ use Rattle.data_pdu.specs.declared.ctrl.Ctrl.{Ctrl}
 use Rattle.data_pdu.specs.declared.ctrl.Ctrl.TheVariants.{EncReq, PauseEncReq, PauseEncRsp, StartEncReq, StartEncRsp}
 use Rattle.data_pdu.specs.declared.ctrl.CtrlRead.{CtrlRead}
 use Rattle.data_pdu.specs.declared.ctrl.CtrlRead.TheVariants.{Known}
-use Rattle.enc_phase.specs.declared.classes.PduClass.{PduClass}
-use Rattle.enc_phase.specs.declared.classes.PduClass.TheVariants.{Refusal}
-use Rattle.enc_phase.specs.declared.facts.PhaseFacts.{PhaseFacts}
-use Rattle.enc_phase.specs.declared.facts.PhaseFacts.TheVariants.{Clear, Secure}
-use Rattle.enc_phase.specs.declared.facts.Transition.{Transition}
-use Rattle.enc_phase.specs.declared.facts.Transition.TheVariants.{Confirm, Pause, Unlock}
-use Rattle.enc_phase.specs.Taking.{ctrl_class}
+use Rattle.phase_pairs.specs.enc_phase.declared.classes.PduClass.{PduClass}
+use Rattle.phase_pairs.specs.enc_phase.declared.classes.PduClass.TheVariants.{Refusal}
+use Rattle.phase_pairs.specs.enc_phase.declared.facts.PhaseFacts.{PhaseFacts}
+use Rattle.phase_pairs.specs.enc_phase.declared.facts.PhaseFacts.TheVariants.{Clear, Secure}
+use Rattle.phase_pairs.specs.enc_phase.declared.facts.Transition.{Transition}
+use Rattle.phase_pairs.specs.enc_phase.declared.facts.Transition.TheVariants.{Confirm, Pause, Unlock}
+use Rattle.phase_pairs.specs.enc_phase.Taking.{ctrl_class}
 use Rattle.ble_base.specs.ErrorCodes.{memory_capacity_exceeded, mic_failure}
-use Rattle.control_model.specs.Control.{Takes as control_takes}
-use Rattle.phased_control.specs.Phased.{Phased, is_quiet_now, with_step, asking_if, encrypting, encrypting_if, refused_if, with_owed_if}
-use Rattle.phased_control.specs.Taken.{PhasedStep, Response, Answers, Asks, Disconnects, Enters, GivesKey, LacksKey, SeesAcknowledged, Sends, Takes, TakesData, answered_if_quiet, answered_kept, ciphered, ciphered_at, ciphered_at_central, ciphered_at_peripheral, does_keep, ended_with, goes_on, handed_on, is_allowed, keeping, knowing, lacks_room_now, moved_if, phased_after, phased_moved, refused_by, seen_as, took, took_allowed, with_phase_taking}
+use Rattle.joint_controls.specs.control_model.Control.{Takes as control_takes}
+use Rattle.joint_controls.specs.phased_control.Phased.{Phased, is_quiet_now, with_step, asking_if, encrypting, encrypting_if, refused_if, with_owed_if}
+use Rattle.joint_controls.specs.phased_control.Taken.{PhasedStep, Response, Answers, Asks, Disconnects, Enters, GivesKey, LacksKey, SeesAcknowledged, Sends, Takes, TakesData, answered_if_quiet, answered_kept, ciphered, ciphered_at, ciphered_at_central, ciphered_at_peripheral, does_keep, ended_with, goes_on, handed_on, is_allowed, keeping, knowing, lacks_room_now, moved_if, phased_after, phased_moved, refused_by, seen_as, took, took_allowed, with_phase_taking}
 
 -- ---- the steps by which none is taken
 

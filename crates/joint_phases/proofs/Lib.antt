@@ -35,3 +35,5 @@ pub mod Codes
 pub mod Forged
 pub mod Unforged
 pub mod Testing
+-- what the crates above use of those below
+pub use Rattle.phase_pairs.proofs as phase_pairs

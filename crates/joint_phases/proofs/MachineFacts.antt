@@ -2,10 +2,10 @@
 -- and computed over the same list of states.
 use Rattle.std.proofs.Common.{◌≡◌, ℕ, Bool, true, false, not, ◌&&◌, ◌||◌, List, is_none, refl}
 use Rattle.std.proofs.lemmas.Bool.{and_parts}
-use Rattle.enc_phase.specs.declared.classes.PduClass.TheVariants.{Terminate}
-use Rattle.enc_phase.specs.declared.facts.PhaseFacts.{PhaseFacts}
-use Rattle.enc_phase.specs.declared.facts.PhaseFacts.TheVariants.{HalfClear}
-use Rattle.enc_phase.specs.Phases.{is_quiet}
+use Rattle.phase_pairs.specs.enc_phase.declared.classes.PduClass.TheVariants.{Terminate}
+use Rattle.phase_pairs.specs.enc_phase.declared.facts.PhaseFacts.{PhaseFacts}
+use Rattle.phase_pairs.specs.enc_phase.declared.facts.PhaseFacts.TheVariants.{HalfClear}
+use Rattle.phase_pairs.specs.enc_phase.Phases.{is_quiet}
 use Rattle.phase_pairs.specs.declared.joint.PhaseEvent.{PhaseEvent}
 use Rattle.phase_pairs.specs.declared.joint.PhaseLink.{PhaseLink}
 use Rattle.phase_pairs.specs.declared.joint.PhaseWay.{PhaseWay}

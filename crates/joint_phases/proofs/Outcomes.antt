@@ -1,19 +1,19 @@
 -- A control PDU of the peer is taken: what its outcome leaves open.
 use Rattle.std.proofs.Common.{◌≡◌, ℕ, Bool, true, false, ◌||◌, Option, Some, None, is_some, refl, sym, ◌∙◌, if◌then◌else◌}
 use Rattle.ble_base.specs.declared.procedure_kinds.Kind.{Kind}
-use Rattle.control_model.proofs.Calls.{settled_as, taken_by_step}
+use Rattle.joint_controls.proofs.control_model.Calls.{settled_as, taken_by_step}
 use Rattle.exclusive_stages.specs.Awaited.{awaits_phy_ind, awaits_phy_rsp, central_answered, has_phy_of_central, peer_answered, reads_as_answer}
-use Rattle.procedure_stages.specs.declared.stages.Ahead.{Ahead}
-use Rattle.procedure_stages.specs.declared.stages.Ahead.TheVariants.{Map as map_ahead, Nothing as nothing_ahead, Update as update_ahead}
-use Rattle.procedure_stages.specs.Awaited.{awaits_features, awaits_lengths}
-use Rattle.procedure_stages.specs.Collisions.{collision}
-use Rattle.procedure_stages.specs.Exclusive.{central_stage, peripheral_stage}
-use Rattle.procedure_stages.specs.Kinds.{kind_at_central, kind_at_peripheral, own_exchange}
-use Rattle.procedure_stages.specs.Opcodes.{connection_param_req_opcode, first_opcode, is_opcode, later_opcode, phy_req_opcode}
-use Rattle.procedure_values.specs.Values.{are_valid}
-use Rattle.procedures.specs.Refusals.{refused_if}
-use Rattle.procedures.specs.Request.{after_grant, collided, outlived, request_judged}
-use Rattle.procedures.specs.Update.{follow}
+use Rattle.joint_controls.specs.procedure_stages.declared.stages.Ahead.{Ahead}
+use Rattle.joint_controls.specs.procedure_stages.declared.stages.Ahead.TheVariants.{Map as map_ahead, Nothing as nothing_ahead, Update as update_ahead}
+use Rattle.joint_controls.specs.procedure_stages.Awaited.{awaits_features, awaits_lengths}
+use Rattle.joint_controls.specs.procedure_stages.Collisions.{collision}
+use Rattle.joint_controls.specs.procedure_stages.Exclusive.{central_stage, peripheral_stage}
+use Rattle.joint_controls.specs.procedure_stages.Kinds.{kind_at_central, kind_at_peripheral, own_exchange}
+use Rattle.joint_controls.specs.procedure_stages.Opcodes.{connection_param_req_opcode, first_opcode, is_opcode, later_opcode, phy_req_opcode}
+use Rattle.joint_controls.specs.procedure_values.Values.{are_valid}
+use Rattle.joint_controls.specs.procedures.Refusals.{refused_if}
+use Rattle.joint_controls.specs.procedures.Request.{after_grant, collided, outlived, request_judged}
+use Rattle.joint_controls.specs.procedures.Update.{follow}
 use Rattle.std.proofs.lemmas.Bool.{false_from_ne_true}
 use Rattle.ble_base.specs.declared.error_codes.ErrCode.{ErrCode}
 use Rattle.ble_base.specs.declared.procedure_kinds.Kind.TheVariants.{Map as map_kind, Phy, Request}
@@ -21,20 +21,20 @@ use Rattle.data_pdu.specs.declared.ctrl.Ctrl.{Ctrl}
 use Rattle.data_pdu.specs.declared.ctrl.Ctrl.TheVariants.{ChannelMapInd, ConnectionParamReq, ConnectionUpdateInd, EncReq, EncRsp, FeatureRsp, LengthRsp, PauseEncRsp, PhyReq, PhyRsp, PhyUpdateInd, RejectExtInd, RejectInd, StartEncReq, StartEncRsp, TerminateInd, UnknownRsp}
 use Rattle.data_pdu.specs.declared.ctrl.CtrlRead.{CtrlRead}
 use Rattle.data_pdu.specs.declared.ctrl.CtrlRead.TheVariants.{Known}
-use Rattle.procedure_stages.specs.declared.closing.Closing.{Closing}
-use Rattle.procedure_stages.specs.declared.stages.Central.{Central}
-use Rattle.procedure_stages.specs.declared.stages.Peripheral.{Peripheral}
-use Rattle.procedure_stages.specs.declared.stages.Progress.{Progress}
-use Rattle.procedure_stages.specs.declared.stages.Progress.TheVariants.{Central as central, Peripheral as peripheral}
-use Rattle.procedure_stages.specs.declared.steps.Step.{Step}
-use Rattle.procedure_stages.specs.Steps.{closing_after}
-use Rattle.procedures.specs.declared.outcome.Outcome.{Outcome}
-use Rattle.procedures.specs.Calls.{takes}
-use Rattle.procedures.specs.Table.{TableFacts}
-use Rattle.procedures.specs.Taking.{facts_with, lacks_room, outcome_of, taken_by, taken_by_either, took_step}
-use Rattle.table_laws.specs.Encrypting.{MayBeginBy, has_encryption}
-use Rattle.table_laws.proofs.Encrypting.{begins_by}
-use Rattle.control_model.specs.Control.{Control, ended, indicated_by, taken, took}
+use Rattle.joint_controls.specs.procedure_stages.declared.closing.Closing.{Closing}
+use Rattle.joint_controls.specs.procedure_stages.declared.stages.Central.{Central}
+use Rattle.joint_controls.specs.procedure_stages.declared.stages.Peripheral.{Peripheral}
+use Rattle.joint_controls.specs.procedure_stages.declared.stages.Progress.{Progress}
+use Rattle.joint_controls.specs.procedure_stages.declared.stages.Progress.TheVariants.{Central as central, Peripheral as peripheral}
+use Rattle.joint_controls.specs.procedure_stages.declared.steps.Step.{Step}
+use Rattle.joint_controls.specs.procedure_stages.Steps.{closing_after}
+use Rattle.joint_controls.specs.procedures.declared.outcome.Outcome.{Outcome}
+use Rattle.joint_controls.specs.procedures.Calls.{takes}
+use Rattle.joint_controls.specs.procedures.Table.{TableFacts}
+use Rattle.joint_controls.specs.procedures.Taking.{facts_with, lacks_room, outcome_of, taken_by, taken_by_either, took_step}
+use Rattle.joint_controls.specs.table_laws.Encrypting.{MayBeginBy, has_encryption}
+use Rattle.joint_controls.proofs.table_laws.Encrypting.{begins_by}
+use Rattle.joint_controls.specs.control_model.Control.{Control, ended, indicated_by, taken, took}
 use Rattle.joint_controls.specs.Joint.{is_terminate}
 
 -- ---- the link goes on, with the table that the outcome says

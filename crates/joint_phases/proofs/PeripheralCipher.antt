@@ -4,25 +4,25 @@ use Rattle.ble_base.specs.declared.roles.Role.TheVariants.{Peripheral as periphe
 use Rattle.data_pdu.specs.declared.ctrl.Ctrl.{Ctrl}
 use Rattle.data_pdu.specs.declared.ctrl.Ctrl.TheVariants.{EncReq as enc_req, EncRsp as enc_rsp, PauseEncReq as pause_enc_req, PauseEncRsp as pause_enc_rsp, RejectExtInd, RejectInd, StartEncReq as start_enc_req, StartEncRsp as start_enc_rsp}
 use Rattle.data_pdu.specs.declared.ctrl.CtrlRead.TheVariants.{Known}
-use Rattle.enc_phase.specs.declared.classes.PduClass.{PduClass}
-use Rattle.enc_phase.specs.declared.classes.PduClass.TheVariants.{EncReq, EncRsp, Other, PauseEncReq, PauseEncRsp, Refusal, StartEncReq, StartEncRsp}
-use Rattle.enc_phase.specs.declared.facts.PhaseFacts.{PhaseFacts}
-use Rattle.enc_phase.specs.declared.facts.PhaseFacts.TheVariants.{Clear, HalfClear, Pausing, Secure}
-use Rattle.enc_phase.specs.declared.facts.Transition.{Transition}
-use Rattle.enc_phase.specs.declared.facts.Transition.TheVariants.{Ask, Confirm, Pause, Unlock}
-use Rattle.enc_phase.specs.Phases.{is_quiet, may_follow, phase_after}
-use Rattle.enc_phase.specs.Taking.{allows, ctrl_class, is_unknown, phase_taking}
-use Rattle.procedure_values.specs.declared.drafts.Draft.TheVariants.{Cipher}
-use Rattle.procedure_stages.specs.declared.reply.Reply.{Reply}
-use Rattle.procedure_stages.specs.Closing.{is_open}
-use Rattle.procedure_stages.specs.Queue.{with_reply}
-use Rattle.procedures.specs.Going.{closing_given}
-use Rattle.procedures.specs.Taking.{outcome_of}
+use Rattle.phase_pairs.specs.enc_phase.declared.classes.PduClass.{PduClass}
+use Rattle.phase_pairs.specs.enc_phase.declared.classes.PduClass.TheVariants.{EncReq, EncRsp, Other, PauseEncReq, PauseEncRsp, Refusal, StartEncReq, StartEncRsp}
+use Rattle.phase_pairs.specs.enc_phase.declared.facts.PhaseFacts.{PhaseFacts}
+use Rattle.phase_pairs.specs.enc_phase.declared.facts.PhaseFacts.TheVariants.{Clear, HalfClear, Pausing, Secure}
+use Rattle.phase_pairs.specs.enc_phase.declared.facts.Transition.{Transition}
+use Rattle.phase_pairs.specs.enc_phase.declared.facts.Transition.TheVariants.{Ask, Confirm, Pause, Unlock}
+use Rattle.phase_pairs.specs.enc_phase.Phases.{is_quiet, may_follow, phase_after}
+use Rattle.phase_pairs.specs.enc_phase.Taking.{allows, ctrl_class, is_unknown, phase_taking}
+use Rattle.joint_controls.specs.procedure_values.declared.drafts.Draft.TheVariants.{Cipher}
+use Rattle.joint_controls.specs.procedure_stages.declared.reply.Reply.{Reply}
+use Rattle.joint_controls.specs.procedure_stages.Closing.{is_open}
+use Rattle.joint_controls.specs.procedure_stages.Queue.{with_reply}
+use Rattle.joint_controls.specs.procedures.Going.{closing_given}
+use Rattle.joint_controls.specs.procedures.Taking.{outcome_of}
 use Rattle.phase_pairs.specs.declared.peripheral.PhasePeripheral.{PhasePeripheral}
 use Rattle.phase_pairs.specs.Agreement.{has_meaning}
 use Rattle.phase_pairs.specs.Peripheral.{is_open as is_peripheral_open, peripheral_asked, peripheral_queuing, peripheral_taken}
-use Rattle.phased_control.specs.Phased.{Phased}
-use Rattle.phased_control.specs.Taken.{Response, Takes, asked, ciphered_at_peripheral, is_version, moved_if, moved_to, phased_after, response_ctrl}
+use Rattle.joint_controls.specs.phased_control.Phased.{Phased}
+use Rattle.joint_controls.specs.phased_control.Taken.{Response, Takes, asked, ciphered_at_peripheral, is_version, moved_if, moved_to, phased_after, response_ctrl}
 use Rattle.joint_controls.specs.Joint.{is_terminate}
 use Rattle.phase_pairs.specs.Agreement.{is_encryption}
 use Rattle.joint_phases.specs.Classes.{draft_up}

@@ -2,37 +2,37 @@
 use Rattle.std.proofs.Common.{◌≡◌, ℕ, Bool, true, false, ◌&&◌, List, [], ◌∷◌, ◌++◌, Option, Some, None, Result, remove, is_some, refl, ap, sym, subst, ◌∙◌, if◌then◌else◌}
 use Rattle.ble_base.specs.declared.error_codes.ErrCode.{ErrCode}
 use Rattle.ble_base.specs.declared.roles.Role.TheVariants.{Peripheral as peripheral_role}
-use Rattle.enc_phase.specs.declared.classes.PduClass.TheVariants.{Request}
-use Rattle.enc_phase.specs.Phases.{is_quiet}
+use Rattle.phase_pairs.specs.enc_phase.declared.classes.PduClass.TheVariants.{Request}
+use Rattle.phase_pairs.specs.enc_phase.Phases.{is_quiet}
 use Rattle.instants.specs.Track.{TrackFacts, next_number, track_after_enter}
-use Rattle.procedure_values.specs.declared.asks.Ask.{Ask}
-use Rattle.procedure_values.specs.declared.asks.Ask.TheVariants.{Encrypt, Features, Length, Map, Phy, Request as ask_request, Update, Version}
-use Rattle.procedure_values.specs.declared.drafts.Draft.{Draft}
-use Rattle.procedure_values.specs.declared.drafts.Draft.TheVariants.{VersionInd}
-use Rattle.procedure_values.specs.Asks.{kind_of_ask}
-use Rattle.procedure_stages.specs.declared.closing.Closing.{Closing}
-use Rattle.procedure_stages.specs.declared.closing.Closing.TheVariants.{Open}
-use Rattle.procedure_stages.specs.declared.stages.OwnPeripheral.{OwnPeripheral}
-use Rattle.procedure_stages.specs.declared.stages.Peripheral.{Peripheral}
-use Rattle.procedure_stages.specs.declared.stages.Progress.{Progress}
-use Rattle.procedure_stages.specs.declared.stages.Progress.TheVariants.{Central as central, Peripheral as peripheral}
-use Rattle.procedure_stages.specs.Closing.{is_open}
-use Rattle.procedure_stages.specs.Held.{progress_held}
-use Rattle.procedure_stages.specs.Kinds.{begins, role_of}
-use Rattle.procedures.specs.Beginning.{ask_at, begin_at, facts_begun, first_draft, place_to_begin}
-use Rattle.procedure_stages.specs.InProgress.{is_host_asked}
-use Rattle.procedures.specs.Going.{entered_step, host_answer_step, is_answer, terminate_step}
-use Rattle.procedures.specs.Table.{TableFacts}
-use Rattle.table_laws.proofs.Begun.{Begins, begins_of}
-use Rattle.control_model.specs.Control.{Control, table_if}
+use Rattle.joint_controls.specs.procedure_values.declared.asks.Ask.{Ask}
+use Rattle.joint_controls.specs.procedure_values.declared.asks.Ask.TheVariants.{Encrypt, Features, Length, Map, Phy, Request as ask_request, Update, Version}
+use Rattle.joint_controls.specs.procedure_values.declared.drafts.Draft.{Draft}
+use Rattle.joint_controls.specs.procedure_values.declared.drafts.Draft.TheVariants.{VersionInd}
+use Rattle.joint_controls.specs.procedure_values.Asks.{kind_of_ask}
+use Rattle.joint_controls.specs.procedure_stages.declared.closing.Closing.{Closing}
+use Rattle.joint_controls.specs.procedure_stages.declared.closing.Closing.TheVariants.{Open}
+use Rattle.joint_controls.specs.procedure_stages.declared.stages.OwnPeripheral.{OwnPeripheral}
+use Rattle.joint_controls.specs.procedure_stages.declared.stages.Peripheral.{Peripheral}
+use Rattle.joint_controls.specs.procedure_stages.declared.stages.Progress.{Progress}
+use Rattle.joint_controls.specs.procedure_stages.declared.stages.Progress.TheVariants.{Central as central, Peripheral as peripheral}
+use Rattle.joint_controls.specs.procedure_stages.Closing.{is_open}
+use Rattle.joint_controls.specs.procedure_stages.Held.{progress_held}
+use Rattle.joint_controls.specs.procedure_stages.Kinds.{begins, role_of}
+use Rattle.joint_controls.specs.procedures.Beginning.{ask_at, begin_at, facts_begun, first_draft, place_to_begin}
+use Rattle.joint_controls.specs.procedure_stages.InProgress.{is_host_asked}
+use Rattle.joint_controls.specs.procedures.Going.{entered_step, host_answer_step, is_answer, terminate_step}
+use Rattle.joint_controls.specs.procedures.Table.{TableFacts}
+use Rattle.joint_controls.proofs.table_laws.Begun.{Begins, begins_of}
+use Rattle.joint_controls.specs.control_model.Control.{Control, table_if}
 use Rattle.phase_pairs.specs.declared.peripheral.PhaseClosing.{PhaseClosing}
 use Rattle.phase_pairs.specs.declared.peripheral.PhaseClosing.TheVariants.{Disconnects, HasNoKey, Open as open_closing}
 use Rattle.phase_pairs.specs.declared.peripheral.PhasePeripheral.{PhasePeripheral}
 use Rattle.phase_pairs.specs.declared.peripheral.UnsentRequest.{UnsentRequest}
 use Rattle.phase_pairs.specs.declared.peripheral.UnsentRequest.TheVariants.{Absent}
 use Rattle.phase_pairs.specs.Peripheral.{is_closing_open, is_open as is_peripheral_open, peripheral_begins, peripheral_closes}
-use Rattle.phased_control.specs.Phased.{Phased, encrypting_if, is_encrypt, request_of}
-use Rattle.phased_control.specs.Taken.{Answers, Asks, Disconnects as disconnects_step, Enters, phased_after}
+use Rattle.joint_controls.specs.phased_control.Phased.{Phased, encrypting_if, is_encrypt, request_of}
+use Rattle.joint_controls.specs.phased_control.Taken.{Answers, Asks, Disconnects as disconnects_step, Enters, phased_after}
 use Rattle.joint_phases.specs.Classes.{draft_up, has_request}
 use Rattle.joint_phases.specs.Events.{does_begin, has_first_draft}
 use Rattle.joint_phases.specs.Parts.{IsPeripheral, closing_up, wait_up}

@@ -5,25 +5,25 @@ use Rattle.ble_base.specs.ErrorCodes.{pin_or_key_missing}
 use Rattle.ble_base.specs.declared.roles.Role.TheVariants.{Peripheral as peripheral_role}
 use Rattle.data_pdu.specs.declared.ctrl.Ctrl.{Ctrl}
 use Rattle.data_pdu.specs.declared.ctrl.Ctrl.TheVariants.{RejectExtInd, StartEncReq as start_enc_req, TerminateInd}
-use Rattle.enc_phase.specs.declared.classes.PduClass.{PduClass}
-use Rattle.enc_phase.specs.declared.classes.PduClass.TheVariants.{Refusal, StartEncReq, Terminate}
-use Rattle.enc_phase.specs.declared.facts.PhaseFacts.{PhaseFacts}
-use Rattle.enc_phase.specs.declared.facts.Transition.TheVariants.{Refuse as RefuseTransition}
-use Rattle.enc_phase.specs.Phases.{may_follow, phase_after, phase_starting}
-use Rattle.procedure_values.specs.declared.drafts.Draft.TheVariants.{Cipher}
-use Rattle.procedure_stages.specs.declared.stages.Progress.{Progress}
-use Rattle.procedure_stages.specs.declared.stages.Progress.TheVariants.{Central as central, Peripheral as peripheral}
-use Rattle.procedure_stages.specs.Closing.{closed, is_open}
-use Rattle.procedure_stages.specs.Kinds.{role_of}
-use Rattle.procedure_stages.specs.Queue.{with_draft}
-use Rattle.procedures.specs.Encryption.{is_rejection, progress_given}
-use Rattle.procedures.specs.Going.{closing_given}
-use Rattle.procedure_stages.specs.Opcodes.{enc_req_opcode}
+use Rattle.phase_pairs.specs.enc_phase.declared.classes.PduClass.{PduClass}
+use Rattle.phase_pairs.specs.enc_phase.declared.classes.PduClass.TheVariants.{Refusal, StartEncReq, Terminate}
+use Rattle.phase_pairs.specs.enc_phase.declared.facts.PhaseFacts.{PhaseFacts}
+use Rattle.phase_pairs.specs.enc_phase.declared.facts.Transition.TheVariants.{Refuse as RefuseTransition}
+use Rattle.phase_pairs.specs.enc_phase.Phases.{may_follow, phase_after, phase_starting}
+use Rattle.joint_controls.specs.procedure_values.declared.drafts.Draft.TheVariants.{Cipher}
+use Rattle.joint_controls.specs.procedure_stages.declared.stages.Progress.{Progress}
+use Rattle.joint_controls.specs.procedure_stages.declared.stages.Progress.TheVariants.{Central as central, Peripheral as peripheral}
+use Rattle.joint_controls.specs.procedure_stages.Closing.{closed, is_open}
+use Rattle.joint_controls.specs.procedure_stages.Kinds.{role_of}
+use Rattle.joint_controls.specs.procedure_stages.Queue.{with_draft}
+use Rattle.joint_controls.specs.procedures.Encryption.{is_rejection, progress_given}
+use Rattle.joint_controls.specs.procedures.Going.{closing_given}
+use Rattle.joint_controls.specs.procedure_stages.Opcodes.{enc_req_opcode}
 use Rattle.phase_pairs.specs.declared.peripheral.PhaseClosing.TheVariants.{HasNoKey}
 use Rattle.phase_pairs.specs.declared.peripheral.PhasePeripheral.{PhasePeripheral}
 use Rattle.phase_pairs.specs.Peripheral.{is_open as is_peripheral_open, is_waiting, may_get_key, peripheral_queuing, peripheral_with_key, peripheral_without_key}
-use Rattle.phased_control.specs.Phased.{Phased, key_lacking, refused_if, with_owed}
-use Rattle.phased_control.specs.Taken.{GivesKey, LacksKey, phased_after}
+use Rattle.joint_controls.specs.phased_control.Phased.{Phased, key_lacking, refused_if, with_owed}
+use Rattle.joint_controls.specs.phased_control.Taken.{GivesKey, LacksKey, phased_after}
 use Rattle.joint_phases.specs.Classes.{draft_up}
 use Rattle.joint_phases.specs.Parts.{IsPeripheral, closing_up, wait_up}
 use Rattle.joint_phases.proofs.CentralEnters.{open_is, opened}

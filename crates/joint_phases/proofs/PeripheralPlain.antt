@@ -4,23 +4,23 @@ use Rattle.ble_base.specs.declared.roles.Role.TheVariants.{Peripheral as periphe
 use Rattle.data_pdu.specs.declared.ctrl.Ctrl.{Ctrl}
 use Rattle.data_pdu.specs.declared.ctrl.Ctrl.TheVariants.{VersionInd}
 use Rattle.data_pdu.specs.declared.ctrl.CtrlRead.TheVariants.{Known}
-use Rattle.enc_phase.specs.declared.classes.PduClass.{PduClass}
-use Rattle.enc_phase.specs.declared.classes.PduClass.TheVariants.{Other}
-use Rattle.enc_phase.specs.Phases.{is_quiet}
-use Rattle.enc_phase.specs.Taking.{allows, ctrl_class, is_unknown}
-use Rattle.procedures.specs.declared.outcome.Outcome.{Outcome}
-use Rattle.procedure_values.specs.declared.drafts.Draft.{Draft}
-use Rattle.procedure_stages.specs.declared.reply.Reply.{Reply}
-use Rattle.procedure_stages.specs.declared.reply.Reply.TheVariants.{Answer, Nothing as no_reply}
-use Rattle.procedure_stages.specs.Closing.{is_open}
-use Rattle.procedure_stages.specs.Queue.{QueueFacts, with_draft, with_reply}
-use Rattle.procedures.specs.Taking.{outcome_of}
+use Rattle.phase_pairs.specs.enc_phase.declared.classes.PduClass.{PduClass}
+use Rattle.phase_pairs.specs.enc_phase.declared.classes.PduClass.TheVariants.{Other}
+use Rattle.phase_pairs.specs.enc_phase.Phases.{is_quiet}
+use Rattle.phase_pairs.specs.enc_phase.Taking.{allows, ctrl_class, is_unknown}
+use Rattle.joint_controls.specs.procedures.declared.outcome.Outcome.{Outcome}
+use Rattle.joint_controls.specs.procedure_values.declared.drafts.Draft.{Draft}
+use Rattle.joint_controls.specs.procedure_stages.declared.reply.Reply.{Reply}
+use Rattle.joint_controls.specs.procedure_stages.declared.reply.Reply.TheVariants.{Answer, Nothing as no_reply}
+use Rattle.joint_controls.specs.procedure_stages.Closing.{is_open}
+use Rattle.joint_controls.specs.procedure_stages.Queue.{QueueFacts, with_draft, with_reply}
+use Rattle.joint_controls.specs.procedures.Taking.{outcome_of}
 use Rattle.phase_pairs.specs.declared.peripheral.PhasePeripheral.{PhasePeripheral}
 use Rattle.phase_pairs.specs.declared.peripheral.UnsentRequest.{UnsentRequest}
 use Rattle.phase_pairs.specs.declared.peripheral.UnsentRequest.TheVariants.{Absent}
 use Rattle.phase_pairs.specs.Peripheral.{is_open as is_peripheral_open, peripheral_answering}
-use Rattle.phased_control.specs.Phased.{Phased}
-use Rattle.phased_control.specs.Taken.{Response, Takes, is_version, phased_after}
+use Rattle.joint_controls.specs.phased_control.Phased.{Phased}
+use Rattle.joint_controls.specs.phased_control.Taken.{Response, Takes, is_version, phased_after}
 use Rattle.joint_controls.specs.Joint.{is_terminate}
 use Rattle.joint_phases.specs.Classes.{draft_up, has_version, is_version_ctrl}
 use Rattle.joint_phases.specs.Parts.{IsPeripheral, wait_up}

@@ -5,39 +5,39 @@ use Rattle.ble_base.specs.declared.error_codes.ErrCode.{ErrCode}
 use Rattle.ble_base.specs.declared.roles.Role.{Role}
 use Rattle.ble_base.specs.declared.roles.Role.TheVariants.{Central as central_role, Peripheral as peripheral_role}
 use Rattle.data_pdu.specs.declared.ctrl.Ctrl.{Ctrl}
-use Rattle.enc_phase.specs.declared.classes.PduClass.{PduClass}
-use Rattle.enc_phase.specs.declared.classes.PduClass.TheVariants.{Data, Other, Request, Terminate}
-use Rattle.enc_phase.specs.Phases.{is_quiet, may_follow}
-use Rattle.enc_phase.specs.declared.facts.Transition.TheVariants.{Ask as AskTransition}
+use Rattle.phase_pairs.specs.enc_phase.declared.classes.PduClass.{PduClass}
+use Rattle.phase_pairs.specs.enc_phase.declared.classes.PduClass.TheVariants.{Data, Other, Request, Terminate}
+use Rattle.phase_pairs.specs.enc_phase.Phases.{is_quiet, may_follow}
+use Rattle.phase_pairs.specs.enc_phase.declared.facts.Transition.TheVariants.{Ask as AskTransition}
 use Rattle.instants.specs.declared.indications.Indication.{Indication}
 use Rattle.instants.specs.Track.{event_of}
-use Rattle.procedure_values.specs.declared.drafts.Draft.{Draft}
-use Rattle.procedure_values.specs.declared.drafts.Draft.TheVariants.{Cipher}
-use Rattle.procedure_values.specs.declared.drafts.Outgoing.{Outgoing}
-use Rattle.procedure_values.specs.declared.drafts.Outgoing.TheVariants.{Disconnect, Nothing, Other as other_out}
-use Rattle.procedure_values.specs.declared.drafts.Rejection.{Rejection as TheRejection}
-use Rattle.procedure_values.specs.Drafts.{ctrl_of_draft, ctrl_of_outgoing, indication_of, is_out, waits_for_instant}
-use Rattle.procedure_stages.specs.declared.stages.Progress.{Progress}
-use Rattle.procedure_stages.specs.declared.stages.Progress.TheVariants.{Central as central, Peripheral as peripheral}
-use Rattle.procedure_stages.specs.declared.closing.Closing.{Closing}
-use Rattle.procedure_stages.specs.declared.closing.Closing.TheVariants.{Closed, Disconnecting, Open}
-use Rattle.procedure_stages.specs.Acked.{progress_acked}
-use Rattle.procedure_stages.specs.Closing.{is_disconnecting, is_open}
-use Rattle.procedure_stages.specs.Kinds.{role_of}
-use Rattle.procedure_stages.specs.Queue.{is_past_instant, next_by, next_disconnect, next_draft}
-use Rattle.procedure_stages.specs.Sent.{progress_after_sending}
-use Rattle.procedures.specs.Queue.{next_of}
-use Rattle.procedures.specs.Sending.{acked_step, facts_sent}
-use Rattle.procedures.specs.Table.{TableFacts}
-use Rattle.control_model.specs.Control.{Control, following, table_if}
+use Rattle.joint_controls.specs.procedure_values.declared.drafts.Draft.{Draft}
+use Rattle.joint_controls.specs.procedure_values.declared.drafts.Draft.TheVariants.{Cipher}
+use Rattle.joint_controls.specs.procedure_values.declared.drafts.Outgoing.{Outgoing}
+use Rattle.joint_controls.specs.procedure_values.declared.drafts.Outgoing.TheVariants.{Disconnect, Nothing, Other as other_out}
+use Rattle.joint_controls.specs.procedure_values.declared.drafts.Rejection.{Rejection as TheRejection}
+use Rattle.joint_controls.specs.procedure_values.Drafts.{ctrl_of_draft, ctrl_of_outgoing, indication_of, is_out, waits_for_instant}
+use Rattle.joint_controls.specs.procedure_stages.declared.stages.Progress.{Progress}
+use Rattle.joint_controls.specs.procedure_stages.declared.stages.Progress.TheVariants.{Central as central, Peripheral as peripheral}
+use Rattle.joint_controls.specs.procedure_stages.declared.closing.Closing.{Closing}
+use Rattle.joint_controls.specs.procedure_stages.declared.closing.Closing.TheVariants.{Closed, Disconnecting, Open}
+use Rattle.joint_controls.specs.procedure_stages.Acked.{progress_acked}
+use Rattle.joint_controls.specs.procedure_stages.Closing.{is_disconnecting, is_open}
+use Rattle.joint_controls.specs.procedure_stages.Kinds.{role_of}
+use Rattle.joint_controls.specs.procedure_stages.Queue.{is_past_instant, next_by, next_disconnect, next_draft}
+use Rattle.joint_controls.specs.procedure_stages.Sent.{progress_after_sending}
+use Rattle.joint_controls.specs.procedures.Queue.{next_of}
+use Rattle.joint_controls.specs.procedures.Sending.{acked_step, facts_sent}
+use Rattle.joint_controls.specs.procedures.Table.{TableFacts}
+use Rattle.joint_controls.specs.control_model.Control.{Control, following, table_if}
 use Rattle.phase_pairs.specs.declared.peripheral.PhaseClosing.{PhaseClosing}
 use Rattle.phase_pairs.specs.declared.peripheral.PhaseClosing.TheVariants.{Disconnects, HasNoKey, Open as open_closing}
 use Rattle.phase_pairs.specs.declared.peripheral.PhasePeripheral.{PhasePeripheral}
 use Rattle.phase_pairs.specs.Central.{is_queued}
 use Rattle.phase_pairs.specs.JointRun.{is_data}
 use Rattle.phase_pairs.specs.Peripheral.{is_disconnecting as is_disconnecting_up, is_terminate, is_waiting, may_fix, may_fix_pdu, peripheral_fixed}
-use Rattle.phased_control.specs.Phased.{Phased, asking_if, is_pause_rsp}
-use Rattle.phased_control.specs.Taken.{SeesAcknowledged, Sends, phased_after}
+use Rattle.joint_controls.specs.phased_control.Phased.{Phased, asking_if, is_pause_rsp}
+use Rattle.joint_controls.specs.phased_control.Taken.{SeesAcknowledged, Sends, phased_after}
 use Rattle.joint_controls.specs.Joint.{item_by, next_item, sends_data}
 use Rattle.joint_phases.specs.Classes.{class_up, draft_up}
 use Rattle.joint_phases.specs.Events.{item_or_none}

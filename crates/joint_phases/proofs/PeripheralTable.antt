@@ -5,28 +5,28 @@ use Rattle.ble_base.specs.declared.procedure_kinds.Kind.TheVariants.{Map as map_
 use Rattle.ble_base.specs.declared.roles.Role.TheVariants.{Peripheral as peripheral_role}
 use Rattle.data_pdu.specs.declared.ctrl.Ctrl.{Ctrl}
 use Rattle.data_pdu.specs.declared.ctrl.Ctrl.TheVariants.{ChannelMapInd, ConnectionParamReq, ConnectionParamRsp, ConnectionUpdateInd, EncReq as enc_req, FeatureReq, FeatureRsp, LengthReq, LengthRsp, PauseEncReq as pause_enc_req, PauseEncRsp as pause_enc_rsp, PeripheralFeatureReq, PhyReq, PhyRsp, PhyUpdateInd, RejectExtInd, StartEncRsp as start_enc_rsp, UnknownRsp, VersionInd}
-use Rattle.enc_phase.specs.declared.classes.PduClass.TheVariants.{Other, Request}
-use Rattle.procedure_values.specs.declared.drafts.Draft.{Draft}
-use Rattle.procedure_values.specs.declared.drafts.Draft.TheVariants.{FeatureRsp as feature_rsp, LengthRsp as length_rsp, PhyRsp as phy_rsp, UnknownRsp as unknown_rsp}
+use Rattle.phase_pairs.specs.enc_phase.declared.classes.PduClass.TheVariants.{Other, Request}
+use Rattle.joint_controls.specs.procedure_values.declared.drafts.Draft.{Draft}
+use Rattle.joint_controls.specs.procedure_values.declared.drafts.Draft.TheVariants.{FeatureRsp as feature_rsp, LengthRsp as length_rsp, PhyRsp as phy_rsp, UnknownRsp as unknown_rsp}
 use Rattle.exclusive_stages.specs.Awaited.{awaits_phy_ind, central_answered, has_phy_of_central, reads_as_answer}
-use Rattle.procedure_stages.specs.declared.reply.Reply.TheVariants.{Answer, Nothing as no_reply}
-use Rattle.procedure_stages.specs.declared.stages.Ahead.{Ahead}
-use Rattle.procedure_stages.specs.declared.stages.Ahead.TheVariants.{Map as map_ahead, Nothing as nothing_ahead, Update as update_ahead}
-use Rattle.procedure_stages.specs.declared.stages.Peripheral.{Peripheral}
-use Rattle.procedure_stages.specs.declared.stages.Progress.{Progress}
-use Rattle.procedure_stages.specs.declared.stages.Progress.TheVariants.{Central as central, Peripheral as peripheral}
-use Rattle.procedure_stages.specs.Awaited.{awaits_features, awaits_lengths}
-use Rattle.procedure_stages.specs.Collisions.{collision}
-use Rattle.procedure_stages.specs.Exclusive.{peripheral_stage}
-use Rattle.procedure_stages.specs.Kinds.{kind_at_peripheral, own_exchange, role_of}
-use Rattle.procedure_stages.specs.Opcodes.{first_opcode, is_opcode, later_opcode}
-use Rattle.procedures.specs.declared.outcome.Outcome.{Outcome}
-use Rattle.procedures.specs.Refusals.{refused_if}
-use Rattle.procedures.specs.Request.{outlived}
-use Rattle.procedures.specs.Table.{TableFacts}
-use Rattle.procedures.specs.Taking.{taken_by}
-use Rattle.procedures.specs.Update.{follow}
-use Rattle.procedures.specs.Version.{version_reply}
+use Rattle.joint_controls.specs.procedure_stages.declared.reply.Reply.TheVariants.{Answer, Nothing as no_reply}
+use Rattle.joint_controls.specs.procedure_stages.declared.stages.Ahead.{Ahead}
+use Rattle.joint_controls.specs.procedure_stages.declared.stages.Ahead.TheVariants.{Map as map_ahead, Nothing as nothing_ahead, Update as update_ahead}
+use Rattle.joint_controls.specs.procedure_stages.declared.stages.Peripheral.{Peripheral}
+use Rattle.joint_controls.specs.procedure_stages.declared.stages.Progress.{Progress}
+use Rattle.joint_controls.specs.procedure_stages.declared.stages.Progress.TheVariants.{Central as central, Peripheral as peripheral}
+use Rattle.joint_controls.specs.procedure_stages.Awaited.{awaits_features, awaits_lengths}
+use Rattle.joint_controls.specs.procedure_stages.Collisions.{collision}
+use Rattle.joint_controls.specs.procedure_stages.Exclusive.{peripheral_stage}
+use Rattle.joint_controls.specs.procedure_stages.Kinds.{kind_at_peripheral, own_exchange, role_of}
+use Rattle.joint_controls.specs.procedure_stages.Opcodes.{first_opcode, is_opcode, later_opcode}
+use Rattle.joint_controls.specs.procedures.declared.outcome.Outcome.{Outcome}
+use Rattle.joint_controls.specs.procedures.Refusals.{refused_if}
+use Rattle.joint_controls.specs.procedures.Request.{outlived}
+use Rattle.joint_controls.specs.procedures.Table.{TableFacts}
+use Rattle.joint_controls.specs.procedures.Taking.{taken_by}
+use Rattle.joint_controls.specs.procedures.Update.{follow}
+use Rattle.joint_controls.specs.procedures.Version.{version_reply}
 use Rattle.joint_phases.specs.Classes.{class_down, draft_up, is_version_ctrl}
 
 -- ---- nothing is sent

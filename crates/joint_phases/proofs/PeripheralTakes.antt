@@ -6,20 +6,20 @@ use Rattle.ble_base.specs.declared.roles.Role.TheVariants.{Peripheral as periphe
 use Rattle.data_pdu.specs.declared.ctrl.Ctrl.{Ctrl}
 use Rattle.data_pdu.specs.declared.ctrl.Ctrl.TheVariants.{EncReq as enc_req, PauseEncReq as pause_enc_req, PauseEncRsp as pause_enc_rsp, StartEncRsp as start_enc_rsp}
 use Rattle.data_pdu.specs.declared.ctrl.CtrlRead.TheVariants.{Known}
-use Rattle.enc_phase.specs.declared.facts.Transition.TheVariants.{Ask, Confirm, Pause, Unlock}
-use Rattle.enc_phase.specs.Phases.{is_quiet, may_follow}
-use Rattle.enc_phase.specs.Taking.{allows, ctrl_class, is_unknown, phase_taking}
-use Rattle.procedure_stages.specs.declared.reply.Reply.{Reply}
-use Rattle.procedure_stages.specs.Kinds.{role_of}
-use Rattle.procedure_stages.specs.Queue.{QueueFacts, with_reply}
-use Rattle.procedures.specs.Table.{TableFacts}
-use Rattle.procedures.specs.Taking.{outcome_of}
-use Rattle.table_laws.proofs.Outcomes.{took as table_took}
-use Rattle.control_model.specs.Control.{Control, Takes as control_takes, took}
+use Rattle.phase_pairs.specs.enc_phase.declared.facts.Transition.TheVariants.{Ask, Confirm, Pause, Unlock}
+use Rattle.phase_pairs.specs.enc_phase.Phases.{is_quiet, may_follow}
+use Rattle.phase_pairs.specs.enc_phase.Taking.{allows, ctrl_class, is_unknown, phase_taking}
+use Rattle.joint_controls.specs.procedure_stages.declared.reply.Reply.{Reply}
+use Rattle.joint_controls.specs.procedure_stages.Kinds.{role_of}
+use Rattle.joint_controls.specs.procedure_stages.Queue.{QueueFacts, with_reply}
+use Rattle.joint_controls.specs.procedures.Table.{TableFacts}
+use Rattle.joint_controls.specs.procedures.Taking.{outcome_of}
+use Rattle.joint_controls.proofs.table_laws.Outcomes.{took as table_took}
+use Rattle.joint_controls.specs.control_model.Control.{Control, Takes as control_takes, took}
 use Rattle.phase_pairs.specs.declared.peripheral.PhasePeripheral.{PhasePeripheral}
 use Rattle.phase_pairs.specs.declared.peripheral.UnsentRequest.{UnsentRequest}
-use Rattle.phased_control.specs.Phased.{Phased, is_quiet_now, with_step}
-use Rattle.phased_control.specs.Taken.{Response, Takes, answered_if_quiet, answered_kept, ciphered, ciphered_at, ciphered_at_peripheral, ended_with, goes_on, is_version, keeping, keeps_class, knowing, lacks_room_now, moved_to, phased_after, role_now, seen_if, with_phase_taking}
+use Rattle.joint_controls.specs.phased_control.Phased.{Phased, is_quiet_now, with_step}
+use Rattle.joint_controls.specs.phased_control.Taken.{Response, Takes, answered_if_quiet, answered_kept, ciphered, ciphered_at, ciphered_at_peripheral, ended_with, goes_on, is_version, keeping, keeps_class, knowing, lacks_room_now, moved_to, phased_after, role_now, seen_if, with_phase_taking}
 use Rattle.joint_controls.specs.Joint.{is_terminate}
 use Rattle.joint_phases.specs.Classes.{draft_up}
 use Rattle.joint_phases.specs.Parts.{IsPeripheral, closing_up, wait_up}

@@ -1,30 +1,30 @@
 -- The stage of the own procedure of a central, as a joint run of phases sees it, after each call but a PDU that is taken.
 use Rattle.std.proofs.Common.{◌≡◌, ℕ, true, false, Option, Some, None, option_map, unwrap_or, refl}
 use Rattle.data_pdu.specs.declared.ctrl.Ctrl.{Ctrl}
-use Rattle.procedure_values.specs.declared.drafts.Draft.{Draft}
-use Rattle.procedure_values.specs.declared.drafts.Draft.TheVariants.{Cipher, FeatureReq, LengthReq, PeripheralFeatureReq, VersionInd}
-use Rattle.procedure_values.specs.declared.drafts.Outgoing.{Outgoing}
-use Rattle.procedure_values.specs.declared.drafts.Outgoing.TheVariants.{Other}
+use Rattle.joint_controls.specs.procedure_values.declared.drafts.Draft.{Draft}
+use Rattle.joint_controls.specs.procedure_values.declared.drafts.Draft.TheVariants.{Cipher, FeatureReq, LengthReq, PeripheralFeatureReq, VersionInd}
+use Rattle.joint_controls.specs.procedure_values.declared.drafts.Outgoing.{Outgoing}
+use Rattle.joint_controls.specs.procedure_values.declared.drafts.Outgoing.TheVariants.{Other}
 use Rattle.exclusive_stages.specs.declared.pdus.Pdu.{Pdu}
 use Rattle.exclusive_stages.specs.declared.pdus.Pdu.TheVariants.{MapInd, PhyInd as phy_ind, PhyReq as phy_req, UpdateInd}
 use Rattle.exclusive_stages.specs.declared.stages.CentralStage.{CentralStage}
 use Rattle.exclusive_stages.specs.declared.stages.CentralStage.TheVariants.{Idle, MapSent, PhyIndicated, PhySent, UpdateSent}
 use Rattle.exclusive_stages.specs.Acked.{own_acked_at_central}
 use Rattle.exclusive_stages.specs.Held.{own_held_at_central}
-use Rattle.procedure_stages.specs.declared.stages.Central.{Central}
-use Rattle.procedure_stages.specs.declared.stages.Exchange.{Exchange}
-use Rattle.procedure_stages.specs.declared.stages.Exchange.TheVariants.{FeaturesSent, FeaturesUnsent, LengthSent, LengthUnsent, VersionSent, VersionUnsent}
-use Rattle.procedure_stages.specs.declared.stages.OwnCentral.{OwnCentral}
-use Rattle.procedure_stages.specs.declared.stages.OwnCentral.TheVariants.{EncryptSent, EncryptUnsent, Exchange as exchange, Exclusive as exclusive}
-use Rattle.procedure_stages.specs.declared.stages.Progress.{Progress}
-use Rattle.procedure_stages.specs.declared.stages.Progress.TheVariants.{Central as central, Peripheral as peripheral}
-use Rattle.procedure_stages.specs.Acked.{central_acked, progress_acked}
-use Rattle.procedure_stages.specs.Awaited.{is_own_encryption}
-use Rattle.procedure_stages.specs.Exclusive.{on_central_stage, pdu_of_draft, pdu_of_outgoing}
-use Rattle.procedure_stages.specs.Held.{progress_held}
-use Rattle.procedure_stages.specs.Kinds.{kind_at_central, own_kind, role_of}
-use Rattle.procedure_stages.specs.Sent.{exchange_sent, exclusive_sent_by_central, own_draft_sent_by_central, progress_after_sending}
-use Rattle.table_laws.specs.Encrypting.{has_encryption}
+use Rattle.joint_controls.specs.procedure_stages.declared.stages.Central.{Central}
+use Rattle.joint_controls.specs.procedure_stages.declared.stages.Exchange.{Exchange}
+use Rattle.joint_controls.specs.procedure_stages.declared.stages.Exchange.TheVariants.{FeaturesSent, FeaturesUnsent, LengthSent, LengthUnsent, VersionSent, VersionUnsent}
+use Rattle.joint_controls.specs.procedure_stages.declared.stages.OwnCentral.{OwnCentral}
+use Rattle.joint_controls.specs.procedure_stages.declared.stages.OwnCentral.TheVariants.{EncryptSent, EncryptUnsent, Exchange as exchange, Exclusive as exclusive}
+use Rattle.joint_controls.specs.procedure_stages.declared.stages.Progress.{Progress}
+use Rattle.joint_controls.specs.procedure_stages.declared.stages.Progress.TheVariants.{Central as central, Peripheral as peripheral}
+use Rattle.joint_controls.specs.procedure_stages.Acked.{central_acked, progress_acked}
+use Rattle.joint_controls.specs.procedure_stages.Awaited.{is_own_encryption}
+use Rattle.joint_controls.specs.procedure_stages.Exclusive.{on_central_stage, pdu_of_draft, pdu_of_outgoing}
+use Rattle.joint_controls.specs.procedure_stages.Held.{progress_held}
+use Rattle.joint_controls.specs.procedure_stages.Kinds.{kind_at_central, own_kind, role_of}
+use Rattle.joint_controls.specs.procedure_stages.Sent.{exchange_sent, exclusive_sent_by_central, own_draft_sent_by_central, progress_after_sending}
+use Rattle.joint_controls.specs.table_laws.Encrypting.{has_encryption}
 use Rattle.joint_phases.specs.Parts.{is_awaiting, is_awaiting_at, is_encryption_unsent, is_encryption_unsent_at}
 
 -- the same stage, in what matters

@@ -3,9 +3,9 @@ use Rattle.std.proofs.Common.{◌≡◌, Bool, true, false, not, ◌&&◌, ◌||
 use Rattle.std.proofs.lemmas.Bool.{and_parts}
 use Rattle.phase_pairs.specs.Agreement.{is_equal}
 use Rattle.phase_pairs.specs.JointRun.{is_pause_rsp_taken}
-use Rattle.procedure_stages.specs.InProgress.{is_host_asked}
-use Rattle.procedure_stages.specs.Kinds.{own_exchange}
-use Rattle.phased_control.specs.Phased.{is_open_now, is_pause_rsp, is_quiet_now}
+use Rattle.joint_controls.specs.procedure_stages.InProgress.{is_host_asked}
+use Rattle.joint_controls.specs.procedure_stages.Kinds.{own_exchange}
+use Rattle.joint_controls.specs.phased_control.Phased.{is_open_now, is_pause_rsp, is_quiet_now}
 use Rattle.joint_controls.specs.Joint.{Joint, JointStep, after, is_item, is_taken, item_on_air}
 use Rattle.joint_phases.specs.Classes.{draft_down, has_version, is_version}
 use Rattle.joint_phases.specs.Events.{does_begin}

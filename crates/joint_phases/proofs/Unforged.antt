@@ -3,11 +3,11 @@ use Rattle.std.proofs.Common.{◌≡◌, ℕ, Bool, true, false, refl, ap, ◌�
 use Rattle.std.proofs.lemmas.Bool.{and_parts, or_from}
 use Rattle.ble_base.specs.declared.roles.Role.TheVariants.{Central as central_role, Peripheral as peripheral_role}
 use Rattle.data_pdu.specs.declared.ctrl.Ctrl.{Ctrl}
-use Rattle.enc_phase.specs.declared.classes.PduClass.{PduClass}
-use Rattle.enc_phase.specs.declared.classes.PduClass.TheVariants.{Data as data_class}
-use Rattle.enc_phase.specs.Taking.{allows, ctrl_class}
+use Rattle.phase_pairs.specs.enc_phase.declared.classes.PduClass.{PduClass}
+use Rattle.phase_pairs.specs.enc_phase.declared.classes.PduClass.TheVariants.{Data as data_class}
+use Rattle.phase_pairs.specs.enc_phase.Taking.{allows, ctrl_class}
 use Rattle.phase_pairs.specs.declared.joint.PhaseLink.{PhaseLink}
-use Rattle.phased_control.specs.Taken.{PhasedStep, Response, Enters, SeesAcknowledged, Sends, phased_after, role_now}
+use Rattle.joint_controls.specs.phased_control.Taken.{PhasedStep, Response, Enters, SeesAcknowledged, Sends, phased_after, role_now}
 use Rattle.joint_controls.specs.Joint.{HostStep, Joint, JointStep, Way, AnswersRequest, AsksFor, CentralAcked, CentralEnters, CentralHost, CentralSends, CentralSendsData, CentralTakes, Clear, Control, Data, Ends, Fixed, HasKey, HasNoKey, OnAir, PeripheralAcked, PeripheralEnters, PeripheralFixes, PeripheralFixesData, PeripheralHost, PeripheralSends, PeripheralTakes, Shuts, Taken, act, central_takes, host_step, is_running, item_on_air, may, may_act, no_response, peripheral_takes}
 use Rattle.joint_phases.specs.Agreement.{ends_by_integrity_failure, is_allowed_right, is_integrity_failure, is_taken_right}
 use Rattle.joint_phases.specs.Classes.{class_down, class_up}

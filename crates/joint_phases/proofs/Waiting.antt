@@ -1,10 +1,10 @@
 -- Other procedures of a joint run wait for Clear and Secure.
 use Rattle.std.proofs.Common.{◌≡◌, Bool, true, false, not, ◌&&◌, ◌||◌, List, [], ◌∷◌, Option, is_some, refl, ap, sym, subst, ◌∙◌, if◌then◌else◌}
 use Rattle.std.proofs.lemmas.Bool.{and_parts, or_from, or_parts}
-use Rattle.enc_phase.specs.declared.classes.PduClass.{PduClass}
-use Rattle.enc_phase.specs.declared.classes.PduClass.TheVariants.{Data as data_class, Other, Request}
-use Rattle.enc_phase.specs.Phases.{is_quiet}
-use Rattle.procedure_values.specs.declared.drafts.Draft.{Draft}
+use Rattle.phase_pairs.specs.enc_phase.declared.classes.PduClass.{PduClass}
+use Rattle.phase_pairs.specs.enc_phase.declared.classes.PduClass.TheVariants.{Data as data_class, Other, Request}
+use Rattle.phase_pairs.specs.enc_phase.Phases.{is_quiet}
+use Rattle.joint_controls.specs.procedure_values.declared.drafts.Draft.{Draft}
 use Rattle.phase_pairs.specs.declared.joint.PhaseLink.{PhaseLink}
 use Rattle.phase_pairs.specs.declared.peripheral.PhasePeripheral.{PhasePeripheral}
 use Rattle.phase_pairs.specs.declared.peripheral.UnsentRequest.{UnsentRequest}

@@ -3,12 +3,12 @@ use Rattle.std.proofs.Common.{◌≡◌, ◌==◌, Bool, true, false, not, refl,
 use Rattle.ble_base.specs.declared.roles.Role.TheVariants.{Central as central_role, Peripheral as peripheral_role}
 use Rattle.data_pdu.specs.declared.ctrl.Ctrl.{Ctrl}
 use Rattle.data_pdu.specs.declared.ctrl.Ctrl.TheVariants.{ConnectionParamRsp, EncReq, EncRsp, FeatureReq, PauseEncReq, PauseEncRsp, RejectExtInd, RejectInd, StartEncReq, StartEncRsp, TerminateInd, VersionInd}
-use Rattle.enc_phase.specs.declared.classes.PduClass.{PduClass}
-use Rattle.enc_phase.specs.declared.classes.PduClass.TheVariants.{Other, Refusal, Request}
-use Rattle.enc_phase.specs.declared.facts.PhaseFacts.{PhaseFacts}
-use Rattle.enc_phase.specs.declared.facts.PhaseFacts.TheVariants.{Asked, Clear as clear_phase, Secure}
-use Rattle.enc_phase.specs.Phases.{is_quiet}
-use Rattle.enc_phase.specs.Taking.{allows, ctrl_class}
+use Rattle.phase_pairs.specs.enc_phase.declared.classes.PduClass.{PduClass}
+use Rattle.phase_pairs.specs.enc_phase.declared.classes.PduClass.TheVariants.{Other, Refusal, Request}
+use Rattle.phase_pairs.specs.enc_phase.declared.facts.PhaseFacts.{PhaseFacts}
+use Rattle.phase_pairs.specs.enc_phase.declared.facts.PhaseFacts.TheVariants.{Asked, Clear as clear_phase, Secure}
+use Rattle.phase_pairs.specs.enc_phase.Phases.{is_quiet}
+use Rattle.phase_pairs.specs.enc_phase.Taking.{allows, ctrl_class}
 use Rattle.phase_pairs.specs.declared.joint.PhaseWay.TheVariants.{Fixed as way_fixed, OnAir as way_on_air, Taken as way_taken}
 use Rattle.phase_pairs.specs.Agreement.{has_meaning, is_encryption}
 use Rattle.phase_pairs.specs.JointRun.{is_coming, is_on_air, is_pause_rsp, is_request, is_way_fixed, is_way_taken, way_kept}

@@ -6,10 +6,10 @@ use Rattle.ble_base.specs.declared.error_codes.ErrCode.{ErrCode}
 use Rattle.ble_base.specs.declared.roles.Role.{Role}
 use Rattle.ble_base.specs.declared.roles.Role.TheVariants.{Central as central_role, Peripheral as peripheral_role}
 use Rattle.data_pdu.specs.declared.ctrl.Ctrl.{Ctrl}
-use Rattle.enc_phase.specs.declared.classes.PduClass.{PduClass}
-use Rattle.enc_phase.specs.declared.facts.PhaseFacts.{PhaseFacts}
-use Rattle.enc_phase.specs.Phases.{opens}
-use Rattle.enc_phase.specs.Taking.{allows, ctrl_class}
+use Rattle.phase_pairs.specs.enc_phase.declared.classes.PduClass.{PduClass}
+use Rattle.phase_pairs.specs.enc_phase.declared.facts.PhaseFacts.{PhaseFacts}
+use Rattle.phase_pairs.specs.enc_phase.Phases.{opens}
+use Rattle.phase_pairs.specs.enc_phase.Taking.{allows, ctrl_class}
 use Rattle.phase_pairs.specs.Agreement.{has_meaning, is_equal}
 use Rattle.joint_controls.specs.Joint.{Item, Joint, JointStep, Way, CentralTakes, OnAir, PeripheralTakes, item_on_air}
 use Rattle.joint_phases.specs.Classes.{class_down, class_up, item_class}

@@ -1,12 +1,12 @@
 -- Which event of the machine of phases each step of a joint run is (Core 5.2, volume 6 part B, section 5.1.3).
 use Rattle.std.specs.Prelude.{Bool, true, false, not, ◌&&◌, List, [], ◌∷◌, Option, Some, None, is_some, if◌then◌else◌}
 use Rattle.data_pdu.specs.declared.ctrl.Ctrl.{Ctrl}
-use Rattle.enc_phase.specs.declared.classes.PduClass.{PduClass}
-use Rattle.enc_phase.specs.declared.classes.PduClass.TheVariants.{Data as data_class, Empty}
-use Rattle.procedures.specs.Beginning.{begin_step, first_draft}
-use Rattle.procedures.specs.Table.{TableFacts}
-use Rattle.procedure_values.specs.declared.asks.Ask.{Ask}
-use Rattle.phased_control.specs.Phased.{Phased, ask_begun, is_encrypt, is_open_now, is_quiet_now, table_entered}
+use Rattle.phase_pairs.specs.enc_phase.declared.classes.PduClass.{PduClass}
+use Rattle.phase_pairs.specs.enc_phase.declared.classes.PduClass.TheVariants.{Data as data_class, Empty}
+use Rattle.joint_controls.specs.procedures.Beginning.{begin_step, first_draft}
+use Rattle.joint_controls.specs.procedures.Table.{TableFacts}
+use Rattle.joint_controls.specs.procedure_values.declared.asks.Ask.{Ask}
+use Rattle.joint_controls.specs.phased_control.Phased.{Phased, ask_begun, is_encrypt, is_open_now, is_quiet_now, table_entered}
 use Rattle.phase_pairs.specs.declared.joint.PhaseEvent.{PhaseEvent}
 use Rattle.phase_pairs.specs.declared.joint.PhaseEvent.TheVariants.{CentralAcked as central_acked, CentralCloses, CentralEncrypts, CentralSends as central_sends, CentralTakes as central_takes, KeyGiven, KeyRefused, PeripheralAcked as peripheral_acked, PeripheralBegins, PeripheralCloses, PeripheralFixes as peripheral_fixes, PeripheralSends as peripheral_sends, PeripheralTakes as peripheral_takes}
 use Rattle.joint_controls.specs.Joint.{HostStep, Item, Joint, JointStep, CentralAcked, CentralEnters, CentralHost, CentralSends, CentralSendsData, CentralTakes, Ends, HasKey, HasNoKey, PeripheralAcked, PeripheralEnters, PeripheralFixes, PeripheralFixesData, PeripheralHost, PeripheralSends, PeripheralTakes, Shuts, after, is_item, is_last, item_on_air, may, next_item}

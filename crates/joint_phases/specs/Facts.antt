@@ -2,20 +2,20 @@
 -- volume 6 part B, sections 5.1.3 to 5.1.10).
 use Rattle.std.specs.Prelude.{◌≡◌, ⊤, Bool, true, false, not, ◌&&◌, ◌||◌, List, [], ◌∷◌, Option, Some, None}
 use Rattle.data_pdu.specs.declared.ctrl.Ctrl.{Ctrl}
-use Rattle.enc_phase.specs.declared.classes.PduClass.{PduClass}
-use Rattle.procedure_values.specs.declared.drafts.Draft.{Draft}
-use Rattle.procedure_values.specs.declared.drafts.Draft.TheVariants.{FeatureReq, LengthReq, PhyReq, VersionInd}
+use Rattle.phase_pairs.specs.enc_phase.declared.classes.PduClass.{PduClass}
+use Rattle.joint_controls.specs.procedure_values.declared.drafts.Draft.{Draft}
+use Rattle.joint_controls.specs.procedure_values.declared.drafts.Draft.TheVariants.{FeatureReq, LengthReq, PhyReq, VersionInd}
 use Rattle.exclusive_stages.specs.declared.stages.CentralStage.TheVariants.{PhyUnsent}
-use Rattle.procedure_stages.specs.declared.stages.Exchange.{Exchange}
-use Rattle.procedure_stages.specs.declared.stages.Exchange.TheVariants.{FeaturesUnsent, LengthUnsent, VersionSent, VersionUnsent}
-use Rattle.procedure_stages.specs.declared.stages.OwnCentral.{OwnCentral}
-use Rattle.procedure_stages.specs.declared.stages.OwnCentral.TheVariants.{Exchange as exchange, Exclusive as exclusive}
-use Rattle.procedure_stages.specs.declared.stages.Progress.{Progress}
-use Rattle.procedure_stages.specs.declared.stages.Progress.TheVariants.{Central as central, Peripheral as peripheral}
-use Rattle.procedure_stages.specs.InProgress.{is_host_asked}
-use Rattle.procedure_stages.specs.Kinds.{own_exchange}
+use Rattle.joint_controls.specs.procedure_stages.declared.stages.Exchange.{Exchange}
+use Rattle.joint_controls.specs.procedure_stages.declared.stages.Exchange.TheVariants.{FeaturesUnsent, LengthUnsent, VersionSent, VersionUnsent}
+use Rattle.joint_controls.specs.procedure_stages.declared.stages.OwnCentral.{OwnCentral}
+use Rattle.joint_controls.specs.procedure_stages.declared.stages.OwnCentral.TheVariants.{Exchange as exchange, Exclusive as exclusive}
+use Rattle.joint_controls.specs.procedure_stages.declared.stages.Progress.{Progress}
+use Rattle.joint_controls.specs.procedure_stages.declared.stages.Progress.TheVariants.{Central as central, Peripheral as peripheral}
+use Rattle.joint_controls.specs.procedure_stages.InProgress.{is_host_asked}
+use Rattle.joint_controls.specs.procedure_stages.Kinds.{own_exchange}
 use Rattle.phase_pairs.specs.JointRun.{is_pause_rsp_taken, is_request, keeps_request}
-use Rattle.phased_control.specs.Phased.{Phased, is_open_now, is_pause_rsp, is_quiet_now}
+use Rattle.joint_controls.specs.phased_control.Phased.{Phased, is_open_now, is_pause_rsp, is_quiet_now}
 use Rattle.joint_controls.specs.Joint.{Item, Joint, JointStep, Way, Fixed, OnAir, after, is_item, is_running, is_taken, item_on_air}
 use Rattle.joint_phases.specs.Classes.{class_up, draft_down, draft_up, has_request, has_version, is_version, is_version_ctrl, item_class}
 use Rattle.joint_phases.specs.Events.{does_begin}

@@ -1,10 +1,10 @@
 -- The phases of the two ends of a joint run, with the PDUs of the encryption that are still to come (Core 5.2, volume 6
 -- part B, section 5.1.3).
 use Rattle.std.specs.Prelude.{Bool, false, not, ◌||◌, List, [], ◌∷◌, ◌++◌, Option, Some, None}
-use Rattle.enc_phase.specs.declared.classes.PduClass.{PduClass}
-use Rattle.procedure_values.specs.declared.drafts.Draft.{Draft}
-use Rattle.procedure_stages.specs.declared.closing.Closing.{Closing}
-use Rattle.procedure_stages.specs.declared.closing.Closing.TheVariants.{Closed, Disconnecting, Open as open_link}
+use Rattle.phase_pairs.specs.enc_phase.declared.classes.PduClass.{PduClass}
+use Rattle.joint_controls.specs.procedure_values.declared.drafts.Draft.{Draft}
+use Rattle.joint_controls.specs.procedure_stages.declared.closing.Closing.{Closing}
+use Rattle.joint_controls.specs.procedure_stages.declared.closing.Closing.TheVariants.{Closed, Disconnecting, Open as open_link}
 use Rattle.phase_pairs.specs.declared.joint.PhaseLink.{PhaseLink}
 use Rattle.phase_pairs.specs.declared.peripheral.PhaseClosing.{PhaseClosing}
 use Rattle.phase_pairs.specs.declared.peripheral.PhaseClosing.TheVariants.{Disconnects, HasNoKey, Open}
@@ -12,7 +12,7 @@ use Rattle.phase_pairs.specs.Agreement.{encryption_pdu, is_other, is_paired}
 use Rattle.phase_pairs.specs.Central.{first_central}
 use Rattle.phase_pairs.specs.Peripheral.{first_peripheral}
 use Rattle.phase_pairs.specs.JointRun.{keeps_request}
-use Rattle.phased_control.specs.Phased.{is_open_now, is_quiet_now}
+use Rattle.joint_controls.specs.phased_control.Phased.{is_open_now, is_quiet_now}
 use Rattle.joint_controls.specs.Joint.{Item, Joint, is_item}
 use Rattle.joint_phases.specs.Classes.{class_up, draft_down, draft_up, has_request, item_class}
 use Rattle.joint_phases.specs.Facts.{drafts_of, is_first_up, item_untaken}

@@ -1,9 +1,9 @@
 -- Worked joint runs in which versions are exchanged as encryption starts.
 use Rattle.std.specs.Prelude.{List, [], ◌∷◌, ◌++◌, replicate}
 use Rattle.ble_base.specs.declared.channel_map.ChannelMap.{ChannelMap}
-use Rattle.control_model.specs.Worked.{six_slots}
-use Rattle.procedure_values.specs.declared.asks.Ask.TheVariants.{Encrypt, Version}
-use Rattle.phased_control.specs.Worked.{zero_response}
+use Rattle.joint_controls.specs.control_model.Worked.{six_slots}
+use Rattle.joint_controls.specs.procedure_values.declared.asks.Ask.TheVariants.{Encrypt, Version}
+use Rattle.joint_controls.specs.phased_control.Worked.{zero_response}
 use Rattle.joint_controls.specs.Joint.{Joint, JointStep, AsksFor, CentralAcked, CentralHost, CentralSends, CentralTakes, HasKey, PeripheralAcked, PeripheralFixes, PeripheralHost, PeripheralSends, PeripheralTakes, beginning}
 use Rattle.joint_controls.specs.Worked.{enter}
 

@@ -1,7 +1,7 @@
 //! Worked joint runs in which the facts of the other procedures hold.
 ghost use Rattle.std.specs.Prelude.{◌≡◌, true};
 ghost use Rattle.ble_base.specs.declared.channel_map.ChannelMap.{ChannelMap};
-ghost use Rattle.enc_phase.specs.declared.facts.PhaseFacts.{PhaseFacts};
+ghost use Rattle.phase_pairs.specs.enc_phase.declared.facts.PhaseFacts.{PhaseFacts};
 ghost use Rattle.joint_controls.specs.Joint.{after_all};
 ghost use Rattle.joint_phases.specs.Facts.{FactsHold};
 ghost use Rattle.joint_phases.specs.Worked.{crossed_versions, kept_version, link};

@@ -20,3 +20,4 @@ pub mod Pasts
 pub mod Received
 -- what the crates above use of those below
 pub use Rattle.control_end.proofs.control_model as control_model
+pub use Rattle.control_end.proofs as control_end

@@ -1,7 +1,7 @@
 -- What a peripheral holds after it heard a packet and answered it.
 use Rattle.std.proofs.Common.{◌≡◌, ◌⊎◌, inl, inr, ℕ, ◌+◌, ◌-◌, ◌<◌, ◌≤◌, ◌&&◌, ◌||◌, Bool, true, false, not, length, Some, refl, ap, sym, subst, ◌∙◌, arith}
-use Rattle.procedure_stages.specs.Closing.{is_disconnecting, is_open}
-use Rattle.procedure_stages.specs.declared.closing.Closing.{Closing}
+use Rattle.control_octets.specs.procedure_stages.Closing.{is_disconnecting, is_open}
+use Rattle.control_octets.specs.procedure_stages.declared.closing.Closing.{Closing}
 use Rattle.link_model.specs.Acknowledgement.{Acknowledgement, Pdu, is_acked, next_sent, received_by, with_accepted}
 use Rattle.link_model.specs.Data.{Data, data_acked_if, data_sent_if, is_control, is_data}
 use Rattle.link_model.specs.Events.{event_heard, event_sent}

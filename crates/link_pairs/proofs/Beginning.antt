@@ -3,27 +3,27 @@ use Rattle.std.proofs.Common.{◌≡◌, ◌+◌, ◌==◌, ◌++◌, ◌&&◌, 
 use Rattle.std.proofs.lemmas.Bool.{and_parts, eqb-true}
 use Rattle.instants.specs.declared.track.Change.{Change}
 use Rattle.instants.specs.Track.{TrackFacts, is_due, next_anchor_of, next_number, track_changed, track_in_next, track_unchanged}
-use Rattle.procedure_stages.specs.declared.closing.Closing.{Closing}
-use Rattle.procedure_stages.specs.Closing.{is_disconnecting, is_open}
-use Rattle.procedure_values.specs.declared.asks.Ask.{Ask}
-use Rattle.procedures.specs.Beginning.{ask_at, begin_at, place_to_begin}
-use Rattle.procedures.specs.Going.{entered_step}
-use Rattle.procedures.specs.Table.{TableFacts}
+use Rattle.control_octets.specs.procedure_stages.declared.closing.Closing.{Closing}
+use Rattle.control_octets.specs.procedure_stages.Closing.{is_disconnecting, is_open}
+use Rattle.control_octets.specs.procedure_values.declared.asks.Ask.{Ask}
+use Rattle.control_octets.specs.procedures.Beginning.{ask_at, begin_at, place_to_begin}
+use Rattle.control_octets.specs.procedures.Going.{entered_step}
+use Rattle.control_octets.specs.procedures.Table.{TableFacts}
 use Rattle.two_tracks.specs.TwoEnds.{after_turn, enters}
-use Rattle.control_model.specs.Control.{Control, Enters as control_enters, after}
-use Rattle.control_model.proofs.Calls.{any_step, open_step}
-use Rattle.control_model.proofs.Moving.{enters_track, same_role}
+use Rattle.control_octets.specs.control_model.Control.{Control, Enters as control_enters, after}
+use Rattle.control_octets.proofs.control_model.Calls.{any_step, open_step}
+use Rattle.control_octets.proofs.control_model.Moving.{enters_track, same_role}
 use Rattle.control_octets.proofs.Steps.{stays_fitting}
-use Rattle.phased_control.specs.Phased.{Phased}
-use Rattle.phased_control.specs.Taken.{Enters, phased_after}
+use Rattle.unencrypted_ends.specs.phased_control.Phased.{Phased}
+use Rattle.unencrypted_ends.specs.phased_control.Taken.{Enters, phased_after}
 use Rattle.unencrypted_ends.specs.Unencrypted.{IsUnencrypted}
 use Rattle.unencrypted_ends.proofs.Going.{enters_goes}
 use Rattle.unencrypted_ends.proofs.Staying.{stays}
-use Rattle.joint_controls.specs.Joint.{CentralEnters, Joint, PeripheralEnters, act, after_all, is_running, may, may_all}
-use Rattle.joint_controls.specs.Joint.{after as joint_after}
-use Rattle.joint_controls.proofs.Running.{goes_on}
-use Rattle.joint_parameters.specs.Turns.{Begins, IsPaired, Link, link_after, step_if}
-use Rattle.joint_parameters.proofs.Pairing.{after_may, running_from}
+use Rattle.joint_laws.specs.joint_controls.Joint.{CentralEnters, Joint, PeripheralEnters, act, after_all, is_running, may, may_all}
+use Rattle.joint_laws.specs.joint_controls.Joint.{after as joint_after}
+use Rattle.joint_laws.proofs.joint_controls.Running.{goes_on}
+use Rattle.joint_laws.specs.joint_parameters.Turns.{Begins, IsPaired, Link, link_after, step_if}
+use Rattle.joint_laws.proofs.joint_parameters.Pairing.{after_may, running_from}
 use Rattle.link_model.specs.Setup.{Setup}
 use Rattle.link_model.specs.Entering.{facts_entered}
 use Rattle.link_model.specs.Facts.{Facts}

@@ -8,20 +8,20 @@ use Rattle.data_pdu.specs.declared.ctrl.CtrlRead.TheVariants.{Known}
 use Rattle.data_pdu.specs.declared.ctrl.CtrlRead.{CtrlRead}
 use Rattle.data_pdu.specs.Reading.{ctrl_of}
 use Rattle.data_pdu.specs.declared.header.DataHeader.{DataHeader}
-use Rattle.procedure_values.specs.declared.drafts.Outgoing.{Outgoing}
-use Rattle.control_model.specs.Control.{Control, Takes, after}
-use Rattle.control_model.specs.Supported.{begins_encryption}
-use Rattle.phased_control.specs.Phased.{Phased}
-use Rattle.phased_control.specs.Taken.{SeesAcknowledged, is_version, phased_after}
+use Rattle.control_octets.specs.procedure_values.declared.drafts.Outgoing.{Outgoing}
+use Rattle.control_octets.specs.control_model.Control.{Control, Takes, after}
+use Rattle.control_octets.specs.control_model.Supported.{begins_encryption}
+use Rattle.unencrypted_ends.specs.phased_control.Phased.{Phased}
+use Rattle.unencrypted_ends.specs.phased_control.Taken.{SeesAcknowledged, is_version, phased_after}
 use Rattle.unencrypted_ends.specs.Unencrypted.{plain_phased}
 use Rattle.unencrypted_ends.proofs.Going.{acknowledged_goes, data_left}
 use Rattle.unencrypted_ends.proofs.Taking.{takes_goes}
-use Rattle.joint_controls.specs.Ends.{outgoing_on}
-use Rattle.joint_controls.specs.Joint.{CentralAcked, CentralTakes, Clear, Control as control_item, Data as data_item, Item, Joint, JointStep, OnAir, Taken, Way, act, after_all, central_takes, is_free, is_last, is_running, is_taken, is_terminate, item_on_air, may_all, no_response, taking}
-use Rattle.joint_controls.proofs.Running.{GoesOn, goes_on, none_of}
-use Rattle.joint_parameters.specs.Turns.{IsAnswered, Link, LinkStep, link_after, step_if, takes_item}
-use Rattle.joint_parameters.proofs.Pairing.{after_may, running_from}
-use Rattle.joint_parameters.proofs.Runs.{after_joined}
+use Rattle.joint_laws.specs.joint_controls.Ends.{outgoing_on}
+use Rattle.joint_laws.specs.joint_controls.Joint.{CentralAcked, CentralTakes, Clear, Control as control_item, Data as data_item, Item, Joint, JointStep, OnAir, Taken, Way, act, after_all, central_takes, is_free, is_last, is_running, is_taken, is_terminate, item_on_air, may_all, no_response, taking}
+use Rattle.joint_laws.proofs.joint_controls.Running.{GoesOn, goes_on, none_of}
+use Rattle.joint_laws.specs.joint_parameters.Turns.{IsAnswered, Link, LinkStep, link_after, step_if, takes_item}
+use Rattle.joint_laws.proofs.joint_parameters.Pairing.{after_may, running_from}
+use Rattle.joint_laws.proofs.joint_parameters.Runs.{after_joined}
 use Rattle.link_model.specs.Setup.{Setup}
 use Rattle.link_model.specs.Acknowledgement.{Pdu, received_by, with_accepted}
 use Rattle.link_model.specs.OneLink.{AreInAgreement}

@@ -8,32 +8,32 @@ use Rattle.data_pdu.specs.declared.ctrl.CtrlRead.TheVariants.{Known}
 use Rattle.data_pdu.specs.Layouts.{IsCtrl}
 use Rattle.instants.specs.declared.indications.Indication.{Indication}
 use Rattle.instants.specs.Track.{event_of, track_after_take}
-use Rattle.procedure_values.specs.Drafts.{ctrl_of_outgoing, is_out}
-use Rattle.procedure_values.specs.declared.drafts.Draft.{Draft}
-use Rattle.procedure_values.specs.declared.drafts.Outgoing.{Outgoing}
-use Rattle.procedure_values.specs.declared.drafts.Outgoing.TheVariants.{Nothing}
-use Rattle.procedure_stages.specs.Acked.{progress_acked}
-use Rattle.procedure_stages.specs.Closing.{is_disconnecting}
-use Rattle.procedure_stages.specs.declared.stages.Progress.{Progress}
-use Rattle.procedure_stages.specs.declared.stages.Progress.TheVariants.{Central as central, Peripheral as peripheral}
-use Rattle.procedure_stages.specs.Kinds.{role_of}
-use Rattle.procedure_stages.specs.Queue.{next_by, next_disconnect, next_draft}
-use Rattle.procedures.specs.Queue.{next_of}
-use Rattle.procedures.specs.Sending.{acked_step}
-use Rattle.procedures.specs.Table.{TableFacts}
-use Rattle.procedures.specs.Taking.{facts_with, outcome_of}
-use Rattle.control_model.specs.Control.{Control, SeesAcknowledged, Sends, Takes, after, ended, following, goes_out, indicated_by, is_to_come, table_if, taken, went}
-use Rattle.control_model.specs.Supported.{begins_encryption}
-use Rattle.control_model.proofs.Calls.{acked_same, any_step, either_way, took_by}
-use Rattle.control_model.proofs.Moving.{same_role}
+use Rattle.control_octets.specs.procedure_values.Drafts.{ctrl_of_outgoing, is_out}
+use Rattle.control_octets.specs.procedure_values.declared.drafts.Draft.{Draft}
+use Rattle.control_octets.specs.procedure_values.declared.drafts.Outgoing.{Outgoing}
+use Rattle.control_octets.specs.procedure_values.declared.drafts.Outgoing.TheVariants.{Nothing}
+use Rattle.control_octets.specs.procedure_stages.Acked.{progress_acked}
+use Rattle.control_octets.specs.procedure_stages.Closing.{is_disconnecting}
+use Rattle.control_octets.specs.procedure_stages.declared.stages.Progress.{Progress}
+use Rattle.control_octets.specs.procedure_stages.declared.stages.Progress.TheVariants.{Central as central, Peripheral as peripheral}
+use Rattle.control_octets.specs.procedure_stages.Kinds.{role_of}
+use Rattle.control_octets.specs.procedure_stages.Queue.{next_by, next_disconnect, next_draft}
+use Rattle.control_octets.specs.procedures.Queue.{next_of}
+use Rattle.control_octets.specs.procedures.Sending.{acked_step}
+use Rattle.control_octets.specs.procedures.Table.{TableFacts}
+use Rattle.control_octets.specs.procedures.Taking.{facts_with, outcome_of}
+use Rattle.control_octets.specs.control_model.Control.{Control, SeesAcknowledged, Sends, Takes, after, ended, following, goes_out, indicated_by, is_to_come, table_if, taken, went}
+use Rattle.control_octets.specs.control_model.Supported.{begins_encryption}
+use Rattle.control_octets.proofs.control_model.Calls.{acked_same, any_step, either_way, took_by}
+use Rattle.control_octets.proofs.control_model.Moving.{same_role}
 use Rattle.control_octets.specs.Fitting.{FitsOctets}
 use Rattle.control_octets.proofs.Steps.{stays_fitting}
-use Rattle.control_end.specs.Answers.{next_ctrl}
-use Rattle.control_end.specs.Held.{held_of}
+use Rattle.link_model.specs.control_end.Answers.{next_ctrl}
+use Rattle.link_model.specs.control_end.Held.{held_of}
 use Rattle.unencrypted_ends.specs.Unencrypted.{IsUnencrypted}
 use Rattle.unencrypted_ends.proofs.Staying.{stays}
-use Rattle.joint_controls.specs.Joint.{is_terminate}
-use Rattle.joint_phases.proofs.Outcomes.{keeps_open}
+use Rattle.joint_laws.specs.joint_controls.Joint.{is_terminate}
+use Rattle.joint_laws.proofs.joint_phases.Outcomes.{keeps_open}
 
 -- an end is still in its event, and it is to end as before
 pub record IsKept (c d : Control) : Type 0 where

@@ -3,17 +3,17 @@ use Rattle.std.proofs.Common.{◌≡◌, ◌⊎◌, inl, inr, ℕ, ◌+◌, ◌-
 use Rattle.std.proofs.lemmas.Bool.{and_parts}
 use Rattle.ble_base.specs.declared.error_codes.ErrCode.{ErrCode}
 use Rattle.instants.specs.declared.track.Change.{Change}
-use Rattle.control_model.specs.Control.{Control}
-use Rattle.phased_control.specs.Phased.{Phased}
-use Rattle.joint_controls.specs.Ends.{AreStepsInRange, IsStepInRange}
-use Rattle.joint_controls.specs.Joint.{Joint, JointStep, PeripheralTakes, act, after_all, event_now, has_passed, is_indication, is_item, is_late, is_running, item_on_air, last_change, may, may_all, no_response}
-use Rattle.joint_controls.specs.Joint.{after as joint_after}
-use Rattle.joint_controls.proofs.Running.{goes_on}
+use Rattle.control_octets.specs.control_model.Control.{Control}
+use Rattle.unencrypted_ends.specs.phased_control.Phased.{Phased}
+use Rattle.joint_laws.specs.joint_controls.Ends.{AreStepsInRange, IsStepInRange}
+use Rattle.joint_laws.specs.joint_controls.Joint.{Joint, JointStep, PeripheralTakes, act, after_all, event_now, has_passed, is_indication, is_item, is_late, is_running, item_on_air, last_change, may, may_all, no_response}
+use Rattle.joint_laws.specs.joint_controls.Joint.{after as joint_after}
+use Rattle.joint_laws.proofs.joint_controls.Running.{goes_on}
 use Rattle.joint_laws.proofs.LinkEnds.{central_end, peripheral_ends_late}
 use Rattle.joint_laws.specs.Ends.{EndsLateAlone}
-use Rattle.joint_parameters.specs.Turns.{Link, LinkStep, joint_steps, step_if, takes_item}
-use Rattle.joint_parameters.proofs.Pairing.{after_may}
-use Rattle.joint_parameters.proofs.Runs.{after_joined, range_joined}
+use Rattle.joint_laws.specs.joint_parameters.Turns.{Link, LinkStep, joint_steps, step_if, takes_item}
+use Rattle.joint_laws.proofs.joint_parameters.Pairing.{after_may}
+use Rattle.joint_laws.proofs.joint_parameters.Runs.{after_joined, range_joined}
 use Rattle.link_model.specs.Data.{is_data}
 use Rattle.link_model.specs.Setup.{Setup, first_anchor, first_params}
 use Rattle.link_model.specs.Facts.{Facts}

@@ -2,12 +2,12 @@
 use Rattle.std.proofs.Common.{◌≡◌, ◌==◌, ◌&&◌, ℕ, Bool, true, false, Result, refl, ◌∙◌, if◌then◌else◌}
 use Rattle.ble_base.specs.declared.error_codes.ErrCode.{ErrCode}
 use Rattle.instants.specs.Track.{next_anchor_of}
-use Rattle.procedure_stages.specs.Closing.{is_open}
-use Rattle.procedure_stages.specs.InProgress.{is_host_asked}
-use Rattle.procedure_values.specs.declared.asks.Ask.{Ask}
-use Rattle.procedures.specs.Going.{host_answer_step, is_answer, terminate_step}
-use Rattle.control_model.specs.Control.{Answers, Asks, Control, Disconnects, Enters, after}
-use Rattle.control_model.proofs.Calls.{any_step}
+use Rattle.control_octets.specs.procedure_stages.Closing.{is_open}
+use Rattle.control_octets.specs.procedure_stages.InProgress.{is_host_asked}
+use Rattle.control_octets.specs.procedure_values.declared.asks.Ask.{Ask}
+use Rattle.control_octets.specs.procedures.Going.{host_answer_step, is_answer, terminate_step}
+use Rattle.control_octets.specs.control_model.Control.{Answers, Asks, Control, Disconnects, Enters, after}
+use Rattle.control_octets.proofs.control_model.Calls.{any_step}
 use Rattle.link_model.specs.Data.{is_control}
 use Rattle.link_model.specs.Setup.{Setup}
 use Rattle.link_model.specs.Controls.{goes_on, is_quiet_now}

@@ -4,13 +4,13 @@ use Rattle.adv_pdu.specs.declared.pdu.ConnectFields.{ConnectFields}
 use Rattle.adv_pdu.specs.Ranges.{IsInRange}
 use Rattle.ack_bit.proofs.Links.{begins}
 use Rattle.ble_base.specs.declared.roles.Role.{Role}
-use Rattle.control_model.proofs.Moving.{role_after}
+use Rattle.control_octets.proofs.control_model.Moving.{role_after}
 use Rattle.control_octets.specs.Fitting.{ParamsFit}
 use Rattle.control_octets.proofs.Steps.{begins_fitting}
 use Rattle.link_model.specs.Acknowledgement.{empty_pdu}
 use Rattle.link_model.specs.Setup.{Setup, first_anchor, first_params}
-use Rattle.phased_control.specs.Phased.{first_phased}
-use Rattle.procedure_values.specs.Values.{IsPayloadMax}
+use Rattle.unencrypted_ends.specs.phased_control.Phased.{first_phased}
+use Rattle.control_octets.specs.procedure_values.Values.{IsPayloadMax}
 use Rattle.unencrypted_ends.proofs.Staying.{begins_none}
 use Rattle.link_model.specs.Facts.{first_facts}
 use Rattle.link_pairs.specs.Ends.{AreEnds, IsAtRest, phased_of}

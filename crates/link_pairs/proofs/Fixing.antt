@@ -7,8 +7,8 @@ use Rattle.std.proofs.lemmas.List.{length-take}
 use Rattle.std.proofs.Math.Nat.{min-le_left}
 use Rattle.acl_banks.specs.Packets.{DataPacket, piece_of, sent_length}
 use Rattle.data_pdu.specs.declared.ctrl.Ctrl.{Ctrl}
-use Rattle.procedure_stages.specs.Queue.{waiting_in}
-use Rattle.procedure_values.specs.Limits.{tx_of}
+use Rattle.control_octets.specs.procedure_stages.Queue.{waiting_in}
+use Rattle.control_octets.specs.procedure_values.Limits.{tx_of}
 use Rattle.link_model.specs.Acknowledgement.{Pdu}
 use Rattle.link_model.specs.Data.{Data, is_control, is_data, is_unsent, llid_of, pdu_with}
 use Rattle.link_model.specs.Setup.{Setup}

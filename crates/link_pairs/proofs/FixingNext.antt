@@ -8,23 +8,23 @@ use Rattle.data_pdu.specs.declared.ctrl.CtrlRead.TheVariants.{Known, Unknown}
 use Rattle.data_pdu.specs.Reading.{opcode_of}
 use Rattle.ack_bit.proofs.Directions.{not-false}
 use Rattle.instants.specs.Track.{event_of}
-use Rattle.procedure_stages.specs.Closing.{is_open}
-use Rattle.procedures.specs.Queue.{next_of}
-use Rattle.procedures.specs.Sending.{next_ctrl_of}
-use Rattle.enc_phase.specs.Phases.{seals}
-use Rattle.enc_phase.specs.declared.facts.PhaseFacts.TheVariants.{Clear as clear_phase}
-use Rattle.control_model.specs.Control.{Control}
-use Rattle.control_model.specs.Supported.{begins_encryption, read_supported}
+use Rattle.control_octets.specs.procedure_stages.Closing.{is_open}
+use Rattle.control_octets.specs.procedures.Queue.{next_of}
+use Rattle.control_octets.specs.procedures.Sending.{next_ctrl_of}
+use Rattle.unencrypted_ends.specs.enc_phase.Phases.{seals}
+use Rattle.unencrypted_ends.specs.enc_phase.declared.facts.PhaseFacts.TheVariants.{Clear as clear_phase}
+use Rattle.control_octets.specs.control_model.Control.{Control}
+use Rattle.control_octets.specs.control_model.Supported.{begins_encryption, read_supported}
 use Rattle.control_octets.specs.Fitting.{FitsOctets}
 use Rattle.control_octets.proofs.Pdus.{written_short}
 use Rattle.control_octets.proofs.Steps.{sent_now_is_read}
-use Rattle.control_end.specs.Answers.{next_ctrl}
-use Rattle.control_end.specs.Held.{held_of}
-use Rattle.phased_control.specs.Phased.{Phased}
+use Rattle.link_model.specs.control_end.Answers.{next_ctrl}
+use Rattle.link_model.specs.control_end.Held.{held_of}
+use Rattle.unencrypted_ends.specs.phased_control.Phased.{Phased}
 use Rattle.unencrypted_ends.specs.Unencrypted.{IsUnencrypted, plain_phased}
 use Rattle.unencrypted_ends.proofs.Sending.{none_sent}
-use Rattle.joint_controls.specs.Joint.{Clear, Control as control_item, Data, Fixed, Item, Joint, PeripheralFixes, PeripheralFixesData, Way, after_all, fixed, is_clear, item_by, may_all, next_item, sends_data}
-use Rattle.joint_parameters.specs.Turns.{Fixing, FixesControl, FixesData, FixesNothing, MayFix, after_acknowledgement, fixing_steps}
+use Rattle.joint_laws.specs.joint_controls.Joint.{Clear, Control as control_item, Data, Fixed, Item, Joint, PeripheralFixes, PeripheralFixesData, Way, after_all, fixed, is_clear, item_by, may_all, next_item, sends_data}
+use Rattle.joint_laws.specs.joint_parameters.Turns.{Fixing, FixesControl, FixesData, FixesNothing, MayFix, after_acknowledgement, fixing_steps}
 use Rattle.link_model.specs.Acknowledgement.{Pdu, is_acked}
 use Rattle.link_model.specs.Data.{is_control, is_data, is_empty}
 use Rattle.link_model.specs.Controls.{pdu_of_control}

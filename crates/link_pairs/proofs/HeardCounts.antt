@@ -4,7 +4,7 @@ use Rattle.std.proofs.lemmas.Bool.{and_parts}
 use Rattle.ble_base.specs.declared.roles.Role.{Role}
 use Rattle.ack_bit.specs.AckBits.{is_new}
 use Rattle.data_pdu.specs.declared.header.DataHeader.{DataHeader}
-use Rattle.control_model.specs.Control.{Control}
+use Rattle.control_octets.specs.control_model.Control.{Control}
 use Rattle.link_model.specs.Acknowledgement.{Acknowledgement, Pdu, bits_of, is_acked, received_by}
 use Rattle.link_model.specs.Data.{is_data, is_empty}
 use Rattle.link_model.specs.OneLink.{AreInAgreement}

@@ -1,13 +1,13 @@
 -- What an end holds after it heard a packet, and what the link shows of that where the end is the central.
 use Rattle.std.proofs.Common.{◌≡◌, ℕ, ◌+◌, ◌-◌, ◌≤◌, ◌==◌, ◌&&◌, ◌||◌, not, Bool, true, false, refl, ap, sym, ◌∙◌, subst, arith, if◌then◌else◌}
 use Rattle.std.proofs.lemmas.Bool.{eqb-true}
-use Rattle.procedure_stages.specs.declared.closing.Closing.{Closing}
-use Rattle.procedure_stages.specs.Closing.{is_disconnecting, is_open}
+use Rattle.control_octets.specs.procedure_stages.declared.closing.Closing.{Closing}
+use Rattle.control_octets.specs.procedure_stages.Closing.{is_disconnecting, is_open}
 use Rattle.two_tracks.specs.TwoEnds.{last_after_reply}
-use Rattle.control_model.specs.Control.{Control}
-use Rattle.phased_control.specs.Phased.{Phased}
-use Rattle.joint_controls.specs.Joint.{Clear, Way, is_free, is_taken}
-use Rattle.joint_parameters.specs.Turns.{IsAnswered, Link, link_after}
+use Rattle.control_octets.specs.control_model.Control.{Control}
+use Rattle.unencrypted_ends.specs.phased_control.Phased.{Phased}
+use Rattle.joint_laws.specs.joint_controls.Joint.{Clear, Way, is_free, is_taken}
+use Rattle.joint_laws.specs.joint_parameters.Turns.{IsAnswered, Link, link_after}
 use Rattle.link_model.specs.Setup.{Setup}
 use Rattle.link_model.specs.Acknowledgement.{Pdu, with_accepted, with_acked}
 use Rattle.link_model.specs.OneLink.{AreInAgreement}

@@ -3,11 +3,11 @@ use Rattle.std.proofs.Common.{◌≡◌, ◌⊎◌, inl, inr, ℕ, ◌+◌, ◌�
 use Rattle.data_pdu.specs.declared.ctrl.Ctrl.{Ctrl}
 use Rattle.instants.specs.declared.track.Change.{Change}
 use Rattle.instants.specs.Track.{TrackFacts}
-use Rattle.procedure_values.specs.declared.drafts.Outgoing.{Outgoing}
+use Rattle.control_octets.specs.procedure_values.declared.drafts.Outgoing.{Outgoing}
 use Rattle.two_tracks.specs.TwoEnds.{Acknowledged, IsInExchange, LastPdu, TwoEnds, Untaken, after_indication, after_pdu, has_passed, heard_by_peripheral}
 use Rattle.two_tracks.specs.TwoEnds as two_ends
 use Rattle.two_tracks.specs.Reached.{untaken}
-use Rattle.joint_controls.specs.Joint.{Clear, Control as control_item, Data, Fixed, OnAir, Taken, Way, is_free, is_indication, is_item, item_on_air, last_change}
+use Rattle.joint_laws.specs.joint_controls.Joint.{Clear, Control as control_item, Data, Fixed, OnAir, Taken, Way, is_free, is_indication, is_item, item_on_air, last_change}
 use Rattle.link_model.specs.OneLink.{AreInAgreement}
 use Rattle.link_model.specs.Acknowledgement.{Acknowledgement, is_acked}
 use Rattle.link_model.specs.Data.{is_data}

@@ -2,31 +2,31 @@
 use Rattle.std.proofs.Common.{◌≡◌, ℕ, ◌+◌, ◌≤◌, ◌&&◌, Bool, true, false, not, List, [], ◌∷◌, Result, Ok, Err, Some, is_some, refl, sym, ap, subst, ◌∙◌}
 use Rattle.ble_base.specs.declared.error_codes.ErrCode.{ErrCode}
 use Rattle.instants.specs.Track.{TrackFacts, event_of}
-use Rattle.procedure_values.specs.declared.asks.Ask.{Ask}
-use Rattle.procedure_values.specs.declared.asks.Ask.TheVariants.{Update, Request, Map, Length}
-use Rattle.procedure_values.specs.Wants.{IsAsk}
-use Rattle.procedure_stages.specs.Closing.{is_disconnecting, is_open}
-use Rattle.procedure_stages.specs.InProgress.{is_host_asked}
-use Rattle.procedures.specs.Going.{granted_by, host_answer_step, is_answer, terminate_step}
-use Rattle.procedures.specs.Table.{TableFacts}
+use Rattle.control_octets.specs.procedure_values.declared.asks.Ask.{Ask}
+use Rattle.control_octets.specs.procedure_values.declared.asks.Ask.TheVariants.{Update, Request, Map, Length}
+use Rattle.control_octets.specs.procedure_values.Wants.{IsAsk}
+use Rattle.control_octets.specs.procedure_stages.Closing.{is_disconnecting, is_open}
+use Rattle.control_octets.specs.procedure_stages.InProgress.{is_host_asked}
+use Rattle.control_octets.specs.procedures.Going.{granted_by, host_answer_step, is_answer, terminate_step}
+use Rattle.control_octets.specs.procedures.Table.{TableFacts}
 use Rattle.link_model.specs.Data.{Data, data_given, data_reported, is_control}
 use Rattle.link_model.specs.Setup.{Setup}
-use Rattle.control_model.specs.Control.{Control, Answers as control_answers, Asks as control_asks, Disconnects as control_disconnects, Step as ControlStep, after, table_if}
-use Rattle.control_model.specs.Waits.{is_of_table_alone}
-use Rattle.control_model.proofs.Calls.{any_step}
-use Rattle.control_model.proofs.Moving.{same_role, table_alone}
+use Rattle.control_octets.specs.control_model.Control.{Control, Answers as control_answers, Asks as control_asks, Disconnects as control_disconnects, Step as ControlStep, after, table_if}
+use Rattle.control_octets.specs.control_model.Waits.{is_of_table_alone}
+use Rattle.control_octets.proofs.control_model.Calls.{any_step}
+use Rattle.control_octets.proofs.control_model.Moving.{same_role, table_alone}
 use Rattle.control_octets.specs.Fitting.{AskFits, StepFits}
 use Rattle.control_octets.proofs.Steps.{stays_fitting}
-use Rattle.phased_control.specs.Phased.{Phased}
-use Rattle.phased_control.specs.Taken.{phased_after}
+use Rattle.unencrypted_ends.specs.phased_control.Phased.{Phased}
+use Rattle.unencrypted_ends.specs.phased_control.Taken.{phased_after}
 use Rattle.unencrypted_ends.specs.Unencrypted.{encrypts_nothing, plain_phased}
 use Rattle.unencrypted_ends.proofs.Going.{answers_goes, asks_goes, disconnects_goes}
 use Rattle.unencrypted_ends.proofs.Staying.{stays}
-use Rattle.joint_controls.specs.Ends.{IsHostInRange}
-use Rattle.joint_controls.specs.Joint.{AnswersRequest, AsksFor, CentralHost, Ends, HostStep, Joint, PeripheralHost, host_step, is_running, may, may_host}
-use Rattle.joint_controls.proofs.Running.{goes_on}
-use Rattle.joint_parameters.specs.Turns.{Alone, Link, link_after}
-use Rattle.joint_parameters.proofs.Pairing.{after_may, may_now}
+use Rattle.joint_laws.specs.joint_controls.Ends.{IsHostInRange}
+use Rattle.joint_laws.specs.joint_controls.Joint.{AnswersRequest, AsksFor, CentralHost, Ends, HostStep, Joint, PeripheralHost, host_step, is_running, may, may_host}
+use Rattle.joint_laws.proofs.joint_controls.Running.{goes_on}
+use Rattle.joint_laws.specs.joint_parameters.Turns.{Alone, Link, link_after}
+use Rattle.joint_laws.proofs.joint_parameters.Pairing.{after_may, may_now}
 use Rattle.link_model.specs.declared.state.KnownLengths.{KnownLengths}
 use Rattle.link_model.specs.declared.state.Leaving.{Leaving}
 use Rattle.link_model.specs.End.{facts_after}

@@ -5,8 +5,8 @@ use Rattle.wire_fields.specs.Field.{little_endian}
 use Rattle.data_pdu.specs.declared.ctrl.Ctrl.{Ctrl}
 use Rattle.data_pdu.specs.declared.ctrl.Ctrl.TheVariants.{StartEncReq}
 use Rattle.data_pdu.specs.Layouts.{written}
-use Rattle.joint_controls.specs.Joint.{Control, Data, Item, is_last}
-use Rattle.joint_controls.specs.Joint.{is_terminate as ends_link}
+use Rattle.joint_laws.specs.joint_controls.Joint.{Control, Data, Item, is_last}
+use Rattle.joint_laws.specs.joint_controls.Joint.{is_terminate as ends_link}
 use Rattle.link_model.specs.Acknowledgement.{Pdu}
 use Rattle.link_model.specs.Data.{is_control, is_data, is_empty}
 use Rattle.link_model.specs.Controls.{begins_with, is_procedure_pdu, is_terminate}

@@ -2,13 +2,13 @@
 use Rattle.std.proofs.Common.{◌≡◌, ◌+◌, ◌≤◌, List, [], ◌∷◌, ◌++◌, subst, arith}
 use Rattle.two_tracks.specs.TwoEnds.{enters}
 use Rattle.two_tracks.specs.Reached as by_turns
-use Rattle.joint_controls.specs.Ends.{AreStepsInRange}
-use Rattle.joint_controls.specs.Joint.{CentralAcked, CentralEnters, CentralTakes, Joint, JointStep, PeripheralAcked, PeripheralEnters, PeripheralTakes, after_all, is_taken, item_on_air}
+use Rattle.joint_laws.specs.joint_controls.Ends.{AreStepsInRange}
+use Rattle.joint_laws.specs.joint_controls.Joint.{CentralAcked, CentralEnters, CentralTakes, Joint, JointStep, PeripheralAcked, PeripheralEnters, PeripheralTakes, after_all, is_taken, item_on_air}
 use Rattle.joint_laws.specs.Runs.{IsRun}
-use Rattle.joint_parameters.specs.Turns.{Alone, AreLinksInRange, Begins, CentralShuts, IsAnswered, IsHeard, IsLinkInRange, Link, LinkStep, MayLinkAll, PeripheralShuts, SendsControl, SendsData, SendsEmpty, all_joint_steps, fixing_steps, joint_steps, link_after, step_if, takes_item}
-use Rattle.joint_parameters.proofs.Hearing.{range_before, range_if}
-use Rattle.joint_parameters.proofs.Linking.{joint_run, turns_reached}
-use Rattle.joint_parameters.proofs.Runs.{range_joined}
+use Rattle.joint_laws.specs.joint_parameters.Turns.{Alone, AreLinksInRange, Begins, CentralShuts, IsAnswered, IsHeard, IsLinkInRange, Link, LinkStep, MayLinkAll, PeripheralShuts, SendsControl, SendsData, SendsEmpty, all_joint_steps, fixing_steps, joint_steps, link_after, step_if, takes_item}
+use Rattle.joint_laws.proofs.joint_parameters.Hearing.{range_before, range_if}
+use Rattle.joint_laws.proofs.joint_parameters.Linking.{joint_run, turns_reached}
+use Rattle.joint_laws.proofs.joint_parameters.Runs.{range_joined}
 use Rattle.link_model.specs.Setup.{Setup, first_anchor, first_params}
 use Rattle.link_pairs.specs.Ends.{AreEnds}
 use Rattle.link_pairs.specs.Shown.{link_of, new_link}

@@ -8,38 +8,38 @@ use Rattle.data_pdu.specs.declared.ctrl.Ctrl.{Ctrl}
 use Rattle.data_pdu.specs.declared.ctrl.Ctrl.TheVariants.{StartEncReq, TerminateInd}
 use Rattle.instants.specs.declared.indications.Indication.{Indication}
 use Rattle.instants.specs.Track.{event_of}
-use Rattle.procedure_values.specs.declared.drafts.Draft.{Draft}
-use Rattle.procedure_values.specs.declared.drafts.Draft.TheVariants.{Cipher}
-use Rattle.procedure_values.specs.declared.drafts.Outgoing.{Outgoing}
-use Rattle.procedure_values.specs.declared.drafts.Outgoing.TheVariants.{Disconnect, Nothing, Other, Rejection}
-use Rattle.procedure_values.specs.declared.drafts.Rejection.{Rejection as TheRejection}
-use Rattle.procedure_values.specs.Drafts.{ctrl_of_draft, ctrl_of_outgoing, waits_for_instant}
-use Rattle.procedure_stages.specs.declared.closing.Closing.{Closing}
-use Rattle.procedure_stages.specs.declared.closing.Closing.TheVariants.{Closed, Disconnecting, Open}
-use Rattle.procedure_stages.specs.declared.reply.Reply.{Reply}
-use Rattle.procedure_stages.specs.declared.reply.Reply.TheVariants.{Answer, Nothing as no_reply, Reject}
-use Rattle.procedure_stages.specs.declared.stages.Progress.{Progress}
-use Rattle.procedure_stages.specs.declared.steps.Effect.{Effect}
-use Rattle.procedure_stages.specs.declared.steps.Effect.TheVariants.{PeerEnds}
-use Rattle.procedure_stages.specs.Closing.{is_disconnecting, is_open}
-use Rattle.procedure_stages.specs.Kinds.{role_of}
-use Rattle.procedure_stages.specs.Queue.{QueueFacts, is_past_instant, next_by, next_disconnect, next_draft, with_reply, without_next}
-use Rattle.procedure_stages.specs.Steps.{closing_after}
-use Rattle.procedures.specs.declared.outcome.Outcome.{Outcome}
-use Rattle.procedures.specs.Going.{closing_given, owe_step}
-use Rattle.procedures.specs.Queue.{next_of}
-use Rattle.procedures.specs.Table.{TableFacts}
-use Rattle.procedures.specs.Taking.{facts_with, outcome_of}
-use Rattle.control_model.specs.Control.{Control, Owes, Sends, Takes, after, following, goes_out, indicated_by, is_to_come, taken, went}
-use Rattle.control_model.proofs.Calls.{any_step, either_way, took_by}
-use Rattle.phased_control.specs.Phased.{Phased, is_quiet_now}
-use Rattle.phased_control.specs.Taken.{Enters as enters, PhasedStep, Response, SeesAcknowledged, Sends as sends, phased_after}
-use Rattle.joint_controls.specs.Joint.{CentralAcked, CentralEnters, CentralHost, CentralSends, CentralSendsData, CentralTakes, Clear, Fixed, Joint, JointStep, OnAir, PeripheralAcked, PeripheralEnters, PeripheralFixes, PeripheralFixesData, PeripheralHost, PeripheralSends, PeripheralTakes, Shuts, Taken, Way, act, central_takes, host_step, may, no_response, peripheral_takes, taking}
-use Rattle.joint_controls.proofs.EachEnd.{Keeps, enters_kept, hosts_kept, takes_kept}
-use Rattle.joint_controls.proofs.Keeping.{choice}
-use Rattle.joint_controls.proofs.LastPdus.{acked_end, enters_end, hosts_end, takes_end}
-use Rattle.joint_controls.proofs.Running.{comes_on}
-use Rattle.joint_controls.specs.Joint.{is_terminate}
+use Rattle.control_octets.specs.procedure_values.declared.drafts.Draft.{Draft}
+use Rattle.control_octets.specs.procedure_values.declared.drafts.Draft.TheVariants.{Cipher}
+use Rattle.control_octets.specs.procedure_values.declared.drafts.Outgoing.{Outgoing}
+use Rattle.control_octets.specs.procedure_values.declared.drafts.Outgoing.TheVariants.{Disconnect, Nothing, Other, Rejection}
+use Rattle.control_octets.specs.procedure_values.declared.drafts.Rejection.{Rejection as TheRejection}
+use Rattle.control_octets.specs.procedure_values.Drafts.{ctrl_of_draft, ctrl_of_outgoing, waits_for_instant}
+use Rattle.control_octets.specs.procedure_stages.declared.closing.Closing.{Closing}
+use Rattle.control_octets.specs.procedure_stages.declared.closing.Closing.TheVariants.{Closed, Disconnecting, Open}
+use Rattle.control_octets.specs.procedure_stages.declared.reply.Reply.{Reply}
+use Rattle.control_octets.specs.procedure_stages.declared.reply.Reply.TheVariants.{Answer, Nothing as no_reply, Reject}
+use Rattle.control_octets.specs.procedure_stages.declared.stages.Progress.{Progress}
+use Rattle.control_octets.specs.procedure_stages.declared.steps.Effect.{Effect}
+use Rattle.control_octets.specs.procedure_stages.declared.steps.Effect.TheVariants.{PeerEnds}
+use Rattle.control_octets.specs.procedure_stages.Closing.{is_disconnecting, is_open}
+use Rattle.control_octets.specs.procedure_stages.Kinds.{role_of}
+use Rattle.control_octets.specs.procedure_stages.Queue.{QueueFacts, is_past_instant, next_by, next_disconnect, next_draft, with_reply, without_next}
+use Rattle.control_octets.specs.procedure_stages.Steps.{closing_after}
+use Rattle.control_octets.specs.procedures.declared.outcome.Outcome.{Outcome}
+use Rattle.control_octets.specs.procedures.Going.{closing_given, owe_step}
+use Rattle.control_octets.specs.procedures.Queue.{next_of}
+use Rattle.control_octets.specs.procedures.Table.{TableFacts}
+use Rattle.control_octets.specs.procedures.Taking.{facts_with, outcome_of}
+use Rattle.control_octets.specs.control_model.Control.{Control, Owes, Sends, Takes, after, following, goes_out, indicated_by, is_to_come, taken, went}
+use Rattle.control_octets.proofs.control_model.Calls.{any_step, either_way, took_by}
+use Rattle.unencrypted_ends.specs.phased_control.Phased.{Phased, is_quiet_now}
+use Rattle.unencrypted_ends.specs.phased_control.Taken.{Enters as enters, PhasedStep, Response, SeesAcknowledged, Sends as sends, phased_after}
+use Rattle.joint_laws.specs.joint_controls.Joint.{CentralAcked, CentralEnters, CentralHost, CentralSends, CentralSendsData, CentralTakes, Clear, Fixed, Joint, JointStep, OnAir, PeripheralAcked, PeripheralEnters, PeripheralFixes, PeripheralFixesData, PeripheralHost, PeripheralSends, PeripheralTakes, Shuts, Taken, Way, act, central_takes, host_step, may, no_response, peripheral_takes, taking}
+use Rattle.joint_laws.proofs.joint_controls.EachEnd.{Keeps, enters_kept, hosts_kept, takes_kept}
+use Rattle.joint_laws.proofs.joint_controls.Keeping.{choice}
+use Rattle.joint_laws.proofs.joint_controls.LastPdus.{acked_end, enters_end, hosts_end, takes_end}
+use Rattle.joint_laws.proofs.joint_controls.Running.{comes_on}
+use Rattle.joint_laws.specs.joint_controls.Joint.{is_terminate}
 use Rattle.unencrypted_ends.specs.Unencrypted.{is_cipher, is_cipher_out}
 use Rattle.link_pairs.specs.Parting.{SendsNoControl}
 use Rattle.link_pairs.proofs.TakingNothing.{LeavesTable, TakesNothing, acked_nothing, answers_nothing, asks_nothing, disconnects_nothing, draft_left, enters_nothing, none_sent, rejection_left}

@@ -1,10 +1,10 @@
 -- What the table of an end has as its last PDU is on its way, in a link that is reached by its steps.
 use Rattle.std.proofs.Common.{◌≡◌, ◌+◌, ◌≤◌, List, arith, subst}
-use Rattle.joint_controls.specs.Ends.{outgoing_on}
-use Rattle.joint_controls.specs.Joint.{Joint}
-use Rattle.joint_controls.proofs.LastPdus.{first_tied, tied}
-use Rattle.joint_parameters.specs.Turns.{AreLinksInRange, Link, LinkStep, MayLinkAll, all_joint_steps}
-use Rattle.joint_parameters.proofs.Linking.{joint_run}
+use Rattle.joint_laws.specs.joint_controls.Ends.{outgoing_on}
+use Rattle.joint_laws.specs.joint_controls.Joint.{Joint}
+use Rattle.joint_laws.proofs.joint_controls.LastPdus.{first_tied, tied}
+use Rattle.joint_laws.specs.joint_parameters.Turns.{AreLinksInRange, Link, LinkStep, MayLinkAll, all_joint_steps}
+use Rattle.joint_laws.proofs.joint_parameters.Linking.{joint_run}
 use Rattle.link_model.specs.Setup.{Setup, first_anchor, first_params}
 use Rattle.link_pairs.specs.Ends.{AreEnds}
 use Rattle.link_pairs.specs.Shown.{link_of, new_link}

@@ -5,8 +5,8 @@ use Rattle.ble_base.specs.declared.error_codes.ErrCode.{ErrCode}
 use Rattle.ble_base.specs.declared.roles.Role.{Role}
 use Rattle.data_pdu.specs.declared.header.DataHeader.{DataHeader}
 use Rattle.data_pdu.specs.Header.{header_in}
-use Rattle.procedure_values.specs.declared.asks.Ask.{Ask}
-use Rattle.control_model.specs.Control.{Answers as control_answers, Asks as control_asks, Control, Disconnects as control_disconnects, Enters as control_enters, SeesAcknowledged, Sends as control_sends, Step as ControlStep, Takes, after, moved}
+use Rattle.control_octets.specs.procedure_values.declared.asks.Ask.{Ask}
+use Rattle.control_octets.specs.control_model.Control.{Answers as control_answers, Asks as control_asks, Control, Disconnects as control_disconnects, Enters as control_enters, SeesAcknowledged, Sends as control_sends, Step as ControlStep, Takes, after, moved}
 use Rattle.link_model.specs.Acknowledgement.{Pdu}
 use Rattle.link_model.specs.Data.{is_control}
 use Rattle.link_model.specs.Verdicts.{pdu_of}

@@ -44,3 +44,7 @@ pub mod TerminatingPdus
 pub mod Turning
 pub mod Understanding
 pub mod Ways
+-- what the crates above use of those below
+pub use Rattle.link_model.proofs as link_model
+pub use Rattle.joint_laws.proofs.joint_controls as joint_controls
+pub use Rattle.joint_laws.proofs.control_model as control_model

@@ -1,10 +1,10 @@
 -- The steps of an end in which it sends and hears nothing new leave two ends parting.
 use Rattle.std.proofs.Common.{◌≡◌, ◌≤◌, ◌<◌, ◌==◌, ℕ, Bool, true, false, length, Option, Some, is_some, refl, sym, ap, ◌∙◌, subst, if◌then◌else◌}
 use Rattle.instants.specs.Track.{next_anchor_of}
-use Rattle.procedure_values.specs.declared.asks.Ask.{Ask}
-use Rattle.procedure_stages.specs.Closing.{is_open}
-use Rattle.procedure_values.specs.Limits.{tx_of}
-use Rattle.control_model.specs.Control.{Answers, Asks, Control, Disconnects, after}
+use Rattle.control_octets.specs.procedure_values.declared.asks.Ask.{Ask}
+use Rattle.control_octets.specs.procedure_stages.Closing.{is_open}
+use Rattle.control_octets.specs.procedure_values.Limits.{tx_of}
+use Rattle.control_octets.specs.control_model.Control.{Answers, Asks, Control, Disconnects, after}
 use Rattle.link_model.specs.declared.state.KnownLengths.{KnownLengths}
 use Rattle.link_model.specs.Acknowledgement.{Acknowledgement, Pdu, is_acked}
 use Rattle.link_model.specs.Data.{Data, data_given, data_reported, is_control}

@@ -5,11 +5,11 @@ use Rattle.ble_base.specs.declared.error_codes.ErrCode.{ErrCode}
 use Rattle.ble_base.specs.declared.roles.Role.{Role}
 use Rattle.ble_base.specs.declared.roles.Role.TheVariants.{Central, Peripheral}
 use Rattle.data_pdu.specs.declared.header.DataHeader.{DataHeader}
-use Rattle.phased_control.specs.Phased.{Phased}
+use Rattle.unencrypted_ends.specs.phased_control.Phased.{Phased}
 use Rattle.std.proofs.Math.Nat.{min-le_right}
-use Rattle.joint_controls.specs.Joint.{is_running}
-use Rattle.joint_controls.proofs.Running.{none_of}
-use Rattle.joint_parameters.specs.Turns.{Link}
+use Rattle.joint_laws.specs.joint_controls.Joint.{is_running}
+use Rattle.joint_laws.proofs.joint_controls.Running.{none_of}
+use Rattle.joint_laws.specs.joint_parameters.Turns.{Link}
 use Rattle.link_model.specs.Acknowledgement.{Pdu, is_acked}
 use Rattle.link_model.specs.Data.{Data as DataFacts, data_sent_if, is_control}
 use Rattle.link_model.specs.Setup.{Setup}

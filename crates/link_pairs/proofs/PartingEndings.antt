@@ -3,11 +3,11 @@ use Rattle.std.proofs.Common.{◌≡◌, ◌&&◌, not, Bool, true, false, Some,
 use Rattle.ble_base.specs.ErrorCodes.{terminated_by_local_host}
 use Rattle.ble_base.specs.declared.error_codes.ErrCode.{ErrCode}
 use Rattle.instants.specs.Track.{event_of}
-use Rattle.procedure_values.specs.Drafts.{ctrl_of_outgoing}
-use Rattle.procedure_stages.specs.Closing.{is_open}
-use Rattle.procedure_stages.specs.Queue.{next_by, next_disconnect, next_draft}
-use Rattle.procedures.specs.Going.{terminate_step}
-use Rattle.control_model.specs.Control.{Control, Disconnects, after, table_if}
+use Rattle.control_octets.specs.procedure_values.Drafts.{ctrl_of_outgoing}
+use Rattle.control_octets.specs.procedure_stages.Closing.{is_open}
+use Rattle.control_octets.specs.procedure_stages.Queue.{next_by, next_disconnect, next_draft}
+use Rattle.control_octets.specs.procedures.Going.{terminate_step}
+use Rattle.control_octets.specs.control_model.Control.{Control, Disconnects, after, table_if}
 use Rattle.link_model.specs.Setup.{Setup}
 use Rattle.link_model.specs.Controls.{next_control, pdu_fixed}
 use Rattle.link_model.specs.Facts.{Facts}

@@ -5,26 +5,26 @@ use Rattle.ble_base.specs.declared.roles.Role.{Role}
 use Rattle.ble_base.specs.declared.roles.Role.TheVariants.{Peripheral}
 use Rattle.data_pdu.specs.declared.ctrl.Ctrl.{Ctrl}
 use Rattle.data_pdu.specs.declared.header.DataHeader.{DataHeader}
-use Rattle.procedure_values.specs.Limits.{tx_of}
-use Rattle.procedure_stages.specs.Closing.{is_open}
-use Rattle.procedure_stages.specs.Kinds.{role_of}
-use Rattle.enc_phase.specs.Phases.{seals}
-use Rattle.enc_phase.specs.declared.facts.PhaseFacts.TheVariants.{Clear as clear_phase}
+use Rattle.control_octets.specs.procedure_values.Limits.{tx_of}
+use Rattle.control_octets.specs.procedure_stages.Closing.{is_open}
+use Rattle.control_octets.specs.procedure_stages.Kinds.{role_of}
+use Rattle.unencrypted_ends.specs.enc_phase.Phases.{seals}
+use Rattle.unencrypted_ends.specs.enc_phase.declared.facts.PhaseFacts.TheVariants.{Clear as clear_phase}
 use Rattle.two_tracks.specs.TwoEnds.{LastPdu, MayReach, TwoEnds}
 use Rattle.two_tracks.specs.TwoEnds as two_ends
-use Rattle.control_model.specs.Control.{Control}
-use Rattle.control_end.specs.Answers.{next_ctrl}
-use Rattle.control_end.specs.Held.{held_of}
-use Rattle.phased_control.specs.Phased.{Phased}
+use Rattle.control_octets.specs.control_model.Control.{Control}
+use Rattle.link_model.specs.control_end.Answers.{next_ctrl}
+use Rattle.link_model.specs.control_end.Held.{held_of}
+use Rattle.unencrypted_ends.specs.phased_control.Phased.{Phased}
 use Rattle.unencrypted_ends.specs.Unencrypted.{plain_phased}
-use Rattle.joint_controls.specs.Joint.{Clear, Control as control_item, Data, Fixed, Item, Joint, JointStep, PeripheralAcked, PeripheralSends, PeripheralTakes, Way, after_all, is_free, is_running, is_taken, item_on_air, may, may_act, may_all, no_response, sent_up}
-use Rattle.joint_controls.specs.Joint.{after as joint_after}
-use Rattle.joint_controls.specs.Ends.{AreStepsInRange, outgoing_on}
-use Rattle.joint_controls.proofs.Running.{GoesOn, goes_on, none_of}
-use Rattle.joint_parameters.specs.Turns.{Alone, FixesNothing, Fixing, IsHeard, IsPaired, Link, LinkStep, MayLink, after_acknowledgement, fixing_steps, joint_steps, link_after, step_if, takes_item}
-use Rattle.joint_parameters.proofs.Hearing.{range_before}
-use Rattle.joint_parameters.proofs.Pairing.{may_now, running_from}
-use Rattle.joint_parameters.proofs.Runs.{after_joined}
+use Rattle.joint_laws.specs.joint_controls.Joint.{Clear, Control as control_item, Data, Fixed, Item, Joint, JointStep, PeripheralAcked, PeripheralSends, PeripheralTakes, Way, after_all, is_free, is_running, is_taken, item_on_air, may, may_act, may_all, no_response, sent_up}
+use Rattle.joint_laws.specs.joint_controls.Joint.{after as joint_after}
+use Rattle.joint_laws.specs.joint_controls.Ends.{AreStepsInRange, outgoing_on}
+use Rattle.joint_laws.proofs.joint_controls.Running.{GoesOn, goes_on, none_of}
+use Rattle.joint_laws.specs.joint_parameters.Turns.{Alone, FixesNothing, Fixing, IsHeard, IsPaired, Link, LinkStep, MayLink, after_acknowledgement, fixing_steps, joint_steps, link_after, step_if, takes_item}
+use Rattle.joint_laws.proofs.joint_parameters.Hearing.{range_before}
+use Rattle.joint_laws.proofs.joint_parameters.Pairing.{may_now, running_from}
+use Rattle.joint_laws.proofs.joint_parameters.Runs.{after_joined}
 use Rattle.link_model.specs.Acknowledgement.{Acknowledgement, Pdu, is_acked, received_by, with_accepted, with_acked}
 use Rattle.link_model.specs.Data.{Data as DataFacts, is_control, is_data, is_empty}
 use Rattle.link_model.specs.OneLink.{AreInAgreement}

@@ -6,25 +6,25 @@ use Rattle.ble_base.specs.declared.roles.Role.TheVariants.{Peripheral}
 use Rattle.data_pdu.specs.declared.ctrl.Ctrl.{Ctrl}
 use Rattle.data_pdu.specs.declared.ctrl.CtrlRead.TheVariants.{Known}
 use Rattle.instants.specs.Track.{event_of}
-use Rattle.procedure_values.specs.Drafts.{ctrl_of_outgoing}
-use Rattle.procedure_values.specs.declared.drafts.Outgoing.{Outgoing}
-use Rattle.procedure_stages.specs.Closing.{is_open}
-use Rattle.procedures.specs.Queue.{next_of}
-use Rattle.enc_phase.specs.Phases.{seals}
-use Rattle.enc_phase.specs.declared.facts.PhaseFacts.TheVariants.{Clear as clear_phase}
-use Rattle.control_model.specs.Control.{Control, SeesAcknowledged, Sends, Takes, after}
-use Rattle.control_model.specs.Supported.{read_supported}
-use Rattle.control_end.specs.Answers.{next_ctrl}
-use Rattle.control_end.specs.Held.{held_of}
-use Rattle.phased_control.specs.Phased.{Phased, is_open_now, is_quiet_now}
-use Rattle.phased_control.specs.Taken.{Response, is_version}
+use Rattle.control_octets.specs.procedure_values.Drafts.{ctrl_of_outgoing}
+use Rattle.control_octets.specs.procedure_values.declared.drafts.Outgoing.{Outgoing}
+use Rattle.control_octets.specs.procedure_stages.Closing.{is_open}
+use Rattle.control_octets.specs.procedures.Queue.{next_of}
+use Rattle.unencrypted_ends.specs.enc_phase.Phases.{seals}
+use Rattle.unencrypted_ends.specs.enc_phase.declared.facts.PhaseFacts.TheVariants.{Clear as clear_phase}
+use Rattle.control_octets.specs.control_model.Control.{Control, SeesAcknowledged, Sends, Takes, after}
+use Rattle.control_octets.specs.control_model.Supported.{read_supported}
+use Rattle.link_model.specs.control_end.Answers.{next_ctrl}
+use Rattle.link_model.specs.control_end.Held.{held_of}
+use Rattle.unencrypted_ends.specs.phased_control.Phased.{Phased, is_open_now, is_quiet_now}
+use Rattle.unencrypted_ends.specs.phased_control.Taken.{Response, is_version}
 use Rattle.unencrypted_ends.specs.Unencrypted.{is_enc_req, plain_phased}
 use Rattle.unencrypted_ends.proofs.Going.{acknowledged_goes, data_left, sends_goes}
 use Rattle.unencrypted_ends.proofs.Taking.{takes_goes}
-use Rattle.joint_controls.specs.Joint.{Clear, Control as control_item, Data, Fixed, Item, Joint, JointStep, OnAir, PeripheralAcked, PeripheralFixes, PeripheralFixesData, PeripheralSends, PeripheralTakes, Taken, Way, after_all, fixed, is_taken, is_terminate, item_by, next_item, sends_data, sent_up}
-use Rattle.joint_controls.specs.Joint.{after as joint_after, may, may_all}
-use Rattle.joint_parameters.specs.Turns.{step_if}
-use Rattle.joint_parameters.proofs.Pairing.{after_may}
+use Rattle.joint_laws.specs.joint_controls.Joint.{Clear, Control as control_item, Data, Fixed, Item, Joint, JointStep, OnAir, PeripheralAcked, PeripheralFixes, PeripheralFixesData, PeripheralSends, PeripheralTakes, Taken, Way, after_all, fixed, is_taken, is_terminate, item_by, next_item, sends_data, sent_up}
+use Rattle.joint_laws.specs.joint_controls.Joint.{after as joint_after, may, may_all}
+use Rattle.joint_laws.specs.joint_parameters.Turns.{step_if}
+use Rattle.joint_laws.proofs.joint_parameters.Pairing.{after_may}
 use Rattle.link_model.specs.Receiving.{control_acked_if}
 
 -- a link with a peripheral that encrypts nothing

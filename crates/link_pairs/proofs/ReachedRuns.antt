@@ -2,11 +2,11 @@
 use Rattle.std.proofs.Common.{◌≡◌, ◌≤◌, ◌⊎◌, inl, inr, ℕ, true, List, subst, arith}
 use Rattle.ble_base.specs.Limits.{first_payload_octets}
 use Rattle.ble_base.specs.declared.roles.Role.TheVariants.{Central, Peripheral}
-use Rattle.joint_controls.specs.Joint.{Joint, JointStep, after_all, is_running}
-use Rattle.joint_controls.proofs.LastPdus.{Tied, first_tied, tied}
-use Rattle.joint_controls.proofs.Running.{after_each}
-use Rattle.joint_exchanges.proofs.States.{length_known}
-use Rattle.joint_parameters.specs.Turns.{Link}
+use Rattle.joint_laws.specs.joint_controls.Joint.{Joint, JointStep, after_all, is_running}
+use Rattle.joint_laws.proofs.joint_controls.LastPdus.{Tied, first_tied, tied}
+use Rattle.joint_laws.proofs.joint_controls.Running.{after_each}
+use Rattle.joint_laws.proofs.joint_exchanges.States.{length_known}
+use Rattle.joint_laws.specs.joint_parameters.Turns.{Link}
 use Rattle.link_model.specs.Setup.{Setup, first_anchor, first_params}
 use Rattle.link_pairs.specs.Ends.{AreEnds}
 use Rattle.link_pairs.specs.Sound.{first_joint}

@@ -3,17 +3,17 @@ use Rattle.std.proofs.Common.{◌≡◌, ◌+◌, ◌≤◌, Bool, true, false, 
 use Rattle.std.proofs.lemmas.Bool.{and_parts}
 use Rattle.ble_base.specs.declared.roles.Role.{Role}
 use Rattle.ble_base.specs.declared.roles.Role.TheVariants.{Central, Peripheral}
-use Rattle.exchange_pairs.specs.ExchangeRun.{other_role}
-use Rattle.procedure_values.specs.Limits.{tx_of}
+use Rattle.joint_laws.specs.exchange_pairs.ExchangeRun.{other_role}
+use Rattle.control_octets.specs.procedure_values.Limits.{tx_of}
 use Rattle.link_model.specs.Setup.{Setup, first_anchor, first_params}
-use Rattle.joint_controls.specs.Joint.{Joint, after_all, is_running, may_all}
-use Rattle.joint_exchanges.specs.Agreement.{end_at, first_rx_at}
-use Rattle.joint_exchanges.proofs.States.{length_transmits}
-use Rattle.joint_parameters.specs.Turns.{AreLinksInRange, IsLinkInRange, IsPaired, Link, LinkStep, MayLink, MayLinkAll, all_joint_steps, joint_steps, link_after, link_after_all}
-use Rattle.joint_parameters.proofs.Linking.{joint_comes, joint_run, stays_paired}
-use Rattle.joint_parameters.proofs.Pairing.{running_from}
-use Rattle.joint_controls.proofs.Running.{none_of}
-use Rattle.phased_control.specs.Phased.{Phased}
+use Rattle.joint_laws.specs.joint_controls.Joint.{Joint, after_all, is_running, may_all}
+use Rattle.joint_laws.specs.joint_exchanges.Agreement.{end_at, first_rx_at}
+use Rattle.joint_laws.proofs.joint_exchanges.States.{length_transmits}
+use Rattle.joint_laws.specs.joint_parameters.Turns.{AreLinksInRange, IsLinkInRange, IsPaired, Link, LinkStep, MayLink, MayLinkAll, all_joint_steps, joint_steps, link_after, link_after_all}
+use Rattle.joint_laws.proofs.joint_parameters.Linking.{joint_comes, joint_run, stays_paired}
+use Rattle.joint_laws.proofs.joint_parameters.Pairing.{running_from}
+use Rattle.joint_laws.proofs.joint_controls.Running.{none_of}
+use Rattle.unencrypted_ends.specs.phased_control.Phased.{Phased}
 use Rattle.link_model.specs.Controls.{goes_on}
 use Rattle.link_model.specs.Facts.{Facts}
 use Rattle.link_pairs.specs.Ends.{AreEnds, is_lasting}

@@ -1,9 +1,9 @@
 -- A peripheral that hears a packet sees its last PDU acknowledged, or does not.
 use Rattle.std.proofs.Common.{◌≡◌, ◌&&◌, ◌||◌, Bool, true, false, refl, ap, sym, subst, ◌∙◌, if◌then◌else◌}
-use Rattle.procedure_values.specs.declared.drafts.Outgoing.TheVariants.{Nothing}
-use Rattle.control_model.specs.Control.{Control}
-use Rattle.joint_controls.specs.Joint.{Clear, Control as control_item, Data, Fixed, OnAir, Taken, Way, is_taken}
-use Rattle.joint_controls.specs.Ends.{outgoing_on}
+use Rattle.control_octets.specs.procedure_values.declared.drafts.Outgoing.TheVariants.{Nothing}
+use Rattle.control_octets.specs.control_model.Control.{Control}
+use Rattle.joint_laws.specs.joint_controls.Joint.{Clear, Control as control_item, Data, Fixed, OnAir, Taken, Way, is_taken}
+use Rattle.joint_laws.specs.joint_controls.Ends.{outgoing_on}
 use Rattle.link_model.specs.Acknowledgement.{Acknowledgement, is_acked, with_acked}
 use Rattle.link_model.specs.Data.{is_control, is_empty}
 use Rattle.link_model.specs.OneLink.{AreInAgreement}

@@ -4,31 +4,31 @@ use Rattle.std.proofs.lemmas.Bool.{and_parts}
 use Rattle.std.proofs.Math.Nat.{min-le_left}
 use Rattle.ack_bit.proofs.Directions.{not-false}
 use Rattle.data_pdu.specs.declared.ctrl.Ctrl.{Ctrl}
-use Rattle.enc_phase.specs.Phases.{seals}
+use Rattle.unencrypted_ends.specs.enc_phase.Phases.{seals}
 use Rattle.ble_base.specs.declared.roles.Role.TheVariants.{Central}
 use Rattle.instants.specs.declared.indications.Indication.{Indication}
 use Rattle.instants.specs.Track.{TrackFacts, event_of}
-use Rattle.procedure_stages.specs.Closing.{is_disconnecting, is_open}
-use Rattle.procedure_stages.specs.declared.closing.Closing.{Closing}
-use Rattle.procedure_stages.specs.Kinds.{role_of}
-use Rattle.procedure_values.specs.Limits.{tx_of}
-use Rattle.procedures.specs.Queue.{next_of}
+use Rattle.control_octets.specs.procedure_stages.Closing.{is_disconnecting, is_open}
+use Rattle.control_octets.specs.procedure_stages.declared.closing.Closing.{Closing}
+use Rattle.control_octets.specs.procedure_stages.Kinds.{role_of}
+use Rattle.control_octets.specs.procedure_values.Limits.{tx_of}
+use Rattle.control_octets.specs.procedures.Queue.{next_of}
 use Rattle.two_tracks.specs.TwoEnds.{Acknowledged, LastPdu, Taken, TwoEnds, Untaken}
 use Rattle.two_tracks.specs.TwoEnds as two_ends
-use Rattle.control_model.specs.Control.{Control, Sends as control_sends, after}
-use Rattle.control_model.proofs.Moving.{same_role}
+use Rattle.control_octets.specs.control_model.Control.{Control, Sends as control_sends, after}
+use Rattle.control_octets.proofs.control_model.Moving.{same_role}
 use Rattle.control_octets.specs.Fitting.{FitsOctets}
 use Rattle.control_octets.proofs.Pdus.{written_short}
 use Rattle.control_octets.proofs.Steps.{stays_fitting}
-use Rattle.phased_control.specs.Phased.{Phased}
-use Rattle.phased_control.specs.Taken.{Sends, phased_after}
+use Rattle.unencrypted_ends.specs.phased_control.Phased.{Phased}
+use Rattle.unencrypted_ends.specs.phased_control.Taken.{Sends, phased_after}
 use Rattle.unencrypted_ends.specs.Unencrypted.{IsUnencrypted}
 use Rattle.unencrypted_ends.proofs.Going.{sends_goes}
 use Rattle.unencrypted_ends.proofs.Staying.{stays}
-use Rattle.joint_controls.specs.Joint.{CentralSends, CentralSendsData, Clear, Control as control_item, Data as data_item, Item, Joint, OnAir, Way, is_running, item_by, may, next_item, on_air, sends_data}
-use Rattle.joint_controls.proofs.Running.{goes_on}
-use Rattle.joint_parameters.specs.Turns.{Link, MayLink, MayTransmit, SendsControl, SendsData, SendsEmpty, link_after, next_indication}
-use Rattle.joint_parameters.proofs.Pairing.{after_may}
+use Rattle.joint_laws.specs.joint_controls.Joint.{CentralSends, CentralSendsData, Clear, Control as control_item, Data as data_item, Item, Joint, OnAir, Way, is_running, item_by, may, next_item, on_air, sends_data}
+use Rattle.joint_laws.proofs.joint_controls.Running.{goes_on}
+use Rattle.joint_laws.specs.joint_parameters.Turns.{Link, MayLink, MayTransmit, SendsControl, SendsData, SendsEmpty, link_after, next_indication}
+use Rattle.joint_laws.proofs.joint_parameters.Pairing.{after_may}
 use Rattle.link_model.specs.Acknowledgement.{Acknowledgement, Pdu, after_sending, is_acked, next_sent}
 use Rattle.link_model.specs.Data.{data_sent_if, is_data, is_empty}
 use Rattle.link_model.specs.Events.{event_sent}

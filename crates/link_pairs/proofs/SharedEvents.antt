@@ -9,13 +9,13 @@ use Rattle.two_tracks.specs.Reached.{IsLate, untaken}
 use Rattle.two_tracks.specs.TwoEnds.{MayReach}
 use Rattle.two_tracks.proofs.JointHearing.{joint_of}
 use Rattle.two_tracks.proofs.Read.{anchors, packets}
-use Rattle.control_model.specs.Control.{Control}
-use Rattle.joint_controls.specs.Joint.{Clear, Control as control_item, Data, Fixed, Joint, OnAir, PeripheralTakes, Taken, Way, after_all, has_passed, instant_now, is_indication, is_item, is_late, is_running, item_on_air, last_change, may, may_all, no_response}
-use Rattle.joint_controls.specs.Joint.{after as joint_after}
+use Rattle.control_octets.specs.control_model.Control.{Control}
+use Rattle.joint_laws.specs.joint_controls.Joint.{Clear, Control as control_item, Data, Fixed, Joint, OnAir, PeripheralTakes, Taken, Way, after_all, has_passed, instant_now, is_indication, is_item, is_late, is_running, item_on_air, last_change, may, may_all, no_response}
+use Rattle.joint_laws.specs.joint_controls.Joint.{after as joint_after}
 use Rattle.joint_laws.specs.Ends.{EndsLateAlone}
-use Rattle.joint_parameters.specs.Indications.{EndsLate}
-use Rattle.joint_parameters.specs.Turns.{IsPaired, Link, step_if, takes_item}
-use Rattle.joint_parameters.proofs.Arriving.{late_ends_link}
+use Rattle.joint_laws.specs.joint_parameters.Indications.{EndsLate}
+use Rattle.joint_laws.specs.joint_parameters.Turns.{IsPaired, Link, step_if, takes_item}
+use Rattle.joint_laws.proofs.joint_parameters.Arriving.{late_ends_link}
 use Rattle.link_model.specs.Data.{is_data}
 use Rattle.link_model.specs.Setup.{Setup, first_anchor, first_params}
 use Rattle.link_model.specs.Facts.{Facts}

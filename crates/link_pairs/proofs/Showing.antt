@@ -3,9 +3,9 @@ use Rattle.std.proofs.Common.{◌≡◌, ℕ, Bool, length, sym, ap, subst, ◌�
 use Rattle.link_model.specs.Acknowledgement.{Acknowledgement, is_acked}
 use Rattle.link_model.specs.OneLink.{AreInAgreement}
 use Rattle.link_model.specs.Setup.{Setup}
-use Rattle.phased_control.specs.Phased.{Phased}
-use Rattle.joint_controls.specs.Joint.{is_free}
-use Rattle.joint_parameters.specs.Turns.{Link}
+use Rattle.unencrypted_ends.specs.phased_control.Phased.{Phased}
+use Rattle.joint_laws.specs.joint_controls.Joint.{is_free}
+use Rattle.joint_laws.specs.joint_parameters.Turns.{Link}
 use Rattle.link_model.specs.Facts.{Facts}
 use Rattle.link_pairs.specs.Ends.{IsAtRest, phased_of, turns_at}
 use Rattle.link_pairs.specs.Shown.{Shows}

@@ -7,11 +7,11 @@ use Rattle.instants.specs.Track.{TrackFacts}
 use Rattle.two_tracks.specs.Reached.{AreOpen, untaken}
 use Rattle.two_tracks.proofs.JointHearing.{joint_of}
 use Rattle.two_tracks.proofs.Relations.{AreLevel, IsApart, IsBefore, IsBehind, Stand}
-use Rattle.joint_controls.specs.Joint.{Joint, after_all, is_running}
+use Rattle.joint_laws.specs.joint_controls.Joint.{Joint, after_all, is_running}
 use Rattle.joint_laws.specs.Sound.{IsSound}
 use Rattle.joint_laws.proofs.SoundStates.{sound_now}
-use Rattle.joint_parameters.specs.Turns.{IsPaired, Link}
-use Rattle.joint_parameters.proofs.Equal.{central_follows, peripheral_follows}
+use Rattle.joint_laws.specs.joint_parameters.Turns.{IsPaired, Link}
+use Rattle.joint_laws.proofs.joint_parameters.Equal.{central_follows, peripheral_follows}
 use Rattle.link_model.specs.Setup.{Setup, first_anchor, first_params}
 use Rattle.link_model.specs.Facts.{Facts}
 use Rattle.link_pairs.specs.Ends.{AreEnds, is_lasting, phased_of}

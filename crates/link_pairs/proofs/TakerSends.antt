@@ -4,7 +4,7 @@ use Rattle.std.proofs.lemmas.Bool.{or_right}
 use Rattle.std.proofs.Math.Nat.{min-le_right}
 use Rattle.ble_base.specs.declared.roles.Role.TheVariants.{Peripheral}
 use Rattle.data_pdu.specs.declared.ctrl.Ctrl.{Ctrl}
-use Rattle.procedure_stages.specs.Closing.{is_open}
+use Rattle.control_octets.specs.procedure_stages.Closing.{is_open}
 use Rattle.link_model.specs.Acknowledgement.{Acknowledgement, Pdu, is_acked}
 use Rattle.link_model.specs.Data.{data_sent_if, is_control}
 use Rattle.link_model.specs.OneLink.{AreInAgreement}

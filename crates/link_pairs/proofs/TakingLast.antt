@@ -8,12 +8,12 @@ use Rattle.data_pdu.specs.declared.ctrl.Ctrl.{Ctrl}
 use Rattle.data_pdu.specs.declared.ctrl.CtrlRead.{CtrlRead}
 use Rattle.data_pdu.specs.declared.ctrl.CtrlRead.TheVariants.{Known}
 use Rattle.data_pdu.specs.declared.header.DataHeader.{DataHeader}
-use Rattle.procedure_values.specs.declared.drafts.Outgoing.{Outgoing}
-use Rattle.control_model.specs.Control.{Control, Takes, after}
+use Rattle.control_octets.specs.procedure_values.declared.drafts.Outgoing.{Outgoing}
+use Rattle.control_octets.specs.control_model.Control.{Control, Takes, after}
 use Rattle.unencrypted_ends.specs.Unencrypted.{IsUnencrypted, is_cipher_out}
-use Rattle.joint_controls.specs.Ends.{IsSentOn, outgoing_on}
-use Rattle.joint_controls.specs.Joint.{Clear, Control as control_item, Data, Fixed, OnAir, Taken, Way}
-use Rattle.joint_controls.specs.Joint.{is_terminate as ends_link}
+use Rattle.joint_laws.specs.joint_controls.Ends.{IsSentOn, outgoing_on}
+use Rattle.joint_laws.specs.joint_controls.Joint.{Clear, Control as control_item, Data, Fixed, OnAir, Taken, Way}
+use Rattle.joint_laws.specs.joint_controls.Joint.{is_terminate as ends_link}
 use Rattle.link_model.specs.Acknowledgement.{Acknowledgement, Pdu, is_acked, received_by}
 use Rattle.link_model.specs.Data.{Data as DataFacts, is_data, is_empty}
 use Rattle.link_model.specs.OneLink.{AreInAgreement}

@@ -5,28 +5,28 @@ use Rattle.ble_base.specs.declared.roles.Role.{Role}
 use Rattle.ble_base.specs.declared.roles.Role.TheVariants.{Central, Peripheral}
 use Rattle.instants.specs.declared.indications.Indication.{Indication}
 use Rattle.instants.specs.Track.{next_number}
-use Rattle.procedure_values.specs.declared.asks.Ask.{Ask}
-use Rattle.procedure_values.specs.declared.asks.Ask.TheVariants.{Length, Update}
-use Rattle.procedure_values.specs.declared.drafts.Draft.{Draft}
-use Rattle.procedure_values.specs.declared.drafts.Outgoing.{Outgoing}
-use Rattle.procedure_values.specs.declared.drafts.Outgoing.TheVariants.{Disconnect, Nothing, Other, Rejection}
-use Rattle.procedure_values.specs.declared.drafts.Rejection.{Rejection as TheRejection}
-use Rattle.procedure_values.specs.declared.lengths.Lengths.{Lengths}
-use Rattle.procedure_values.specs.Drafts.{is_out}
-use Rattle.procedure_values.specs.Limits.{lengths_asked}
-use Rattle.procedure_stages.specs.declared.closing.Closing.{Closing}
-use Rattle.procedure_stages.specs.Closing.{is_open}
-use Rattle.procedure_stages.specs.InProgress.{is_host_asked}
-use Rattle.procedure_stages.specs.Kinds.{role_of}
-use Rattle.procedure_stages.specs.Queue.{QueueFacts, with_draft, with_rejection, without_next}
-use Rattle.procedures.specs.Beginning.{ask_at, begin_at, begin_step, first_draft, place_to_begin, with_first_draft}
-use Rattle.procedures.specs.Going.{entered_step, host_answer_step, is_answer, terminate_step}
-use Rattle.procedures.specs.Queue.{next_of}
-use Rattle.procedures.specs.Sending.{acked_step}
-use Rattle.procedures.specs.Table.{TableFacts}
+use Rattle.control_octets.specs.procedure_values.declared.asks.Ask.{Ask}
+use Rattle.control_octets.specs.procedure_values.declared.asks.Ask.TheVariants.{Length, Update}
+use Rattle.control_octets.specs.procedure_values.declared.drafts.Draft.{Draft}
+use Rattle.control_octets.specs.procedure_values.declared.drafts.Outgoing.{Outgoing}
+use Rattle.control_octets.specs.procedure_values.declared.drafts.Outgoing.TheVariants.{Disconnect, Nothing, Other, Rejection}
+use Rattle.control_octets.specs.procedure_values.declared.drafts.Rejection.{Rejection as TheRejection}
+use Rattle.control_octets.specs.procedure_values.declared.lengths.Lengths.{Lengths}
+use Rattle.control_octets.specs.procedure_values.Drafts.{is_out}
+use Rattle.control_octets.specs.procedure_values.Limits.{lengths_asked}
+use Rattle.control_octets.specs.procedure_stages.declared.closing.Closing.{Closing}
+use Rattle.control_octets.specs.procedure_stages.Closing.{is_open}
+use Rattle.control_octets.specs.procedure_stages.InProgress.{is_host_asked}
+use Rattle.control_octets.specs.procedure_stages.Kinds.{role_of}
+use Rattle.control_octets.specs.procedure_stages.Queue.{QueueFacts, with_draft, with_rejection, without_next}
+use Rattle.control_octets.specs.procedures.Beginning.{ask_at, begin_at, begin_step, first_draft, place_to_begin, with_first_draft}
+use Rattle.control_octets.specs.procedures.Going.{entered_step, host_answer_step, is_answer, terminate_step}
+use Rattle.control_octets.specs.procedures.Queue.{next_of}
+use Rattle.control_octets.specs.procedures.Sending.{acked_step}
+use Rattle.control_octets.specs.procedures.Table.{TableFacts}
 use Rattle.instants.specs.Track.{event_of}
-use Rattle.control_model.specs.Control.{Answers, Asks, Control, Disconnects, Enters, SeesAcknowledged, Sends, after, following, goes_out, table_if, went}
-use Rattle.control_model.proofs.Calls.{any_step, either_way}
+use Rattle.control_octets.specs.control_model.Control.{Answers, Asks, Control, Disconnects, Enters, SeesAcknowledged, Sends, after, following, goes_out, table_if, went}
+use Rattle.control_octets.proofs.control_model.Calls.{any_step, either_way}
 
 -- ---- a queue where nothing more is queued
 

@@ -7,14 +7,14 @@ use Rattle.data_pdu.specs.declared.ctrl.Ctrl.TheVariants.{EncReq, PauseEncReq, S
 use Rattle.data_pdu.specs.declared.ctrl.CtrlRead.{CtrlRead}
 use Rattle.data_pdu.specs.declared.ctrl.CtrlRead.TheVariants.{Bare, Known, Unknown}
 use Rattle.data_pdu.specs.Reading.{ctrl_of, opcode_of}
-use Rattle.procedure_values.specs.declared.drafts.Outgoing.{Outgoing}
-use Rattle.control_model.specs.Control.{Control, Takes, after}
-use Rattle.control_model.specs.Supported.{begins_encryption, read_supported}
-use Rattle.phased_control.specs.Phased.{Phased}
-use Rattle.phased_control.specs.Taken.{is_version}
+use Rattle.control_octets.specs.procedure_values.declared.drafts.Outgoing.{Outgoing}
+use Rattle.control_octets.specs.control_model.Control.{Control, Takes, after}
+use Rattle.control_octets.specs.control_model.Supported.{begins_encryption, read_supported}
+use Rattle.unencrypted_ends.specs.phased_control.Phased.{Phased}
+use Rattle.unencrypted_ends.specs.phased_control.Taken.{is_version}
 use Rattle.unencrypted_ends.specs.Unencrypted.{is_enc_req}
-use Rattle.joint_controls.specs.Joint.{Control as control_item, Data, Joint, JointStep, OnAir, PeripheralTakes, Taken, Way, after_all, is_free, is_terminate, may_all, no_response}
-use Rattle.joint_parameters.specs.Turns.{step_if}
+use Rattle.joint_laws.specs.joint_controls.Joint.{Control as control_item, Data, Joint, JointStep, OnAir, PeripheralTakes, Taken, Way, after_all, is_free, is_terminate, may_all, no_response}
+use Rattle.joint_laws.specs.joint_parameters.Turns.{step_if}
 use Rattle.link_model.specs.Acknowledgement.{Acknowledgement, Pdu, with_accepted}
 use Rattle.link_model.specs.declared.state.Leaving.{Leaving}
 use Rattle.link_model.specs.declared.state.PeerFacts.{PeerFacts}

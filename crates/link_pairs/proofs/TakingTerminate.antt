@@ -5,24 +5,24 @@ use Rattle.ble_base.specs.declared.error_codes.ErrCode.{ErrCode}
 use Rattle.data_pdu.specs.declared.ctrl.Ctrl.{Ctrl}
 use Rattle.data_pdu.specs.declared.ctrl.Ctrl.TheVariants.{StartEncReq, TerminateInd}
 use Rattle.data_pdu.specs.declared.ctrl.CtrlRead.TheVariants.{Known}
-use Rattle.procedure_stages.specs.declared.closing.Closing.{Closing}
-use Rattle.procedure_stages.specs.declared.closing.Closing.TheVariants.{Closed, Disconnecting, Open}
-use Rattle.procedure_stages.specs.declared.steps.Effect.{Effect}
-use Rattle.procedure_stages.specs.declared.steps.Effect.TheVariants.{Indicated, PeerEnds}
-use Rattle.procedure_stages.specs.declared.steps.Step.{Step}
-use Rattle.procedure_stages.specs.Closing.{closed, is_open}
-use Rattle.procedure_stages.specs.Queue.{waiting_in}
-use Rattle.procedure_stages.specs.Steps.{closing_after}
-use Rattle.procedures.specs.declared.outcome.Outcome.{Outcome}
-use Rattle.procedures.specs.Table.{TableFacts}
-use Rattle.procedures.specs.Taking.{facts_with, lacks_room, outcome_of, settled, took_step}
-use Rattle.procedures.specs.Termination.{terminate_taken}
-use Rattle.control_model.specs.Control.{Control, Takes, after, indicated_by, moved, taken}
-use Rattle.control_model.proofs.Calls.{settled_as}
-use Rattle.control_end.specs.Answers.{effect_shown, goes_on, nothing_taken, step_shown}
-use Rattle.control_end.specs.Held.{held_after, held_of}
-use Rattle.joint_controls.specs.Joint.{is_terminate}
-use Rattle.joint_phases.proofs.Outcomes.{keeps_open}
+use Rattle.control_octets.specs.procedure_stages.declared.closing.Closing.{Closing}
+use Rattle.control_octets.specs.procedure_stages.declared.closing.Closing.TheVariants.{Closed, Disconnecting, Open}
+use Rattle.control_octets.specs.procedure_stages.declared.steps.Effect.{Effect}
+use Rattle.control_octets.specs.procedure_stages.declared.steps.Effect.TheVariants.{Indicated, PeerEnds}
+use Rattle.control_octets.specs.procedure_stages.declared.steps.Step.{Step}
+use Rattle.control_octets.specs.procedure_stages.Closing.{closed, is_open}
+use Rattle.control_octets.specs.procedure_stages.Queue.{waiting_in}
+use Rattle.control_octets.specs.procedure_stages.Steps.{closing_after}
+use Rattle.control_octets.specs.procedures.declared.outcome.Outcome.{Outcome}
+use Rattle.control_octets.specs.procedures.Table.{TableFacts}
+use Rattle.control_octets.specs.procedures.Taking.{facts_with, lacks_room, outcome_of, settled, took_step}
+use Rattle.control_octets.specs.procedures.Termination.{terminate_taken}
+use Rattle.control_octets.specs.control_model.Control.{Control, Takes, after, indicated_by, moved, taken}
+use Rattle.control_octets.proofs.control_model.Calls.{settled_as}
+use Rattle.link_model.specs.control_end.Answers.{effect_shown, goes_on, nothing_taken, step_shown}
+use Rattle.link_model.specs.control_end.Held.{held_after, held_of}
+use Rattle.joint_laws.specs.joint_controls.Joint.{is_terminate}
+use Rattle.joint_laws.proofs.joint_phases.Outcomes.{keeps_open}
 use Rattle.link_model.specs.Acknowledgement.{Pdu}
 use Rattle.link_model.specs.Controls.{read_of}
 use Rattle.link_model.specs.Facts.{Facts}

@@ -5,21 +5,21 @@ use Rattle.data_pdu.specs.declared.ctrl.Ctrl.{Ctrl}
 use Rattle.data_pdu.specs.declared.ctrl.Ctrl.TheVariants.{StartEncReq, TerminateInd}
 use Rattle.data_pdu.specs.declared.ctrl.CtrlRead.{CtrlRead}
 use Rattle.data_pdu.specs.declared.ctrl.CtrlRead.TheVariants.{Known}
-use Rattle.procedure_stages.specs.Closing.{is_open}
-use Rattle.procedure_stages.specs.Queue.{waiting_in}
-use Rattle.procedure_stages.specs.declared.stages.Progress.{Progress}
-use Rattle.procedure_stages.specs.declared.stages.Progress.TheVariants.{Central as central, Peripheral as peripheral}
-use Rattle.procedures.specs.declared.outcome.Outcome.{Outcome}
-use Rattle.procedures.specs.Table.{TableFacts}
-use Rattle.procedures.specs.Taking.{facts_with, outcome_of, settled, taken_by, took_step}
-use Rattle.procedures.specs.Termination.{terminate_taken}
-use Rattle.control_model.specs.Control.{Takes}
-use Rattle.control_model.proofs.Calls.{settled_as}
-use Rattle.control_end.specs.Answers.{goes_on, nothing_taken, step_shown}
-use Rattle.control_end.specs.Held.{Held}
-use Rattle.control_end.specs.declared.answers.Taken.{Taken}
-use Rattle.control_end.proofs.Depending.{step_held}
-use Rattle.joint_controls.specs.Joint.{is_terminate}
+use Rattle.control_octets.specs.procedure_stages.Closing.{is_open}
+use Rattle.control_octets.specs.procedure_stages.Queue.{waiting_in}
+use Rattle.control_octets.specs.procedure_stages.declared.stages.Progress.{Progress}
+use Rattle.control_octets.specs.procedure_stages.declared.stages.Progress.TheVariants.{Central as central, Peripheral as peripheral}
+use Rattle.control_octets.specs.procedures.declared.outcome.Outcome.{Outcome}
+use Rattle.control_octets.specs.procedures.Table.{TableFacts}
+use Rattle.control_octets.specs.procedures.Taking.{facts_with, outcome_of, settled, taken_by, took_step}
+use Rattle.control_octets.specs.procedures.Termination.{terminate_taken}
+use Rattle.control_octets.specs.control_model.Control.{Takes}
+use Rattle.control_octets.proofs.control_model.Calls.{settled_as}
+use Rattle.link_model.specs.control_end.Answers.{goes_on, nothing_taken, step_shown}
+use Rattle.link_model.specs.control_end.Held.{Held}
+use Rattle.link_model.specs.control_end.declared.answers.Taken.{Taken}
+use Rattle.link_model.proofs.control_end.Depending.{step_held}
+use Rattle.joint_laws.specs.joint_controls.Joint.{is_terminate}
 use Rattle.link_model.specs.Acknowledgement.{Pdu}
 use Rattle.link_model.specs.Controls.{read_of}
 use Rattle.link_model.specs.Facts.{Facts}

@@ -1,9 +1,9 @@
 -- A turn as both ends begin it: they enter their events and fix their PDUs, and the central sends.
 use Rattle.std.proofs.Common.{◌≡◌, ◌+◌, ◌≤◌, ◌==◌, ◌⊎◌, ℕ, Bool, true, false, Option, refl, sym, subst, ◌∙◌, if◌then◌else◌}
 use Rattle.instants.specs.Track.{next_anchor_of}
-use Rattle.joint_controls.specs.Joint.{is_running}
-use Rattle.joint_controls.proofs.Running.{goes_on as joint_goes_on}
-use Rattle.joint_parameters.specs.Turns.{Begins, Link, link_after}
+use Rattle.joint_laws.specs.joint_controls.Joint.{is_running}
+use Rattle.joint_laws.proofs.joint_controls.Running.{goes_on as joint_goes_on}
+use Rattle.joint_laws.specs.joint_parameters.Turns.{Begins, Link, link_after}
 use Rattle.link_model.specs.declared.events.Reception.{Reception}
 use Rattle.link_model.specs.Data.{is_control}
 use Rattle.link_model.specs.Setup.{Setup}

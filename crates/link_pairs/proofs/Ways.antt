@@ -3,8 +3,8 @@ use Rattle.std.proofs.Common.{◌≡◌, ◌+◌, ◌==◌, ◌&&◌, ◌||◌, 
 use Rattle.std.proofs.lemmas.Bool.{eqb-true, eqb-false, eq-eqb, or_left, or_right}
 use Rattle.two_tracks.specs.TwoEnds.{LastPdu, Untaken, Acknowledged, last_after_reply}
 use Rattle.two_tracks.specs.TwoEnds as two_ends
-use Rattle.joint_controls.specs.Joint.{Clear, Control, Data, Fixed, Item, OnAir, Taken, Way, is_free, is_last, is_taken, item_on_air}
-use Rattle.joint_parameters.specs.Turns.{takes_item}
+use Rattle.joint_laws.specs.joint_controls.Joint.{Clear, Control, Data, Fixed, Item, OnAir, Taken, Way, is_free, is_last, is_taken, item_on_air}
+use Rattle.joint_laws.specs.joint_parameters.Turns.{takes_item}
 use Rattle.link_model.specs.Acknowledgement.{Acknowledgement, Pdu, after_sending, is_acked, with_accepted, with_acked}
 use Rattle.link_model.specs.Data.{is_data, is_empty}
 use Rattle.link_model.specs.OneLink.{AreInAgreement}

@@ -5,10 +5,10 @@ use Rattle.adv_pdu.specs.Ranges.{IsInRange}
 use Rattle.ble_base.specs.declared.roles.Role.TheVariants.{Central, Peripheral}
 use Rattle.instants.specs.Track.{event_of}
 use Rattle.control_octets.specs.Fitting.{FitsOctets}
-use Rattle.phased_control.specs.Phased.{Phased}
-use Rattle.procedure_stages.specs.Closing.{is_open}
-use Rattle.procedure_stages.specs.Kinds.{role_of}
-use Rattle.procedure_values.specs.Values.{IsPayloadMax}
+use Rattle.unencrypted_ends.specs.phased_control.Phased.{Phased}
+use Rattle.control_octets.specs.procedure_stages.Closing.{is_open}
+use Rattle.control_octets.specs.procedure_stages.Kinds.{role_of}
+use Rattle.control_octets.specs.procedure_values.Values.{IsPayloadMax}
 use Rattle.unencrypted_ends.specs.Unencrypted.{IsUnencrypted, plain_phased}
 use Rattle.link_model.specs.declared.events.Reception.{Reception}
 use Rattle.link_model.specs.Data.{is_control}

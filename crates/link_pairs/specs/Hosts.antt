@@ -1,9 +1,9 @@
 -- What the host of an end may do on a link (Core 5.2, volume 6 part B, section 5.1).
 use Rattle.std.specs.Prelude.{◌≡◌, true, Ok, Err, ⊤}
 use Rattle.control_octets.specs.Fitting.{AskFits, CodeFits}
-use Rattle.joint_controls.specs.Joint.{may_ask}
-use Rattle.procedure_values.specs.declared.asks.Ask.{Ask}
-use Rattle.procedure_values.specs.Wants.{IsAsk}
+use Rattle.joint_laws.specs.joint_controls.Joint.{may_ask}
+use Rattle.control_octets.specs.procedure_values.declared.asks.Ask.{Ask}
+use Rattle.control_octets.specs.procedure_values.Wants.{IsAsk}
 use Rattle.unencrypted_ends.specs.Unencrypted.{asks_no_encryption}
 use Rattle.link_model.specs.Facts.{Facts}
 use Rattle.link_model.specs.Step.{Step, DataGiven, DataReported, Disconnected, ProcedureAsked, RequestAnswered}

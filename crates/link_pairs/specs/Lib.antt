@@ -8,3 +8,11 @@ pub mod Hosts
 pub mod Parting
 pub mod Sound
 pub mod Rows
+-- what the crates above use of those below
+pub use Rattle.link_model.specs as link_model
+pub use Rattle.link_model.specs.control_end as control_end
+pub use Rattle.joint_laws.specs.joint_controls as joint_controls
+pub use Rattle.control_octets.specs as control_octets
+pub use Rattle.joint_laws.specs.control_model as control_model
+pub use Rattle.joint_laws.specs.procedures as procedures
+pub use Rattle.joint_laws.specs.procedure_values as procedure_values

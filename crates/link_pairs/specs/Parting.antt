@@ -5,8 +5,8 @@ use Rattle.std.specs.List.{filter}
 use Rattle.ble_base.specs.ErrorCodes.{terminated_by_local_host}
 use Rattle.ble_base.specs.declared.roles.Role.TheVariants.{Peripheral}
 use Rattle.ble_base.specs.declared.verdicts.Verdict.TheVariants.{Good}
-use Rattle.procedure_stages.specs.Closing.{is_disconnecting, is_open}
-use Rattle.procedures.specs.Table.{TableFacts}
+use Rattle.control_octets.specs.procedure_stages.Closing.{is_disconnecting, is_open}
+use Rattle.control_octets.specs.procedures.Table.{TableFacts}
 use Rattle.link_model.specs.Acknowledgement.{Acknowledgement, is_acked}
 use Rattle.link_model.specs.Data.{is_control}
 use Rattle.link_model.specs.Numbers.{is_took_note}

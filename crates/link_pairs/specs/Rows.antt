@@ -7,7 +7,7 @@ use Rattle.link_model.specs.Facts.{Facts, first_facts}
 use Rattle.link_model.specs.End.{facts_after, notes_after}
 use Rattle.link_model.specs.Packets.{header_sent, payload_sent}
 use Rattle.link_model.specs.Receiving.{facts_received, received_notes}
-use Rattle.procedure_values.specs.declared.asks.Ask.TheVariants.{Update, Version}
+use Rattle.control_octets.specs.procedure_values.declared.asks.Ask.TheVariants.{Update, Version}
 use Rattle.link_model.specs.Step.{Disconnected, EventEntered, PacketSent, ProcedureAsked, Step}
 use Rattle.link_pairs.specs.Turns.{central_begun, prepared}
 

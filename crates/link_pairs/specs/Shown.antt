@@ -1,8 +1,8 @@
 -- A link by turns and packets that shows what two ends hold (our choice; the rules of such a link are those of
 -- `joint_parameters`).
 use Rattle.std.specs.Prelude.{◌≡◌, ℕ, ◌+◌, ◌≤◌, Bool, true, List, length}
-use Rattle.joint_controls.specs.Joint.{is_free, is_running}
-use Rattle.joint_parameters.specs.Turns.{AreLinksInRange, Link, LinkStep, MayLinkAll, first_link, link_after_all}
+use Rattle.joint_laws.specs.joint_controls.Joint.{is_free, is_running}
+use Rattle.joint_laws.specs.joint_parameters.Turns.{AreLinksInRange, Link, LinkStep, MayLinkAll, first_link, link_after_all}
 use Rattle.link_model.specs.Acknowledgement.{is_acked}
 use Rattle.link_model.specs.OneLink.{AreInAgreement}
 use Rattle.link_model.specs.Setup.{Setup, first_anchor, first_params}

@@ -6,11 +6,11 @@ use Rattle.ble_base.specs.declared.error_codes.ErrCode.{ErrCode}
 use Rattle.instants.specs.declared.track.Change.{Change}
 use Rattle.instants.specs.Follows.{Follows}
 use Rattle.instants.specs.Track.{TrackFacts, event_of}
-use Rattle.procedure_stages.specs.Queue.{waiting_in}
-use Rattle.joint_controls.specs.Joint.{Joint, JointStep, after_all, beginning, has_passed, is_running, last_change}
+use Rattle.control_octets.specs.procedure_stages.Queue.{waiting_in}
+use Rattle.joint_laws.specs.joint_controls.Joint.{Joint, JointStep, after_all, beginning, has_passed, is_running, last_change}
 use Rattle.joint_laws.specs.Runs.{IsRun}
 use Rattle.joint_laws.specs.Sound.{IsSound}
-use Rattle.joint_parameters.specs.Views.{HaveEqual}
+use Rattle.joint_laws.specs.joint_parameters.Views.{HaveEqual}
 use Rattle.link_model.specs.OneLink.{AreInAgreement}
 use Rattle.link_model.specs.Setup.{Setup, first_anchor, first_params}
 use Rattle.link_model.specs.Facts.{Facts}

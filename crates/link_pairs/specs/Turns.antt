@@ -2,8 +2,8 @@
 -- the central sends (Core 5.2, volume 6 part B, sections 4.5.1 and 4.5.9).
 use Rattle.std.specs.Prelude.{◌≡◌, ℕ, ◌+◌, ◌==◌, ◌≤◌, ◌<◌, Bool, true, false, None, is_some, length, if◌then◌else◌}
 use Rattle.instants.specs.Track.{next_anchor_of}
-use Rattle.joint_controls.specs.Joint.{is_running}
-use Rattle.procedure_values.specs.Limits.{tx_of}
+use Rattle.joint_laws.specs.joint_controls.Joint.{is_running}
+use Rattle.control_octets.specs.procedure_values.Limits.{tx_of}
 use Rattle.link_model.specs.Data.{is_data}
 use Rattle.link_model.specs.Setup.{Setup}
 use Rattle.link_model.specs.Facts.{Facts}

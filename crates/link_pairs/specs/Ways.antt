@@ -4,7 +4,7 @@ use Rattle.std.specs.Prelude.{◌≡◌, ◌+◌, ◌||◌, Bool, true, false, S
 use Rattle.data_pdu.specs.declared.ctrl.Ctrl.{Ctrl}
 use Rattle.data_pdu.specs.declared.ctrl.CtrlRead.TheVariants.{Known}
 use Rattle.data_pdu.specs.Layouts.{IsCtrl}
-use Rattle.joint_controls.specs.Joint.{Clear, Control, Data, Fixed, Item, OnAir, Taken, Way, is_last}
+use Rattle.joint_laws.specs.joint_controls.Joint.{Clear, Control, Data, Fixed, Item, OnAir, Taken, Way, is_last}
 use Rattle.two_tracks.specs.TwoEnds.{LastPdu, Untaken, Acknowledged}
 use Rattle.two_tracks.specs.TwoEnds as two_ends
 use Rattle.link_model.specs.Acknowledgement.{Acknowledgement, Pdu, is_acked}

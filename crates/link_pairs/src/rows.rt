@@ -3,7 +3,7 @@ ghost use Rattle.std.specs.Prelude.{◌≡◌, true, false, Some, None, [], ◌�
 ghost use Rattle.ble_base.specs.declared.notes.Note.TheVariants.{Began, Enter};
 ghost use Rattle.ble_base.specs.declared.notes.Note.TheVariants.{Sent, Took};
 ghost use Rattle.ble_base.specs.declared.procedure_kinds.Kind.TheVariants.{Version};
-ghost use Rattle.procedures.specs.Beginning.{may_ask_of};
+ghost use Rattle.control_octets.specs.procedures.Beginning.{may_ask_of};
 ghost use Rattle.link_model.specs.Times.{ending_of};
 ghost use Rattle.link_pairs.specs.Rows.{disconnected, update_asked, version_asked};
 

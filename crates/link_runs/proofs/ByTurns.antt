@@ -1,13 +1,13 @@
 -- Runs of one link, turn by turn: what is kept from turn to turn, whether both ends are open or one is shut.
 use Rattle.std.proofs.Common.{◌≡◌, inl, inr, ℕ, ◌+◌, Bool, true, false, List, [], ◌∷◌, length, Option, Some, None, is_none, refl, ap, subst, ◌∙◌, arith}
 use Rattle.ble_base.specs.declared.error_codes.ErrCode.{ErrCode}
-use Rattle.link_model.proofs.Hearing.{IsHeardWhole}
-use Rattle.link_model.specs.OneLink.{AreInAgreement}
-use Rattle.link_model.specs.Setup.{Setup}
-use Rattle.link_model.specs.End.{facts_after}
-use Rattle.link_model.specs.Facts.{Facts}
-use Rattle.link_model.specs.Step.{DataReported, Step}
-use Rattle.link_model.specs.Times.{due_of}
+use Rattle.link_pairs.proofs.link_model.Hearing.{IsHeardWhole}
+use Rattle.link_pairs.specs.link_model.OneLink.{AreInAgreement}
+use Rattle.link_pairs.specs.link_model.Setup.{Setup}
+use Rattle.link_pairs.specs.link_model.End.{facts_after}
+use Rattle.link_pairs.specs.link_model.Facts.{Facts}
+use Rattle.link_pairs.specs.link_model.Step.{DataReported, Step}
+use Rattle.link_pairs.specs.link_model.Times.{due_of}
 use Rattle.link_pairs.specs.Ends.{AreEnds, is_lasting}
 use Rattle.link_pairs.specs.Parting.{ArePartingFrom}
 use Rattle.link_pairs.specs.Shown.{AreLinked}

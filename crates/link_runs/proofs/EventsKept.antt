@@ -8,18 +8,18 @@ use Rattle.data_pdu.specs.declared.ctrl.CtrlRead.{CtrlRead}
 use Rattle.data_pdu.specs.Header.{header_in}
 use Rattle.instants.specs.declared.indications.Indication.{Indication}
 use Rattle.instants.specs.Track.{track_after_take}
-use Rattle.procedures.specs.Table.{TableFacts}
-use Rattle.procedures.specs.Taking.{facts_with, outcome_of}
-use Rattle.control_model.specs.Control.{Control, SeesAcknowledged, Takes, after, ended, indicated_by, is_to_come, taken}
-use Rattle.control_model.proofs.Calls.{any_step, took_by}
-use Rattle.link_model.specs.Acknowledgement.{Pdu}
-use Rattle.link_model.specs.Verdicts.{pdu_of}
-use Rattle.link_model.specs.Setup.{Setup}
-use Rattle.link_model.specs.Controls.{is_procedure_pdu, is_quiet_now, read_of}
-use Rattle.link_model.specs.Facts.{Facts}
-use Rattle.link_model.specs.Packets.{good_pdu}
-use Rattle.link_model.specs.Receiving.{accepted_if, accepts, acknowledged_if, acks_control, answers_with_control, facts_before_taking, facts_received, has_acknowledged, heard_in_slot, procedures_take_if, replies_by, replies_of}
-use Rattle.link_model.specs.Sending.{control_gone_if, takes_leave}
+use Rattle.link_pairs.specs.procedures.Table.{TableFacts}
+use Rattle.link_pairs.specs.procedures.Taking.{facts_with, outcome_of}
+use Rattle.link_pairs.specs.control_model.Control.{Control, SeesAcknowledged, Takes, after, ended, indicated_by, is_to_come, taken}
+use Rattle.link_pairs.proofs.control_model.Calls.{any_step, took_by}
+use Rattle.link_pairs.specs.link_model.Acknowledgement.{Pdu}
+use Rattle.link_pairs.specs.link_model.Verdicts.{pdu_of}
+use Rattle.link_pairs.specs.link_model.Setup.{Setup}
+use Rattle.link_pairs.specs.link_model.Controls.{is_procedure_pdu, is_quiet_now, read_of}
+use Rattle.link_pairs.specs.link_model.Facts.{Facts}
+use Rattle.link_pairs.specs.link_model.Packets.{good_pdu}
+use Rattle.link_pairs.specs.link_model.Receiving.{accepted_if, accepts, acknowledged_if, acks_control, answers_with_control, facts_before_taking, facts_received, has_acknowledged, heard_in_slot, procedures_take_if, replies_by, replies_of}
+use Rattle.link_pairs.specs.link_model.Sending.{control_gone_if, takes_leave}
 use Rattle.link_pairs.specs.Hearing.{answered, received}
 use Rattle.link_pairs.specs.Turns.{sent_if}
 use Rattle.link_pairs.proofs.ControlKept.{acked_kept, sent_kept}

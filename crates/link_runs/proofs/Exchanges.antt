@@ -3,13 +3,13 @@ use Rattle.std.proofs.Common.{◌≡◌, inl, inr, ℕ, ◌+◌, ◌==◌, ◌&&
 use Rattle.std.proofs.lemmas.Bool.{and_parts, eqb-true}
 use Rattle.instants.specs.declared.track.Change.{Change}
 use Rattle.instants.specs.Track.{TrackFacts, is_due, next_anchor_of, track_changed, track_in_next, track_unchanged}
-use Rattle.control_model.proofs.Moving.{enters_track}
-use Rattle.joint_controls.proofs.Running.{none_of}
-use Rattle.link_model.specs.Setup.{Setup}
-use Rattle.link_model.specs.Controls.{goes_on}
-use Rattle.link_model.specs.Entering.{facts_entered}
-use Rattle.link_model.specs.Facts.{Facts}
-use Rattle.link_model.specs.Times.{has_second_exchange, wants_of}
+use Rattle.link_pairs.proofs.control_model.Moving.{enters_track}
+use Rattle.link_pairs.proofs.joint_controls.Running.{none_of}
+use Rattle.link_pairs.specs.link_model.Setup.{Setup}
+use Rattle.link_pairs.specs.link_model.Controls.{goes_on}
+use Rattle.link_pairs.specs.link_model.Entering.{facts_entered}
+use Rattle.link_pairs.specs.link_model.Facts.{Facts}
+use Rattle.link_pairs.specs.link_model.Times.{has_second_exchange, wants_of}
 use Rattle.link_pairs.specs.Ends.{HasExchange, IsAtRest, is_lasting}
 use Rattle.link_pairs.specs.Turns.{MayExchange, entered_in}
 use Rattle.link_pairs.proofs.Beginning.{entered_is}

@@ -1,15 +1,15 @@
 -- Where an end receives nothing, the link goes on there; and where it goes on, it went on before.
 use Rattle.std.proofs.Common.{◌≡◌, ◌&&◌, Bool, true, false, List, [], ◌∷◌, Option, Some, None, is_none, is_some, refl, ◌∙◌, if◌then◌else◌}
 use Rattle.std.proofs.lemmas.Bool.{and_parts}
-use Rattle.joint_controls.proofs.Running.{none_of}
+use Rattle.link_pairs.proofs.joint_controls.Running.{none_of}
 use Rattle.ble_base.specs.ErrorCodes.{terminated_by_local_host}
 use Rattle.ble_base.specs.declared.error_codes.ErrCode.{ErrCode}
-use Rattle.link_model.specs.Setup.{Setup}
-use Rattle.link_model.specs.declared.state.Leaving.{Leaving}
-use Rattle.link_model.specs.Facts.{Facts}
-use Rattle.link_model.specs.End.{facts_after}
-use Rattle.link_model.specs.Step.{Step}
-use Rattle.link_model.specs.Times.{ended_by_procedures, ending_of}
+use Rattle.link_pairs.specs.link_model.Setup.{Setup}
+use Rattle.link_pairs.specs.link_model.declared.state.Leaving.{Leaving}
+use Rattle.link_pairs.specs.link_model.Facts.{Facts}
+use Rattle.link_pairs.specs.link_model.End.{facts_after}
+use Rattle.link_pairs.specs.link_model.Step.{Step}
+use Rattle.link_pairs.specs.link_model.Times.{ended_by_procedures, ending_of}
 use Rattle.link_pairs.specs.Ends.{is_lasting}
 use Rattle.link_pairs.specs.Sound.{EndsNothing}
 use Rattle.link_pairs.proofs.EndingNothing.{host_ends_nothing}

@@ -1,7 +1,7 @@
 -- Runs in which the hosts may do what they do.
 use Rattle.std.proofs.Common.{ℕ, ◌+◌, Bool, true, List, [], ◌∷◌, ◌++◌, Option, Some, None, suc, zero, replicate}
-use Rattle.link_model.specs.Setup.{Setup}
-use Rattle.link_model.specs.Facts.{Facts}
+use Rattle.link_pairs.specs.link_model.Setup.{Setup}
+use Rattle.link_pairs.specs.link_model.Facts.{Facts}
 use Rattle.link_runs.specs.Rows.{calm, turn_with}
 use Rattle.link_runs.specs.Runs.{MayAllHostFrom, MayHostEnd, MayHostTurn, ends_from}
 use Rattle.link_runs.specs.Turn.{Ends, Given, ends_after_turn}

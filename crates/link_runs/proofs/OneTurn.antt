@@ -1,12 +1,12 @@
 -- A turn of which both ends are open leaves them linked.
 use Rattle.std.proofs.Common.{◌==◌, ◌⊎◌, inl, inr, ◌-◌, Some, None, is_some, arith, ◌≡◌, ℕ, ◌+◌, ◌≤◌, ◌&&◌, Bool, true, false, List, [], ◌∷◌, Option, is_none, refl, ap, sym, subst, ◌∙◌, if◌then◌else◌}
 use Rattle.std.proofs.lemmas.Bool.{and_from, and_parts, eqb-true}
-use Rattle.link_model.specs.declared.events.Reception.{Reception}
-use Rattle.link_model.specs.Setup.{Setup}
-use Rattle.link_model.specs.Facts.{Facts}
-use Rattle.link_model.specs.Receiving.{replies_of}
-use Rattle.link_model.specs.Step.{Step}
-use Rattle.link_model.specs.Times.{due_of}
+use Rattle.link_pairs.specs.link_model.declared.events.Reception.{Reception}
+use Rattle.link_pairs.specs.link_model.Setup.{Setup}
+use Rattle.link_pairs.specs.link_model.Facts.{Facts}
+use Rattle.link_pairs.specs.link_model.Receiving.{replies_of}
+use Rattle.link_pairs.specs.link_model.Step.{Step}
+use Rattle.link_pairs.specs.link_model.Times.{due_of}
 use Rattle.link_pairs.specs.Ends.{AreEnds, heard_turns, is_lasting, turns_at}
 use Rattle.link_pairs.specs.Hearing.{IsPacketOf, answered, received}
 use Rattle.link_pairs.specs.Shown.{AreLinked, Shows, link_of}
@@ -21,9 +21,9 @@ use Rattle.link_runs.specs.Runs.{MayHostAll}
 use Rattle.link_runs.proofs.Exchanges.{may_exchange}
 use Rattle.link_runs.proofs.Supervision.{heard_in_time}
 use Rattle.ble_base.specs.declared.error_codes.ErrCode.{ErrCode}
-use Rattle.joint_controls.specs.Joint.{has_passed, last_change}
-use Rattle.link_model.proofs.Hearing.{IsHeardWhole}
-use Rattle.link_model.specs.Times.{ending_of}
+use Rattle.link_pairs.specs.joint_controls.Joint.{has_passed, last_change}
+use Rattle.link_pairs.proofs.link_model.Hearing.{IsHeardWhole}
+use Rattle.link_pairs.specs.link_model.Times.{ending_of}
 use Rattle.link_pairs.specs.Parting.{ArePartingFrom}
 use Rattle.link_pairs.specs.Sound.{EndsForInstant}
 use Rattle.link_pairs.proofs.Ending.{answered_ends}

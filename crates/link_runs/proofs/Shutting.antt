@@ -4,14 +4,14 @@ use Rattle.std.specs.Option.{option_map}
 use Rattle.ble_base.specs.ErrorCodes.{connection_not_established, connection_timeout, instant_passed, ll_response_timeout, terminated_by_local_host}
 use Rattle.ble_base.specs.declared.error_codes.ErrCode.{ErrCode}
 use Rattle.instants.specs.declared.indications.Params.{Params}
-use Rattle.link_model.specs.declared.events.Reception.{Reception}
-use Rattle.link_model.specs.Setup.{Setup}
-use Rattle.link_model.specs.Lost.{has_failed, has_timed_out, reason_due}
-use Rattle.control_end.specs.Answers.{goes_on as held_goes_on, timeout_of}
-use Rattle.control_end.specs.Held.{held_of}
-use Rattle.link_model.specs.declared.state.Leaving.{Leaving}
-use Rattle.link_model.specs.Facts.{Facts, params_of}
-use Rattle.link_model.specs.Times.{due_of, ended_by_procedures, ending_of, first_of, termination_due}
+use Rattle.link_pairs.specs.link_model.declared.events.Reception.{Reception}
+use Rattle.link_pairs.specs.link_model.Setup.{Setup}
+use Rattle.link_pairs.specs.link_model.Lost.{has_failed, has_timed_out, reason_due}
+use Rattle.link_pairs.specs.control_end.Answers.{goes_on as held_goes_on, timeout_of}
+use Rattle.link_pairs.specs.control_end.Held.{held_of}
+use Rattle.link_pairs.specs.link_model.declared.state.Leaving.{Leaving}
+use Rattle.link_pairs.specs.link_model.Facts.{Facts, params_of}
+use Rattle.link_pairs.specs.link_model.Times.{due_of, ended_by_procedures, ending_of, first_of, termination_due}
 use Rattle.link_runs.specs.Open.{AreTerminated, GoOnUnlessLate, GoesOnUnlessLate, IsTerminated, is_timeout}
 
 -- ---- at the end of a turn

@@ -1,13 +1,13 @@
 -- An end that is not due heard the other end less than 25,600 slots ago.
 use Rattle.std.proofs.Common.{◌≡◌, ℕ, ◌+◌, ◌*◌, ◌≤◌, Bool, true, false, Option, Some, None, is_none, refl, arith, if◌then◌else◌}
 use Rattle.std.proofs.lemmas.Bool.{leb-false}
-use Rattle.control_octets.specs.Fitting.{TimesFit}
+use Rattle.link_pairs.specs.control_octets.Fitting.{TimesFit}
 use Rattle.instants.specs.declared.indications.Params.{Params}
-use Rattle.link_model.specs.declared.events.Reception.{Reception}
-use Rattle.link_model.specs.Setup.{Setup}
-use Rattle.link_model.specs.Lost.{has_failed, has_timed_out, reason_due}
-use Rattle.link_model.specs.Facts.{Facts, params_of}
-use Rattle.link_model.specs.Times.{due_of, first_of}
+use Rattle.link_pairs.specs.link_model.declared.events.Reception.{Reception}
+use Rattle.link_pairs.specs.link_model.Setup.{Setup}
+use Rattle.link_pairs.specs.link_model.Lost.{has_failed, has_timed_out, reason_due}
+use Rattle.link_pairs.specs.link_model.Facts.{Facts, params_of}
+use Rattle.link_pairs.specs.link_model.Times.{due_of, first_of}
 use Rattle.link_pairs.specs.Ends.{IsAtRest, heard_turns, turns_at}
 
 none_first : (one other : Option ℕ) → is_none (first_of one other) ≡ true → is_none one ≡ true

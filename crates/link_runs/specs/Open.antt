@@ -3,10 +3,10 @@
 use Rattle.std.specs.Prelude.{◌≡◌, ◌⊎◌, ℕ, ◌==◌, ◌||◌, Bool, true, false, Option, Some, None, IfSome}
 use Rattle.ble_base.specs.ErrorCodes.{connection_not_established, connection_timeout, instant_passed, ll_response_timeout, terminated_by_local_host}
 use Rattle.ble_base.specs.declared.error_codes.ErrCode.{ErrCode}
-use Rattle.link_model.specs.Setup.{Setup}
-use Rattle.link_model.specs.declared.state.Leaving.{Leaving}
-use Rattle.link_model.specs.Facts.{Facts}
-use Rattle.link_model.specs.Times.{ending_of}
+use Rattle.link_pairs.specs.link_model.Setup.{Setup}
+use Rattle.link_pairs.specs.link_model.declared.state.Leaving.{Leaving}
+use Rattle.link_pairs.specs.link_model.Facts.{Facts}
+use Rattle.link_pairs.specs.link_model.Times.{ending_of}
 use Rattle.link_pairs.specs.Ends.{is_lasting}
 use Rattle.link_pairs.specs.Parting.{ArePartingFrom}
 use Rattle.link_pairs.specs.Shown.{AreLinked}

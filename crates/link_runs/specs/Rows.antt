@@ -2,10 +2,10 @@
 use Rattle.std.specs.Prelude.{ℕ, ◌-◌, Bool, true, false, List, [], ◌∷◌, ◌++◌, Option, None, replicate}
 use Rattle.std.specs.Option.{option_map}
 use Rattle.ble_base.specs.declared.error_codes.ErrCode.{ErrCode}
-use Rattle.procedure_values.specs.declared.asks.Ask.TheVariants.{Update}
-use Rattle.link_model.specs.Rows.{central_with, peripheral_with}
-use Rattle.link_model.specs.Facts.{Facts}
-use Rattle.link_model.specs.Step.{Disconnected, ProcedureAsked, Step}
+use Rattle.link_pairs.specs.procedure_values.declared.asks.Ask.TheVariants.{Update}
+use Rattle.link_pairs.specs.link_model.Rows.{central_with, peripheral_with}
+use Rattle.link_pairs.specs.link_model.Facts.{Facts}
+use Rattle.link_pairs.specs.link_model.Step.{Disconnected, ProcedureAsked, Step}
 use Rattle.link_runs.specs.Runs.{ends_of, slot_after}
 use Rattle.link_runs.specs.Turn.{Ends, Given, ends_in_turn}
 

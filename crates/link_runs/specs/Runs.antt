@@ -1,9 +1,9 @@
 -- Runs of one link, turn by turn, and what its hosts may do in them (our choice).
 use Rattle.std.specs.Prelude.{ℕ, ◌+◌, List, [], ◌∷◌, Option, Some, None, length, ⊤}
-use Rattle.link_model.specs.Setup.{Setup}
-use Rattle.link_model.specs.Facts.{Facts, first_facts}
-use Rattle.link_model.specs.End.{facts_after}
-use Rattle.link_model.specs.Step.{Step}
+use Rattle.link_pairs.specs.link_model.Setup.{Setup}
+use Rattle.link_pairs.specs.link_model.Facts.{Facts, first_facts}
+use Rattle.link_pairs.specs.link_model.End.{facts_after}
+use Rattle.link_pairs.specs.link_model.Step.{Step}
 use Rattle.link_pairs.specs.Hosts.{MayHost}
 use Rattle.link_runs.specs.Turn.{Ends, Given, ends_after_turn}
 

@@ -2,13 +2,13 @@
 -- 5.2, volume 6 part B, sections 4.5 and 5.1; the order is our choice).
 use Rattle.std.specs.Prelude.{ℕ, ◌+◌, ◌==◌, ◌&&◌, Bool, true, false, List, Option, Some, None, is_none, fold, if◌then◌else◌}
 use Rattle.instants.specs.Track.{next_anchor_of}
-use Rattle.link_model.specs.Setup.{Setup}
-use Rattle.link_model.specs.Facts.{Facts}
-use Rattle.link_model.specs.End.{facts_after}
-use Rattle.link_model.specs.Packets.{packet_sent}
-use Rattle.link_model.specs.Receiving.{replies_of}
-use Rattle.link_model.specs.Step.{Step, DataReported}
-use Rattle.link_model.specs.Times.{due_of, ending_of, has_second_exchange, wants_of}
+use Rattle.link_pairs.specs.link_model.Setup.{Setup}
+use Rattle.link_pairs.specs.link_model.Facts.{Facts}
+use Rattle.link_pairs.specs.link_model.End.{facts_after}
+use Rattle.link_pairs.specs.link_model.Packets.{packet_sent}
+use Rattle.link_pairs.specs.link_model.Receiving.{replies_of}
+use Rattle.link_pairs.specs.link_model.Step.{Step, DataReported}
+use Rattle.link_pairs.specs.link_model.Times.{due_of, ending_of, has_second_exchange, wants_of}
 use Rattle.link_pairs.specs.Hearing.{answered, received}
 use Rattle.link_pairs.specs.Turns.{central_begun, entered_in, prepared}
 

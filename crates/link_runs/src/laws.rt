@@ -1,10 +1,10 @@
 //! Laws of whole runs of one link. The bodies only call the laws that they rest on: the contracts
 //! are the laws.
 ghost use Rattle.std.specs.Prelude.{◌≡◌, ℕ, true, false, List, Some};
-ghost use Rattle.link_model.specs.OneLink.{AreInAgreement};
-ghost use Rattle.link_model.specs.Setup.{Setup};
-ghost use Rattle.link_model.specs.Facts.{Facts};
-ghost use Rattle.link_model.specs.Times.{due_of};
+ghost use Rattle.link_pairs.specs.link_model.OneLink.{AreInAgreement};
+ghost use Rattle.link_pairs.specs.link_model.Setup.{Setup};
+ghost use Rattle.link_pairs.specs.link_model.Facts.{Facts};
+ghost use Rattle.link_pairs.specs.link_model.Times.{due_of};
 ghost use Rattle.link_pairs.specs.Ends.{AreEnds, is_lasting};
 ghost use Rattle.link_pairs.specs.Shown.{AreLinked};
 ghost use Rattle.link_pairs.specs.Sound.{AreSoundEnds};

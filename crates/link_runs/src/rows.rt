@@ -1,6 +1,6 @@
 //! Worked examples, which the definitions compute.
 ghost use Rattle.std.specs.Prelude.{◌≡◌, ◌++◌, true, false, [], Some, None, is_some};
-ghost use Rattle.link_model.specs.Rows.{central_with, peripheral_with};
+ghost use Rattle.link_pairs.specs.link_model.Rows.{central_with, peripheral_with};
 ghost use Rattle.link_pairs.specs.Ends.{AreEnds};
 ghost use Rattle.link_runs.specs.Rows.{applied, calm, central_leaves, ended_by_peer, ended_with};
 ghost use Rattle.link_runs.specs.Rows.{ends_before, ends_by, last_heard, none_open};

@@ -16,15 +16,15 @@ use Rattle.enc_phase.specs.declared.facts.Transition.TheVariants.{Ask as AskTran
 use Rattle.enc_phase.specs.Phases.{is_quiet, may_follow, phase_after, phase_starting}
 use Rattle.enc_phase.specs.Taking.{allows, ctrl_class}
 use Rattle.instants.specs.declared.indications.Params.{Params}
-use Rattle.procedure_stages.specs.declared.stages.Progress.{Progress}
-use Rattle.procedure_stages.specs.declared.stages.Progress.TheVariants.{Central as central, Peripheral as peripheral}
-use Rattle.procedure_stages.specs.Kinds.{role_of}
-use Rattle.procedure_stages.specs.Opcodes.{enc_req_opcode}
-use Rattle.procedures.specs.Beginning.{begin_step}
-use Rattle.procedures.specs.Calls.{takes}
-use Rattle.procedures.specs.Encryption.{is_rejection, progress_given}
-use Rattle.procedures.specs.Table.{TableFacts}
-use Rattle.procedures.specs.Taking.{took_step}
+use Rattle.table_laws.specs.procedure_stages.declared.stages.Progress.{Progress}
+use Rattle.table_laws.specs.procedure_stages.declared.stages.Progress.TheVariants.{Central as central, Peripheral as peripheral}
+use Rattle.table_laws.specs.procedure_stages.Kinds.{role_of}
+use Rattle.table_laws.specs.procedure_stages.Opcodes.{enc_req_opcode}
+use Rattle.table_laws.specs.procedures.Beginning.{begin_step}
+use Rattle.table_laws.specs.procedures.Calls.{takes}
+use Rattle.table_laws.specs.procedures.Encryption.{is_rejection, progress_given}
+use Rattle.table_laws.specs.procedures.Table.{TableFacts}
+use Rattle.table_laws.specs.procedures.Taking.{took_step}
 use Rattle.table_laws.specs.Encrypting.{MayBeginBy, MayEndBy, has_encryption}
 use Rattle.control_model.specs.Control.{Control, Step, after, after_all}
 use Rattle.control_model.specs.Control.{Enters as control_enters, Owes, SeesAcknowledged as control_sees_acknowledged, Sends as control_sends, Takes as control_takes, Asks as control_asks, Answers as control_answers, Disconnects as control_disconnects}

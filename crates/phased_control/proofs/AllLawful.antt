@@ -6,11 +6,11 @@ use Rattle.ble_base.specs.declared.roles.Role.{Role}
 use Rattle.ble_base.specs.declared.roles.Role.TheVariants.{Central}
 use Rattle.data_pdu.specs.declared.ctrl.CtrlRead.TheVariants.{Bare}
 use Rattle.instants.specs.declared.indications.Params.{Params}
-use Rattle.procedure_stages.specs.Kinds.{own_kind}
-use Rattle.procedure_stages.specs.Queue.{waiting_in}
-use Rattle.procedures.specs.Beginning.{begin_step}
-use Rattle.procedures.specs.Calls.{Call, after_calls, takes}
-use Rattle.procedures.specs.Table.{TableFacts, first_facts}
+use Rattle.table_laws.specs.procedure_stages.Kinds.{own_kind}
+use Rattle.table_laws.specs.procedure_stages.Queue.{waiting_in}
+use Rattle.table_laws.specs.procedures.Beginning.{begin_step}
+use Rattle.table_laws.specs.procedures.Calls.{Call, after_calls, takes}
+use Rattle.table_laws.specs.procedures.Table.{TableFacts, first_facts}
 use Rattle.table_laws.specs.Encrypting.{has_encryption}
 use Rattle.table_laws.specs.Pasts.{MayAll, is_key_asked, key_after_calls}
 use Rattle.table_laws.specs.Quiet.{PassesPhase, first_pdus_waiting}
@@ -25,7 +25,7 @@ use Rattle.phased_control.proofs.Calling.{keys_joined, makes_phased}
 use Rattle.phased_control.proofs.Extending.{At, Fine, extends, fine_none}
 use Rattle.phased_control.proofs.Moving.{open_phased, same_after}
 use Rattle.phased_control.proofs.Waiting.{InOrder, order_after, order_first}
-use Rattle.procedure_stages.specs.InProgress.{has_peer}
+use Rattle.table_laws.specs.procedure_stages.InProgress.{has_peer}
 use Rattle.table_laws.specs.Exclusive.{AllKeepRules}
 use Rattle.table_laws.proofs.Bounds.{all_after}
 use Rattle.table_laws.proofs.Quiet.{begins_none_after, first_after, own_after, peer_after}

@@ -4,14 +4,14 @@ use Rattle.ble_base.specs.ErrorCodes.{instant_passed}
 use Rattle.ble_base.specs.declared.error_codes.ErrCode.{ErrCode}
 use Rattle.instants.specs.declared.indications.Indication.{Indication}
 use Rattle.instants.specs.Track.{event_of, track_after_take}
-use Rattle.procedure_values.specs.Drafts.{is_out}
-use Rattle.procedure_stages.specs.Closing.{is_open}
-use Rattle.procedure_stages.specs.InProgress.{is_host_asked}
-use Rattle.procedure_stages.specs.Kinds.{role_of}
-use Rattle.procedures.specs.Calls.{Call, after_call, after_calls, disconnects, host_answers, is_acked, sends, takes}
-use Rattle.procedures.specs.Going.{is_answer}
-use Rattle.procedures.specs.Table.{TableFacts}
-use Rattle.procedures.specs.Taking.{took_step}
+use Rattle.table_laws.specs.procedure_values.Drafts.{is_out}
+use Rattle.table_laws.specs.procedure_stages.Closing.{is_open}
+use Rattle.table_laws.specs.procedure_stages.InProgress.{is_host_asked}
+use Rattle.table_laws.specs.procedure_stages.Kinds.{role_of}
+use Rattle.table_laws.specs.procedures.Calls.{Call, after_call, after_calls, disconnects, host_answers, is_acked, sends, takes}
+use Rattle.table_laws.specs.procedures.Going.{is_answer}
+use Rattle.table_laws.specs.procedures.Table.{TableFacts}
+use Rattle.table_laws.specs.procedures.Taking.{took_step}
 use Rattle.table_laws.specs.Pasts.{MayAll, key_after_call, key_after_calls}
 use Rattle.control_model.specs.Control.{Control, Step, Answers, Asks, Disconnects, Enters, Owes, SeesAcknowledged, Sends, Takes, after, after_all, ended, goes_out, indicated_by, is_to_come, moved, taken, went}
 use Rattle.phased_control.specs.Calls.{AllPassPhase, all_calls, all_phased_calls, call_if, calls_now, calls_of}

@@ -16,8 +16,8 @@ use Rattle.enc_phase.specs.declared.facts.Transition.TheVariants.{Ask as AskTran
 use Rattle.enc_phase.specs.Phases.{is_quiet, may_follow, phase_after}
 use Rattle.enc_phase.specs.Taking.{allows, ctrl_class}
 use Rattle.instants.specs.declared.indications.Params.{Params}
-use Rattle.procedure_stages.specs.Opcodes.{enc_req_opcode}
-use Rattle.procedures.specs.Beginning.{begin_step}
+use Rattle.table_laws.specs.procedure_stages.Opcodes.{enc_req_opcode}
+use Rattle.table_laws.specs.procedures.Beginning.{begin_step}
 use Rattle.control_model.specs.Control.{Step}
 use Rattle.control_model.specs.Control.{Enters as control_enters, SeesAcknowledged as control_sees_acknowledged, Takes as control_takes}
 use Rattle.phased_control.specs.Phased.{Phased, acknowledged, ask_begun, asking_if, asks_again, encrypting, encrypting_if, entered, first_phased, is_encrypt, is_open_now, is_pause_rsp, is_quiet_now, key_given, refused_if, request_of, table_entered, with_step}

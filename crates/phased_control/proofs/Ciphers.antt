@@ -9,28 +9,28 @@ use Rattle.data_pdu.specs.declared.ctrl.Ctrl.{Ctrl}
 use Rattle.data_pdu.specs.declared.ctrl.CtrlRead.{CtrlRead}
 use Rattle.instants.specs.declared.indications.Indication.{Indication}
 use Rattle.instants.specs.Track.{event_of, next_number, track_after_take}
-use Rattle.procedure_values.specs.declared.asks.Ask.{Ask}
-use Rattle.procedure_values.specs.declared.asks.Ask.TheVariants.{Update as ask_update, Request as ask_request, Map as ask_map, Phy as ask_phy, Features as ask_features, Version as ask_version, Length as ask_length, Encrypt as ask_encrypt}
-use Rattle.procedure_values.specs.declared.drafts.Draft.{Draft}
-use Rattle.procedure_values.specs.declared.drafts.Draft.TheVariants.{Cipher, Grant}
-use Rattle.procedure_values.specs.declared.drafts.Outgoing.{Outgoing}
-use Rattle.procedure_values.specs.declared.drafts.Outgoing.TheVariants.{Nothing, Other}
-use Rattle.procedure_values.specs.Drafts.{is_out, waits_for_instant}
-use Rattle.procedure_values.specs.declared.lengths.Lengths.{Lengths}
-use Rattle.procedure_stages.specs.declared.closing.Closing.{Closing}
-use Rattle.procedure_values.specs.declared.drafts.Rejection.{Rejection as TheRejection}
-use Rattle.procedure_stages.specs.declared.reply.Reply.{Reply}
-use Rattle.procedure_stages.specs.declared.reply.Reply.TheVariants.{Answer, Nothing as no_reply, Reject}
-use Rattle.procedure_stages.specs.declared.stages.Progress.{Progress}
-use Rattle.procedure_stages.specs.Begun.{draft_begun}
-use Rattle.procedure_stages.specs.Closing.{is_disconnecting, is_open}
-use Rattle.procedure_stages.specs.InProgress.{is_host_asked}
-use Rattle.procedure_stages.specs.Kinds.{role_of}
-use Rattle.procedure_stages.specs.Queue.{QueueFacts, is_past_instant, next_draft, next_in, with_reply, without_next}
-use Rattle.procedures.specs.Beginning.{ask_at, begin_at, place_to_begin, with_first_draft}
-use Rattle.procedures.specs.Going.{entered_step, host_answer_step, is_answer, terminate_step}
-use Rattle.procedures.specs.Table.{TableFacts}
-use Rattle.procedures.specs.Taking.{facts_with, outcome_of}
+use Rattle.table_laws.specs.procedure_values.declared.asks.Ask.{Ask}
+use Rattle.table_laws.specs.procedure_values.declared.asks.Ask.TheVariants.{Update as ask_update, Request as ask_request, Map as ask_map, Phy as ask_phy, Features as ask_features, Version as ask_version, Length as ask_length, Encrypt as ask_encrypt}
+use Rattle.table_laws.specs.procedure_values.declared.drafts.Draft.{Draft}
+use Rattle.table_laws.specs.procedure_values.declared.drafts.Draft.TheVariants.{Cipher, Grant}
+use Rattle.table_laws.specs.procedure_values.declared.drafts.Outgoing.{Outgoing}
+use Rattle.table_laws.specs.procedure_values.declared.drafts.Outgoing.TheVariants.{Nothing, Other}
+use Rattle.table_laws.specs.procedure_values.Drafts.{is_out, waits_for_instant}
+use Rattle.table_laws.specs.procedure_values.declared.lengths.Lengths.{Lengths}
+use Rattle.table_laws.specs.procedure_stages.declared.closing.Closing.{Closing}
+use Rattle.table_laws.specs.procedure_values.declared.drafts.Rejection.{Rejection as TheRejection}
+use Rattle.table_laws.specs.procedure_stages.declared.reply.Reply.{Reply}
+use Rattle.table_laws.specs.procedure_stages.declared.reply.Reply.TheVariants.{Answer, Nothing as no_reply, Reject}
+use Rattle.table_laws.specs.procedure_stages.declared.stages.Progress.{Progress}
+use Rattle.table_laws.specs.procedure_stages.Begun.{draft_begun}
+use Rattle.table_laws.specs.procedure_stages.Closing.{is_disconnecting, is_open}
+use Rattle.table_laws.specs.procedure_stages.InProgress.{is_host_asked}
+use Rattle.table_laws.specs.procedure_stages.Kinds.{role_of}
+use Rattle.table_laws.specs.procedure_stages.Queue.{QueueFacts, is_past_instant, next_draft, next_in, with_reply, without_next}
+use Rattle.table_laws.specs.procedures.Beginning.{ask_at, begin_at, place_to_begin, with_first_draft}
+use Rattle.table_laws.specs.procedures.Going.{entered_step, host_answer_step, is_answer, terminate_step}
+use Rattle.table_laws.specs.procedures.Table.{TableFacts}
+use Rattle.table_laws.specs.procedures.Taking.{facts_with, outcome_of}
 use Rattle.table_laws.proofs.Outcomes.{is_reply, took}
 use Rattle.control_model.specs.Control.{Control, Step, Enters, Asks, Answers, Disconnects, Sends, SeesAcknowledged, Takes, Owes, after, ended, following, goes_out, indicated_by, is_to_come, moved, table_if, taken, went}
 use Rattle.control_model.proofs.Calls.{any_step, either_way, took_by}

@@ -12,16 +12,16 @@ use Rattle.enc_phase.specs.declared.facts.PhaseFacts.{PhaseFacts}
 use Rattle.enc_phase.specs.declared.facts.PhaseFacts.TheVariants.{Clear, Asked, HalfKeyed, Secure, Pausing, HalfClear}
 use Rattle.enc_phase.specs.Phases.{is_quiet}
 use Rattle.enc_phase.specs.Taking.{allows, ctrl_class, is_unknown, phase_taking}
-use Rattle.procedure_stages.specs.declared.stages.Peripheral.{Peripheral as ThePeripheral}
-use Rattle.procedure_stages.specs.declared.stages.Progress.{Progress}
-use Rattle.procedure_stages.specs.declared.stages.Progress.TheVariants.{Central as central, Peripheral as peripheral}
-use Rattle.procedure_stages.specs.declared.steps.Step.{Step}
-use Rattle.procedure_stages.specs.Closing.{is_open}
-use Rattle.procedure_stages.specs.Kinds.{role_of}
-use Rattle.procedure_stages.specs.Queue.{waiting_in}
-use Rattle.procedures.specs.Calls.{takes}
-use Rattle.procedures.specs.Table.{TableFacts}
-use Rattle.procedures.specs.Taking.{facts_with, lacks_room, no_room, outcome_of, took_step}
+use Rattle.table_laws.specs.procedure_stages.declared.stages.Peripheral.{Peripheral as ThePeripheral}
+use Rattle.table_laws.specs.procedure_stages.declared.stages.Progress.{Progress}
+use Rattle.table_laws.specs.procedure_stages.declared.stages.Progress.TheVariants.{Central as central, Peripheral as peripheral}
+use Rattle.table_laws.specs.procedure_stages.declared.steps.Step.{Step}
+use Rattle.table_laws.specs.procedure_stages.Closing.{is_open}
+use Rattle.table_laws.specs.procedure_stages.Kinds.{role_of}
+use Rattle.table_laws.specs.procedure_stages.Queue.{waiting_in}
+use Rattle.table_laws.specs.procedures.Calls.{takes}
+use Rattle.table_laws.specs.procedures.Table.{TableFacts}
+use Rattle.table_laws.specs.procedures.Taking.{facts_with, lacks_room, no_room, outcome_of, took_step}
 use Rattle.table_laws.specs.Encrypting.{BeginsAtPeripheral, EndsAtCentral, EndsAtPeripheral, MayBeginBy, MayEndBy, has_encryption}
 use Rattle.table_laws.proofs.Encrypting.{begins_by, ended, ends_by}
 use Rattle.phased_control.specs.Taken.{class_of_read, seen_if}

@@ -11,30 +11,30 @@ use Rattle.data_pdu.specs.declared.ctrl.Ctrl.TheVariants.{EncReq, PauseEncReq, T
 use Rattle.data_pdu.specs.declared.ctrl.CtrlRead.TheVariants.{Bare}
 use Rattle.instants.specs.declared.indications.Indication.{Indication}
 use Rattle.instants.specs.Track.{next_number, track_after_take}
-use Rattle.procedure_values.specs.declared.asks.Ask.{Ask}
-use Rattle.procedure_values.specs.declared.asks.Ask.TheVariants.{Update as ask_update}
-use Rattle.procedure_values.specs.declared.drafts.Draft.{Draft}
-use Rattle.procedure_values.specs.declared.drafts.Draft.TheVariants.{Cipher, FeatureReq, LengthReq, Map, PeripheralFeatureReq, PhyReq, Request, Update}
-use Rattle.procedure_values.specs.Drafts.{is_out}
-use Rattle.procedure_stages.specs.declared.closing.Closing.{Closing}
-use Rattle.procedure_stages.specs.declared.closing.Closing.TheVariants.{Closed, Disconnecting, Open}
-use Rattle.procedure_stages.specs.declared.stages.OwnCentral.{OwnCentral}
-use Rattle.procedure_stages.specs.declared.stages.OwnCentral.TheVariants.{EncryptSent, EncryptUnsent}
-use Rattle.procedure_stages.specs.declared.stages.Progress.{Progress}
-use Rattle.procedure_stages.specs.declared.stages.Progress.TheVariants.{Central as central, Peripheral as peripheral}
-use Rattle.procedure_stages.specs.declared.steps.Effect.{Effect}
-use Rattle.procedure_stages.specs.declared.steps.Effect.TheVariants.{PeerEnds}
-use Rattle.procedure_stages.specs.Awaited.{is_own_encryption}
-use Rattle.procedure_stages.specs.Closing.{is_open}
-use Rattle.procedure_stages.specs.InProgress.{is_host_asked}
-use Rattle.procedure_stages.specs.Kinds.{kind_at_central, own_kind, role_of}
-use Rattle.procedure_stages.specs.Steps.{closing_after}
-use Rattle.procedures.specs.Beginning.{ask_at, begin_at, place_to_begin}
-use Rattle.procedures.specs.Calls.{Call, after_calls, is_given, takes}
-use Rattle.procedures.specs.Going.{closing_given, entered_step, host_answer_step, is_answer, terminate_step}
-use Rattle.procedures.specs.Sending.{acked_step}
-use Rattle.procedures.specs.Table.{TableFacts, first_facts}
-use Rattle.procedures.specs.Taking.{facts_with, outcome_of}
+use Rattle.table_laws.specs.procedure_values.declared.asks.Ask.{Ask}
+use Rattle.table_laws.specs.procedure_values.declared.asks.Ask.TheVariants.{Update as ask_update}
+use Rattle.table_laws.specs.procedure_values.declared.drafts.Draft.{Draft}
+use Rattle.table_laws.specs.procedure_values.declared.drafts.Draft.TheVariants.{Cipher, FeatureReq, LengthReq, Map, PeripheralFeatureReq, PhyReq, Request, Update}
+use Rattle.table_laws.specs.procedure_values.Drafts.{is_out}
+use Rattle.table_laws.specs.procedure_stages.declared.closing.Closing.{Closing}
+use Rattle.table_laws.specs.procedure_stages.declared.closing.Closing.TheVariants.{Closed, Disconnecting, Open}
+use Rattle.table_laws.specs.procedure_stages.declared.stages.OwnCentral.{OwnCentral}
+use Rattle.table_laws.specs.procedure_stages.declared.stages.OwnCentral.TheVariants.{EncryptSent, EncryptUnsent}
+use Rattle.table_laws.specs.procedure_stages.declared.stages.Progress.{Progress}
+use Rattle.table_laws.specs.procedure_stages.declared.stages.Progress.TheVariants.{Central as central, Peripheral as peripheral}
+use Rattle.table_laws.specs.procedure_stages.declared.steps.Effect.{Effect}
+use Rattle.table_laws.specs.procedure_stages.declared.steps.Effect.TheVariants.{PeerEnds}
+use Rattle.table_laws.specs.procedure_stages.Awaited.{is_own_encryption}
+use Rattle.table_laws.specs.procedure_stages.Closing.{is_open}
+use Rattle.table_laws.specs.procedure_stages.InProgress.{is_host_asked}
+use Rattle.table_laws.specs.procedure_stages.Kinds.{kind_at_central, own_kind, role_of}
+use Rattle.table_laws.specs.procedure_stages.Steps.{closing_after}
+use Rattle.table_laws.specs.procedures.Beginning.{ask_at, begin_at, place_to_begin}
+use Rattle.table_laws.specs.procedures.Calls.{Call, after_calls, is_given, takes}
+use Rattle.table_laws.specs.procedures.Going.{closing_given, entered_step, host_answer_step, is_answer, terminate_step}
+use Rattle.table_laws.specs.procedures.Sending.{acked_step}
+use Rattle.table_laws.specs.procedures.Table.{TableFacts, first_facts}
+use Rattle.table_laws.specs.procedures.Taking.{facts_with, outcome_of}
 use Rattle.table_laws.specs.Encrypting.{has_encryption}
 use Rattle.table_laws.specs.Pasts.{May, MayAll, is_key_asked, key_after_call, key_after_calls, key_after_given}
 use Rattle.table_laws.specs.Quiet.{PassesPhase, first_pdus_waiting, is_first_pdu}

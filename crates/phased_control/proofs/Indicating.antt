@@ -9,10 +9,10 @@ use Rattle.instants.specs.declared.indications.Params.{Params}
 use Rattle.instants.specs.declared.track.Change.{Change}
 use Rattle.instants.specs.Parameters.{win_offset_of}
 use Rattle.instants.specs.Track.{event_of}
-use Rattle.procedure_values.specs.declared.drafts.Draft.{Draft}
-use Rattle.procedure_values.specs.declared.drafts.Outgoing.TheVariants.{Other}
-use Rattle.procedure_values.specs.Drafts.{waits_for_instant}
-use Rattle.procedures.specs.Queue.{next_of}
+use Rattle.table_laws.specs.procedure_values.declared.drafts.Draft.{Draft}
+use Rattle.table_laws.specs.procedure_values.declared.drafts.Outgoing.TheVariants.{Other}
+use Rattle.table_laws.specs.procedure_values.Drafts.{waits_for_instant}
+use Rattle.table_laws.specs.procedures.Queue.{next_of}
 use Rattle.two_tracks.specs.TwoEnds.{MayIndicateIf, TwoEnds}
 use Rattle.control_model.specs.Control.{Control, Step, after_all, first_control, went}
 use Rattle.control_model.specs.Waits.{AreInRange, last_event_of, last_instant_of}

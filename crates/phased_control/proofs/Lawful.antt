@@ -20,29 +20,29 @@ use Rattle.enc_phase.specs.declared.facts.Transition.TheVariants.{Ask as AskTran
 use Rattle.enc_phase.specs.Phases.{is_quiet, may_follow, phase_after}
 use Rattle.enc_phase.specs.Taking.{allows, ctrl_class, is_unknown}
 use Rattle.instants.specs.Track.{event_of, next_number}
-use Rattle.procedure_values.specs.declared.asks.Ask.{Ask}
-use Rattle.procedure_values.specs.Drafts.{is_out}
-use Rattle.procedure_stages.specs.declared.stages.OwnPeripheral.{OwnPeripheral}
-use Rattle.procedure_stages.specs.declared.stages.OwnPeripheral.TheVariants.{Exclusive as exclusive_p, Exchange as exchange_p}
-use Rattle.procedure_stages.specs.declared.stages.Exchange.TheVariants.{FeaturesSent, FeaturesUnsent, LengthSent, LengthUnsent, VersionSent, VersionUnsent}
+use Rattle.table_laws.specs.procedure_values.declared.asks.Ask.{Ask}
+use Rattle.table_laws.specs.procedure_values.Drafts.{is_out}
+use Rattle.table_laws.specs.procedure_stages.declared.stages.OwnPeripheral.{OwnPeripheral}
+use Rattle.table_laws.specs.procedure_stages.declared.stages.OwnPeripheral.TheVariants.{Exclusive as exclusive_p, Exchange as exchange_p}
+use Rattle.table_laws.specs.procedure_stages.declared.stages.Exchange.TheVariants.{FeaturesSent, FeaturesUnsent, LengthSent, LengthUnsent, VersionSent, VersionUnsent}
 use Rattle.exclusive_stages.specs.declared.stages.PeripheralStage.TheVariants.{Idle as idle, PhySent as phy_sent, PhyUnsent as phy_unsent}
-use Rattle.procedure_stages.specs.declared.stages.OwnCentral.{OwnCentral}
-use Rattle.procedure_stages.specs.declared.stages.OwnCentral.TheVariants.{Exclusive as exclusive, Exchange as exchange, EncryptSent, EncryptUnsent}
+use Rattle.table_laws.specs.procedure_stages.declared.stages.OwnCentral.{OwnCentral}
+use Rattle.table_laws.specs.procedure_stages.declared.stages.OwnCentral.TheVariants.{Exclusive as exclusive, Exchange as exchange, EncryptSent, EncryptUnsent}
 use Rattle.exclusive_stages.specs.declared.stages.CentralStage.TheVariants.{Idle, UpdateUnsent, UpdateSent, MapUnsent, MapSent, PhyUnsent, PhySent, PhyAnswered, PhyIndicated}
-use Rattle.procedure_stages.specs.declared.stages.Progress.{Progress}
-use Rattle.procedure_stages.specs.declared.stages.Progress.TheVariants.{Central as central, Peripheral as peripheral}
-use Rattle.procedure_stages.specs.Awaited.{is_own_encryption}
-use Rattle.procedure_stages.specs.Closing.{is_open}
-use Rattle.procedure_stages.specs.InProgress.{is_host_asked}
-use Rattle.procedure_stages.specs.Kinds.{kind_at_central, kind_at_peripheral, own_kind, role_of}
-use Rattle.procedure_stages.specs.Opcodes.{enc_req_opcode}
-use Rattle.procedure_stages.specs.Queue.{QueueFacts}
-use Rattle.procedures.specs.Beginning.{begin_step}
-use Rattle.procedures.specs.Calls.{Call, disconnects, enters, host_answers, is_acked, sends, takes}
-use Rattle.procedures.specs.Going.{is_answer}
-use Rattle.procedures.specs.Sending.{acked_step}
-use Rattle.procedures.specs.Table.{TableFacts}
-use Rattle.procedures.specs.Taking.{took_step}
+use Rattle.table_laws.specs.procedure_stages.declared.stages.Progress.{Progress}
+use Rattle.table_laws.specs.procedure_stages.declared.stages.Progress.TheVariants.{Central as central, Peripheral as peripheral}
+use Rattle.table_laws.specs.procedure_stages.Awaited.{is_own_encryption}
+use Rattle.table_laws.specs.procedure_stages.Closing.{is_open}
+use Rattle.table_laws.specs.procedure_stages.InProgress.{is_host_asked}
+use Rattle.table_laws.specs.procedure_stages.Kinds.{kind_at_central, kind_at_peripheral, own_kind, role_of}
+use Rattle.table_laws.specs.procedure_stages.Opcodes.{enc_req_opcode}
+use Rattle.table_laws.specs.procedure_stages.Queue.{QueueFacts}
+use Rattle.table_laws.specs.procedures.Beginning.{begin_step}
+use Rattle.table_laws.specs.procedures.Calls.{Call, disconnects, enters, host_answers, is_acked, sends, takes}
+use Rattle.table_laws.specs.procedures.Going.{is_answer}
+use Rattle.table_laws.specs.procedures.Sending.{acked_step}
+use Rattle.table_laws.specs.procedures.Table.{TableFacts}
+use Rattle.table_laws.specs.procedures.Taking.{took_step}
 use Rattle.table_laws.specs.Encrypting.{has_encryption}
 use Rattle.table_laws.specs.Pasts.{MayAll, MayGive, MayGiveAtCentral, MayGiveAtPeripheral, MayRequest, key_after_calls, key_after_given}
 use Rattle.table_laws.specs.Waiting.{is_encryption_request, is_own_request, number_of, own_waiting}

@@ -10,12 +10,12 @@ use Rattle.data_pdu.specs.declared.ctrl.Ctrl.{Ctrl}
 use Rattle.data_pdu.specs.declared.ctrl.CtrlRead.{CtrlRead}
 use Rattle.data_pdu.specs.declared.ctrl.CtrlRead.TheVariants.{Known}
 use Rattle.enc_phase.specs.Taking.{allows, is_unknown}
-use Rattle.procedure_stages.specs.Closing.{is_open}
-use Rattle.procedure_stages.specs.Kinds.{own_kind, role_of}
-use Rattle.procedure_stages.specs.Queue.{QueueFacts, waiting_in}
-use Rattle.procedures.specs.Calls.{Call, takes}
-use Rattle.procedures.specs.Table.{TableFacts}
-use Rattle.procedures.specs.Taking.{took_step}
+use Rattle.table_laws.specs.procedure_stages.Closing.{is_open}
+use Rattle.table_laws.specs.procedure_stages.Kinds.{own_kind, role_of}
+use Rattle.table_laws.specs.procedure_stages.Queue.{QueueFacts, waiting_in}
+use Rattle.table_laws.specs.procedures.Calls.{Call, takes}
+use Rattle.table_laws.specs.procedures.Table.{TableFacts}
+use Rattle.table_laws.specs.procedures.Taking.{took_step}
 use Rattle.table_laws.specs.Encrypting.{has_encryption}
 use Rattle.table_laws.specs.Pasts.{HasRoomToAnswer, May, key_after_calls}
 use Rattle.table_laws.specs.Quiet.{first_pdus_waiting}
@@ -37,9 +37,9 @@ use Rattle.phased_control.proofs.Requests.{encrypts}
 use Rattle.phased_control.proofs.Rooms.{AreAnswers, answers_of, room_left, same_queue}
 use Rattle.control_model.proofs.Moving.{same_role}
 use Rattle.phased_control.proofs.Tables.{takes_as}
-use Rattle.procedures.specs.declared.outcome.Outcome.{Outcome}
-use Rattle.procedure_stages.specs.declared.steps.Step.{Step as TableStep}
-use Rattle.procedures.specs.Taking.{facts_with, lacks_room, no_room, outcome_of}
+use Rattle.table_laws.specs.procedures.declared.outcome.Outcome.{Outcome}
+use Rattle.table_laws.specs.procedure_stages.declared.steps.Step.{Step as TableStep}
+use Rattle.table_laws.specs.procedures.Taking.{facts_with, lacks_room, no_room, outcome_of}
 use Rattle.table_laws.proofs.Outcomes.{took as took_outcome}
 use Rattle.phased_control.proofs.Extending.{opens_before}
 use Rattle.phased_control.proofs.Lawful.{Fits, KeyFits, answered_in, has_of_kind, key_answered, key_single, none_of_kind, runs_on}

@@ -21,3 +21,6 @@ pub mod Taking
 pub mod Unknown
 pub mod Unpaused
 pub mod Waiting
+-- what the crates above use of those below
+pub use Rattle.control_model.proofs as control_model
+pub use Rattle.table_laws.proofs as table_laws

@@ -6,7 +6,7 @@ use Rattle.ble_base.specs.declared.roles.Role.{Role}
 use Rattle.ble_base.specs.declared.roles.Role.TheVariants.{Peripheral}
 use Rattle.instants.specs.declared.indications.Indication.{Indication}
 use Rattle.instants.specs.declared.indications.Params.{Params}
-use Rattle.procedure_stages.specs.Kinds.{role_of}
+use Rattle.table_laws.specs.procedure_stages.Kinds.{role_of}
 use Rattle.data_pdu.specs.declared.ctrl.Ctrl.{Ctrl}
 use Rattle.data_pdu.specs.declared.ctrl.Ctrl.TheVariants.{RejectExtInd, StartEncReq, TerminateInd}
 use Rattle.data_pdu.specs.declared.ctrl.CtrlRead.{CtrlRead}
@@ -16,9 +16,9 @@ use Rattle.enc_phase.specs.declared.facts.PhaseFacts.TheVariants.{Clear}
 use Rattle.enc_phase.specs.declared.facts.Transition.TheVariants.{Refuse}
 use Rattle.enc_phase.specs.Phases.{may_follow}
 use Rattle.enc_phase.specs.Taking.{allows}
-use Rattle.procedure_stages.specs.Opcodes.{enc_req_opcode}
-use Rattle.procedures.specs.Beginning.{begin_step}
-use Rattle.procedures.specs.Taking.{took_step}
+use Rattle.table_laws.specs.procedure_stages.Opcodes.{enc_req_opcode}
+use Rattle.table_laws.specs.procedures.Beginning.{begin_step}
+use Rattle.table_laws.specs.procedures.Taking.{took_step}
 use Rattle.control_model.specs.Control.{Control, Step, after, after_all, ended, first_control, indicated_by}
 use Rattle.control_model.specs.Control.{Enters as control_enters, SeesAcknowledged as control_sees_acknowledged}
 use Rattle.control_model.specs.Waits.{kind_awaited, kind_waiting}

@@ -17,15 +17,15 @@ use Rattle.enc_phase.specs.Phases.{may_follow, phase_after}
 use Rattle.enc_phase.specs.Taking.{allows}
 use Rattle.instants.specs.declared.indications.Params.{Params}
 use Rattle.instants.specs.Track.{next_number}
-use Rattle.procedure_stages.specs.declared.stages.Progress.{Progress}
-use Rattle.procedure_stages.specs.declared.stages.Progress.TheVariants.{Central as central, Peripheral as peripheral}
-use Rattle.procedure_stages.specs.Kinds.{role_of}
-use Rattle.procedure_stages.specs.Opcodes.{enc_req_opcode}
-use Rattle.procedures.specs.Beginning.{begin_step}
-use Rattle.procedures.specs.Calls.{takes}
-use Rattle.procedures.specs.Going.{entered_step}
-use Rattle.procedures.specs.Table.{TableFacts}
-use Rattle.procedures.specs.Taking.{took_step}
+use Rattle.table_laws.specs.procedure_stages.declared.stages.Progress.{Progress}
+use Rattle.table_laws.specs.procedure_stages.declared.stages.Progress.TheVariants.{Central as central, Peripheral as peripheral}
+use Rattle.table_laws.specs.procedure_stages.Kinds.{role_of}
+use Rattle.table_laws.specs.procedure_stages.Opcodes.{enc_req_opcode}
+use Rattle.table_laws.specs.procedures.Beginning.{begin_step}
+use Rattle.table_laws.specs.procedures.Calls.{takes}
+use Rattle.table_laws.specs.procedures.Going.{entered_step}
+use Rattle.table_laws.specs.procedures.Table.{TableFacts}
+use Rattle.table_laws.specs.procedures.Taking.{took_step}
 use Rattle.table_laws.specs.Encrypting.{MayBeginBy, has_encryption}
 use Rattle.table_laws.proofs.Encrypting.{begins_by}
 use Rattle.control_model.specs.Control.{Control, Step, after, after_all, moved}

@@ -10,18 +10,18 @@ use Rattle.enc_phase.specs.declared.facts.PhaseFacts.{PhaseFacts}
 use Rattle.enc_phase.specs.declared.facts.PhaseFacts.TheVariants.{Clear, Asked, HalfKeyed, Secure, Pausing, HalfClear}
 use Rattle.enc_phase.specs.Phases.{is_quiet}
 use Rattle.enc_phase.specs.Taking.{is_unknown, phase_taking}
-use Rattle.procedure_stages.specs.declared.reply.Reply.{Reply}
-use Rattle.procedure_stages.specs.declared.reply.Reply.TheVariants.{Nothing as no_reply}
-use Rattle.procedure_stages.specs.declared.stages.Central.{Central as TheCentral}
-use Rattle.procedure_stages.specs.declared.stages.Peripheral.{Peripheral as ThePeripheral}
-use Rattle.procedure_stages.specs.declared.stages.Progress.{Progress}
-use Rattle.procedure_stages.specs.declared.stages.Progress.TheVariants.{Central as central, Peripheral as peripheral}
-use Rattle.procedure_stages.specs.declared.steps.Step.{Step}
-use Rattle.procedure_stages.specs.Kinds.{role_of}
-use Rattle.procedure_stages.specs.Queue.{with_reply}
-use Rattle.procedures.specs.declared.outcome.Outcome.{Outcome}
-use Rattle.procedures.specs.Table.{TableFacts}
-use Rattle.procedures.specs.Taking.{facts_with, lacks_room, no_room, outcome_of, settled, taken_by, took_step}
+use Rattle.table_laws.specs.procedure_stages.declared.reply.Reply.{Reply}
+use Rattle.table_laws.specs.procedure_stages.declared.reply.Reply.TheVariants.{Nothing as no_reply}
+use Rattle.table_laws.specs.procedure_stages.declared.stages.Central.{Central as TheCentral}
+use Rattle.table_laws.specs.procedure_stages.declared.stages.Peripheral.{Peripheral as ThePeripheral}
+use Rattle.table_laws.specs.procedure_stages.declared.stages.Progress.{Progress}
+use Rattle.table_laws.specs.procedure_stages.declared.stages.Progress.TheVariants.{Central as central, Peripheral as peripheral}
+use Rattle.table_laws.specs.procedure_stages.declared.steps.Step.{Step}
+use Rattle.table_laws.specs.procedure_stages.Kinds.{role_of}
+use Rattle.table_laws.specs.procedure_stages.Queue.{with_reply}
+use Rattle.table_laws.specs.procedures.declared.outcome.Outcome.{Outcome}
+use Rattle.table_laws.specs.procedures.Table.{TableFacts}
+use Rattle.table_laws.specs.procedures.Taking.{facts_with, lacks_room, no_room, outcome_of, settled, taken_by, took_step}
 use Rattle.table_laws.specs.Pasts.{HasRoomToAnswer, MayGive, MayGiveAtCentral, MayGiveAtPeripheral}
 use Rattle.table_laws.proofs.Taken.{few}
 use Rattle.phased_control.specs.Steps.{ctrl_if, read_answer}

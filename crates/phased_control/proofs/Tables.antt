@@ -10,26 +10,26 @@ use Rattle.data_pdu.specs.declared.ctrl.Ctrl.TheVariants.{RejectExtInd}
 use Rattle.data_pdu.specs.declared.ctrl.CtrlRead.{CtrlRead}
 use Rattle.instants.specs.declared.indications.Indication.{Indication}
 use Rattle.instants.specs.Track.{event_of, next_number, track_after_take}
-use Rattle.procedure_values.specs.declared.asks.Ask.{Ask}
-use Rattle.procedure_values.specs.declared.asks.Ask.TheVariants.{Update as ask_update, Request as ask_request, Map as ask_map, Phy as ask_phy, Features as ask_features, Version as ask_version, Length as ask_length, Encrypt as ask_encrypt}
-use Rattle.procedure_values.specs.Asks.{kind_of_ask}
-use Rattle.procedure_values.specs.Drafts.{is_out}
-use Rattle.procedure_stages.specs.declared.stages.OwnCentral.{OwnCentral}
-use Rattle.procedure_stages.specs.declared.stages.OwnCentral.TheVariants.{Exclusive as exclusive, Exchange as exchange, EncryptUnsent, EncryptSent}
-use Rattle.procedure_stages.specs.declared.stages.Progress.{Progress}
-use Rattle.procedure_stages.specs.declared.stages.Progress.TheVariants.{Central as central, Peripheral as peripheral}
-use Rattle.procedure_stages.specs.Awaited.{is_own_encryption}
-use Rattle.procedure_stages.specs.Begun.{progress_begun}
-use Rattle.procedure_stages.specs.Closing.{is_open}
-use Rattle.procedure_stages.specs.InProgress.{is_host_asked}
-use Rattle.procedure_stages.specs.Kinds.{begins, kind_at_central, own_kind, role_of}
-use Rattle.procedures.specs.Beginning.{ask_at, begin_at, begin_step, place_to_begin}
-use Rattle.procedures.specs.Calls.{Call, after_call, begins_one, enters, host_answers, is_acked, is_given, sends, takes}
-use Rattle.procedures.specs.Encryption.{is_rejection, progress_given}
-use Rattle.procedures.specs.Going.{entered_step, is_answer, terminate_step}
-use Rattle.procedures.specs.Queue.{next_of}
-use Rattle.procedures.specs.Table.{TableFacts}
-use Rattle.procedures.specs.Taking.{facts_with, outcome_of, took_step}
+use Rattle.table_laws.specs.procedure_values.declared.asks.Ask.{Ask}
+use Rattle.table_laws.specs.procedure_values.declared.asks.Ask.TheVariants.{Update as ask_update, Request as ask_request, Map as ask_map, Phy as ask_phy, Features as ask_features, Version as ask_version, Length as ask_length, Encrypt as ask_encrypt}
+use Rattle.table_laws.specs.procedure_values.Asks.{kind_of_ask}
+use Rattle.table_laws.specs.procedure_values.Drafts.{is_out}
+use Rattle.table_laws.specs.procedure_stages.declared.stages.OwnCentral.{OwnCentral}
+use Rattle.table_laws.specs.procedure_stages.declared.stages.OwnCentral.TheVariants.{Exclusive as exclusive, Exchange as exchange, EncryptUnsent, EncryptSent}
+use Rattle.table_laws.specs.procedure_stages.declared.stages.Progress.{Progress}
+use Rattle.table_laws.specs.procedure_stages.declared.stages.Progress.TheVariants.{Central as central, Peripheral as peripheral}
+use Rattle.table_laws.specs.procedure_stages.Awaited.{is_own_encryption}
+use Rattle.table_laws.specs.procedure_stages.Begun.{progress_begun}
+use Rattle.table_laws.specs.procedure_stages.Closing.{is_open}
+use Rattle.table_laws.specs.procedure_stages.InProgress.{is_host_asked}
+use Rattle.table_laws.specs.procedure_stages.Kinds.{begins, kind_at_central, own_kind, role_of}
+use Rattle.table_laws.specs.procedures.Beginning.{ask_at, begin_at, begin_step, place_to_begin}
+use Rattle.table_laws.specs.procedures.Calls.{Call, after_call, begins_one, enters, host_answers, is_acked, is_given, sends, takes}
+use Rattle.table_laws.specs.procedures.Encryption.{is_rejection, progress_given}
+use Rattle.table_laws.specs.procedures.Going.{entered_step, is_answer, terminate_step}
+use Rattle.table_laws.specs.procedures.Queue.{next_of}
+use Rattle.table_laws.specs.procedures.Table.{TableFacts}
+use Rattle.table_laws.specs.procedures.Taking.{facts_with, outcome_of, took_step}
 use Rattle.table_laws.specs.Encrypting.{MayBeginBy, MayEndBy, has_encryption}
 use Rattle.table_laws.proofs.Begun.{begins_of}
 use Rattle.table_laws.proofs.Encrypting.{begins_by, ends_by}

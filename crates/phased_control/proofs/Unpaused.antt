@@ -17,10 +17,10 @@ use Rattle.enc_phase.specs.declared.facts.Transition.TheVariants.{Ask as AskTran
 use Rattle.enc_phase.specs.Phases.{is_quiet, may_follow, phase_after}
 use Rattle.enc_phase.specs.Taking.{allows, ctrl_class, phase_taking}
 use Rattle.instants.specs.declared.indications.Params.{Params}
-use Rattle.procedure_values.specs.declared.drafts.Draft.TheVariants.{Cipher}
-use Rattle.procedure_values.specs.declared.drafts.Outgoing.{Outgoing}
-use Rattle.procedure_values.specs.declared.drafts.Outgoing.TheVariants.{Nothing, Other, Rejection, Disconnect}
-use Rattle.procedures.specs.Beginning.{begin_step}
+use Rattle.table_laws.specs.procedure_values.declared.drafts.Draft.TheVariants.{Cipher}
+use Rattle.table_laws.specs.procedure_values.declared.drafts.Outgoing.{Outgoing}
+use Rattle.table_laws.specs.procedure_values.declared.drafts.Outgoing.TheVariants.{Nothing, Other, Rejection, Disconnect}
+use Rattle.table_laws.specs.procedures.Beginning.{begin_step}
 use Rattle.table_laws.specs.Encrypting.{has_encryption}
 use Rattle.control_model.specs.Control.{Control, Step, after_all}
 use Rattle.control_model.specs.Control.{Enters as control_enters, SeesAcknowledged as control_sees_acknowledged, Sends as control_sends, Takes as control_takes, Asks as control_asks, Answers as control_answers, Disconnects as control_disconnects}

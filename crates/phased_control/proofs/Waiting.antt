@@ -19,14 +19,14 @@ use Rattle.enc_phase.specs.declared.facts.Transition.TheVariants.{Ask as AskTran
 use Rattle.enc_phase.specs.Phases.{is_asked, is_quiet, may_follow, phase_after, phase_starting}
 use Rattle.enc_phase.specs.Taking.{allows, ctrl_class, phase_taking}
 use Rattle.instants.specs.declared.indications.Params.{Params}
-use Rattle.procedure_values.specs.declared.drafts.Draft.TheVariants.{Cipher}
-use Rattle.procedure_values.specs.declared.drafts.Outgoing.{Outgoing}
-use Rattle.procedure_values.specs.declared.drafts.Outgoing.TheVariants.{Disconnect, Nothing, Other, Rejection}
-use Rattle.procedure_values.specs.Drafts.{is_out}
-use Rattle.procedure_stages.specs.Closing.{is_open}
-use Rattle.procedure_stages.specs.Opcodes.{enc_req_opcode}
-use Rattle.procedures.specs.Beginning.{begin_step}
-use Rattle.procedures.specs.Sending.{acked_step}
+use Rattle.table_laws.specs.procedure_values.declared.drafts.Draft.TheVariants.{Cipher}
+use Rattle.table_laws.specs.procedure_values.declared.drafts.Outgoing.{Outgoing}
+use Rattle.table_laws.specs.procedure_values.declared.drafts.Outgoing.TheVariants.{Disconnect, Nothing, Other, Rejection}
+use Rattle.table_laws.specs.procedure_values.Drafts.{is_out}
+use Rattle.table_laws.specs.procedure_stages.Closing.{is_open}
+use Rattle.table_laws.specs.procedure_stages.Opcodes.{enc_req_opcode}
+use Rattle.table_laws.specs.procedures.Beginning.{begin_step}
+use Rattle.table_laws.specs.procedures.Sending.{acked_step}
 use Rattle.control_model.specs.Control.{Control, Step, after, after_all, table_if}
 use Rattle.control_model.specs.Control.{Enters as control_enters, Owes, SeesAcknowledged as control_sees_acknowledged, Sends as control_sends, Takes as control_takes, Asks as control_asks, Answers as control_answers, Disconnects as control_disconnects}
 use Rattle.control_model.proofs.Calls.{any_step, open_step}

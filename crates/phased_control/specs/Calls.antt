@@ -1,12 +1,12 @@
 -- Which calls on its table the steps of an end make (our choice).
 use Rattle.std.specs.Prelude.{Bool, ◌&&◌, List, [], ◌∷◌, ◌++◌, is_none, is_some, if◌then◌else◌, ⊤}
 use Rattle.instants.specs.Track.{event_of, next_number}
-use Rattle.procedure_values.specs.Drafts.{is_out}
-use Rattle.procedure_stages.specs.Closing.{is_open}
-use Rattle.procedure_stages.specs.InProgress.{is_host_asked}
-use Rattle.procedures.specs.Calls.{Call, after_call, asks, begins_one, disconnects, enters, host_answers, is_acked, is_given, sends, takes}
-use Rattle.procedures.specs.Going.{is_answer}
-use Rattle.procedures.specs.Table.{TableFacts}
+use Rattle.table_laws.specs.procedure_values.Drafts.{is_out}
+use Rattle.table_laws.specs.procedure_stages.Closing.{is_open}
+use Rattle.table_laws.specs.procedure_stages.InProgress.{is_host_asked}
+use Rattle.table_laws.specs.procedures.Calls.{Call, after_call, asks, begins_one, disconnects, enters, host_answers, is_acked, is_given, sends, takes}
+use Rattle.table_laws.specs.procedures.Going.{is_answer}
+use Rattle.table_laws.specs.procedures.Table.{TableFacts}
 use Rattle.table_laws.specs.Quiet.{PassesPhase}
 use Rattle.control_model.specs.Control.{Control, Step, Answers, Asks, Disconnects, Enters, Owes, SeesAcknowledged, Sends, Takes, after, goes_out, took}
 use Rattle.phased_control.specs.Phased.{Phased}

@@ -9,9 +9,9 @@ use Rattle.enc_phase.specs.declared.classes.PduClass.{PduClass}
 use Rattle.enc_phase.specs.declared.classes.PduClass.TheVariants.{EncReq as enc_req, EncRsp as enc_rsp, PauseEncReq as pause_enc_req, PauseEncRsp as pause_enc_rsp, Refusal, StartEncReq as start_enc_req, StartEncRsp as start_enc_rsp}
 use Rattle.enc_phase.specs.declared.facts.PhaseFacts.{PhaseFacts}
 use Rattle.enc_phase.specs.declared.facts.PhaseFacts.TheVariants.{Asked, Clear, HalfClear, HalfKeyed, Pausing, Secure}
-use Rattle.procedure_values.specs.declared.drafts.Draft.{Draft}
-use Rattle.procedure_values.specs.declared.drafts.Draft.TheVariants.{Cipher}
-use Rattle.procedures.specs.Table.{TableFacts}
+use Rattle.table_laws.specs.procedure_values.declared.drafts.Draft.{Draft}
+use Rattle.table_laws.specs.procedure_values.declared.drafts.Draft.TheVariants.{Cipher}
+use Rattle.table_laws.specs.procedures.Table.{TableFacts}
 use Rattle.phased_control.specs.Phased.{Phased}
 use Rattle.phased_control.specs.Taken.{PhasedStep, Takes, class_of_read, phased_after}
 

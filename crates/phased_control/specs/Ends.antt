@@ -7,7 +7,7 @@ use Rattle.enc_phase.specs.declared.classes.PduClass.TheVariants.{Request}
 use Rattle.enc_phase.specs.declared.facts.PhaseFacts.{PhaseFacts}
 use Rattle.enc_phase.specs.declared.facts.PhaseFacts.TheVariants.{Asked, HalfClear, HalfKeyed, Pausing}
 use Rattle.enc_phase.specs.Taking.{ctrl_class}
-use Rattle.procedure_values.specs.Wants.{IsAsk}
+use Rattle.table_laws.specs.procedure_values.Wants.{IsAsk}
 use Rattle.phased_control.specs.Taken.{PhasedStep, Answers, Asks}
 
 -- ---- the PDU that a central keeps

@@ -12,7 +12,7 @@ use Rattle.enc_phase.specs.declared.facts.Transition.{Transition}
 use Rattle.enc_phase.specs.declared.facts.Transition.TheVariants.{Ask, Confirm, Pause, Refuse, Unlock}
 use Rattle.enc_phase.specs.Phases.{is_asked, may_follow, phase_after, phase_starting}
 use Rattle.enc_phase.specs.Taking.{ctrl_class, phase_taking}
-use Rattle.procedures.specs.Beginning.{begin_step}
+use Rattle.table_laws.specs.procedures.Beginning.{begin_step}
 use Rattle.table_laws.specs.Encrypting.{has_encryption}
 use Rattle.control_model.specs.Control.{Step, Owes}
 use Rattle.phased_control.specs.Ciphers.{is_of_encryption}

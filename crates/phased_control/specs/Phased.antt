@@ -13,16 +13,16 @@ use Rattle.enc_phase.specs.declared.facts.Transition.TheVariants.{Ask as AskTran
 use Rattle.enc_phase.specs.Phases.{is_quiet, may_follow, phase_after, phase_starting}
 use Rattle.instants.specs.declared.indications.Params.{Params}
 use Rattle.instants.specs.Track.{next_number}
-use Rattle.procedure_values.specs.declared.asks.Ask.{Ask}
-use Rattle.procedure_values.specs.declared.asks.Ask.TheVariants.{Encrypt as ask_encrypt}
-use Rattle.procedure_values.specs.declared.drafts.Draft.TheVariants.{Cipher}
-use Rattle.procedure_values.specs.declared.drafts.Outgoing.{Outgoing}
-use Rattle.procedure_values.specs.declared.drafts.Outgoing.TheVariants.{Other}
-use Rattle.procedure_stages.specs.Closing.{is_open}
-use Rattle.procedure_stages.specs.Opcodes.{enc_req_opcode}
-use Rattle.procedures.specs.Beginning.{ask_at, begin_step, place_to_begin}
-use Rattle.procedures.specs.Going.{entered_step}
-use Rattle.procedures.specs.Table.{TableFacts}
+use Rattle.table_laws.specs.procedure_values.declared.asks.Ask.{Ask}
+use Rattle.table_laws.specs.procedure_values.declared.asks.Ask.TheVariants.{Encrypt as ask_encrypt}
+use Rattle.table_laws.specs.procedure_values.declared.drafts.Draft.TheVariants.{Cipher}
+use Rattle.table_laws.specs.procedure_values.declared.drafts.Outgoing.{Outgoing}
+use Rattle.table_laws.specs.procedure_values.declared.drafts.Outgoing.TheVariants.{Other}
+use Rattle.table_laws.specs.procedure_stages.Closing.{is_open}
+use Rattle.table_laws.specs.procedure_stages.Opcodes.{enc_req_opcode}
+use Rattle.table_laws.specs.procedures.Beginning.{ask_at, begin_step, place_to_begin}
+use Rattle.table_laws.specs.procedures.Going.{entered_step}
+use Rattle.table_laws.specs.procedures.Table.{TableFacts}
 use Rattle.control_model.specs.Control.{Control, Step, Enters, SeesAcknowledged, Owes, after, first_control}
 
 pub record Phased : Type 0 where

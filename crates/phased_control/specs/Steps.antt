@@ -15,8 +15,8 @@ use Rattle.enc_phase.specs.declared.facts.PhaseFacts.TheVariants.{Clear}
 use Rattle.enc_phase.specs.declared.facts.Transition.TheVariants.{Ask as AskTransition, Confirm, Pause, Refuse, Unlock}
 use Rattle.enc_phase.specs.Phases.{is_asked, may_follow}
 use Rattle.enc_phase.specs.Taking.{allows}
-use Rattle.procedure_stages.specs.Opcodes.{enc_req_opcode}
-use Rattle.procedures.specs.Beginning.{begin_step}
+use Rattle.table_laws.specs.procedure_stages.Opcodes.{enc_req_opcode}
+use Rattle.table_laws.specs.procedures.Beginning.{begin_step}
 use Rattle.control_model.specs.Control.{Control, Step, Owes, ended}
 use Rattle.control_model.specs.Control.{Answers as control_answers, Asks as control_asks, Disconnects as control_disconnects, Enters as control_enters, SeesAcknowledged as control_sees_acknowledged, Sends as control_sends, Takes as control_takes}
 use Rattle.phased_control.specs.Phased.{Phased, ask_begun, asks_again, is_encrypt, is_open_now, is_quiet_now, request_of, table_entered, with_step}

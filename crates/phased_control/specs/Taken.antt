@@ -17,9 +17,9 @@ use Rattle.enc_phase.specs.declared.facts.Transition.{Transition}
 use Rattle.enc_phase.specs.declared.facts.Transition.TheVariants.{Ask as AskTransition, Confirm, Pause, Refuse, Unlock}
 use Rattle.enc_phase.specs.Phases.{is_asked, may_follow, phase_after, phase_starting}
 use Rattle.enc_phase.specs.Taking.{allows, ctrl_class, is_unknown, phase_taking}
-use Rattle.procedure_stages.specs.Kinds.{role_of}
-use Rattle.procedure_stages.specs.Queue.{waiting_in}
-use Rattle.procedure_values.specs.declared.asks.Ask.{Ask}
+use Rattle.table_laws.specs.procedure_stages.Kinds.{role_of}
+use Rattle.table_laws.specs.procedure_stages.Queue.{waiting_in}
+use Rattle.table_laws.specs.procedure_values.declared.asks.Ask.{Ask}
 use Rattle.table_laws.specs.Encrypting.{has_encryption}
 use Rattle.control_model.specs.Control.{Answers as control_answers, Asks as control_asks, Disconnects as control_disconnects, Sends as control_sends, Takes as control_takes, ended}
 use Rattle.phased_control.specs.Phased.{Phased, acknowledged, entered, if_key_asked, is_open_now, is_quiet_now, key_given, key_lacking, with_owed, with_step}

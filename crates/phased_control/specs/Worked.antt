@@ -6,7 +6,7 @@ use Rattle.control_model.specs.Worked.{six_slots}
 use Rattle.data_pdu.specs.declared.ctrl.Ctrl.TheVariants.{EncReq, EncRsp, RejectExtInd, StartEncReq, StartEncRsp}
 use Rattle.data_pdu.specs.declared.ctrl.CtrlRead.{CtrlRead}
 use Rattle.data_pdu.specs.declared.ctrl.CtrlRead.TheVariants.{Known}
-use Rattle.procedure_values.specs.declared.asks.Ask.TheVariants.{Encrypt}
+use Rattle.table_laws.specs.procedure_values.declared.asks.Ask.TheVariants.{Encrypt}
 use Rattle.phased_control.specs.Phased.{Phased, first_phased}
 use Rattle.phased_control.specs.Taken.{PhasedStep, Response, Asks, Enters, GivesKey, SeesAcknowledged, Sends, Takes, phased_after_all}
 

@@ -3,7 +3,7 @@ ghost use Rattle.std.specs.Prelude.{◌≡◌, ℕ, List, false, length};
 ghost use Rattle.ble_base.specs.declared.channel_map.ChannelMap.{ChannelMap};
 ghost use Rattle.ble_base.specs.declared.roles.Role.{Role};
 ghost use Rattle.enc_phase.specs.declared.facts.PhaseFacts.{PhaseFacts};
-ghost use Rattle.procedures.specs.Table.{first_facts};
+ghost use Rattle.table_laws.specs.procedures.Table.{first_facts};
 ghost use Rattle.table_laws.specs.Pasts.{MayAll};
 ghost use Rattle.control_model.specs.Worked.{six_slots};
 ghost use Rattle.phased_control.specs.Calls.{all_phased_calls};

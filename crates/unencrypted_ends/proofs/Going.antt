@@ -5,13 +5,13 @@ use Rattle.ble_base.specs.declared.error_codes.ErrCode.{ErrCode}
 use Rattle.ble_base.specs.declared.roles.Role.{Role}
 use Rattle.instants.specs.declared.indications.Params.{Params}
 use Rattle.instants.specs.Track.{next_number}
-use Rattle.procedure_values.specs.declared.asks.Ask.{Ask}
-use Rattle.procedure_values.specs.declared.asks.Ask.TheVariants.{Encrypt as ask_encrypt}
-use Rattle.procedure_values.specs.Asks.{kind_of_ask}
-use Rattle.procedures.specs.Beginning.{ask_at, begin_at, begin_step, place_to_begin}
-use Rattle.procedures.specs.Table.{TableFacts}
-use Rattle.control_model.specs.Control.{Control, after, first_control, moved}
-use Rattle.control_model.specs.Control.{Answers as control_answers, Asks as control_asks, Disconnects as control_disconnects, Enters as control_enters, SeesAcknowledged as control_sees_acknowledged, Sends as control_sends, Step}
+use Rattle.phased_control.specs.procedure_values.declared.asks.Ask.{Ask}
+use Rattle.phased_control.specs.procedure_values.declared.asks.Ask.TheVariants.{Encrypt as ask_encrypt}
+use Rattle.phased_control.specs.procedure_values.Asks.{kind_of_ask}
+use Rattle.phased_control.specs.procedures.Beginning.{ask_at, begin_at, begin_step, place_to_begin}
+use Rattle.phased_control.specs.procedures.Table.{TableFacts}
+use Rattle.phased_control.specs.control_model.Control.{Control, after, first_control, moved}
+use Rattle.phased_control.specs.control_model.Control.{Answers as control_answers, Asks as control_asks, Disconnects as control_disconnects, Enters as control_enters, SeesAcknowledged as control_sees_acknowledged, Sends as control_sends, Step}
 use Rattle.phased_control.specs.Phased.{Phased, asking_if, asks_again, ask_begun, encrypting_if, first_phased, is_encrypt, is_open_now, is_pause_rsp, request_of, table_entered, with_step}
 use Rattle.phased_control.specs.Taken.{Answers, Asks, Disconnects, Enters, GivesKey, LacksKey, SeesAcknowledged, Sends, TakesData, phased_after}
 use Rattle.unencrypted_ends.specs.Unencrypted.{IsUnencrypted, plain_phased}

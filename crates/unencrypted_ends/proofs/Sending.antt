@@ -4,19 +4,19 @@ use Rattle.std.specs.List.{All}
 use Rattle.std.proofs.lemmas.List.Elements.{All-head, All-tail}
 use Rattle.ble_base.specs.declared.error_codes.ErrCode.{ErrCode}
 use Rattle.data_pdu.specs.declared.ctrl.Ctrl.{Ctrl}
-use Rattle.procedure_values.specs.declared.drafts.Draft.{Draft}
-use Rattle.procedure_values.specs.declared.drafts.Draft.TheVariants.{Cipher}
-use Rattle.procedure_values.specs.declared.drafts.Outgoing.{Outgoing}
-use Rattle.procedure_values.specs.declared.drafts.Outgoing.TheVariants.{Nothing, Other, Rejection, Disconnect}
-use Rattle.procedure_values.specs.declared.drafts.Rejection.{Rejection as TheRejection}
-use Rattle.procedure_values.specs.Drafts.{ctrl_of_draft, ctrl_of_outgoing, waits_for_instant}
-use Rattle.procedure_stages.specs.declared.stages.Progress.{Progress}
-use Rattle.procedure_stages.specs.Closing.{is_disconnecting}
-use Rattle.procedure_stages.specs.Queue.{is_past_instant, next_after_rejections, next_by, next_disconnect, next_draft, without_next, QueueFacts}
-use Rattle.procedures.specs.Queue.{next_of, next_other}
-use Rattle.procedures.specs.Sending.{next_ctrl_of}
-use Rattle.procedures.specs.Table.{TableFacts}
-use Rattle.control_model.specs.Supported.{begins_encryption}
+use Rattle.phased_control.specs.procedure_values.declared.drafts.Draft.{Draft}
+use Rattle.phased_control.specs.procedure_values.declared.drafts.Draft.TheVariants.{Cipher}
+use Rattle.phased_control.specs.procedure_values.declared.drafts.Outgoing.{Outgoing}
+use Rattle.phased_control.specs.procedure_values.declared.drafts.Outgoing.TheVariants.{Nothing, Other, Rejection, Disconnect}
+use Rattle.phased_control.specs.procedure_values.declared.drafts.Rejection.{Rejection as TheRejection}
+use Rattle.phased_control.specs.procedure_values.Drafts.{ctrl_of_draft, ctrl_of_outgoing, waits_for_instant}
+use Rattle.phased_control.specs.procedure_stages.declared.stages.Progress.{Progress}
+use Rattle.phased_control.specs.procedure_stages.Closing.{is_disconnecting}
+use Rattle.phased_control.specs.procedure_stages.Queue.{is_past_instant, next_after_rejections, next_by, next_disconnect, next_draft, without_next, QueueFacts}
+use Rattle.phased_control.specs.procedures.Queue.{next_of, next_other}
+use Rattle.phased_control.specs.procedures.Sending.{next_ctrl_of}
+use Rattle.phased_control.specs.procedures.Table.{TableFacts}
+use Rattle.phased_control.specs.control_model.Supported.{begins_encryption}
 use Rattle.unencrypted_ends.specs.Unencrypted.{is_cipher, is_cipher_out}
 
 abbrev pub IsPlain : Draft → Type 0

@@ -15,40 +15,40 @@ use Rattle.data_pdu.specs.Reading.{opcode_of}
 use Rattle.instants.specs.declared.indications.Indication.{Indication}
 use Rattle.instants.specs.declared.indications.Params.{Params}
 use Rattle.instants.specs.Track.{event_of, next_number, track_after_take}
-use Rattle.procedure_values.specs.declared.asks.Ask.{Ask}
-use Rattle.procedure_values.specs.declared.asks.Ask.TheVariants.{Update as ask_update, Request as ask_request, Features as ask_features, Version as ask_version, Encrypt as ask_encrypt}
-use Rattle.procedure_values.specs.declared.drafts.Draft.{Draft}
-use Rattle.procedure_values.specs.declared.drafts.Draft.TheVariants.{Cipher}
-use Rattle.procedure_values.specs.declared.drafts.Rejection.{Rejection as TheRejection}
-use Rattle.procedure_values.specs.declared.lengths.Lengths.{Lengths}
-use Rattle.procedure_values.specs.Asks.{kind_of_ask}
-use Rattle.procedure_values.specs.Drafts.{is_out}
-use Rattle.procedure_values.specs.Wants.{place_of, wanted_at, without_place}
-use Rattle.procedure_stages.specs.declared.closing.Closing.{Closing}
-use Rattle.procedure_stages.specs.declared.reply.Reply.{Reply}
-use Rattle.procedure_stages.specs.declared.reply.Reply.TheVariants.{Answer, Nothing as no_reply, Reject}
-use Rattle.procedure_stages.specs.declared.stages.Progress.{Progress}
-use Rattle.procedure_stages.specs.declared.stages.Progress.TheVariants.{Central as central, Peripheral as peripheral}
-use Rattle.procedure_stages.specs.declared.steps.Step.{Step as TableStep}
-use Rattle.procedure_stages.specs.Begun.{draft_begun, progress_begun}
-use Rattle.procedure_stages.specs.Closing.{is_open}
-use Rattle.procedure_stages.specs.InProgress.{is_host_asked}
-use Rattle.procedure_stages.specs.Kinds.{role_of}
-use Rattle.procedure_stages.specs.Queue.{QueueFacts, with_reply}
-use Rattle.procedure_stages.specs.Steps.{is_version_effect}
-use Rattle.procedures.specs.declared.outcome.Outcome.{Outcome}
-use Rattle.procedures.specs.Beginning.{ask_at, begin_at, begin_step, place_to_begin, with_first_draft}
-use Rattle.procedures.specs.Calls.{Call, after_call, enters, host_answers, is_acked, sends, takes}
-use Rattle.procedures.specs.Going.{entered_step, host_answer_step, is_answer, terminate_step}
-use Rattle.procedures.specs.Sending.{acked_step, went_step}
-use Rattle.procedures.specs.Table.{TableFacts}
-use Rattle.procedures.specs.Taking.{facts_with, lacks_room, no_room, outcome_of, took_step}
-use Rattle.table_laws.specs.Encrypting.{MayBeginBy, has_encryption}
-use Rattle.table_laws.proofs.Encrypting.{begins_by}
-use Rattle.table_laws.proofs.Outcomes.{is_reply, took as took_reply}
-use Rattle.control_model.specs.Control.{Control, Step, Answers, Asks, Disconnects, Enters, Owes, SeesAcknowledged, Sends, Takes, after, ended, first_control, following, goes_out, indicated_by, is_to_come, moved, table_if, taken, went}
-use Rattle.control_model.proofs.Calls.{any_step, either_way}
-use Rattle.control_model.specs.Supported.{begins_encryption, read_supported}
+use Rattle.phased_control.specs.procedure_values.declared.asks.Ask.{Ask}
+use Rattle.phased_control.specs.procedure_values.declared.asks.Ask.TheVariants.{Update as ask_update, Request as ask_request, Features as ask_features, Version as ask_version, Encrypt as ask_encrypt}
+use Rattle.phased_control.specs.procedure_values.declared.drafts.Draft.{Draft}
+use Rattle.phased_control.specs.procedure_values.declared.drafts.Draft.TheVariants.{Cipher}
+use Rattle.phased_control.specs.procedure_values.declared.drafts.Rejection.{Rejection as TheRejection}
+use Rattle.phased_control.specs.procedure_values.declared.lengths.Lengths.{Lengths}
+use Rattle.phased_control.specs.procedure_values.Asks.{kind_of_ask}
+use Rattle.phased_control.specs.procedure_values.Drafts.{is_out}
+use Rattle.phased_control.specs.procedure_values.Wants.{place_of, wanted_at, without_place}
+use Rattle.phased_control.specs.procedure_stages.declared.closing.Closing.{Closing}
+use Rattle.phased_control.specs.procedure_stages.declared.reply.Reply.{Reply}
+use Rattle.phased_control.specs.procedure_stages.declared.reply.Reply.TheVariants.{Answer, Nothing as no_reply, Reject}
+use Rattle.phased_control.specs.procedure_stages.declared.stages.Progress.{Progress}
+use Rattle.phased_control.specs.procedure_stages.declared.stages.Progress.TheVariants.{Central as central, Peripheral as peripheral}
+use Rattle.phased_control.specs.procedure_stages.declared.steps.Step.{Step as TableStep}
+use Rattle.phased_control.specs.procedure_stages.Begun.{draft_begun, progress_begun}
+use Rattle.phased_control.specs.procedure_stages.Closing.{is_open}
+use Rattle.phased_control.specs.procedure_stages.InProgress.{is_host_asked}
+use Rattle.phased_control.specs.procedure_stages.Kinds.{role_of}
+use Rattle.phased_control.specs.procedure_stages.Queue.{QueueFacts, with_reply}
+use Rattle.phased_control.specs.procedure_stages.Steps.{is_version_effect}
+use Rattle.phased_control.specs.procedures.declared.outcome.Outcome.{Outcome}
+use Rattle.phased_control.specs.procedures.Beginning.{ask_at, begin_at, begin_step, place_to_begin, with_first_draft}
+use Rattle.phased_control.specs.procedures.Calls.{Call, after_call, enters, host_answers, is_acked, sends, takes}
+use Rattle.phased_control.specs.procedures.Going.{entered_step, host_answer_step, is_answer, terminate_step}
+use Rattle.phased_control.specs.procedures.Sending.{acked_step, went_step}
+use Rattle.phased_control.specs.procedures.Table.{TableFacts}
+use Rattle.phased_control.specs.procedures.Taking.{facts_with, lacks_room, no_room, outcome_of, took_step}
+use Rattle.phased_control.specs.table_laws.Encrypting.{MayBeginBy, has_encryption}
+use Rattle.phased_control.proofs.table_laws.Encrypting.{begins_by}
+use Rattle.phased_control.proofs.table_laws.Outcomes.{is_reply, took as took_reply}
+use Rattle.phased_control.specs.control_model.Control.{Control, Step, Answers, Asks, Disconnects, Enters, Owes, SeesAcknowledged, Sends, Takes, after, ended, first_control, following, goes_out, indicated_by, is_to_come, moved, table_if, taken, went}
+use Rattle.phased_control.proofs.control_model.Calls.{any_step, either_way}
+use Rattle.phased_control.specs.control_model.Supported.{begins_encryption, read_supported}
 use Rattle.unencrypted_ends.specs.Unencrypted.{HasNoEncryption, IsUnencrypted, asks_no_encryption, begins_no_encryption, encrypts_nothing, is_cipher, is_cipher_out}
 use Rattle.unencrypted_ends.proofs.Sending.{IsPlain, next_goes}
 

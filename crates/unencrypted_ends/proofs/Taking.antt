@@ -9,23 +9,23 @@ use Rattle.data_pdu.specs.declared.ctrl.Ctrl.TheVariants.{EncReq, EncRsp, PauseE
 use Rattle.data_pdu.specs.declared.ctrl.CtrlRead.{CtrlRead}
 use Rattle.data_pdu.specs.declared.ctrl.CtrlRead.TheVariants.{Bare, Known, Unknown}
 use Rattle.data_pdu.specs.Reading.{opcode_of}
-use Rattle.enc_phase.specs.declared.classes.PduClass.{PduClass}
-use Rattle.enc_phase.specs.declared.classes.PduClass.TheVariants.{EncRsp as enc_rsp, Other, Refusal, Request}
-use Rattle.enc_phase.specs.declared.facts.PhaseFacts.{PhaseFacts}
-use Rattle.enc_phase.specs.declared.facts.PhaseFacts.TheVariants.{Clear}
-use Rattle.enc_phase.specs.Taking.{ctrl_class, is_unknown, phase_taking}
-use Rattle.procedure_stages.specs.Foreign.{is_foreign}
-use Rattle.procedure_stages.specs.Kinds.{role_of}
-use Rattle.procedure_stages.specs.Queue.{waiting_in}
-use Rattle.procedures.specs.declared.outcome.Outcome.{Outcome}
-use Rattle.procedures.specs.Taking.{settled, taken_by_role}
-use Rattle.procedures.specs.Outcomes.{unknown}
-use Rattle.table_laws.specs.Encrypting.{has_encryption}
-use Rattle.control_model.specs.Control.{Control, after, indicated_by, moved, taken}
-use Rattle.control_model.specs.Control.{Takes as control_takes}
+use Rattle.phased_control.specs.enc_phase.declared.classes.PduClass.{PduClass}
+use Rattle.phased_control.specs.enc_phase.declared.classes.PduClass.TheVariants.{EncRsp as enc_rsp, Other, Refusal, Request}
+use Rattle.phased_control.specs.enc_phase.declared.facts.PhaseFacts.{PhaseFacts}
+use Rattle.phased_control.specs.enc_phase.declared.facts.PhaseFacts.TheVariants.{Clear}
+use Rattle.phased_control.specs.enc_phase.Taking.{ctrl_class, is_unknown, phase_taking}
+use Rattle.phased_control.specs.procedure_stages.Foreign.{is_foreign}
+use Rattle.phased_control.specs.procedure_stages.Kinds.{role_of}
+use Rattle.phased_control.specs.procedure_stages.Queue.{waiting_in}
+use Rattle.phased_control.specs.procedures.declared.outcome.Outcome.{Outcome}
+use Rattle.phased_control.specs.procedures.Taking.{settled, taken_by_role}
+use Rattle.phased_control.specs.procedures.Outcomes.{unknown}
+use Rattle.phased_control.specs.table_laws.Encrypting.{has_encryption}
+use Rattle.phased_control.specs.control_model.Control.{Control, after, indicated_by, moved, taken}
+use Rattle.phased_control.specs.control_model.Control.{Takes as control_takes}
 use Rattle.phased_control.specs.Phased.{Phased, is_open_now}
 use Rattle.phased_control.specs.Taken.{Response, Takes, answered_if_quiet, ciphered, ciphered_at, class_of_read, does_keep, ended_with, goes_on, handed_on, is_answered_at, is_version, keeping, keeps_class, lacks_room_now, phased_after, refused_by, role_now, seen_as, seen_if, took, is_answered}
-use Rattle.control_model.specs.Supported.{read_supported}
+use Rattle.phased_control.specs.control_model.Supported.{read_supported}
 use Rattle.unencrypted_ends.specs.Unencrypted.{is_enc_req, plain_phased}
 
 -- ---- in phase Clear nothing is kept, and no PDU of the encryption but LL_ENC_REQ is answered

@@ -1,2 +1,5 @@
 -- The definitions of this crate.
 pub mod Unencrypted
+-- what the crates above use of those below
+pub use Rattle.phased_control.specs as phased_control
+pub use Rattle.phased_control.specs.enc_phase as enc_phase

@@ -7,17 +7,17 @@ use Rattle.data_pdu.specs.declared.ctrl.Ctrl.TheVariants.{EncReq, PauseEncReq}
 use Rattle.data_pdu.specs.declared.ctrl.CtrlRead.{CtrlRead}
 use Rattle.data_pdu.specs.declared.ctrl.CtrlRead.TheVariants.{Known, Unknown}
 use Rattle.data_pdu.specs.Reading.{opcode_of}
-use Rattle.enc_phase.specs.declared.facts.PhaseFacts.TheVariants.{Clear}
-use Rattle.procedure_values.specs.declared.asks.Ask.{Ask}
-use Rattle.procedure_values.specs.declared.asks.Ask.TheVariants.{Encrypt}
-use Rattle.procedure_values.specs.declared.drafts.Draft.{Draft}
-use Rattle.procedure_values.specs.declared.drafts.Draft.TheVariants.{Cipher}
-use Rattle.procedure_values.specs.declared.drafts.Outgoing.{Outgoing}
-use Rattle.procedure_values.specs.declared.drafts.Outgoing.TheVariants.{Other}
-use Rattle.procedures.specs.Table.{TableFacts}
-use Rattle.table_laws.specs.Encrypting.{has_encryption}
-use Rattle.control_model.specs.Supported.{begins_encryption}
-use Rattle.control_model.specs.Control.{Control, Step, Asks, Owes, Takes}
+use Rattle.phased_control.specs.enc_phase.declared.facts.PhaseFacts.TheVariants.{Clear}
+use Rattle.phased_control.specs.procedure_values.declared.asks.Ask.{Ask}
+use Rattle.phased_control.specs.procedure_values.declared.asks.Ask.TheVariants.{Encrypt}
+use Rattle.phased_control.specs.procedure_values.declared.drafts.Draft.{Draft}
+use Rattle.phased_control.specs.procedure_values.declared.drafts.Draft.TheVariants.{Cipher}
+use Rattle.phased_control.specs.procedure_values.declared.drafts.Outgoing.{Outgoing}
+use Rattle.phased_control.specs.procedure_values.declared.drafts.Outgoing.TheVariants.{Other}
+use Rattle.phased_control.specs.procedures.Table.{TableFacts}
+use Rattle.phased_control.specs.table_laws.Encrypting.{has_encryption}
+use Rattle.phased_control.specs.control_model.Supported.{begins_encryption}
+use Rattle.phased_control.specs.control_model.Control.{Control, Step, Asks, Owes, Takes}
 use Rattle.phased_control.specs.Phased.{Phased}
 
 -- ---- an end that encrypts nothing

@@ -5,17 +5,17 @@ ghost use Rattle.ble_base.specs.declared.roles.Role.{Role};
 ghost use Rattle.data_pdu.specs.declared.ctrl.Ctrl.{Ctrl};
 ghost use Rattle.data_pdu.specs.declared.ctrl.CtrlRead.{CtrlRead};
 ghost use Rattle.instants.specs.declared.indications.Params.{Params};
-ghost use Rattle.procedure_values.specs.declared.asks.Ask.{Ask};
-ghost use Rattle.procedures.specs.Queue.{next_of};
-ghost use Rattle.procedures.specs.Sending.{next_ctrl_of};
-ghost use Rattle.control_model.specs.Control.{Control, Step, after, first_control};
+ghost use Rattle.phased_control.specs.procedure_values.declared.asks.Ask.{Ask};
+ghost use Rattle.phased_control.specs.procedures.Queue.{next_of};
+ghost use Rattle.phased_control.specs.procedures.Sending.{next_ctrl_of};
+ghost use Rattle.phased_control.specs.control_model.Control.{Control, Step, after, first_control};
 ghost use Rattle.phased_control.specs.Phased.{first_phased};
 ghost use Rattle.phased_control.specs.Taken.{PhasedStep, Response, is_version, phased_after};
-ghost use Rattle.control_model.specs.Supported.{begins_encryption};
+ghost use Rattle.phased_control.specs.control_model.Supported.{begins_encryption};
 ghost use Rattle.unencrypted_ends.specs.Unencrypted.{IsUnencrypted};
 ghost use Rattle.unencrypted_ends.specs.Unencrypted.{begins_no_encryption};
 ghost use Rattle.unencrypted_ends.specs.Unencrypted.{encrypts_nothing, is_cipher_out, is_enc_req};
-ghost use Rattle.control_model.specs.Supported.{read_supported};
+ghost use Rattle.phased_control.specs.control_model.Supported.{read_supported};
 ghost use Rattle.unencrypted_ends.specs.Unencrypted.{plain_phased};
 
 /// An end encrypts nothing as its link begins, and its phase is Clear.

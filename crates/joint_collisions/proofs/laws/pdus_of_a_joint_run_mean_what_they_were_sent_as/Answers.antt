@@ -1,8 +1,8 @@
 -- The proof of the law `pdus_of_a_joint_run_mean_what_they_were_sent_as`.
 use Rattle.data_pdu.specs.declared.ctrl.Ctrl.{Ctrl}
-use Rattle.procedure_values.specs.declared.drafts.Outgoing.{Outgoing}
-use Rattle.procedure_values.specs.declared.drafts.Draft.TheVariants.{Grant, Update}
-use Rattle.procedure_values.specs.declared.drafts.Outgoing.TheVariants.{Other, Rejection}
+use Rattle.collision_steps.specs.procedure_values.declared.drafts.Outgoing.{Outgoing}
+use Rattle.collision_steps.specs.procedure_values.declared.drafts.Draft.TheVariants.{Grant, Update}
+use Rattle.collision_steps.specs.procedure_values.declared.drafts.Outgoing.TheVariants.{Other, Rejection}
 use Rattle.joint_controls.specs.Joint.{CentralTakes, Joint, PeripheralTakes, is_running, may_act}
 use Rattle.std.proofs.lemmas.Bool.{and_parts}
 use Rattle.joint_collisions.specs.Arrivals.{CentralMayTake, PeripheralMayTake}

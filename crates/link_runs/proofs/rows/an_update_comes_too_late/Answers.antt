@@ -8,8 +8,8 @@ use Rattle.data_pdu.specs.Layouts.{makers}
 use Rattle.frame_bits.specs.Crc.{crc, crc_octets, crc_of_bits, remainder}
 use Rattle.frame_bits.specs.Whitening.{mask_of, whitening_bit, whitening_of}
 use Rattle.wire_fields.specs.Field.{little_endian}
-use Rattle.link_model.specs.Packets.{good_pdu, packet_sent}
-use Rattle.link_model.specs.Receiving.{replies_of}
+use Rattle.link_pairs.specs.link_model.Packets.{good_pdu, packet_sent}
+use Rattle.link_pairs.specs.link_model.Receiving.{replies_of}
 use Rattle.link_runs.proofs.rows.an_update_comes_too_late.Goals as goal
 
 pub returns : goal.returns

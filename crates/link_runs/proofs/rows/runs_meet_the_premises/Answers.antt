@@ -10,10 +10,10 @@ use Rattle.data_pdu.specs.Layouts.{makers}
 use Rattle.frame_bits.specs.Crc.{crc, crc_octets, crc_of_bits, remainder}
 use Rattle.frame_bits.specs.Whitening.{mask_of, whitening_bit, whitening_of}
 use Rattle.wire_fields.specs.Field.{little_endian}
-use Rattle.link_model.specs.Packets.{good_pdu, packet_sent}
-use Rattle.link_model.specs.Receiving.{replies_of}
-use Rattle.link_model.specs.Rows.{central_with, peripheral_with}
-use Rattle.link_model.specs.Facts.{Facts}
+use Rattle.link_pairs.specs.link_model.Packets.{good_pdu, packet_sent}
+use Rattle.link_pairs.specs.link_model.Receiving.{replies_of}
+use Rattle.link_pairs.specs.link_model.Rows.{central_with, peripheral_with}
+use Rattle.link_pairs.specs.link_model.Facts.{Facts}
 use Rattle.link_runs.specs.Rows.{asks_update, calm, disconnects, ends_by, lost, turn_with, update_asked}
 use Rattle.link_runs.specs.Runs.{MayHostEnd, first_ends}
 use Rattle.link_runs.proofs.Meeting.{and_always, asks_nothing, idle, once}
