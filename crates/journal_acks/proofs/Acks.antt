@@ -102,8 +102,8 @@ module _ (sender : Facts) (one : Acknowledgement) (agreed : AreInAgreement (sent
 module _ (whole : IsHeardWhole) (slot now : ℕ) (one from : OpenLink) (octets : List ℕ) (ranges : HasRanges one) (from_ranges : HasRanges from)
     (fields : from.setup.link.fields ≡ one.setup.link.fields) (packet : octets ≡ packet_sent from.setup (facts_in from))
     (channel : (facts_in from).event.channel ≡ (facts_in one).event.channel) (agreed : AreInAgreement (ack_of (link_after (PacketSent now) from)) (ack_of one)) where
-  abbrev sender : Facts
-  sender = facts_in from
+  abbrev far : Facts
+  far = facts_in from
 
   abbrev listener : Facts
   listener = facts_in one
@@ -111,51 +111,51 @@ module _ (whole : IsHeardWhole) (slot now : ℕ) (one from : OpenLink) (octets :
   abbrev own : EndSetup
   own = one.setup
 
-  understood : IsUnderstood from.setup sender own listener
+  understood : IsUnderstood from.setup far own listener
   understood = ranged_understand from one from_ranges ranges fields channel
 
-  body : payload_sent sender ≡ (pdu_sent sender).body
+  body : payload_sent far ≡ (pdu_sent far).body
   body = past_payload from.setup from.past
 
-  pdu_is : pdu_heard sender ≡ pdu_sent sender
-  pdu_is = λ i. record { llid = (pdu_sent sender).llid; body = body i }
+  pdu_is : pdu_heard far ≡ pdu_sent far
+  pdu_is = λ i. record { llid = (pdu_sent far).llid; body = body i }
 
-  good_is : good_pdu own listener octets ≡ Some (pdu_octets sender)
-  good_is = ap (good_pdu own listener) packet ∙ heard_good whole from.setup own sender listener understood
+  good_is : good_pdu own listener octets ≡ Some (pdu_octets far)
+  good_is = ap (good_pdu own listener) packet ∙ heard_good whole from.setup own far listener understood
 
-  own_line : has_own_line (good_pdu own listener octets) ≡ not (is_empty (pdu_sent sender))
-  own_line = ap has_own_line good_is ∙ ap (λ pdu. not (is_empty pdu)) (pdu_read sender understood.llid ∙ pdu_is)
+  own_line : has_own_line (good_pdu own listener octets) ≡ not (is_empty (pdu_sent far))
+  own_line = ap has_own_line good_is ∙ ap (λ pdu. not (is_empty pdu)) (pdu_read far understood.llid ∙ pdu_is)
 
-  once : AreInAgreement (sent_ack sender) (ack_of one)
+  once : AreInAgreement (sent_ack far) (ack_of one)
   once = subst (λ a. AreInAgreement a (ack_of one)) (ack_sent now from) agreed
 
-  as_sent : AreInAgreement (facts_after from.setup sender (PacketSent slot)).acknowledgement (ack_of one)
-  as_sent = subst (λ a. AreInAgreement a (ack_of one)) (sym (end_sent slot sender)) once
+  as_sent : AreInAgreement (facts_after from.setup far (PacketSent slot)).acknowledgement (ack_of one)
+  as_sent = subst (λ a. AreInAgreement a (ack_of one)) (sym (end_sent slot far)) once
 
-  received_is : (room : Bool) → ack_of (link_after (PacketReceived slot octets room) one) ≡ (facts_after own listener (PacketReceived slot (packet_sent from.setup sender) room)).acknowledgement
+  received_is : (room : Bool) → ack_of (link_after (PacketReceived slot octets room) one) ≡ (facts_after own listener (PacketReceived slot (packet_sent from.setup far) room)).acknowledgement
   received_is room =
       ap (λ (f : Facts). f.acknowledgement) (step_facts one (PacketReceived slot octets room))
       ∙ ap (λ xs. (facts_after own listener (PacketReceived slot xs room)).acknowledgement) packet
 
   abbrev accepts_it : Bool
-  accepts_it = accepts false (header_sent sender) (pdu_sent sender) (facts_before_taking own.link.role slot (header_sent sender) listener)
+  accepts_it = accepts false (header_sent far) (pdu_sent far) (facts_before_taking own.link.role slot (header_sent far) listener)
 
   form : ack_of (link_after (PacketReceived slot octets false) one)
-      ≡ received_by (has_acknowledged listener (header_sent sender)) accepts_it (pdu_sent sender) (ack_of one)
+      ≡ received_by (has_acknowledged listener (header_sent far)) accepts_it (pdu_sent far) (ack_of one)
   form =
       received_is false
-      ∙ ap (λ (f : Facts). f.acknowledgement) (facts_heard whole from.setup own sender listener understood slot false)
-      ∙ ack_heard own.link.role slot false (header_sent sender) (pdu_heard sender) listener
-      ∙ ap (λ pdu. received_by (has_acknowledged listener (header_sent sender))
-      (accepts false (header_sent sender) pdu (facts_before_taking own.link.role slot (header_sent sender) listener)) pdu listener.acknowledgement) pdu_is
+      ∙ ap (λ (f : Facts). f.acknowledgement) (facts_heard whole from.setup own far listener understood slot false)
+      ∙ ack_heard own.link.role slot false (header_sent far) (pdu_heard far) listener
+      ∙ ap (λ pdu. received_by (has_acknowledged listener (header_sent far))
+      (accepts false (header_sent far) pdu (facts_before_taking own.link.role slot (header_sent far) listener)) pdu listener.acknowledgement) pdu_is
 
-  accepts_empty : is_empty (pdu_sent sender) ≡ true → accepts_it ≡ is_new (bits_of (ack_of one)) (header_sent sender)
+  accepts_empty : is_empty (pdu_sent far) ≡ true → accepts_it ≡ is_new (bits_of (ack_of one)) (header_sent far)
   accepts_empty empty =
-      let header = header_sent sender in
+      let header = header_sent far in
       let before = facts_before_taking own.link.role slot header listener in
-      ap (λ (a : Acknowledgement). is_accepted false (is_new (bits_of a) header) (pdu_sent sender) && (is_empty (pdu_sent sender) || not before.leaving.acknowledged))
+      ap (λ (a : Acknowledgement). is_accepted false (is_new (bits_of a) header) (pdu_sent far) && (is_empty (pdu_sent far) || not before.leaving.acknowledged))
       (ack_before_taking own.link.role slot header listener)
-      ∙ all_of (is_new (bits_of (ack_of one)) header) (is_data (pdu_sent sender)) (is_empty (pdu_sent sender)) before.leaving.acknowledged (empty_is_no_data (pdu_sent sender) empty) empty
+      ∙ all_of (is_new (bits_of (ack_of one)) header) (is_data (pdu_sent far)) (is_empty (pdu_sent far)) before.leaving.acknowledged (empty_is_no_data (pdu_sent far) empty) empty
     where
       all_of : (fresh full empty ended : Bool) → full ≡ false → empty ≡ true → ((fresh && (false || not full)) && (empty || not ended)) ≡ fresh
       all_of true false true ended none is = refl
@@ -166,15 +166,15 @@ module _ (whole : IsHeardWhole) (slot now : ℕ) (one from : OpenLink) (octets :
   abbrev waiting : Acknowledgement
   waiting = ack_taking true (Some octets) slot one
 
-  accepted_by : (empty : Bool) → is_empty (pdu_sent sender) ≡ empty → waiting.accepted ≡ accepted_before (not empty) slot octets one
+  accepted_by : (empty : Bool) → is_empty (pdu_sent far) ≡ empty → waiting.accepted ≡ accepted_before (not empty) slot octets one
   accepted_by empty is = ap (λ b. accepted_before b slot octets one) (own_line ∙ ap not is)
 
-  pub told : IsTold (ack_of (link_after (PacketSent now) from)) (ack_of one) (pdu_sent sender) waiting
+  pub told : IsTold (ack_of (link_after (PacketSent now) from)) (ack_of one) (pdu_sent far) waiting
   told = record {
     empty = λ empty. ap length (accepted_by true empty) ∙ ap (λ (a : Acknowledgement). length a.accepted) form
-        ∙ all_sent sender (ack_of one) once accepts_it (accepts_empty empty) ∙ ap (λ (a : Acknowledgement). length a.sent) (sym (ack_sent now from));
+        ∙ all_sent far (ack_of one) once accepts_it (accepts_empty empty) ∙ ap (λ (a : Acknowledgement). length a.sent) (sym (ack_sent now from));
     full = λ full. ap length (accepted_by false full);
-    acked = ap (λ (a : Acknowledgement). a.acked) (received_is false) ∙ heard_acks whole from.setup own sender listener slot false understood body as_sent
+    acked = ap (λ (a : Acknowledgement). a.acked) (received_is false) ∙ heard_acks whole from.setup own far listener slot false understood body as_sent
         ∙ ap (λ (a : Acknowledgement). length a.accepted) (sym (ack_sent now from));
     sent = ap (λ (a : Acknowledgement). a.sent) form;
   }
@@ -183,11 +183,11 @@ module _ (whole : IsHeardWhole) (slot now : ℕ) (one from : OpenLink) (octets :
   pub takes_all : (room : Bool) → length (ack_of (link_after (PacketReceived slot octets room) one)).accepted ≡ length (ack_of one).accepted + 1
       → length (ack_of (link_after (PacketSent now) from)).sent ≡ length (ack_of one).accepted + 1
   takes_all room more =
-      let after = heard_agrees whole from.setup own sender listener slot room understood body as_sent in
+      let after = heard_agrees whole from.setup own far listener slot room understood body as_sent in
       let low = after.from_a.reliable.sent_only in
       let high = once.from_a.reliable.at_most_one_ahead in
       let same = ap (λ (a : Acknowledgement). length a.accepted) (received_is room) in
-      let ahead = ap (λ (a : Acknowledgement). length a.sent) (end_sent slot sender) in
+      let ahead = ap (λ (a : Acknowledgement). length a.sent) (end_sent slot far) in
       let sent = ap (λ (a : Acknowledgement). length a.sent) (ack_sent now from) in
       omega (arith, low, high, same, more, ahead, sent)
 

@@ -8,7 +8,7 @@ use Rattle.ble_base.specs.declared.notes.Note.TheVariants.{Up, Sent, Took}
 use Rattle.journal_packets.specs.link_model.Setup.{Setup as EndSetup}
 use Rattle.journal_packets.specs.link_model.End.{notes_after as end_notes}
 use Rattle.journal_packets.specs.link_model.Packets.{good_pdu}
-use Rattle.journal_packets.specs.link_model.Step.{PacketSent, PacketReceived}
+use Rattle.journal_packets.specs.link_model.Step.{PacketSent}
 use Rattle.journal_packets.specs.open_links.OpenLinks.{Links, OpenLink, facts_in, link_after, link_at, with_change}
 use Rattle.journal_packets.proofs.open_links.Handles.{handle_is}
 use Rattle.controller_model.specs.declared.doing.Doing.{Doing}
@@ -19,7 +19,6 @@ use Rattle.controller_model.specs.Heard.{events_received, has_room, link_heard, 
 use Rattle.controller_model.specs.Events.{notes_of_events}
 use Rattle.controller_model.specs.Outcome.{facts_passed, notes_passed}
 use Rattle.controller_model.specs.Packets.{links_sending, notes_doing, notes_sent}
-use Rattle.controller_model.specs.Plain.{AllPlain}
 use Rattle.controller_model.specs.Radio.{outcome_begun}
 use Rattle.controller_model.specs.Side.{facts_after, notes_after}
 use Rattle.controller_model.proofs.Always.{begun_doing}
@@ -29,7 +28,6 @@ use Rattle.controller_model.proofs.Places.{link_receiving, receiving_is}
 use Rattle.run_model.specs.History.{Event, turns_begun}
 use Rattle.run_model.specs.Journal.{journal_of}
 use Rattle.run_model.specs.Run.{Given, facts_at, setup_at, step_of}
-use Rattle.journal_packets.specs.run_laws.Plainness.{IsPlainLink}
 use Rattle.journal_packets.proofs.run_laws.LinkPasses.{is_on_link}
 use Rattle.journal_packets.specs.journal_links.Begun.{LinkBegun, link_numbered}
 use Rattle.link_calls.proofs.CallNotes.{HasNoData, all_more, begin_noted, events_noted, no_data, notes_starting, start_noted}
@@ -37,7 +35,6 @@ use Rattle.link_calls.proofs.CallNotes.{OpensNone, opening_none}
 use Rattle.journal_acks.proofs.Exchanging.{number_at}
 use Rattle.journal_acks.proofs.FirstCounts.{IsCallOf, IsOnly, OfLink, OfNone}
 use Rattle.link_calls.proofs.LinkCalls.{begins_under, received_quiet, receiving_setup}
-use Rattle.journal_acks.proofs.PlainCalls.{takes_plain}
 use Rattle.link_calls.specs.Uses.{listens_under, sends_under}
 use Rattle.journal_acks.proofs.PhaseNotes.{IsOnLink, IsPhaseOf, IsPlainPhase, SendsFrom, SendsNothing, SendsOne, sends_from}
 use Rattle.link_calls.proofs.UnderHandles.{change_by}
@@ -131,21 +128,10 @@ received_at other octets room facts link at =
     ap (link_at other) (receiving_is other room octets facts)
     ∙ change_here (other == other) other other (link_receiving other room octets facts) facts.links link refl (same_number other) at
 
-replied_at : (replies : Bool) (slot other : ℕ) (links : Links) (link : OpenLink) → link_at other links ≡ Some link
+pub replied_at : (replies : Bool) (slot other : ℕ) (links : Links) (link : OpenLink) → link_at other links ≡ Some link
     → link_at other (links_sending slot (reply_if replies other) links) ≡ Some (sent_if replies slot link)
 replied_at true slot other links link at = change_here (other == other) other other (link_after (PacketSent slot)) links link refl (same_number other) at
 replied_at false slot other links link at = at
-
--- a link that is plain after it received was plain as it took the packet
-pub plain_heard : (setup : Setup) (facts : Facts) (other : ℕ) (octets : List ℕ) (link : OpenLink) → link_at other facts.links ≡ Some link
-    → AllPlain (facts_passed (link_heard setup other octets facts)).links → IsPlainLink (link_after (PacketReceived facts.turn.slot octets (has_room setup facts)) link)
-plain_heard setup facts other octets link at plain =
-    let room = has_room setup facts in
-    let slot = facts.turn.slot in
-    let replies = replies_in slot room (link_at other facts.links) octets in
-    let after = sent_if replies slot (link_receiving other room octets facts link) in
-    takes_plain other room octets facts link replies after refl
-    (plain other after (replied_at replies slot other (link_received other room octets facts).links _ (received_at other octets room facts link at)))
 
 only_reply : (replies : Bool) (other : ℕ) (then_on : Facts) (link : OpenLink) → link_at other then_on.links ≡ Some link → link.setup.link.handle ≡ other
     → All (IsOnly other) (notes_doing (reply_if replies other) then_on)

@@ -2,7 +2,6 @@
 pub mod Bounds
 pub mod Exchanging
 pub mod Acks
-pub mod PlainCalls
 pub mod TwoStations
 pub mod SentLines
 pub mod Counting
@@ -10,6 +9,7 @@ pub mod FirstCounts
 pub mod Standing
 pub mod PhaseNotes
 pub mod DataCalls
+pub mod PlainCalls
 pub mod AirCounts
 pub mod KeptCounts
 pub mod EachCall

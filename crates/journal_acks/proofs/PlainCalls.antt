@@ -1,5 +1,5 @@
 -- A link that is plain after a call on its controller was plain before it, and refused nothing.
-use Rattle.std.proofs.Common.{◌≡◌, ℕ, Bool, true, false, Option, List, [], ◌∷◌, sym, subst, refl, ◌∙◌}
+use Rattle.std.proofs.Common.{◌≡◌, ℕ, Bool, true, false, Option, List, [], ◌∷◌, sym, subst, refl, ◌∙◌, Some}
 use Rattle.link_calls.specs.Phases.{link_receiving, refusal, refused_if, refuses_at}
 use Rattle.link_calls.specs.Turns.{fixed_if, sent_if}
 use Rattle.link_calls.specs.Uses.{sends_under}
@@ -7,14 +7,18 @@ use Rattle.link_calls.proofs.LinkCalls.{HasBegun}
 use Rattle.link_calls.proofs.UnderHandles.{WasAlike}
 use Rattle.journal_packets.specs.link_model.Setup.{Setup as EndSetup}
 use Rattle.journal_packets.specs.link_model.Step.{Step as EndStep, EventEntered, PacketReceived, PacketSent, PduFixed, RequestAnswered}
-use Rattle.journal_packets.specs.open_links.OpenLinks.{OpenLink, link_after}
+use Rattle.journal_packets.specs.open_links.OpenLinks.{OpenLink, link_after, link_at}
 use Rattle.journal_packets.specs.open_links.Turns.{entered_if, enters_in, link_entered}
 use Rattle.journal_packets.proofs.open_links.Unmoved.{entered_setup}
 use Rattle.journal_packets.specs.plain_links.Plain.{ArePlain}
 use Rattle.journal_packets.proofs.plain_links.Growing.{plain_front, plain_less}
 use Rattle.journal_packets.specs.run_laws.Plainness.{IsPlainLink}
 use Rattle.controller_model.specs.declared.doing.Doing.{Doing}
-use Rattle.controller_model.specs.Facts.{Facts}
+use Rattle.controller_model.specs.Facts.{Facts, Setup}
+use Rattle.controller_model.specs.Heard.{has_room, link_heard, link_received, replies_in}
+use Rattle.controller_model.specs.Outcome.{facts_passed}
+use Rattle.controller_model.specs.Plain.{AllPlain}
+use Rattle.journal_acks.proofs.DataCalls.{received_at, replied_at}
 
 -- ---- data is given to it, or reported
 
@@ -64,3 +68,14 @@ module _ (handle : ℕ) (room : Bool) (octets : List ℕ) (facts : Facts) (link 
   takes_plain sends after is plain =
       let receiving = sent_plain sends facts.turn.slot (link_receiving handle room octets facts link) (subst IsPlainLink is plain) in
       subst IsPlainLink (receiving_plain receiving) receiving
+
+-- a link that is plain after it received was plain as it took the packet
+pub plain_heard : (setup : Setup) (facts : Facts) (other : ℕ) (octets : List ℕ) (link : OpenLink) → link_at other facts.links ≡ Some link
+    → AllPlain (facts_passed (link_heard setup other octets facts)).links → IsPlainLink (link_after (PacketReceived facts.turn.slot octets (has_room setup facts)) link)
+plain_heard setup facts other octets link at plain =
+    let room = has_room setup facts in
+    let slot = facts.turn.slot in
+    let replies = replies_in slot room (link_at other facts.links) octets in
+    let after = sent_if replies slot (link_receiving other room octets facts link) in
+    takes_plain other room octets facts link replies after refl
+    (plain other after (replied_at replies slot other (link_received other room octets facts).links _ (received_at other octets room facts link at)))

@@ -64,7 +64,8 @@ use Rattle.journal_data.proofs.run_laws.PlainLinks.{no_control_sent}
 use Rattle.journal_data.proofs.run_laws.TurnPlaces.{Between, IsTurned, Stage, Within}
 use Rattle.journal_acks.proofs.Acks.{sent_again}
 use Rattle.journal_acks.proofs.link_calls.CallNotes.{HasNoData, TakesNone, all_more, doing_noted, events_noted, no_data}
-use Rattle.journal_acks.proofs.DataCalls.{on_link_facts, on_link_notes, plain_heard, unfound}
+use Rattle.journal_acks.proofs.DataCalls.{on_link_facts, on_link_notes, unfound}
+use Rattle.journal_acks.proofs.PlainCalls.{plain_heard}
 use Rattle.journal_acks.specs.link_calls.Uses.{listens_under}
 use Rattle.journal_acks.proofs.PhaseNotes.{IsOnLink, IsPhaseOf, IsPlainPhase, phase_of}
 use Rattle.journal_acks.proofs.TwoStations.{same_number}

@@ -6,6 +6,7 @@ pub mod Phases
 pub mod Hosts
 pub mod Exchanges
 pub mod Ranges
+pub mod Rows
 -- what the crates above use of those below
 pub use Rattle.run_laws.specs.control_end as control_end
 pub use Rattle.run_laws.specs.link_model as link_model

@@ -1,4 +1,5 @@
--- What a phase of a turn does to the link under one handle (Core 5.2, volume 6 part B, sections 4.5.1, 4.5.9 and 5.1.7).
+-- What a phase of a turn does to the link under one handle (Core 5.2, volume 6 part B, sections 4.5.1, 4.5.9 and
+-- 5.1.7).
 use Rattle.std.specs.Prelude.{◌≡◌, ℕ, Bool, true, false, List, Option, Some, None, Result, Err, if◌then◌else◌}
 use Rattle.ble_base.specs.ErrorCodes.{unsupported_remote_feature}
 use Rattle.ble_base.specs.declared.error_codes.ErrCode.{ErrCode}

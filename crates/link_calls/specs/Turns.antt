@@ -1,5 +1,5 @@
--- What the begin and the end of a turn do to the link under one handle (Core 5.2, volume 6 part B, sections 4.5.1, 4.5.2,
--- 4.5.9 and 5.1.6).
+-- What the begin and the end of a turn do to the link under one handle (Core 5.2, volume 6 part B, sections 4.5.1,
+-- 4.5.2, 4.5.9 and 5.1.6).
 use Rattle.std.specs.Prelude.{◌≡◌, ℕ, Bool, true, false, Some, None}
 use Rattle.run_laws.specs.link_model.Step.{PacketSent, PduFixed}
 use Rattle.run_laws.specs.open_links.Data.{link_reported}
@@ -24,8 +24,8 @@ sent_if sends slot link = change_if sends (link_after (PacketSent slot)) link
 
 -- ---- a turn begins
 
--- in this order: it enters its event where the anchor is in this slot, fixes its PDU where an exchange begins, and sends
--- where it is the central
+-- in this order: it enters its event where the anchor is in this slot, fixes its PDU where an exchange begins, and
+-- sends where it is the central
 abbrev pub link_begun : ℕ → ℕ → Doing → OpenLink → OpenLink
 link_begun slot handle doing link =
     sent_if (sends_under handle doing) slot (fixed_if (fixes_under handle doing) (link_entered slot link))

@@ -17,8 +17,8 @@ ghost use Rattle.link_calls.specs.Turns.{HasBegunTurn, HasEndedTurn};
 
 /// A link that is open after a turn began was open before it and had no reason to end. It entered
 /// its event if the anchor of that is in this slot; then it fixed its PDU if an exchange begins on
-/// it; and then it sent its packet if it is the central of that exchange (Core 5.2, volume 6 part B,
-/// sections 4.5.1, 4.5.2 and 4.5.9).
+/// it; and then it sent its packet if it is the central of that exchange (Core 5.2, volume 6 part
+/// B, sections 4.5.1, 4.5.2 and 4.5.9).
 pub fn a_turn_begins_on_links()
     ensures { (setup : Setup) (facts : Facts) (slot : ℕ) (on : Bool) (handle : ℕ)
         (after : OpenLink)

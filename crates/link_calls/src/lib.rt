@@ -5,6 +5,7 @@
 mod calls;
 mod exchanges;
 mod ranges;
+mod rows;
 
 pub use crate::calls::{
     a_host_only_gives_data_to_links, a_link_receives_answers_and_sends, a_turn_begins_on_links,
@@ -15,3 +16,4 @@ pub use crate::ranges::{
     packets_are_understood_on_their_channel, what_hosts_ask_is_in_range,
     what_is_sent_is_empty_or_has_octets,
 };
+pub use crate::rows::worked_turns;
