@@ -6,6 +6,7 @@ pub mod HeardSteps
 pub mod UnderHandles
 pub mod OffLinks
 pub mod LinkCalls
+pub mod Refusals
 pub mod RadioUses
 pub mod EnteredLinks
 pub mod HeldRadio

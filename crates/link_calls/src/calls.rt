@@ -1,7 +1,8 @@
 //! The link under one handle after each call on a controller. The bodies are empty: the contracts
 //! are the laws.
-ghost use Rattle.std.specs.Prelude.{◌≡◌, ℕ, Bool, List, Option, Some};
+ghost use Rattle.std.specs.Prelude.{◌≡◌, ℕ, Bool, true, List, Option, Some};
 ghost use Rattle.std.specs.Option.{option_map};
+ghost use Rattle.ble_base.specs.declared.roles.Role.TheVariants.{Central};
 ghost use Rattle.run_laws.specs.link_model.Times.{ending_of};
 ghost use Rattle.run_laws.specs.open_links.Data.{link_reported};
 ghost use Rattle.run_laws.specs.open_links.OpenLinks.{OpenLink, facts_in, link_at};
@@ -12,7 +13,7 @@ ghost use Rattle.controller_model.specs.Heard.{has_room};
 ghost use Rattle.controller_model.specs.Side.{facts_after};
 ghost use Rattle.controller_model.specs.Step.{HostOctet, TurnBegins, TurnEnds};
 ghost use Rattle.link_calls.specs.Hosts.{HasHeardHost};
-ghost use Rattle.link_calls.specs.Phases.{HasPassed};
+ghost use Rattle.link_calls.specs.Phases.{HasPassed, refuses_at};
 ghost use Rattle.link_calls.specs.Turns.{HasBegunTurn, HasEndedTurn};
 
 /// A link that is open after a turn began was open before it and had no reason to end. It entered
@@ -36,6 +37,14 @@ pub fn a_link_receives_answers_and_sends()
         → link_at handle (facts_after setup facts (step_of received)).links ≡ Some after
         → HasPassed facts (has_room setup facts) received handle
         (facts_after setup facts (step_of received)).turn.doing after }
+{}
+
+/// Only a central refuses a request of its peer: LL_CONNECTION_PARAM_REQ, which the mask of its
+/// host withholds from it (Core 5.2, volume 6 part B, section 5.1.7).
+pub fn only_a_central_refuses()
+    ensures { (facts : Facts) (handle : ℕ) (room : Bool) (octets : List ℕ) (link : OpenLink)
+        → link_at handle facts.links ≡ Some link → refuses_at handle room octets facts ≡ true
+        → link.setup.link.role ≡ Central }
 {}
 
 /// A link that is open after an octet of the host got data of it, or nothing happened to it (Core

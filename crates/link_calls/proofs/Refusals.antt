@@ -1,0 +1,125 @@
+-- Only a central refuses a request of its peer: a peripheral asks its host for nothing.
+use Rattle.std.proofs.Common.{◌≡◌, ℕ, Bool, true, false, Option, Some, None, List, is_none, refl, sym, ap, ◌∙◌}
+use Rattle.std.specs.Prelude.{◌&&◌, ◌==◌, if◌then◌else◌}
+use Rattle.ble_base.specs.declared.roles.Role.{Role}
+use Rattle.ble_base.specs.declared.roles.Role.TheVariants.{Central, Peripheral}
+use Rattle.data_pdu.specs.declared.ctrl.Ctrl.TheVariants.{TerminateInd}
+use Rattle.data_pdu.specs.declared.ctrl.CtrlRead.{CtrlRead}
+use Rattle.data_pdu.specs.declared.ctrl.CtrlRead.TheVariants.{Known}
+use Rattle.data_pdu.specs.Header.{header_in}
+use Rattle.host_view.specs.View.{View}
+use Rattle.run_laws.specs.procedure_stages.declared.stages.Progress.{Progress}
+use Rattle.run_laws.specs.procedure_stages.declared.stages.Progress.TheVariants.{Central as central, Peripheral as peripheral}
+use Rattle.run_laws.specs.procedure_stages.declared.stages.Peripheral.{Peripheral as PeripheralTable}
+use Rattle.run_laws.specs.procedure_stages.declared.steps.Effect.{Effect}
+use Rattle.run_laws.specs.procedure_stages.declared.steps.Effect.TheVariants.{AskHost, Indicated, Lengths as new_lengths, Nothing}
+use Rattle.run_laws.specs.procedure_stages.Kinds.{role_of}
+use Rattle.run_laws.specs.procedure_stages.Steps.{asks_host}
+use Rattle.procedures.specs.Table.{TableFacts}
+use Rattle.procedures.specs.Taking.{lacks_room, outcome_of, took_step}
+use Rattle.collision_steps.specs.Answers.{stops_run}
+use Rattle.collision_steps.proofs.PeripheralTaking.{took}
+use Rattle.collision_steps.proofs.Stopping.{told}
+use Rattle.control_model.specs.Control.{Control, SeesAcknowledged, Sends, Takes}
+use Rattle.control_model.proofs.Moving.{same_role}
+use Rattle.run_laws.specs.control_end.Answers.{effect_shown, nothing_taken, step_shown, taken_of}
+use Rattle.run_laws.specs.control_end.Held.{Held, held_after, held_of}
+use Rattle.run_laws.specs.link_model.Acknowledgement.{Pdu}
+use Rattle.run_laws.specs.link_model.Controls.{is_procedure_pdu, is_quiet_now, read_of}
+use Rattle.run_laws.specs.link_model.Facts.{Facts as EndFacts}
+use Rattle.run_laws.specs.link_model.Packets.{good_pdu}
+use Rattle.run_laws.specs.link_model.Receiving.{accepts, acknowledged_if, acks_control, answers_with_control, control_acked_if, effect_of, effect_received, effect_unless_known, facts_before_taking, given_if, has_acknowledged, heard_in_slot}
+use Rattle.run_laws.specs.link_model.Sending.{control_gone_if}
+use Rattle.run_laws.specs.link_model.Verdicts.{pdu_of}
+use Rattle.run_laws.specs.link_model.declared.state.KnownLengths.{KnownLengths}
+use Rattle.run_laws.proofs.link_model.ControlSteps.{keeps_role}
+use Rattle.run_laws.specs.open_links.OpenLinks.{OpenLink, facts_in, link_at}
+use Rattle.controller_model.specs.Facts.{Facts}
+use Rattle.controller_model.specs.Heard.{effect_in, is_refused}
+use Rattle.link_calls.specs.Phases.{refuses_at}
+
+-- ---- the table of a peripheral
+
+stops_asking : (f : TableFacts) (read : CtrlRead) (slot : ℕ) (quiet : Bool) → stops_run read ≡ true → asks_host (took_step f read slot quiet).1.effect ≡ false
+stops_asking f (Known (TerminateInd code)) slot quiet is = ap (λ s. asks_host s.effect) (told f slot code quiet)
+stops_asking f read slot quiet is = absurd cc
+
+table_asks : (f : TableFacts) (p : PeripheralTable) (read : CtrlRead) (slot : ℕ) (quiet : Bool) → f.progress ≡ peripheral p → asks_host (took_step f read slot quiet).1.effect ≡ false
+table_asks f p read slot quiet is = by (lacks_room f (outcome_of f quiet read)) refl (stops_run read) refl
+  where
+    by : (lacks : Bool) → lacks_room f (outcome_of f quiet read) ≡ lacks → (stops : Bool) → stops_run read ≡ stops → asks_host (took_step f read slot quiet).1.effect ≡ false
+    by true lacks stops ends = rw lacks refl
+    by false room true ends = stops_asking f read slot quiet ends
+    by false room false goes = (took f p read slot quiet is room goes).host
+
+role_asks : (f : TableFacts) (progress : Progress) (read : CtrlRead) (slot : ℕ) (quiet : Bool) → f.progress ≡ progress → role_of progress ≡ Peripheral
+    → asks_host (took_step f read slot quiet).1.effect ≡ false
+role_asks f (central c) read slot quiet is role = absurd (let h : Central ≡ Peripheral = role in absurd cc)
+role_asks f (peripheral p) read slot quiet is role = table_asks f p read slot quiet is
+
+-- ---- what is given of it
+
+shown_asks : (effect : Effect) → asks_host effect ≡ false → asks_host (effect_shown effect) ≡ false
+shown_asks (Indicated indication) none = refl
+shown_asks other none = none
+
+known_asks : (lengths : KnownLengths) (effect : Effect) → asks_host effect ≡ false → asks_host (effect_unless_known lengths effect) ≡ false
+known_asks lengths (new_lengths rx tx) none = by ((rx == lengths.reported_rx) && (tx == lengths.reported_tx))
+  where
+    by : (known : Bool) → asks_host (if known then Nothing else new_lengths rx tx) ≡ false
+    by true = refl
+    by false = refl
+known_asks lengths other none = none
+
+taken_asks : (h : Held) (read : CtrlRead) (slot : ℕ) (quiet : Bool) → role_of h.table.progress ≡ Peripheral → asks_host (taken_of read slot quiet h).effect ≡ false
+taken_asks h read slot quiet role = by (is_none (held_after (Takes read slot quiet) h).ends)
+  where
+    by : (goes : Bool) → asks_host (if goes then step_shown (took_step h.table read slot quiet).1 else nothing_taken).effect ≡ false
+    by true = shown_asks (took_step h.table read slot quiet).1.effect (role_asks h.table h.table.progress read slot quiet refl role)
+    by false = refl
+
+given_asks : (takes : Bool) (pdu : Pdu) (slot : ℕ) (facts : EndFacts) → role_of facts.control.table.progress ≡ Peripheral → asks_host (given_if takes pdu slot facts).effect ≡ false
+given_asks true pdu slot facts role = taken_asks (held_of facts.control) (read_of pdu) slot (is_quiet_now facts) role
+given_asks false pdu slot facts role = refl
+
+-- ---- its role as it looks at a new PDU
+
+acked_role : (acked : Bool) (control : Control) → role_of control.table.progress ≡ Peripheral → role_of (control_acked_if acked control).table.progress ≡ Peripheral
+acked_role true control is = same_role Peripheral SeesAcknowledged control is
+acked_role false control is = is
+
+gone_role : (goes : Bool) (slot : ℕ) (facts : EndFacts) → role_of facts.control.table.progress ≡ Peripheral → role_of (control_gone_if goes slot facts).control.table.progress ≡ Peripheral
+gone_role true slot facts is = same_role Peripheral (Sends slot (is_quiet_now facts)) facts.control is
+gone_role false slot facts is = is
+
+effect_asks : (role : Role) (slot : ℕ) (room : Bool) (found : Option (List ℕ)) (facts : EndFacts) → role_of facts.control.table.progress ≡ Peripheral
+    → asks_host (effect_received role slot room found facts) ≡ false
+effect_asks role slot room None facts is = refl
+effect_asks role slot room (Some octets) facts is =
+    let header = header_in octets in
+    let pdu = pdu_of octets in
+    let acks = has_acknowledged facts header in
+    let own = acknowledged_if acks (heard_in_slot slot header.md facts) in
+    let now = facts_before_taking role slot header facts in
+    let takes = accepts room header pdu now && is_procedure_pdu pdu in
+    known_asks facts.lengths (given_if takes pdu slot now).effect
+    (given_asks takes pdu slot now (gone_role (answers_with_control role own) slot own (acked_role (acks_control acks facts) facts.control is)))
+
+-- ---- at its controller
+
+refused_asks : (view : View) (handle : ℕ) (effect : Effect) → is_refused view handle effect ≡ true → asks_host effect ≡ true
+refused_asks view handle (AskHost min max latency timeout) is = refl
+refused_asks view handle other is = absurd cc
+
+pub only_central_refuses : (facts : Facts) (handle : ℕ) (room : Bool) (octets : List ℕ) (link : OpenLink) → link_at handle facts.links ≡ Some link
+    → refuses_at handle room octets facts ≡ true → link.setup.link.role ≡ Central
+unfolding effect_of
+only_central_refuses facts handle room octets link at refuses = by link.setup.link.role refl
+  where
+    by : (role : Role) → link.setup.link.role ≡ role → link.setup.link.role ≡ Central
+    by Central is = is
+    by Peripheral is =
+        let asks = refused_asks facts.view handle (effect_in facts.turn.slot room (Some link) octets)
+        (ap (λ found. is_refused facts.view handle (effect_in facts.turn.slot room found octets)) (sym at) ∙ refuses) in
+        let none = effect_asks link.setup.link.role facts.turn.slot room (good_pdu link.setup (facts_in link) octets) (facts_in link) (keeps_role link.setup link.past ∙ is) in
+        absurd (let h : true ≡ false = sym asks ∙ none in absurd cc)
