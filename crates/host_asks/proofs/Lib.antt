@@ -11,5 +11,6 @@ pub mod EndsViewed
 pub mod StepsListed
 pub mod OpenLinksKnown
 pub mod OpenLinkCalls
+pub mod OpenLinksGoing
 pub mod PairsCommanded
 pub mod ReasonsRead

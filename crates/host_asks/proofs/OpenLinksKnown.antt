@@ -67,7 +67,7 @@ commanded_handles command slot first (place ∷ links) have =
 
 -- ---- the view
 
-some_is : (one other : OpenLink) → Some one ≡ Some other → one ≡ other
+pub some_is : (one other : OpenLink) → Some one ≡ Some other → one ≡ other
 some_is one other is = ap (λ (link : Option OpenLink). or_link link) is
   where
     or_link : Option OpenLink → OpenLink

@@ -4,12 +4,13 @@ use Rattle.std.specs.Option.{option_map}
 use Rattle.ble_base.specs.declared.procedure_kinds.Kind.{Kind}
 use Rattle.hci_cmd.specs.declared.command.Command.{Command}
 use Rattle.hci_cmd.specs.declared.command.Command.TheVariants.{LeReadRemoteFeatures, ReadRemoteVersion}
+use Rattle.procedure_stages.specs.declared.steps.Effect.{Effect}
 use Rattle.link_model.specs.Step.{Step}
 use Rattle.open_links.specs.OpenLinks.{HaveHandles, Links, OpenLink, facts_in, link_after, link_at}
 use Rattle.host_view.specs.View.{View}
 use Rattle.host_view.specs.Changes.{view_after}
 use Rattle.host_asks.specs.Commands.{host_step_of, is_about}
-use Rattle.host_asks.specs.Views.{KnowsAt, kind_known, view_answered}
+use Rattle.host_asks.specs.Views.{KnowsAt, KnowsOnceTold, kind_known, view_answered}
 
 -- ---- the links
 
@@ -60,3 +61,13 @@ pub record KnowsLinks (view : View) (links : Links) : Type 0 where
   pub each :
       (handle : ℕ) (link : OpenLink) → link_at handle links ≡ Some link → (facts_in link).control.ends ≡ None
       → KnowsAt view handle (facts_in link)
+
+-- the same, but for what the host of this link is still to receive
+pub record KnowsLinksOnceTold (handle : ℕ) (effect : Effect) (view : View) (links : Links) : Type 0 where
+  pub handles : HaveHandles 0 links
+  pub own :
+      (link : OpenLink) → link_at handle links ≡ Some link → (facts_in link).control.ends ≡ None
+      → KnowsOnceTold effect view handle (facts_in link)
+  pub others :
+      (other : ℕ) (link : OpenLink) → (other ≡ handle → ⊥) → link_at other links ≡ Some link
+      → (facts_in link).control.ends ≡ None → KnowsAt view other (facts_in link)

@@ -5,6 +5,7 @@
 
 mod both_ends;
 mod laws;
+mod links_going;
 mod open_ends;
 mod rows;
 mod views;
@@ -15,6 +16,7 @@ pub use crate::laws::{
     a_step_keeps_what_is_known, accepted_commands_may_come, an_answer_keeps_what_is_known,
     reasons_that_are_read_fit,
 };
+pub use crate::links_going::{links_that_go_on_stay_known, opened_and_shut_links_are_known};
 pub use crate::open_ends::{all_links_stay_known, each_command_is_one_call};
 pub use crate::rows::{a_peer_may_withdraw_its_request, an_answer_at_once_is_taken};
 pub use crate::views::{
