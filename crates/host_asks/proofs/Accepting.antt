@@ -48,7 +48,7 @@ use Rattle.host_view.specs.Refusals.{are_parameters, asked_row, count_if, first_
 use Rattle.host_view.specs.Status.{connection_update_rows, data_length_rows, disconnect_rows, is_data_length, is_reason, parameter_request_row, rows_of}
 use Rattle.host_asks.specs.Commands.{FitsReason, MayComeIf, answered_if, ask_unless, facts_commanded, host_step_of, is_about, link_commanded, map_by, update_by}
 use Rattle.host_asks.specs.Knowing.{KnowsAsks, KnowsTable}
-use Rattle.host_asks.specs.Noting.{effect_in, is_of_host, link_after, link_after_notes, link_told}
+use Rattle.host_asks.specs.Noting.{effect_after, is_of_host, link_after_step, link_after_notes, link_with_request}
 use Rattle.host_asks.proofs.Controls.{ends_before}
 use Rattle.host_asks.proofs.Ends.{step_knows}
 use Rattle.host_asks.proofs.Keeping.{asked_with, same_kinds}
@@ -376,9 +376,9 @@ pub refused_knows : (link : Link) (facts : Facts) (code : ErrCode) (waits : Bool
     → KnowsAsks (record link { waits_for_parameters = waits }) (facts_answered (Err code) facts)
 refused_knows link facts code waits knows lasts = answer_knows link facts (Err code) waits refl knows lasts
 
-pub told_again : (effect : Effect) (link : Link) → record (link_told effect link) { waits_for_parameters = link.waits_for_parameters } ≡ link
-told_again (AskHost min max latency timeout) link = refl
-told_again effect link = refl
+pub request_withdrawn : (effect : Effect) (link : Link) → record (link_with_request effect link) { waits_for_parameters = link.waits_for_parameters } ≡ link
+request_withdrawn (AskHost min max latency timeout) link = refl
+request_withdrawn effect link = refl
 
 pub withheld_knows : (setup : Setup) (step : Step) (link : Link) (facts : Facts) (code : ErrCode) → is_of_host step ≡ false → KnowsAsks link facts
     → (facts_answered (Err code) (facts_after setup facts step)).control.ends ≡ None
@@ -386,6 +386,6 @@ pub withheld_knows : (setup : Setup) (step : Step) (link : Link) (facts : Facts)
 withheld_knows setup step link facts code other knows lasts =
     let next = facts_after setup facts step in
     let noted = link_after_notes setup facts step link in
-    subst (λ (l : Link). KnowsAsks l (facts_answered (Err code) next)) (told_again (effect_in setup facts step) noted)
-    (refused_knows (link_after setup facts step link) next code noted.waits_for_parameters
+    subst (λ (l : Link). KnowsAsks l (facts_answered (Err code) next)) (request_withdrawn (effect_after setup facts step) noted)
+    (refused_knows (link_after_step setup facts step link) next code noted.waits_for_parameters
     (step_knows setup step link facts other knows (ends_before (Answers (Err code)) next.control lasts)) lasts)

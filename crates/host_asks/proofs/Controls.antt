@@ -25,7 +25,7 @@ use Rattle.control_end.specs.Held.{Held, held_after, held_of}
 use Rattle.control_end.proofs.Depending.{step_held}
 use Rattle.host_view.specs.declared.links.Link.{Link}
 use Rattle.host_asks.specs.Knowing.{KnowsTable}
-use Rattle.host_asks.specs.Noting.{link_told}
+use Rattle.host_asks.specs.Noting.{link_with_request}
 use Rattle.host_asks.proofs.Tables.{link_done, link_refused, table_acked, table_begun, table_entered, table_sent, table_takes}
 
 -- an end that did not end the link did not before
@@ -81,7 +81,7 @@ control_acked_knows link c knows = lasting (is_none c.ends) (is_out c.table.out)
 -- ---- one is taken
 
 abbrev pub link_by : TableStep → Link → Link
-link_by step link = link_told step.effect (link_done step.done (link_refused step.refused link))
+link_by step link = link_with_request step.effect (link_done step.done (link_refused step.refused link))
 
 knows_by : (link : Link) (f g : TableFacts) (full : Bool) (code : Option ErrCode) (step : TableStep) → step.ends ≡ code → KnowsTable (link_by step link) g
     → (settled_as full code f g step).1.ends ≡ None → KnowsTable (link_by (settled_as full code f g step).1 link) (settled_as full code f g step).0
@@ -111,15 +111,15 @@ taken_knows K table None (Some indication) c knows lasts = by (is_to_come c.trac
     by false lasts = absurd (cc)
 
 -- what is given of it changes the link as the step of the table does
-shown_tells : (effect : Effect) (link : Link) → link_told (effect_shown effect) link ≡ link_told effect link
-shown_tells (Indicated indication) link = refl
-shown_tells effect link = refl
+shown_same : (effect : Effect) (link : Link) → link_with_request (effect_shown effect) link ≡ link_with_request effect link
+shown_same (Indicated indication) link = refl
+shown_same effect link = refl
 
 abbrev pub link_given : Taken → Link → Link
-link_given given link = link_told given.effect (link_done given.done (link_refused given.refused link))
+link_given given link = link_with_request given.effect (link_done given.done (link_refused given.refused link))
 
 given_by : (link : Link) (goes : Bool) (step : TableStep) → goes ≡ true → link_given (if goes then step_shown step else nothing_taken) link ≡ link_by step link
-given_by link true step is = shown_tells step.effect (link_done step.done (link_refused step.refused link))
+given_by link true step is = shown_same step.effect (link_done step.done (link_refused step.refused link))
 given_by link false step is = absurd (cc)
 
 pub control_taken_knows : (link : Link) (c : Control) (read : CtrlRead) (slot : ℕ) (quiet : Bool) → KnowsTable link c.table

@@ -42,62 +42,62 @@ use Rattle.host_view.specs.Links.{is_asked}
 use Rattle.host_view.specs.Noted.{nothing_asked, opened_link}
 use Rattle.host_view.specs.Refusals.{count_if}
 use Rattle.host_asks.specs.Knowing.{KnowsAsks, KnowsTable}
-use Rattle.host_asks.specs.Noting.{is_of_host, link_after, link_noted, link_told}
+use Rattle.host_asks.specs.Noting.{is_of_host, link_after_step, link_after_note, link_with_request}
 use Rattle.host_asks.proofs.Tables.{link_done, link_refused}
 use Rattle.host_asks.proofs.Controls.{control_acked_knows, control_entered_knows, control_sent_knows, control_taken_knows, link_given}
 
 -- ---- notes, one list after the other
 
-noted_more : (link : Link) (notes more : List Note) → fold link_noted link (notes ++ more) ≡ fold link_noted (fold link_noted link notes) more
+noted_more : (link : Link) (notes more : List Note) → fold link_after_note link (notes ++ more) ≡ fold link_after_note (fold link_after_note link notes) more
 noted_more link [] more = refl
-noted_more link (note ∷ notes) more = noted_more (link_noted link note) notes more
+noted_more link (note ∷ notes) more = noted_more (link_after_note link note) notes more
 
-noted_done : (handle : ℕ) (over : Option Kind) (link : Link) → fold link_noted link (done_notes handle over) ≡ link_done over link
+noted_done : (handle : ℕ) (over : Option Kind) (link : Link) → fold link_after_note link (done_notes handle over) ≡ link_done over link
 noted_done handle None link = refl
 noted_done handle (Some kind) link = refl
 
-noted_refused : (handle : ℕ) (refused : Option (Kind × ErrCode)) (link : Link) → fold link_noted link (refused_notes handle refused) ≡ link_refused refused link
+noted_refused : (handle : ℕ) (refused : Option (Kind × ErrCode)) (link : Link) → fold link_after_note link (refused_notes handle refused) ≡ link_refused refused link
 noted_refused handle None link = refl
 noted_refused handle (Some (kind, code)) link = refl
 
-noted_began : (handle : ℕ) (began : Option Kind) (link : Link) → fold link_noted link (began_notes handle began) ≡ link
+noted_began : (handle : ℕ) (began : Option Kind) (link : Link) → fold link_after_note link (began_notes handle began) ≡ link
 noted_began handle None link = refl
 noted_began handle (Some kind) link = refl
 
-noted_applied : (handle event : ℕ) (applied : Option ℕ) (link : Link) → fold link_noted link (applied_notes handle event applied) ≡ link
+noted_applied : (handle event : ℕ) (applied : Option ℕ) (link : Link) → fold link_after_note link (applied_notes handle event applied) ≡ link
 noted_applied handle event None link = refl
 noted_applied handle event (Some number) link = refl
 
-noted_sent : (noted : Bool) (handle number : ℕ) (pdu : Pdu) (link : Link) → fold link_noted link (sent_notes_if noted handle number pdu) ≡ link
+noted_sent : (noted : Bool) (handle number : ℕ) (pdu : Pdu) (link : Link) → fold link_after_note link (sent_notes_if noted handle number pdu) ≡ link
 noted_sent true handle number pdu link = refl
 noted_sent false handle number pdu link = refl
 
-noted_took : (noted : Bool) (handle : ℕ) (pdu : Pdu) (facts : Facts) (link : Link) → fold link_noted link (took_notes_if noted handle pdu facts) ≡ link
+noted_took : (noted : Bool) (handle : ℕ) (pdu : Pdu) (facts : Facts) (link : Link) → fold link_after_note link (took_notes_if noted handle pdu facts) ≡ link
 noted_took true handle pdu facts link = refl
 noted_took false handle pdu facts link = refl
 
 noted_event : (handle : ℕ) (event : ConnectionEvent) (entry : Entry) (link : Link)
-    → fold link_noted link (event_notes handle event entry) ≡ link_done entry.done link
+    → fold link_after_note link (event_notes handle event entry) ≡ link_done entry.done link
 noted_event handle event entry link =
     let enter = Enter handle (record { 0 = event.number }) event.channel ∷ [] in
     let applied = applied_notes handle event.number entry.applied in
     noted_more link (applied ++ enter ++ done_notes handle entry.done) (began_notes handle entry.began)
     ∙ noted_began handle entry.began _
     ∙ noted_more link (applied ++ enter) (done_notes handle entry.done)
-    ∙ ap (λ (l : Link). fold link_noted l (done_notes handle entry.done)) (noted_more link applied enter ∙ noted_applied handle event.number entry.applied link)
+    ∙ ap (λ (l : Link). fold link_after_note l (done_notes handle entry.done)) (noted_more link applied enter ∙ noted_applied handle event.number entry.applied link)
     ∙ noted_done handle entry.done link
 
 noted_hearing : (handle : ℕ) (acked : Option Kind) (took : List Note) (given : Taken) (link : Link)
-    → ((l : Link) → fold link_noted l took ≡ l)
-    → fold link_noted link (done_notes handle acked ++ (took ++ given_notes handle given))
+    → ((l : Link) → fold link_after_note l took ≡ l)
+    → fold link_after_note link (done_notes handle acked ++ (took ++ given_notes handle given))
     ≡ link_done given.done (link_refused given.refused (link_done acked link))
 noted_hearing handle acked took given link none =
     noted_more link (done_notes handle acked) (took ++ given_notes handle given)
-    ∙ ap (λ (l : Link). fold link_noted l (took ++ given_notes handle given)) (noted_done handle acked link)
+    ∙ ap (λ (l : Link). fold link_after_note l (took ++ given_notes handle given)) (noted_done handle acked link)
     ∙ noted_more (link_done acked link) took (given_notes handle given)
-    ∙ ap (λ (l : Link). fold link_noted l (given_notes handle given)) (none (link_done acked link))
+    ∙ ap (λ (l : Link). fold link_after_note l (given_notes handle given)) (none (link_done acked link))
     ∙ noted_more (link_done acked link) (refused_notes handle given.refused) (done_notes handle given.done)
-    ∙ ap (λ (l : Link). fold link_noted l (done_notes handle given.done)) (noted_refused handle given.refused (link_done acked link))
+    ∙ ap (λ (l : Link). fold link_after_note l (done_notes handle given.done)) (noted_refused handle given.refused (link_done acked link))
     ∙ noted_done handle given.done (link_refused given.refused (link_done acked link))
 
 -- ---- what the view keeps of a Disconnect
@@ -105,17 +105,17 @@ noted_hearing handle acked took given link none =
 done_stays : (over : Option Kind) (link : Link) → (link_done over link).disconnecting ≡ link.disconnecting
 done_stays over link = refl
 
-told_stays : (effect : Effect) (link : Link) → (link_told effect link).disconnecting ≡ link.disconnecting
-told_stays (AskHost min max latency timeout) link = refl
-told_stays effect link = refl
+request_disconnecting : (effect : Effect) (link : Link) → (link_with_request effect link).disconnecting ≡ link.disconnecting
+request_disconnecting (AskHost min max latency timeout) link = refl
+request_disconnecting effect link = refl
 
-known_tells : (lengths : KnownLengths) (effect : Effect) (link : Link) → link_told (effect_unless_known lengths effect) link ≡ link_told effect link
-known_tells lengths (new_lengths rx tx) link = by ((rx == lengths.reported_rx) && (tx == lengths.reported_tx))
+known_same : (lengths : KnownLengths) (effect : Effect) (link : Link) → link_with_request (effect_unless_known lengths effect) link ≡ link_with_request effect link
+known_same lengths (new_lengths rx tx) link = by ((rx == lengths.reported_rx) && (tx == lengths.reported_tx))
   where
-    by : (known : Bool) → link_told (if known then Nothing else new_lengths rx tx) link ≡ link
+    by : (known : Bool) → link_with_request (if known then Nothing else new_lengths rx tx) link ≡ link
     by true = refl
     by false = refl
-known_tells lengths effect link = refl
+known_same lengths effect link = refl
 
 leaving_stays : (code : Option ErrCode) (leaving : Leaving) → (leaving_by code leaving).disconnected ≡ leaving.disconnected
 leaving_stays None leaving = refl
@@ -138,7 +138,7 @@ entry_done h slot quiet goes =
 enter_knows : (setup : Setup) (slot : ℕ) (link : Link) (facts : Facts) (goes : Bool) (entry : Entry) → goes_on facts ≡ goes
     → (goes ≡ true → entry.done ≡ (entered_step facts.control.table (is_some (next_number facts.control.track))).1)
     → KnowsAsks link facts
-    → KnowsAsks (fold link_noted link (if goes then event_notes setup.link.handle (facts_entered setup slot facts).event entry else []))
+    → KnowsAsks (fold link_after_note link (if goes then event_notes setup.link.handle (facts_entered setup slot facts).event entry else []))
     (if goes then facts_entered setup slot facts else facts)
 enter_knows setup slot link facts true entry goes is knows =
     subst (λ (l : Link). KnowsAsks l (facts_entered setup slot facts))
@@ -177,16 +177,16 @@ taken_stage link false accepted pdu slot facts knows lasts = knows
 hears : (setup : Setup) (slot : ℕ) (room : Bool) (header : DataHeader) (pdu : Pdu) (link : Link) (facts : Facts) → KnowsAsks link facts
     → (facts_hearing setup.link.role slot room header pdu facts).control.ends ≡ None
     → KnowsAsks
-    (link_told (effect_unless_known facts.lengths
+    (link_with_request (effect_unless_known facts.lengths
     (given_if (accepts room header pdu (facts_before_taking setup.link.role slot header facts) && is_procedure_pdu pdu) pdu slot (facts_before_taking setup.link.role slot header facts)).effect)
-    (fold link_noted link (notes_hearing setup slot room header pdu facts)))
+    (fold link_after_note link (notes_hearing setup slot room header pdu facts)))
     (facts_hearing setup.link.role slot room header pdu facts)
 hears setup slot room header pdu link facts knows lasts =
     subst (λ (l : Link). KnowsAsks l (facts_hearing setup.link.role slot room header pdu facts)) (sym changed)
     (record {
       table = taken_stage (link_done over link) takes accepted pdu slot now gone lasts;
       disconnecting =
-          told_stays given.effect (link_done given.done (link_refused given.refused (link_done over link)))
+          request_disconnecting given.effect (link_done given.done (link_refused given.refused (link_done over link)))
           ∙ knows.disconnecting
           ∙ ap is_some (sym (take_leaving takes pdu slot (accepted_if accepted pdu now) ∙ ap (λ (l : Leaving). l.disconnected) (gone_leaving answers slot own)));
     })
@@ -218,17 +218,17 @@ hears setup slot room header pdu link facts knows lasts =
     gone : KnowsTable (link_done over link) now.control.table
     gone = gone_stage (link_done over link) answers slot own (acked_stage link acks facts knows.table)
 
-    changed : link_told (effect_unless_known facts.lengths given.effect) (fold link_noted link (notes_hearing setup slot room header pdu facts))
+    changed : link_with_request (effect_unless_known facts.lengths given.effect) (fold link_after_note link (notes_hearing setup slot room header pdu facts))
         ≡ link_given given (link_done over link)
     changed =
-        known_tells facts.lengths given.effect _
-        ∙ ap (link_told given.effect)
+        known_same facts.lengths given.effect _
+        ∙ ap (link_with_request given.effect)
         (noted_hearing setup.link.handle over (took_notes_if (accepted && not (is_empty pdu)) setup.link.handle pdu now) given link
         (noted_took (accepted && not (is_empty pdu)) setup.link.handle pdu now))
 
 receives : (setup : Setup) (slot : ℕ) (room : Bool) (octets : Option (List ℕ)) (link : Link) (facts : Facts) → KnowsAsks link facts
     → (facts_received setup.link.role slot room octets facts).control.ends ≡ None
-    → KnowsAsks (link_told (effect_received setup.link.role slot room octets facts) (fold link_noted link (received_notes setup slot room octets facts)))
+    → KnowsAsks (link_with_request (effect_received setup.link.role slot room octets facts) (fold link_after_note link (received_notes setup slot room octets facts)))
     (facts_received setup.link.role slot room octets facts)
 receives setup slot room None link facts knows lasts = knows
 receives setup slot room (Some octets) link facts knows lasts = hears setup slot room (header_in octets) (pdu_of octets) link facts knows lasts
@@ -237,7 +237,7 @@ receives setup slot room (Some octets) link facts knows lasts = hears setup slot
 
 -- the host asks for a procedure, answers a request or ends the link
 sent_knows : (setup : Setup) (slot : ℕ) (link : Link) (facts : Facts) → KnowsAsks link facts
-    → KnowsAsks (fold link_noted link (sent_notes setup facts)) (facts_after setup facts (PacketSent slot))
+    → KnowsAsks (fold link_after_note link (sent_notes setup facts)) (facts_after setup facts (PacketSent slot))
 sent_knows setup slot link facts knows =
     subst (λ (l : Link). KnowsAsks l (facts_after setup facts (PacketSent slot))) (sym (noted_sent _ setup.link.handle _ (pdu_fixed facts) link))
     (record {
@@ -250,7 +250,7 @@ fixed_knows true link facts knows = knows
 fixed_knows false link facts knows = record { table = knows.table; disconnecting = knows.disconnecting }
 
 pub step_knows : (setup : Setup) (step : Step) (link : Link) (facts : Facts) → is_of_host step ≡ false → KnowsAsks link facts
-    → (facts_after setup facts step).control.ends ≡ None → KnowsAsks (link_after setup facts step link) (facts_after setup facts step)
+    → (facts_after setup facts step).control.ends ≡ None → KnowsAsks (link_after_step setup facts step link) (facts_after setup facts step)
 unfolding effect_of
 step_knows setup (DataGiven start body) link facts other knows lasts = record { table = knows.table; disconnecting = knows.disconnecting }
 step_knows setup (ProcedureAsked ask) link facts other knows lasts = absurd (cc)

@@ -33,20 +33,20 @@ use Rattle.host_view.specs.Links.{link_in}
 use Rattle.host_view.specs.Noted.{after_packet, event_handle, acl_handle, is_acl_data, is_le_event, view_noted}
 use Rattle.host_asks.specs.Commands.{FitsReason, MayComeIf, answered_if, ask_unless, facts_commanded, host_step_of, is_about, is_read_of_peer, link_accepted, link_answered, link_commanded}
 use Rattle.host_asks.specs.Knowing.{KnowsAsks}
-use Rattle.host_asks.specs.Noting.{effect_in, is_of_host, link_after_notes, link_noted, link_told}
-use Rattle.host_asks.specs.Views.{KnowsAt, KnowsOnceTold, events_at_once, events_if, kind_if, kind_known, leaves_other_links, view_answered, view_commanded}
-use Rattle.host_asks.proofs.Accepting.{command_keeps, command_may_come, refused_knows, told_again}
+use Rattle.host_asks.specs.Noting.{effect_after, is_of_host, link_after_notes, link_after_note, link_with_request}
+use Rattle.host_asks.specs.Views.{KnowsAt, KnowsOnceReported, events_at_once, events_if, kind_if, kind_known, leaves_other_links, view_answered, view_commanded}
+use Rattle.host_asks.proofs.Accepting.{command_keeps, command_may_come, refused_knows, request_withdrawn}
 use Rattle.host_asks.proofs.Ends.{step_knows}
 use Rattle.host_asks.proofs.LinksViewed.{about_other, about_own, command_other, command_own, notes_of_step, notes_own}
 
 -- ---- a change that keeps what is known
 
 changed_known : (effect : Effect) (view : View) (given handle : ℕ) (facts : Facts) (change : Link → Link)
-    → ((link : Link) → KnowsAsks (link_told effect link) facts → KnowsAsks (link_told effect (change link)) facts)
-    → KnowsOnceTold effect view handle facts → KnowsOnceTold effect (on_link given change view) handle facts
+    → ((link : Link) → KnowsAsks (link_with_request effect link) facts → KnowsAsks (link_with_request effect (change link)) facts)
+    → KnowsOnceReported effect view handle facts → KnowsOnceReported effect (on_link given change view) handle facts
 changed_known effect view given handle facts change keeps known = by (given == handle) refl
   where
-    by : (own : Bool) → (given == handle) ≡ own → KnowsOnceTold effect (on_link given change view) handle facts
+    by : (own : Bool) → (given == handle) ≡ own → KnowsOnceReported effect (on_link given change view) handle facts
     by true is =
         record {
           link = change known.link;
@@ -98,44 +98,44 @@ parameters_known link facts knows =
     }
 
 -- what waits does not depend on these
-told_handed : (effect : Effect) (link : Link) (facts : Facts) (outstanding : ℕ) → KnowsAsks (link_told effect link) facts
-    → KnowsAsks (link_told effect (record link { outstanding = outstanding })) facts
-told_handed (AskHost least most latency timeout) link facts outstanding knows = handed_known (link_told (AskHost least most latency timeout) link) facts outstanding knows
-told_handed effect link facts outstanding knows = handed_known link facts outstanding knows
+handed_with : (effect : Effect) (link : Link) (facts : Facts) (outstanding : ℕ) → KnowsAsks (link_with_request effect link) facts
+    → KnowsAsks (link_with_request effect (record link { outstanding = outstanding })) facts
+handed_with (AskHost least most latency timeout) link facts outstanding knows = handed_known (link_with_request (AskHost least most latency timeout) link) facts outstanding knows
+handed_with effect link facts outstanding knows = handed_known link facts outstanding knows
 
-told_key : (effect : Effect) (link : Link) (facts : Facts) (waits : Bool) → KnowsAsks (link_told effect link) facts
-    → KnowsAsks (link_told effect (record link { waits_for_key = waits })) facts
-told_key (AskHost least most latency timeout) link facts waits knows = key_known (link_told (AskHost least most latency timeout) link) facts waits knows
-told_key effect link facts waits knows = key_known link facts waits knows
+key_with : (effect : Effect) (link : Link) (facts : Facts) (waits : Bool) → KnowsAsks (link_with_request effect link) facts
+    → KnowsAsks (link_with_request effect (record link { waits_for_key = waits })) facts
+key_with (AskHost least most latency timeout) link facts waits knows = key_known (link_with_request (AskHost least most latency timeout) link) facts waits knows
+key_with effect link facts waits knows = key_known link facts waits knows
 
-told_parameters : (effect : Effect) (link : Link) (facts : Facts) → KnowsAsks (link_told effect link) facts
-    → KnowsAsks (link_told effect (record link { waits_for_parameters = true })) facts
-told_parameters (AskHost least most latency timeout) link facts knows = knows
-told_parameters effect link facts knows = parameters_known link facts knows
+parameters_with : (effect : Effect) (link : Link) (facts : Facts) → KnowsAsks (link_with_request effect link) facts
+    → KnowsAsks (link_with_request effect (record link { waits_for_parameters = true })) facts
+parameters_with (AskHost least most latency timeout) link facts knows = knows
+parameters_with effect link facts knows = parameters_known link facts knows
 
 -- ---- any packet
 
 module _ (effect : Effect) (handle : ℕ) (facts : Facts) where
-  choice : (b : Bool) (x y : View) → KnowsOnceTold effect x handle facts → KnowsOnceTold effect y handle facts
-      → KnowsOnceTold effect (if b then x else y) handle facts
+  choice : (b : Bool) (x y : View) → KnowsOnceReported effect x handle facts → KnowsOnceReported effect y handle facts
+      → KnowsOnceReported effect (if b then x else y) handle facts
   choice true x y hx hy = hx
   choice false x y hx hy = hy
 
-  packet_by : (view : View) (octets : List ℕ) → KnowsOnceTold effect view handle facts → KnowsOnceTold effect (after_packet octets view) handle facts
+  packet_by : (view : View) (octets : List ℕ) → KnowsOnceReported effect view handle facts → KnowsOnceReported effect (after_packet octets view) handle facts
   packet_by view octets known =
       choice (is_acl_data octets) _ _
       (choice view.flow.on _ _
       (changed_known effect view (acl_handle octets) handle facts (λ link. record link { outstanding = min (link.outstanding + 1) 65535 })
-      (λ link knows. told_handed effect link facts (min (link.outstanding + 1) 65535) knows) known) known)
+      (λ link knows. handed_with effect link facts (min (link.outstanding + 1) 65535) knows) known) known)
       (choice (is_le_event 0x05 octets) _ _
-      (changed_known effect view (event_handle octets) handle facts (λ link. record link { waits_for_key = true }) (λ link knows. told_key effect link facts true knows) known)
+      (changed_known effect view (event_handle octets) handle facts (λ link. record link { waits_for_key = true }) (λ link knows. key_with effect link facts true knows) known)
       (choice (is_le_event 0x06 octets) _ _
       (changed_known effect view (event_handle octets) handle facts (λ link. record link { waits_for_parameters = true })
-      (λ link knows. told_parameters effect link facts knows) known)
+      (λ link knows. parameters_with effect link facts knows) known)
       known))
 
-pub packet_known : (effect : Effect) (view : View) (octets : List ℕ) (handle : ℕ) (facts : Facts) → KnowsOnceTold effect view handle facts
-    → KnowsOnceTold effect (view_noted view (Up (record { items = octets }))) handle facts
+pub packet_known : (effect : Effect) (view : View) (octets : List ℕ) (handle : ℕ) (facts : Facts) → KnowsOnceReported effect view handle facts
+    → KnowsOnceReported effect (view_noted view (Up (record { items = octets }))) handle facts
 unfolding view_noted
 packet_known effect view octets handle facts known = packet_by effect handle facts view octets known
 
@@ -146,7 +146,7 @@ two_octets_are handle fits = omega (arith, fits)
 
 request_links : (view : View) (handle least most latency timeout : ℕ) → handle < 65536
     → link_in (view_noted view (Up (record { items = written (ParamRequest handle least most latency timeout) }))).links handle
-    ≡ option_map (link_told (AskHost least most latency timeout)) (link_in view.links handle)
+    ≡ option_map (link_with_request (AskHost least most latency timeout)) (link_in view.links handle)
 unfolding view_noted little_endian
 request_links view handle least most latency timeout fits =
     subst (λ (h : ℕ). link_in (on_link h (λ (link : Link). record link { waits_for_parameters = true }) view).links handle
@@ -156,32 +156,32 @@ request_links view handle least most latency timeout fits =
     same : (n : ℕ) → (n == n) ≡ true
     same n = grind (arith)
 
-pub request_told : (view : View) (handle least most latency timeout : ℕ) (facts : Facts) → handle < 65536
-    → KnowsOnceTold (AskHost least most latency timeout) view handle facts
+pub request_reported : (view : View) (handle least most latency timeout : ℕ) (facts : Facts) → handle < 65536
+    → KnowsOnceReported (AskHost least most latency timeout) view handle facts
     → KnowsAt (view_noted view (Up (record { items = written (ParamRequest handle least most latency timeout) }))) handle facts
-request_told view handle least most latency timeout facts fits known =
+request_reported view handle least most latency timeout facts fits known =
     record {
-      link = link_told (AskHost least most latency timeout) known.link;
-      is_open = request_links view handle least most latency timeout fits ∙ ap (option_map (link_told (AskHost least most latency timeout))) known.is_open;
+      link = link_with_request (AskHost least most latency timeout) known.link;
+      is_open = request_links view handle least most latency timeout fits ∙ ap (option_map (link_with_request (AskHost least most latency timeout))) known.is_open;
       knows = known.knows;
     }
 
 -- ---- there is no request, or it is refused at once
 
-pub none_told : (effect : Effect) (view : View) (handle : ℕ) (facts : Facts) → asks_host effect ≡ false → KnowsOnceTold effect view handle facts
+pub none_reported : (effect : Effect) (view : View) (handle : ℕ) (facts : Facts) → asks_host effect ≡ false → KnowsOnceReported effect view handle facts
     → KnowsAt view handle facts
-none_told (AskHost least most latency timeout) view handle facts none known = absurd (cc)
-none_told effect view handle facts none known = record { link = known.link; is_open = known.is_open; knows = known.knows }
+none_reported (AskHost least most latency timeout) view handle facts none known = absurd (cc)
+none_reported effect view handle facts none known = record { link = known.link; is_open = known.is_open; knows = known.knows }
 
-pub refused_told : (effect : Effect) (view : View) (handle : ℕ) (facts : Facts) (code : ErrCode) → KnowsOnceTold effect view handle facts
+pub request_refused_at_once : (effect : Effect) (view : View) (handle : ℕ) (facts : Facts) (code : ErrCode) → KnowsOnceReported effect view handle facts
     → (facts_answered (Err code) facts).control.ends ≡ None → KnowsAt view handle (facts_answered (Err code) facts)
-refused_told effect view handle facts code known lasts =
+request_refused_at_once effect view handle facts code known lasts =
     record {
       link = known.link;
       is_open = known.is_open;
       knows =
-          subst (λ (l : Link). KnowsAsks l (facts_answered (Err code) facts)) (told_again effect known.link)
-          (refused_knows (link_told effect known.link) facts code known.link.waits_for_parameters known.knows lasts);
+          subst (λ (l : Link). KnowsAsks l (facts_answered (Err code) facts)) (request_withdrawn effect known.link)
+          (refused_knows (link_with_request effect known.link) facts code known.link.waits_for_parameters known.knows lasts);
     }
 
 -- ---- a step of an end, and a command
@@ -191,7 +191,7 @@ option_some f found link is = ap (option_map f) is
 
 pub step_known : (view : View) (setup : Setup) (facts : Facts) (step : Step) → is_of_host step ≡ false
     → KnowsAt view setup.link.handle facts → (facts_after setup facts step).control.ends ≡ None
-    → KnowsOnceTold (effect_in setup facts step) (fold view_noted view (notes_after setup facts step)) setup.link.handle (facts_after setup facts step)
+    → KnowsOnceReported (effect_after setup facts step) (fold view_noted view (notes_after setup facts step)) setup.link.handle (facts_after setup facts step)
 step_known view setup facts step other known lasts =
     record {
       link = link_after_notes setup facts step known.link;
@@ -204,7 +204,7 @@ step_known view setup facts step other known lasts =
 answered_view : (view : View) (handle : ℕ) (kind : Kind) (link : Link) → link_in view.links handle ≡ Some link
     → link_in (view_noted view (Done handle kind)).links handle ≡ Some (answered kind link)
 answered_view view handle kind link is =
-    notes_own handle view (Done handle kind ∷ []) (refl, tt) ∙ option_some (λ l. fold link_noted l (Done handle kind ∷ [])) (link_in view.links handle) link is
+    notes_own handle view (Done handle kind ∷ []) (refl, tt) ∙ option_some (λ l. fold link_after_note l (Done handle kind ∷ [])) (link_in view.links handle) link is
 
 known_if : (view : View) (handle : ℕ) (known : Bool) (kind : Kind) (link : Link) → link_in view.links handle ≡ Some link
     → link_in (view_answered handle (kind_if known kind) view).links handle ≡ Some (answered_if known kind link)

@@ -10,7 +10,7 @@ use Rattle.link_model.specs.ControlSteps.{control_steps_in}
 use Rattle.link_model.proofs.ControlSteps.{one_step}
 use Rattle.host_asks.specs.Commands.{facts_commanded, host_step_of}
 use Rattle.host_asks.specs.Knowing.{KnowsAsks}
-use Rattle.host_asks.specs.Lasting.{AllMayHappen, IsCommanded, LinkEvent, Makes, MakesUntold, MayHappen, ViewedEnd, first_viewed, viewed_after, viewed_after_all}
+use Rattle.host_asks.specs.Lasting.{AllMayHappen, IsCommanded, LinkEvent, Makes, MakesUnreported, MayHappen, ViewedEnd, first_viewed, viewed_after, viewed_after_all}
 use Rattle.host_asks.proofs.Accepting.{command_keeps, withheld_knows}
 use Rattle.host_asks.proofs.Controls.{ends_before}
 use Rattle.host_asks.proofs.Ends.{first_knows, step_knows}
@@ -39,7 +39,7 @@ one_event setup end (IsCommanded view command slot) may knows lasts =
     command_keeps setup view command setup.link.handle slot end.link end.facts may.accepted may.about may.is_open
     (knows (lasted_if setup end.facts (host_step_of command slot end.link.role end.facts.peer) lasts)) lasts
 one_event setup end (Makes step) may knows lasts = step_knows setup step end.link end.facts may (knows (lasted setup end.facts step lasts)) lasts
-one_event setup end (MakesUntold step code) may knows lasts =
+one_event setup end (MakesUnreported step code) may knows lasts =
     withheld_knows setup step end.link end.facts code may
     (knows (lasted setup end.facts step (ends_before (Answers (Err code)) (facts_after setup end.facts step).control lasts))) lasts
 

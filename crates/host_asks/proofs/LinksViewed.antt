@@ -36,7 +36,7 @@ use Rattle.host_view.specs.Changes.{changed_at, on_link, view_after}
 use Rattle.host_view.specs.Links.{link_in}
 use Rattle.host_view.specs.Noted.{opened_link, view_noted}
 use Rattle.host_asks.specs.Commands.{is_about, link_accepted}
-use Rattle.host_asks.specs.Noting.{link_noted}
+use Rattle.host_asks.specs.Noting.{link_after_note}
 use Rattle.host_asks.specs.Views.{IsNoteOf, KnowsAt, leaves_other_links}
 use Rattle.host_asks.proofs.Ends.{first_knows}
 
@@ -63,13 +63,13 @@ joined f g (Some link) = refl
 -- ---- the notes of an end
 
 note_own : (handle : ℕ) (view : View) (note : Note) → IsNoteOf handle note
-    → link_in (view_noted view note).links handle ≡ option_map (λ link. link_noted link note) (link_in view.links handle)
+    → link_in (view_noted view note).links handle ≡ option_map (λ link. link_after_note link note) (link_in view.links handle)
 unfolding view_noted
 note_own handle view (Refused given kind code) is =
-    subst (λ (h : ℕ). link_in (view_noted view (Refused given kind code)).links h ≡ option_map (λ link. link_noted link (Refused given kind code)) (link_in view.links h)) is
+    subst (λ (h : ℕ). link_in (view_noted view (Refused given kind code)).links h ≡ option_map (λ link. link_after_note link (Refused given kind code)) (link_in view.links h)) is
     (changed_own view.links given _)
 note_own handle view (Done given kind) is =
-    subst (λ (h : ℕ). link_in (view_noted view (Done given kind)).links h ≡ option_map (λ link. link_noted link (Done given kind)) (link_in view.links h)) is
+    subst (λ (h : ℕ). link_in (view_noted view (Done given kind)).links h ≡ option_map (λ link. link_after_note link (Done given kind)) (link_in view.links h)) is
     (changed_own view.links given _)
 note_own handle view (Up packet) is = absurd is
 note_own handle view (Opened given role own peer) is = absurd is
@@ -87,12 +87,12 @@ note_other handle other view (Shut given reason) is differs = absurd is
 note_other handle other view note is differs = refl
 
 pub notes_own : (handle : ℕ) (view : View) (notes : List Note) → AllByRecursion (IsNoteOf handle) notes
-    → link_in (fold view_noted view notes).links handle ≡ option_map (λ link. fold link_noted link notes) (link_in view.links handle)
+    → link_in (fold view_noted view notes).links handle ≡ option_map (λ link. fold link_after_note link notes) (link_in view.links handle)
 notes_own handle view [] are = same_link (link_in view.links handle)
 notes_own handle view (note ∷ notes) are =
     notes_own handle (view_noted view note) notes are.1
-    ∙ ap (option_map (λ link. fold link_noted link notes)) (note_own handle view note are.0)
-    ∙ joined (λ link. link_noted link note) (λ link. fold link_noted link notes) (link_in view.links handle)
+    ∙ ap (option_map (λ link. fold link_after_note link notes)) (note_own handle view note are.0)
+    ∙ joined (λ link. link_after_note link note) (λ link. fold link_after_note link notes) (link_in view.links handle)
 
 pub notes_other : (handle other : ℕ) (view : View) (notes : List Note) → AllByRecursion (IsNoteOf handle) notes → (other ≡ handle → ⊥)
     → link_in (fold view_noted view notes).links other ≡ link_in view.links other

@@ -22,10 +22,10 @@ use Rattle.open_links.proofs.Handles.{changed_have, changed_is, opened_at, opene
 use Rattle.host_view.specs.View.{View}
 use Rattle.host_view.specs.Links.{link_in}
 use Rattle.host_view.specs.Noted.{opened_link, view_noted}
-use Rattle.host_asks.specs.LinksCommanded.{KnowsLinks, KnowsLinksOnceTold}
-use Rattle.host_asks.specs.Noting.{effect_in, is_of_host}
-use Rattle.host_asks.specs.Views.{KnowsAt, KnowsOnceTold}
-use Rattle.host_asks.proofs.EndsViewed.{none_told, packet_known, refused_told, request_told, step_known}
+use Rattle.host_asks.specs.LinksCommanded.{KnowsOpenEnds, KnowsOpenEndsOnceReported}
+use Rattle.host_asks.specs.Noting.{effect_after, is_of_host}
+use Rattle.host_asks.specs.Views.{KnowsAt, KnowsOnceReported}
+use Rattle.host_asks.proofs.EndsViewed.{none_reported, packet_known, request_refused_at_once, request_reported, step_known}
 use Rattle.host_asks.proofs.Lasting.{lasted}
 use Rattle.host_asks.proofs.LinksViewed.{notes_of_step, notes_other, opened_known}
 use Rattle.host_asks.proofs.OpenLinksKnown.{some_is}
@@ -45,8 +45,8 @@ own_or_other handle other P own others = by (other == handle) refl
 abbrev IsKnownAt : View → Links → ℕ → Type 0
 IsKnownAt view links handle = (link : OpenLink) → link_at handle links ≡ Some link → (facts_in link).control.ends ≡ None → KnowsAt view handle (facts_in link)
 
-all_known : (handle : ℕ) (effect : Effect) (before view : View) (links : Links) → KnowsLinksOnceTold handle effect before links → IsKnownAt view links handle
-    → ((other : ℕ) → (other ≡ handle → ⊥) → IsKnownAt view links other) → KnowsLinks view links
+all_known : (handle : ℕ) (effect : Effect) (before view : View) (links : Links) → KnowsOpenEndsOnceReported handle effect before links → IsKnownAt view links handle
+    → ((other : ℕ) → (other ≡ handle → ⊥) → IsKnownAt view links other) → KnowsOpenEnds view links
 all_known handle effect before view links known own others =
     record {
       handles = known.handles;
@@ -65,15 +65,15 @@ after_facts link step = grows link.setup link.past step
 
 -- ---- a step of one end
 
-pub links_step : (view : View) (links : Links) (link : OpenLink) (step : Step) → is_of_host step ≡ false → KnowsLinks view links
+pub links_step : (view : View) (links : Links) (link : OpenLink) (step : Step) → is_of_host step ≡ false → KnowsOpenEnds view links
     → link_at link.setup.link.handle links ≡ Some link
-    → KnowsLinksOnceTold link.setup.link.handle (effect_in link.setup (facts_in link) step)
+    → KnowsOpenEndsOnceReported link.setup.link.handle (effect_after link.setup (facts_in link) step)
     (fold view_noted view (notes_after link.setup (facts_in link) step)) (with_change link.setup.link.handle (link_after step) links)
 links_step view links link step other known is =
     record {
       handles = changed_have handle (link_after step) links (λ l. refl) known.handles;
       own = λ after found lasts.
-          subst (λ (l : OpenLink). KnowsOnceTold (effect_in link.setup (facts_in link) step) noted handle (facts_in l)) (changed_link (link_after step) handle links link after is found)
+          subst (λ (l : OpenLink). KnowsOnceReported (effect_after link.setup (facts_in link) step) noted handle (facts_in l)) (changed_link (link_after step) handle links link after is found)
           (own (subst (λ (l : OpenLink). (facts_in l).control.ends ≡ None) (sym (changed_link (link_after step) handle links link after is found)) lasts));
       others = λ apart after differs found lasts.
           let before = known.each apart after (sym (other_stays (option_map (link_after step)) 0 handle apart links differs) ∙ found) lasts in
@@ -91,16 +91,16 @@ links_step view links link step other known is =
     noted = fold view_noted view (notes_after link.setup (facts_in link) step)
 
     own : (facts_in (link_after step link)).control.ends ≡ None
-        → KnowsOnceTold (effect_in link.setup (facts_in link) step) noted handle (facts_in (link_after step link))
+        → KnowsOnceReported (effect_after link.setup (facts_in link) step) noted handle (facts_in (link_after step link))
     own lasts =
         let goes : (facts_after link.setup (facts_in link) step).control.ends ≡ None = ap (λ (f : Facts). f.control.ends) (sym (after_facts link step)) ∙ lasts in
-        subst (λ (f : Facts). KnowsOnceTold (effect_in link.setup (facts_in link) step) noted handle f) (sym (after_facts link step))
+        subst (λ (f : Facts). KnowsOnceReported (effect_after link.setup (facts_in link) step) noted handle f) (sym (after_facts link step))
         (step_known view link.setup (facts_in link) step other (known.each handle link is (lasted link.setup (facts_in link) step goes)) goes)
 
 -- ---- what the host receives
 
-pub links_packet : (handle : ℕ) (effect : Effect) (view : View) (links : Links) (octets : List ℕ) → KnowsLinksOnceTold handle effect view links
-    → KnowsLinksOnceTold handle effect (view_noted view (Up (record { items = octets }))) links
+pub links_packet : (handle : ℕ) (effect : Effect) (view : View) (links : Links) (octets : List ℕ) → KnowsOpenEndsOnceReported handle effect view links
+    → KnowsOpenEndsOnceReported handle effect (view_noted view (Up (record { items = octets }))) links
 links_packet handle effect view links octets known =
     record {
       handles = known.handles;
@@ -109,24 +109,24 @@ links_packet handle effect view links octets known =
     }
 
 pub links_request : (view : View) (links : Links) (handle least most latency timeout : ℕ) → handle < 65536
-    → KnowsLinksOnceTold handle (AskHost least most latency timeout) view links
-    → KnowsLinks (view_noted view (Up (record { items = written (ParamRequest handle least most latency timeout) }))) links
+    → KnowsOpenEndsOnceReported handle (AskHost least most latency timeout) view links
+    → KnowsOpenEnds (view_noted view (Up (record { items = written (ParamRequest handle least most latency timeout) }))) links
 links_request view links handle least most latency timeout fits known =
     all_known handle (AskHost least most latency timeout) view _ links known
-    (λ link is lasts. request_told view handle least most latency timeout (facts_in link) fits (known.own link is lasts))
+    (λ link is lasts. request_reported view handle least most latency timeout (facts_in link) fits (known.own link is lasts))
     (λ other differs link is lasts.
     packet_known Nothing view (written (ParamRequest handle least most latency timeout)) other (facts_in link) (known.others other link differs is lasts))
 
-pub links_none : (handle : ℕ) (effect : Effect) (view : View) (links : Links) → asks_host effect ≡ false → KnowsLinksOnceTold handle effect view links
-    → KnowsLinks view links
+pub links_none : (handle : ℕ) (effect : Effect) (view : View) (links : Links) → asks_host effect ≡ false → KnowsOpenEndsOnceReported handle effect view links
+    → KnowsOpenEnds view links
 links_none handle effect view links none known =
     all_known handle effect view view links known
-    (λ link is lasts. none_told effect view handle (facts_in link) none (known.own link is lasts))
+    (λ link is lasts. none_reported effect view handle (facts_in link) none (known.own link is lasts))
     (λ other differs link is lasts. known.others other link differs is lasts)
 
 -- a request that is withheld is refused at once
 pub links_refused : (handle : ℕ) (effect : Effect) (view : View) (links : Links) (link : OpenLink) (code : ErrCode) → link_at handle links ≡ Some link
-    → KnowsLinksOnceTold handle effect view links → KnowsLinks view (links_answered handle (Err code) links)
+    → KnowsOpenEndsOnceReported handle effect view links → KnowsOpenEnds view (links_answered handle (Err code) links)
 links_refused handle effect view links link code is known =
     record {
       handles = changed_have handle (link_after (RequestAnswered (Err code))) links (λ l. refl) known.handles;
@@ -141,7 +141,7 @@ links_refused handle effect view links link code is known =
         let goes : (facts_answered (Err code) (facts_in link)).control.ends ≡ None =
         ap (λ (f : Facts). f.control.ends) (sym (after_facts link (RequestAnswered (Err code)))) ∙ lasts in
         subst (λ (f : Facts). KnowsAt view handle f) (sym (after_facts link (RequestAnswered (Err code))))
-        (refused_told effect view handle (facts_in link) code (known.own link is (lasted link.setup (facts_in link) (RequestAnswered (Err code)) goes)) goes)
+        (request_refused_at_once effect view handle (facts_in link) code (known.own link is (lasted link.setup (facts_in link) (RequestAnswered (Err code)) goes)) goes)
 
     own : IsKnownAt view (links_answered handle (Err code) links) handle
     own after found lasts =
@@ -171,7 +171,7 @@ unfolding facts_of
 new_facts setup = refl
 
 pub links_opened : (view : View) (links : Links) (setup : Setup) (own peer : Address) → setup.link.handle < length view.links → setup.link.handle < length links
-    → KnowsLinks view links → KnowsLinks (view_noted view (Opened setup.link.handle setup.link.role own peer)) (with_link setup links)
+    → KnowsOpenEnds view links → KnowsOpenEnds (view_noted view (Opened setup.link.handle setup.link.role own peer)) (with_link setup links)
 links_opened view links setup own peer viewed within known =
     record {
       handles = opened_has setup links known.handles;
@@ -186,8 +186,8 @@ links_opened view links setup own peer viewed within known =
           (known.each other link (sym (other_stays (λ place. Some (new_link setup)) 0 setup.link.handle other links differs) ∙ found) lasts));
     }
 
-pub links_shut : (view : View) (links : Links) (handle : ℕ) (code : ErrCode) → KnowsLinks view links
-    → KnowsLinks (view_noted view (Shut handle code)) (without_link handle links)
+pub links_shut : (view : View) (links : Links) (handle : ℕ) (code : ErrCode) → KnowsOpenEnds view links
+    → KnowsOpenEnds (view_noted view (Shut handle code)) (without_link handle links)
 links_shut view links handle code known =
     record {
       handles = shut_have handle links known.handles;

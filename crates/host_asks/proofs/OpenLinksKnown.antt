@@ -18,7 +18,7 @@ use Rattle.host_view.specs.Changes.{view_after}
 use Rattle.host_view.specs.Refusals.{first_refusal}
 use Rattle.host_view.specs.Status.{rows_of}
 use Rattle.host_asks.specs.Commands.{FitsReason, MayComeIf, facts_commanded, host_step_of, is_about}
-use Rattle.host_asks.specs.LinksCommanded.{KnowsLinks, known_in, link_after_if, links_commanded, links_commanded_from, open_link_commanded, place_commanded, view_commanded_on}
+use Rattle.host_asks.specs.LinksCommanded.{KnowsOpenEnds, known_in, link_after_if, links_commanded, links_commanded_from, open_link_commanded, place_commanded, view_commanded_on}
 use Rattle.host_asks.specs.Views.{KnowsAt, leaves_other_links, view_answered, view_commanded}
 use Rattle.host_asks.proofs.EndsViewed.{command_known, command_may, other_known}
 use Rattle.host_asks.proofs.Lasting.{lasted_if}
@@ -107,7 +107,7 @@ view_other view command handle links facts about known = known
 -- ---- all links
 
 module _ (view : View) (command : Command) (slot : ℕ) (links : Links) (ok : first_refusal (rows_of view command) ≡ 0)
-    (leaves : leaves_other_links command ≡ true) (known : KnowsLinks view links) where
+    (leaves : leaves_other_links command ≡ true) (known : KnowsOpenEnds view links) where
   own_link : (handle : ℕ) (link : OpenLink) → is_about handle command ≡ true → link_at handle links ≡ Some link
       → (facts_in (open_link_commanded command slot link)).control.ends ≡ None
       → KnowsAt (view_commanded_on view command links) handle (facts_in (open_link_commanded command slot link))
@@ -163,7 +163,7 @@ module _ (view : View) (command : Command) (slot : ℕ) (links : Links) (ok : fi
   one_link handle false place link about found is lasts =
       view_other view command handle links (facts_in link) about (other_known view command handle (facts_in link) about leaves (known.each handle link (found ∙ is) lasts))
 
-  pub links_known : KnowsLinks (view_commanded_on view command links) (links_commanded command slot links)
+  pub links_known : KnowsOpenEnds (view_commanded_on view command links) (links_commanded command slot links)
   links_known =
       record {
         handles = commanded_handles command slot 0 links known.handles;
@@ -174,7 +174,7 @@ module _ (view : View) (command : Command) (slot : ℕ) (links : Links) (ok : fi
 -- ---- the step on each link may come
 
 pub step_may : (view : View) (command : Command) (handle slot : ℕ) (links : Links) (link : OpenLink) → first_refusal (rows_of view command) ≡ 0
-    → FitsReason command → is_about handle command ≡ true → KnowsLinks view links → link_at handle links ≡ Some link → (facts_in link).control.ends ≡ None
+    → FitsReason command → is_about handle command ≡ true → KnowsOpenEnds view links → link_at handle links ≡ Some link → (facts_in link).control.ends ≡ None
     → MayComeIf (host_step_of command slot link.setup.link.role (facts_in link).peer) (facts_in link)
 step_may view command handle slot links link ok fits about known is lasts =
     subst (λ (r : Role). MayComeIf (host_step_of command slot r (facts_in link).peer) (facts_in link)) (keeps_role link.setup link.past)

@@ -49,7 +49,7 @@ use Rattle.procedures.specs.Version.{version_taken}
 use Rattle.host_view.specs.declared.links.Asked.{Asked}
 use Rattle.host_asks.proofs.Keeping.{KnowsKinds, asked_done, asked_refused, none_placed, own_over, version_over, version_unwanted}
 
--- a request of the peer waits for the host, once it is told
+-- a request of the peer waits for the host, once it is reported
 abbrev pub waits_after : Effect → Bool → Bool
 waits_after (AskHost min max latency timeout) waits = true
 waits_after other waits = waits

@@ -12,7 +12,7 @@ use Rattle.host_view.specs.Changes.{asking}
 use Rattle.host_view.specs.Links.{is_asked, link_in}
 use Rattle.host_view.specs.Refusals.{count_if, first_refusal}
 use Rattle.host_view.specs.Status.{rows_of}
-use Rattle.host_asks.specs.Commands.{FitsReason, MayComeIf, host_step_of, host_steps, host_steps_from, is_about, step_if_about, with_step}
+use Rattle.host_asks.specs.Commands.{FitsReason, MayComeIf, host_step_of, host_steps, host_steps_from, is_about, step_if_about, with_host_step}
 use Rattle.host_asks.specs.Knowing.{KnowsAsks}
 use Rattle.host_asks.proofs.Accepting.{command_may_come}
 
@@ -26,7 +26,7 @@ module _ (view : View) (command : Command) (slot : ℕ) (facts_at : ℕ → Fact
       (place : ℕ) (link : Link) → link_in links place ≡ Some link
       → KnowsAsks link (facts_at (first + place)) × (link_in view.links (first + place) ≡ Some link)
 
-  one_more : (handle : ℕ) (step : Option Step) (steps : List (ℕ × Step)) → MayComeIf step (facts_at handle) → All steps → All (with_step handle step steps)
+  one_more : (handle : ℕ) (step : Option Step) (steps : List (ℕ × Step)) → MayComeIf step (facts_at handle) → All steps → All (with_host_step handle step steps)
   one_more handle None steps may are = are
   one_more handle (Some step) steps may are = (may, are)
 

@@ -63,7 +63,7 @@ use Rattle.host_view.specs.Changes.{asking}
 use Rattle.host_view.specs.Links.{is_asked}
 use Rattle.host_view.specs.Refusals.{count_if}
 use Rattle.host_asks.specs.Knowing.{KnowsTable}
-use Rattle.host_asks.specs.Noting.{link_told}
+use Rattle.host_asks.specs.Noting.{link_with_request}
 use Rattle.host_asks.proofs.Keeping.{KnowsKinds, asked_done, asked_refused, asks_one, own_begun, own_over}
 use Rattle.host_asks.proofs.Outcomes.{KeepsAsks, takes_pdu, waits_after}
 
@@ -319,36 +319,36 @@ closing_disconnects (PeerEnds code) Closed = refl
 closing_disconnects (PeerEnds code) Disconnecting = refl
 closing_disconnects effect closing = refl
 
--- what is told leaves all but what waits for the host
-told_role : (effect : Effect) (link : Link) → (link_told effect link).role ≡ link.role
-told_role (AskHost min max latency timeout) link = refl
-told_role effect link = refl
+-- a request leaves all but what waits for the host
+role_with : (effect : Effect) (link : Link) → (link_with_request effect link).role ≡ link.role
+role_with (AskHost min max latency timeout) link = refl
+role_with effect link = refl
 
-told_asked : (effect : Effect) (link : Link) → (link_told effect link).asked ≡ link.asked
-told_asked (AskHost min max latency timeout) link = refl
-told_asked effect link = refl
+asked_kinds_with : (effect : Effect) (link : Link) → (link_with_request effect link).asked ≡ link.asked
+asked_kinds_with (AskHost min max latency timeout) link = refl
+asked_kinds_with effect link = refl
 
-told_disconnecting : (effect : Effect) (link : Link) → (link_told effect link).disconnecting ≡ link.disconnecting
-told_disconnecting (AskHost min max latency timeout) link = refl
-told_disconnecting effect link = refl
+disconnecting_with : (effect : Effect) (link : Link) → (link_with_request effect link).disconnecting ≡ link.disconnecting
+disconnecting_with (AskHost min max latency timeout) link = refl
+disconnecting_with effect link = refl
 
-told_waits : (effect : Effect) (link : Link) → (link_told effect link).waits_for_parameters ≡ waits_after effect link.waits_for_parameters
-told_waits (AskHost min max latency timeout) link = refl
-told_waits effect link = refl
+waits_with : (effect : Effect) (link : Link) → (link_with_request effect link).waits_for_parameters ≡ waits_after effect link.waits_for_parameters
+waits_with (AskHost min max latency timeout) link = refl
+waits_with effect link = refl
 
 pub table_takes : (link : Link) (f : TableFacts) (read : CtrlRead) (slot : ℕ) (quiet : Bool) → KnowsTable link f
-    → KnowsTable (link_told (outcome_of f quiet read).step.effect
+    → KnowsTable (link_with_request (outcome_of f quiet read).step.effect
     (link_done (outcome_of f quiet read).step.done (link_refused (outcome_of f quiet read).step.refused link)))
     (facts_with f slot (outcome_of f quiet read))
 table_takes link f read slot quiet knows =
     record {
-      role = keeps.role ∙ knows.role ∙ sym (told_role step.effect (link_done step.done (link_refused step.refused link)));
+      role = keeps.role ∙ knows.role ∙ sym (role_with step.effect (link_done step.done (link_refused step.refused link)));
       asked =
           subst (λ (asked : Asked). KnowsKinds (facts_with f slot (outcome_of f quiet read)).wanted (own_kind (outcome_of f quiet read).progress) asked)
-          (sym (told_asked step.effect (link_done step.done (link_refused step.refused link)))) (keeps.kinds link.asked knows.asked);
-      closes = λ is. closing_opens step.effect f.closing (knows.closes (sym (told_disconnecting step.effect (link_done step.done (link_refused step.refused link))) ∙ is));
-      disconnects = λ is. told_disconnecting step.effect (link_done step.done (link_refused step.refused link)) ∙ knows.disconnects (sym (closing_disconnects step.effect f.closing) ∙ is);
-      parameters = λ is. told_waits step.effect (link_done step.done (link_refused step.refused link)) ∙ keeps.waits link.waits_for_parameters knows.parameters is;
+          (sym (asked_kinds_with step.effect (link_done step.done (link_refused step.refused link)))) (keeps.kinds link.asked knows.asked);
+      closes = λ is. closing_opens step.effect f.closing (knows.closes (sym (disconnecting_with step.effect (link_done step.done (link_refused step.refused link))) ∙ is));
+      disconnects = λ is. disconnecting_with step.effect (link_done step.done (link_refused step.refused link)) ∙ knows.disconnects (sym (closing_disconnects step.effect f.closing) ∙ is);
+      parameters = λ is. waits_with step.effect (link_done step.done (link_refused step.refused link)) ∙ keeps.waits link.waits_for_parameters knows.parameters is;
     }
   where
     keeps : KeepsAsks f.progress f.wanted (outcome_of f quiet read)

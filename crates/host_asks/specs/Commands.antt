@@ -25,8 +25,7 @@ use Rattle.host_view.specs.Changes.{answered, asking}
 abbrev pub ask_unless : Bool → Ask → Option Step
 ask_unless known ask = if known then None else Some (ProcedureAsked ask)
 
--- a central changes the parameters, and a peripheral asks for them (our choice); of the intervals a central takes the
--- longest (our choice)
+-- a central changes the parameters, with the longest of the intervals; a peripheral requests them (both are our choice)
 abbrev pub update_by : Role → ℕ → ℕ → ℕ → ℕ → Ask
 update_by Central min max latency timeout = Update max latency timeout
 update_by Peripheral min max latency timeout = Request min max latency timeout
@@ -36,6 +35,7 @@ abbrev pub map_by : Role → ℕ → Option Step
 map_by Central map = Some (ProcedureAsked (Map map))
 map_by Peripheral map = None
 
+-- the step, if there is one: a Disconnect is accepted in this slot
 abbrev pub host_step_of : Command → ℕ → Role → PeerFacts → Option Step
 host_step_of (Disconnect handle reason) slot role peer = Some (Disconnected (record { 0 = reason }) slot)
 host_step_of (ReadRemoteVersion handle) slot role peer = ask_unless (is_some peer.version) Version
@@ -76,9 +76,9 @@ abbrev pub step_on : ℕ → Command → ℕ → Role → PeerFacts → Option S
 step_on handle command slot role peer = step_if_about (is_about handle command) (host_step_of command slot role peer)
 
 -- the steps on all links, each with its handle; `peer_of` is what the end under a handle knows of its peer
-abbrev pub with_step : ℕ → Option Step → List (ℕ × Step) → List (ℕ × Step)
-with_step handle None steps = steps
-with_step handle (Some step) steps = (handle, step) ∷ steps
+abbrev pub with_host_step : ℕ → Option Step → List (ℕ × Step) → List (ℕ × Step)
+with_host_step handle None steps = steps
+with_host_step handle (Some step) steps = (handle, step) ∷ steps
 
 abbrev pub step_on_open : ℕ → Command → ℕ → Option Link → (ℕ → PeerFacts) → Option Step
 step_on_open handle command slot None peer_of = None
@@ -87,7 +87,7 @@ step_on_open handle command slot (Some link) peer_of = step_on handle command sl
 abbrev pub host_steps_from : ℕ → Command → ℕ → List (Option Link) → (ℕ → PeerFacts) → List (ℕ × Step)
 host_steps_from handle command slot [] peer_of = []
 host_steps_from handle command slot (link ∷ links) peer_of =
-    with_step handle (step_on_open handle command slot link peer_of)
+    with_host_step handle (step_on_open handle command slot link peer_of)
     (host_steps_from (handle + 1) command slot links peer_of)
 
 abbrev pub host_steps : Command → ℕ → List (Option Link) → (ℕ → PeerFacts) → List (ℕ × Step)

@@ -15,7 +15,7 @@ use Rattle.host_view.specs.Noted.{opened_link}
 use Rattle.host_view.specs.Refusals.{first_refusal}
 use Rattle.host_view.specs.Status.{rows_of}
 use Rattle.host_asks.specs.Commands.{facts_commanded, host_step_of, is_about, link_commanded}
-use Rattle.host_asks.specs.Noting.{is_of_host, link_after, link_after_notes}
+use Rattle.host_asks.specs.Noting.{is_of_host, link_after_step, link_after_notes}
 
 pub record ViewedEnd : Type 0 where
   pub link : Link
@@ -32,7 +32,7 @@ pub data LinkEvent : Type 0 where
   -- the end makes a step, and its host receives the event of a request
   Makes : (step : Step) → LinkEvent
   -- it makes a step, and a request is refused at once, since a mask withholds its event
-  MakesUntold : (step : Step) (code : ErrCode) → LinkEvent
+  MakesUnreported : (step : Step) (code : ErrCode) → LinkEvent
 
 abbrev pub viewed_after : Setup → ViewedEnd → LinkEvent → ViewedEnd
 viewed_after setup end (IsCommanded view command slot) =
@@ -41,8 +41,8 @@ viewed_after setup end (IsCommanded view command slot) =
       facts = facts_commanded setup (host_step_of command slot end.link.role end.facts.peer) end.facts;
     }
 viewed_after setup end (Makes step) =
-    record { link = link_after setup end.facts step end.link; facts = facts_after setup end.facts step }
-viewed_after setup end (MakesUntold step code) =
+    record { link = link_after_step setup end.facts step end.link; facts = facts_after setup end.facts step }
+viewed_after setup end (MakesUnreported step code) =
     record {
       link = link_after_notes setup end.facts step end.link;
       facts = facts_answered (Err code) (facts_after setup end.facts step);
@@ -57,7 +57,7 @@ pub record IsAccepted (handle : ℕ) (link : Link) (view : View) (command : Comm
 abbrev pub MayHappen : Setup → ViewedEnd → LinkEvent → Type 0
 MayHappen setup end (IsCommanded view command slot) = IsAccepted setup.link.handle end.link view command
 MayHappen setup end (Makes step) = is_of_host step ≡ false
-MayHappen setup end (MakesUntold step code) = is_of_host step ≡ false
+MayHappen setup end (MakesUnreported step code) = is_of_host step ≡ false
 
 abbrev pub AllMayHappen : Setup → ViewedEnd → List LinkEvent → Type 0
 AllMayHappen setup end [] = ⊤

@@ -10,7 +10,7 @@ use Rattle.open_links.specs.OpenLinks.{HaveHandles, Links, OpenLink, facts_in, l
 use Rattle.host_view.specs.View.{View}
 use Rattle.host_view.specs.Changes.{view_after}
 use Rattle.host_asks.specs.Commands.{host_step_of, is_about}
-use Rattle.host_asks.specs.Views.{KnowsAt, KnowsOnceTold, kind_known, view_answered}
+use Rattle.host_asks.specs.Views.{KnowsAt, KnowsOnceReported, kind_known, view_answered}
 
 -- ---- the links
 
@@ -56,18 +56,18 @@ view_commanded_on view other links = view_after view other
 -- ---- what the view knows of them
 
 -- each link is under the handle of its setup, and the view knows each end until a procedure ends the link
-pub record KnowsLinks (view : View) (links : Links) : Type 0 where
+pub record KnowsOpenEnds (view : View) (links : Links) : Type 0 where
   pub handles : HaveHandles 0 links
   pub each :
       (handle : ℕ) (link : OpenLink) → link_at handle links ≡ Some link → (facts_in link).control.ends ≡ None
       → KnowsAt view handle (facts_in link)
 
--- the same, but for what the host of this link is still to receive
-pub record KnowsLinksOnceTold (handle : ℕ) (effect : Effect) (view : View) (links : Links) : Type 0 where
+-- the same, once its host has received what is left of a step of the link with this handle
+pub record KnowsOpenEndsOnceReported (handle : ℕ) (effect : Effect) (view : View) (links : Links) : Type 0 where
   pub handles : HaveHandles 0 links
   pub own :
       (link : OpenLink) → link_at handle links ≡ Some link → (facts_in link).control.ends ≡ None
-      → KnowsOnceTold effect view handle (facts_in link)
+      → KnowsOnceReported effect view handle (facts_in link)
   pub others :
       (other : ℕ) (link : OpenLink) → (other ≡ handle → ⊥) → link_at other links ≡ Some link
       → (facts_in link).control.ends ≡ None → KnowsAt view other (facts_in link)

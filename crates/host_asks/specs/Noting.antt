@@ -20,25 +20,26 @@ is_of_host (Disconnected reason slot) = true
 is_of_host other = false
 
 -- a procedure that is done or refused is no longer asked for
-abbrev pub link_noted : Link → Note → Link
-link_noted link (Refused handle kind code) = answered kind link
-link_noted link (Done handle kind) = answered kind link
-link_noted link other = link
+abbrev pub link_after_note : Link → Note → Link
+link_after_note link (Refused handle kind code) = answered kind link
+link_after_note link (Done handle kind) = answered kind link
+link_after_note link other = link
 
--- the host receives LE Remote Connection Parameter Request (volume 4 part E, section 7.7.65.6)
-abbrev pub link_told : Effect → Link → Link
-link_told (AskHost min max latency timeout) link = record link { waits_for_parameters = true }
-link_told other link = link
+-- the host receives a request of the peer: LE Remote Connection Parameter Request (volume 4 part E, section 7.7.65.6)
+abbrev pub link_with_request : Effect → Link → Link
+link_with_request (AskHost min max latency timeout) link = record link { waits_for_parameters = true }
+link_with_request other link = link
 
--- what the layer above does after a step
-abbrev pub effect_in : Setup → Facts → Step → Effect
-effect_in setup facts (PacketReceived slot octets room) = effect_of setup facts slot octets room
-effect_in setup facts other = Nothing
+-- what a step brings for the layer above
+abbrev pub effect_after : Setup → Facts → Step → Effect
+effect_after setup facts (PacketReceived slot octets room) = effect_of setup facts slot octets room
+effect_after setup facts other = Nothing
 
 -- the link after the notes of a step
 abbrev pub link_after_notes : Setup → Facts → Step → Link → Link
-link_after_notes setup facts step link = fold link_noted link (notes_after setup facts step)
+link_after_notes setup facts step link = fold link_after_note link (notes_after setup facts step)
 
 -- and after the event of a request, where no mask withholds it
-abbrev pub link_after : Setup → Facts → Step → Link → Link
-link_after setup facts step link = link_told (effect_in setup facts step) (link_after_notes setup facts step link)
+abbrev pub link_after_step : Setup → Facts → Step → Link → Link
+link_after_step setup facts step link =
+    link_with_request (effect_after setup facts step) (link_after_notes setup facts step link)

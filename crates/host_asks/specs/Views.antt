@@ -18,17 +18,17 @@ use Rattle.host_view.specs.Changes.{view_after}
 use Rattle.host_view.specs.Links.{link_in}
 use Rattle.host_view.specs.Noted.{view_noted}
 use Rattle.host_asks.specs.Knowing.{KnowsAsks}
-use Rattle.host_asks.specs.Noting.{link_told}
+use Rattle.host_asks.specs.Noting.{link_with_request}
 
--- the view has the link with this handle, and knows the end of it once its host has received this
-pub record KnowsOnceTold (effect : Effect) (view : View) (handle : ℕ) (facts : Facts) : Type 0 where
+-- the view has the link with this handle, and knows the end of it once its host has received what is left of a step
+pub record KnowsOnceReported (effect : Effect) (view : View) (handle : ℕ) (facts : Facts) : Type 0 where
   pub link : Link
   pub is_open : link_in view.links handle ≡ Some link
-  pub knows : KnowsAsks (link_told effect link) facts
+  pub knows : KnowsAsks (link_with_request effect link) facts
 
--- and it knows the end now
+-- nothing is left: it knows the end now
 abbrev pub KnowsAt : View → ℕ → Facts → Type 0
-KnowsAt view handle facts = KnowsOnceTold Nothing view handle facts
+KnowsAt view handle facts = KnowsOnceReported Nothing view handle facts
 
 -- a note that the end with this handle makes
 abbrev pub IsNoteOf : ℕ → Note → Type 0
@@ -39,8 +39,8 @@ IsNoteOf handle (Opened given role own peer) = ⊥
 IsNoteOf handle (Shut given reason) = ⊥
 IsNoteOf handle other = ⊤
 
--- a command that changes no link but those that it is about: Reset closes all, and those on encryption, PHYs and
--- complete packets are on links of their own
+-- a command that changes no link but those that it is about. Reset shuts all; what commands on encryption, PHYs and
+-- complete packets ask of a link is not defined here
 abbrev pub leaves_other_links : Command → Bool
 leaves_other_links Reset = false
 leaves_other_links (HostCompleted counts) = false

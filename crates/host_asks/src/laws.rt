@@ -23,7 +23,7 @@ ghost use Rattle.host_asks.specs.Commands.{is_about, link_commanded};
 ghost use Rattle.host_asks.specs.Knowing.{KnowsAsks};
 ghost use Rattle.host_asks.specs.Lasting.{AllMayHappen, LinkEvent, first_viewed};
 ghost use Rattle.host_asks.specs.Lasting.{viewed_after_all};
-ghost use Rattle.host_asks.specs.Noting.{is_of_host, link_after, link_after_notes};
+ghost use Rattle.host_asks.specs.Noting.{is_of_host, link_after_step, link_after_notes};
 
 /// The view of a link that was just opened knows the end of it: nothing is asked for there.
 pub fn a_new_link_is_known()
@@ -71,7 +71,7 @@ pub fn a_step_keeps_what_is_known()
     ensures { (setup : Setup) (step : Step) (link : Link) (facts : Facts)
         → is_of_host step ≡ false → KnowsAsks link facts
         → (facts_after setup facts step).control.ends ≡ None
-        → KnowsAsks (link_after setup facts step link) (facts_after setup facts step) }
+        → KnowsAsks (link_after_step setup facts step link) (facts_after setup facts step) }
 {}
 
 /// A request of the peer that is refused waits for the host no more, whatever the view keeps of it.

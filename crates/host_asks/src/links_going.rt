@@ -17,49 +17,49 @@ ghost use Rattle.open_links.specs.OpenLinks.{Links, OpenLink, facts_in, link_aft
 ghost use Rattle.open_links.specs.OpenLinks.{with_change, with_link, without_link};
 ghost use Rattle.host_view.specs.View.{View};
 ghost use Rattle.host_view.specs.Noted.{view_noted};
-ghost use Rattle.host_asks.specs.LinksCommanded.{KnowsLinks, KnowsLinksOnceTold};
-ghost use Rattle.host_asks.specs.Noting.{effect_in, is_of_host};
+ghost use Rattle.host_asks.specs.LinksCommanded.{KnowsOpenEnds, KnowsOpenEndsOnceReported};
+ghost use Rattle.host_asks.specs.Noting.{effect_after, is_of_host};
 
-/// Where the view knows the ends of all open links, it knows them as a link is opened, and as one is
-/// shut.
+/// Where the view knows the ends of all open links, it knows them as a link is opened, and as one
+/// is shut.
 pub fn opened_and_shut_links_are_known()
     ensures opened { (view : View) (links : Links) (setup : Setup) (own peer : Address)
         → setup.link.handle < length view.links → setup.link.handle < length links
-        → KnowsLinks view links
-        → KnowsLinks (view_noted view (Opened setup.link.handle setup.link.role own peer))
+        → KnowsOpenEnds view links
+        → KnowsOpenEnds (view_noted view (Opened setup.link.handle setup.link.role own peer))
         (with_link setup links) }
     ensures shut { (view : View) (links : Links) (handle : ℕ) (code : ErrCode)
-        → KnowsLinks view links
-        → KnowsLinks (view_noted view (Shut handle code)) (without_link handle links) }
+        → KnowsOpenEnds view links
+        → KnowsOpenEnds (view_noted view (Shut handle code)) (without_link handle links) }
 {}
 
-/// It knows them after each step of an end that its host does not make, with the notes of that step,
-/// once the host has received a request that the step brought, whatever packets it receives before;
-/// or where the request is withheld and refused at once.
+/// It knows them after each step of an end that its host does not make, with the notes of that
+/// step, once the host has received a request that the step brought, whatever packets it receives
+/// before; or where the request is withheld and refused at once.
 pub fn links_that_go_on_stay_known()
     ensures step { (view : View) (links : Links) (link : OpenLink) (step : Step)
-        → is_of_host step ≡ false → KnowsLinks view links
+        → is_of_host step ≡ false → KnowsOpenEnds view links
         → link_at link.setup.link.handle links ≡ Some link
-        → KnowsLinksOnceTold link.setup.link.handle
-        (effect_in link.setup (facts_in link) step)
+        → KnowsOpenEndsOnceReported link.setup.link.handle
+        (effect_after link.setup (facts_in link) step)
         (fold view_noted view (notes_after link.setup (facts_in link) step))
         (with_change link.setup.link.handle (link_after step) links) }
     ensures packet { (handle : ℕ) (effect : Effect) (view : View) (links : Links)
-        (octets : List ℕ) → KnowsLinksOnceTold handle effect view links
-        → KnowsLinksOnceTold handle effect
+        (octets : List ℕ) → KnowsOpenEndsOnceReported handle effect view links
+        → KnowsOpenEndsOnceReported handle effect
         (view_noted view (Up (record { items = octets }))) links }
     ensures request { (view : View) (links : Links) (handle min max latency timeout : ℕ)
         → handle < 65536
-        → KnowsLinksOnceTold handle (AskHost min max latency timeout) view links
-        → KnowsLinks (view_noted view (Up (record {
+        → KnowsOpenEndsOnceReported handle (AskHost min max latency timeout) view links
+        → KnowsOpenEnds (view_noted view (Up (record {
           items =
               written (ParamRequest handle min max latency timeout);
         }))) links }
     ensures none { (handle : ℕ) (effect : Effect) (view : View) (links : Links)
-        → asks_host effect ≡ false → KnowsLinksOnceTold handle effect view links
-        → KnowsLinks view links }
+        → asks_host effect ≡ false → KnowsOpenEndsOnceReported handle effect view links
+        → KnowsOpenEnds view links }
     ensures refused { (handle : ℕ) (effect : Effect) (view : View) (links : Links)
         (link : OpenLink) (code : ErrCode) → link_at handle links ≡ Some link
-        → KnowsLinksOnceTold handle effect view links
-        → KnowsLinks view (links_answered handle (Err code) links) }
+        → KnowsOpenEndsOnceReported handle effect view links
+        → KnowsOpenEnds view (links_answered handle (Err code) links) }
 {}

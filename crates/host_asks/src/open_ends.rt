@@ -12,7 +12,7 @@ ghost use Rattle.host_view.specs.Refusals.{first_refusal};
 ghost use Rattle.host_view.specs.Status.{rows_of};
 ghost use Rattle.host_asks.specs.Commands.{FitsReason, MayComeIf, host_step_of, is_about};
 ghost use Rattle.host_asks.specs.Commands.{update_by};
-ghost use Rattle.host_asks.specs.LinksCommanded.{KnowsLinks, links_commanded, view_commanded_on};
+ghost use Rattle.host_asks.specs.LinksCommanded.{KnowsOpenEnds, links_commanded, view_commanded_on};
 ghost use Rattle.host_asks.specs.Views.{leaves_other_links};
 
 /// Where the view knows the ends of all open links, each step that an accepted command makes on
@@ -20,14 +20,15 @@ ghost use Rattle.host_asks.specs.Views.{leaves_other_links};
 pub fn all_links_stay_known()
     ensures may { (view : View) (command : Command) (handle slot : ℕ) (links : Links)
         (link : OpenLink) → first_refusal (rows_of view command) ≡ 0 → FitsReason command
-        → is_about handle command ≡ true → KnowsLinks view links
+        → is_about handle command ≡ true → KnowsOpenEnds view links
         → link_at handle links ≡ Some link → (facts_in link).control.ends ≡ None
         → MayComeIf (host_step_of command slot link.setup.link.role (facts_in link).peer)
         (facts_in link) }
     ensures keeps { (view : View) (command : Command) (slot : ℕ) (links : Links)
         → first_refusal (rows_of view command) ≡ 0 → leaves_other_links command ≡ true
-        → KnowsLinks view links
-        → KnowsLinks (view_commanded_on view command links) (links_commanded command slot links) }
+        → KnowsOpenEnds view links
+        → KnowsOpenEnds (view_commanded_on view command links)
+        (links_commanded command slot links) }
 {}
 
 /// The links after a command are those after one call on them: the host ends the link, asks for a

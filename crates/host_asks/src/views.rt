@@ -33,8 +33,8 @@ ghost use Rattle.host_asks.specs.Commands.{FitsReason, MayComeIf, facts_commande
 ghost use Rattle.host_asks.specs.Commands.{host_step_of, host_steps, is_about};
 ghost use Rattle.host_asks.specs.Knowing.{KnowsAsks};
 ghost use Rattle.host_asks.specs.Commands.{is_read_of_peer, link_accepted};
-ghost use Rattle.host_asks.specs.Noting.{effect_in, is_of_host, link_noted};
-ghost use Rattle.host_asks.specs.Views.{IsNoteOf, KnowsAt, KnowsOnceTold, events_at_once};
+ghost use Rattle.host_asks.specs.Noting.{effect_after, is_of_host, link_after_note};
+ghost use Rattle.host_asks.specs.Views.{IsNoteOf, KnowsAt, KnowsOnceReported, events_at_once};
 ghost use Rattle.host_asks.specs.Views.{leaves_other_links, view_commanded};
 
 /// A link that is opened is known, where the view has a place for it.
@@ -52,7 +52,7 @@ pub fn notes_change_their_link()
     ensures own { (handle : ℕ) (view : View) (notes : List Note)
         → AllByRecursion (IsNoteOf handle) notes
         → link_in (fold view_noted view notes).links handle
-        ≡ option_map (λ link. fold link_noted link notes) (link_in view.links handle) }
+        ≡ option_map (λ link. fold link_after_note link notes) (link_in view.links handle) }
     ensures other { (handle other : ℕ) (view : View) (notes : List Note)
         → AllByRecursion (IsNoteOf handle) notes → (other ≡ handle → ⊥)
         → link_in (fold view_noted view notes).links other ≡ link_in view.links other }
@@ -77,23 +77,23 @@ pub fn steps_keep_what_is_known()
     ensures step { (view : View) (setup : Setup) (facts : Facts) (step : Step)
         → is_of_host step ≡ false → KnowsAt view setup.link.handle facts
         → (facts_after setup facts step).control.ends ≡ None
-        → KnowsOnceTold (effect_in setup facts step)
+        → KnowsOnceReported (effect_after setup facts step)
         (fold view_noted view (notes_after setup facts step)) setup.link.handle
         (facts_after setup facts step) }
     ensures packet { (effect : Effect) (view : View) (octets : List ℕ) (handle : ℕ)
-        (facts : Facts) → KnowsOnceTold effect view handle facts
-        → KnowsOnceTold effect (view_noted view (Up (record { items = octets }))) handle facts }
+        (facts : Facts) → KnowsOnceReported effect view handle facts
+        → KnowsOnceReported effect (view_noted view (Up (record { items = octets }))) handle facts }
     ensures request { (view : View) (handle min max latency timeout : ℕ) (facts : Facts)
-        → handle < 65536 → KnowsOnceTold (AskHost min max latency timeout) view handle facts
+        → handle < 65536 → KnowsOnceReported (AskHost min max latency timeout) view handle facts
         → KnowsAt (view_noted view (Up (record {
           items =
               written (ParamRequest handle min max latency timeout);
         }))) handle facts }
     ensures none { (effect : Effect) (view : View) (handle : ℕ) (facts : Facts)
-        → asks_host effect ≡ false → KnowsOnceTold effect view handle facts
+        → asks_host effect ≡ false → KnowsOnceReported effect view handle facts
         → KnowsAt view handle facts }
     ensures refused { (effect : Effect) (view : View) (handle : ℕ) (facts : Facts)
-        (code : ErrCode) → KnowsOnceTold effect view handle facts
+        (code : ErrCode) → KnowsOnceReported effect view handle facts
         → (facts_answered (Err code) facts).control.ends ≡ None
         → KnowsAt view handle (facts_answered (Err code) facts) }
 {}

@@ -1,5 +1,5 @@
 -- Proof of `views::steps_keep_what_is_known`.
-use Rattle.host_asks.proofs.EndsViewed.{none_told, packet_known, refused_told, request_told, step_known}
+use Rattle.host_asks.proofs.EndsViewed.{none_reported, packet_known, request_refused_at_once, request_reported, step_known}
 use Rattle.host_asks.proofs.views.steps_keep_what_is_known.Goals as goal
 
 pub returns-clause-step : goal.returns-clause-step
@@ -9,10 +9,10 @@ pub returns-clause-packet : goal.returns-clause-packet
 returns-clause-packet c = packet_known
 
 pub returns-clause-request : goal.returns-clause-request
-returns-clause-request c = request_told
+returns-clause-request c = request_reported
 
 pub returns-clause-none : goal.returns-clause-none
-returns-clause-none c = none_told
+returns-clause-none c = none_reported
 
 pub returns-clause-refused : goal.returns-clause-refused
-returns-clause-refused c = refused_told
+returns-clause-refused c = request_refused_at_once
