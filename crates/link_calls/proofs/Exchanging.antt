@@ -321,6 +321,10 @@ module _ (slot handle : ℕ) (begun : Facts) (link : OpenLink) (at : link_at han
         radio_in (is_held_in begun.radio.hold slot) refl (winner_of (plan_in slot begun) slot)
         (λ is. winner_wants slot handle begun link (is_held_in begun.radio.hold slot) is at) uses
 
+in_event_of : (slot handle : ℕ) (link : OpenLink) (radio : Radio) → IsInSlot radio slot handle link → (slot ≡ slot_of link) ⊎ ((slot ≡ slot_of link + 1) × (heard_in link ≡ true))
+in_event_of slot handle link radio (AtAnchor now holds) = inl now
+in_event_of slot handle link radio (AfterAnchor now heard) = inr (now, heard)
+
 -- what is kept of a link in a call
 record IsBegunWell (after : Facts) (begun handle : ℕ) (link : OpenLink) : Type 0 where
   held : HeldSo after.radio begun handle link
@@ -331,7 +335,7 @@ module _ (setup : Setup) (slot : ℕ) (on : Bool) (facts : Facts) (are : AreExch
   abbrev next : Facts
   next = facts_after setup facts (TurnBegins slot on)
 
-  has : HasBegun facts slot on handle next.turn.doing after
+  abbrev has : HasBegun facts slot on handle next.turn.doing after
   has = begins_under setup facts slot on handle after is
 
   abbrev base : OpenLink
@@ -377,6 +381,10 @@ module _ (setup : Setup) (slot : ℕ) (on : Bool) (facts : Facts) (are : AreExch
                 let wants = winner_wants slot handle ended has.link (is_held_in ended.radio.hold slot) (winner ∙ ap Some mine) at_ended in
                 absurd (let h : true ≡ false = sym (wants_anchor (enters_in slot has.link) slot has.link refl wants) ∙ out in absurd cc);
           }
+
+  -- as it has entered its event, before it fixes its PDU and sends
+  pub begun_in_event : Uses handle next.turn.doing → (slot ≡ slot_of base) ⊎ ((slot ≡ slot_of base + 1) × (heard_in base ≡ true))
+  begun_in_event uses = in_event_of slot handle base next.radio (served_in slot handle ended has.link at_ended before on uses)
 
   begun_well : IsBegunWell next (slot + 1) handle after
   begun_well = record {
@@ -597,10 +605,5 @@ in_exchange given before rest station handle link distinct contains at is uses =
     elim (uses_either (sends_under handle facts.turn.doing) (listens_under handle facts.turn.doing) uses) [ inl sends ↦ Sending sends | inr listens ↦ Listening listens ] in
     record {
       entered = ltb-true 0 (facts_in link).control.track.entered entered;
-      in_event = by (are.in_slot handle link is doing);
+      in_event = in_event_of facts.turn.slot handle link facts.radio (are.in_slot handle link is doing);
     }
-  where
-    by : IsInSlot (facts_at given station before).radio (facts_at given station before).turn.slot handle link
-        → ((facts_at given station before).turn.slot ≡ slot_of link) ⊎ (((facts_at given station before).turn.slot ≡ slot_of link + 1) × (heard_in link ≡ true))
-    by (AtAnchor now holds) = inl now
-    by (AfterAnchor now heard) = inr (now, heard)
