@@ -1,5 +1,24 @@
 -- What follows at any place of a run of how two ends of a link stand to each other there.
-use Rattle.std.proofs.Common.{◌≡◌, inl, inr, ℕ, zero, suc, ◌+◌, Bool, true, false, Option, Some, None, List, [], ◌++◌, append-nil, is_some, refl, sym, ap, subst, ◌∙◌, arith}
+use Rattle.std.proofs.Common.{◌≡◌, inl, inr, ℕ, zero, suc, ◌+◌, ◌<◌, Bool, true, false, Option, Some, None, List, [], ◌∷◌, ◌++◌, append-nil, is_some, refl, sym, ap, subst, ◌∙◌, arith}
+use Rattle.std.specs.Prelude.{if◌then◌else◌}
+use Rattle.std.proofs.lemmas.Bool.{eq-eqb}
+use Rattle.ble_base.specs.declared.verdicts.Verdict.TheVariants.{Good}
+use Rattle.run_laws.specs.link_model.Packets.{verdict_of}
+use Rattle.controller_model.specs.declared.doing.Doing.TheVariants.{Advertises, CentralListens, PeripheralListens}
+use Rattle.controller_model.specs.Step.{Step, PacketHeard}
+use Rattle.run_laws.specs.Ends.{AreEnds as AreEndsIn, IsOpen, OpenEnd, link_listened}
+use Rattle.run_laws.proofs.InAgreement.{OpenedBefore}
+use Rattle.run_laws.proofs.LinkPasses.{is_on_link}
+use Rattle.run_laws.proofs.LinkPhases.{in_phase}
+use Rattle.run_pairs.specs.InTurns.{HasSentNow, HearEachInTurn}
+use Rattle.run_pairs.proofs.CallPlaces.{AllBetween, StandsInPhase, stands_called}
+use Rattle.run_pairs.proofs.EndCalls.{central_takes_in, peripheral_takes_in}
+use Rattle.run_pairs.proofs.BothEnds.{ByStanding, at_standing, both_new, kept_to, packet_now}
+use Rattle.controller_model.specs.Facts.{Facts}
+use Rattle.run_pairs.specs.Stages.{AreAnsweredEnds, AreBegunEnds, AreHeardEnds}
+use Rattle.run_pairs.proofs.PairSteps.{AreBothBegun, AtPlace, InTurn, IsCentralBegun, IsPeripheralBegun, IsPeripheralDone, NewOr}
+use Rattle.run_pairs.proofs.Stages.{central_judges, central_unheard, linked_agree, peripheral_judges, peripheral_unheard}
+use Rattle.run_pairs.proofs.UnderHandles.{listens_under}
 use Rattle.ble_base.specs.declared.error_codes.ErrCode.{ErrCode}
 use Rattle.ack_bit.proofs.Links.{sent}
 use Rattle.run_laws.specs.link_model.Acknowledgement.{Acknowledgement, end_of}
@@ -12,7 +31,7 @@ use Rattle.run_laws.proofs.link_model.Hearing.{IsHeardWhole}
 use Rattle.run_laws.specs.open_links.OpenLinks.{OpenLink, facts_in}
 use Rattle.controller_model.specs.declared.doing.Doing.{Doing}
 use Rattle.run_model.specs.Feeding.{AreDistinct}
-use Rattle.run_model.specs.History.{Event, past_of}
+use Rattle.run_model.specs.History.{Event, Called, past_of}
 use Rattle.run_model.specs.LinkEnds.{HaveAddresses}
 use Rattle.run_model.specs.Run.{Given, facts_at, history_of, run_of, setup_at}
 use Rattle.run_model.proofs.LinkEnds.{AreTaken, IsUnderstood}
@@ -26,18 +45,11 @@ use Rattle.link_pairs.proofs.Sounding.{are_sound}
 use Rattle.link_runs.specs.Open.{AreOpenEnds, AreTerminated, GoOnUnlessLate, GoesOnUnlessLate}
 use Rattle.link_runs.proofs.GoingOn.{lasting_goes, lasting_took_none}
 use Rattle.link_runs.proofs.Shutting.{are_terminated}
-use Rattle.run_laws.specs.Ends.{AreEnds as AreEndsIn, IsOpen, OpenEnd}
 use Rattle.run_laws.proofs.ChSel.{one_link}
 use Rattle.run_laws.proofs.OpenSteps.{open_has}
 use Rattle.run_laws.proofs.SameEvent.{apart_ends}
 use Rattle.run_laws.proofs.TurnPlaces.{Between, Stage, StandsSomewhere, Within, at_stage, standing, stands_in_run, turned}
-use Rattle.run_pairs.specs.InTurns.{HearEachInTurn}
-use Rattle.run_pairs.specs.Stages.{AreAnsweredEnds, AreHeardEnds}
-use Rattle.run_pairs.proofs.CallPlaces.{AllBetween}
 use Rattle.run_pairs.proofs.OneSide.{IsSetUp, StationAt, station_first, station_kept}
-use Rattle.run_pairs.proofs.PairSteps.{AreBothBegun, AtPlace, InTurn, IsCentralBegun, IsPeripheralBegun, NewOr}
-use Rattle.run_pairs.proofs.Pairs.{ByStanding, at_standing, both_new, kept_to}
-use Rattle.run_pairs.proofs.Stages.{central_unheard, linked_agree, peripheral_unheard}
 
 -- no procedure ends the link but at a late peripheral, and the counts agree
 pub record IsSoundPlace (c p : EndFacts) : Type 0 where
@@ -212,3 +224,110 @@ module _ (whole : IsHeardWhole) (understood : IsUnderstood) (taken : AreTaken) (
 
   pub terminated_here : AreTerminated (record { central = Some (facts_in central.link); peripheral = Some (facts_in peripheral.link) })
   terminated_here = are_terminated (Some (facts_in central.link)) (Some (facts_in peripheral.link)) goes_on_here
+
+  -- ---- a packet of the far end
+
+  listens_by : (handle : ℕ) (doing : Doing) → link_listened doing ≡ Some handle → listens_under handle doing ≡ true
+  listens_by handle (CentralListens other) is = let same : other ≡ handle = cc in eq-eqb other handle same
+  listens_by handle (PeripheralListens other) is = let same : other ≡ handle = cc in eq-eqb other handle same
+  listens_by handle (Advertises channel) is = absurd cc
+  listens_by handle other is = absurd cc
+
+  on_link : (handle : ℕ) (doing : Doing) → link_listened doing ≡ Some handle → is_on_link doing ≡ true
+  on_link handle (CentralListens other) is = refl
+  on_link handle (PeripheralListens other) is = refl
+  on_link handle (Advertises channel) is = absurd cc
+  on_link handle other is = absurd cc
+
+  phase_of : (b : Bool) (phases turns : ℕ) (past : List Step) → standing past ≡ Some (if b then at_stage (Within (suc phases)) turns else at_stage (Within phases) turns)
+      → standing past ≡ Some (at_stage (Within (if b then suc phases else phases)) turns)
+  phase_of true phases turns past is = is
+  phase_of false phases turns past is = is
+
+  not_new : (X : Type 0) (opened slot turns : ℕ) → opened < slot → slot + 1 ≡ turns → opened + 1 ≡ turns → X
+  not_new X opened slot turns before is new = absurd (omega (arith, before, is, new))
+
+  module _ (octets : List ℕ) (later : List Event) where
+    -- the peripheral hears the central
+    module _ (heard_at : history_of (run_of given) ≡ before ++ Called peripheral.station (PacketHeard octets) ∷ later)
+        (listens : link_listened (facts_at given peripheral.station before).turn.doing ≡ Some peripheral.handle)
+        (sent : HasSentNow given before peripheral central (facts_in peripheral.link).event.channel octets) where
+      abbrev facts_p : Facts
+      facts_p = facts_at given peripheral.station before
+
+      p_stands : StandsInPhase given before peripheral.station
+      p_stands = stands_called given before later peripheral.station (PacketHeard octets) distinct heard_at
+
+      p_side : StationAt (setup_at given peripheral.station) (Within p_stands.phases) p_stands.turns facts_p
+      p_side = side_at peripheral.station (record { at = _; is = p_stands.stand.own })
+
+      p_first : p_stands.phases ≡ 0
+      p_first = peripheral_takes_in facts_p.links peripheral.handle peripheral.link is_open_too p_stands.phases facts_p.turn.doing
+          (in_phase (setup_at given peripheral.station) (past_of peripheral.station before) p_stands.phases p_stands.turns p_stands.stand.own)
+          (listens_by peripheral.handle facts_p.turn.doing listens) of_one.is_peripheral
+
+      p_begun : (n i : ℕ) → n ≡ 0 → NewOr S_in T_in peripheral.handle p_stands.turns (λ slot. InTurn S_in T_in peripheral.handle n i slot facts_p.turn.doing central.link peripheral.link)
+          → AreBothBegun S_in T_in peripheral.handle facts_p.turn.slot facts_p.turn.doing central.link peripheral.link
+      p_begun zero i is (inr stands) = stands facts_p.turn.slot (sym p_side.holds.in_turn.slot_is)
+      p_begun zero i is (inl new) =
+          let old = open_has (OpenedBefore facts_p.turn.slot) 0 peripheral.handle facts_p.links peripheral.link (p_side.station.old (on_link peripheral.handle facts_p.turn.doing listens)) is_open_too in
+          not_new _ T_in.opened facts_p.turn.slot p_stands.turns old p_side.holds.in_turn.slot_is (ap (λ n. n + 1) (sym pair_ends.one_link.opened) ∙ new)
+      p_begun (suc n) i is stands = absurd (omega (arith, is))
+
+      pub peripheral_understands : verdict_of T_in (facts_in peripheral.link) octets ≡ Good
+      peripheral_understands =
+          let b = p_stands.stand.was_called central.station in
+          let i = if b then suc p_stands.phases else p_stands.phases in
+          let place = at_standing S_in T_in peripheral.handle (at_stage (Within i) p_stands.turns) (at_stage (Within p_stands.phases) p_stands.turns) _ _ _ central.link peripheral.link
+          (phase_of b p_stands.phases p_stands.turns (past_of central.station before) (p_stands.stand.others central.station in_it)) p_stands.stand.own kept_here in
+          let both = p_begun p_stands.phases i p_first place.1 in
+          let slot = facts_p.turn.slot in
+          let packet = packet_now given before rest peripheral central (facts_in peripheral.link) octets central.link distinct in_it at is_open refl sent in
+          let c = facts_in central.link in
+          let p = facts_in peripheral.link in
+          let begun = subst (λ b. AreBegunEnds S_in T_in slot b true c p) (both.sends packet.front packet.last)
+          (subst (λ b. AreBegunEnds S_in T_in slot both.transmits b c p) (both.hears (listens_by peripheral.handle facts_p.turn.doing listens)) both.begun) in
+          peripheral_judges whole S_in T_in pair_ends slot c p packet.channel octets true packet.packet packet.same begun
+
+    -- the central hears the peripheral
+    module _ (heard_at : history_of (run_of given) ≡ before ++ Called central.station (PacketHeard octets) ∷ later)
+        (listens : link_listened (facts_at given central.station before).turn.doing ≡ Some central.handle)
+        (sent : HasSentNow given before central peripheral (facts_in central.link).event.channel octets) where
+      abbrev facts_c : Facts
+      facts_c = facts_at given central.station before
+
+      c_stands : StandsInPhase given before central.station
+      c_stands = stands_called given before later central.station (PacketHeard octets) distinct heard_at
+
+      c_side : StationAt (setup_at given central.station) (Within c_stands.phases) c_stands.turns facts_c
+      c_side = side_at central.station (record { at = _; is = c_stands.stand.own })
+
+      c_second : c_stands.phases ≡ 1
+      c_second = central_takes_in facts_c.links central.handle central.link is_open c_stands.phases facts_c.turn.doing
+          (in_phase (setup_at given central.station) (past_of central.station before) c_stands.phases c_stands.turns c_stands.stand.own)
+          (listens_by central.handle facts_c.turn.doing listens) of_one.is_central
+
+      c_done : (n : ℕ) (b : Bool) (doing : Doing) → n ≡ 1
+          → NewOr S_in T_in peripheral.handle c_stands.turns (λ slot. InTurn S_in T_in peripheral.handle (if b then suc n else n) n slot doing central.link peripheral.link)
+          → IsPeripheralDone S_in T_in peripheral.handle facts_c.turn.slot central.link peripheral.link
+      c_done zero b doing is stands = absurd (omega (arith, is))
+      c_done (suc zero) true doing is (inr stands) = stands facts_c.turn.slot (sym c_side.holds.in_turn.slot_is)
+      c_done (suc zero) false doing is (inr stands) = stands facts_c.turn.slot (sym c_side.holds.in_turn.slot_is)
+      c_done (suc zero) b doing is (inl new) =
+          let old = open_has (OpenedBefore facts_c.turn.slot) 0 central.handle facts_c.links central.link (c_side.station.old (on_link central.handle facts_c.turn.doing listens)) is_open in
+          not_new _ S_in.opened facts_c.turn.slot c_stands.turns old c_side.holds.in_turn.slot_is new
+      c_done (suc (suc n)) b doing is stands = absurd (omega (arith, is))
+
+      pub central_understands : verdict_of S_in (facts_in central.link) octets ≡ Good
+      central_understands =
+          let b = c_stands.stand.was_called peripheral.station in
+          let j = if b then suc c_stands.phases else c_stands.phases in
+          let place = at_standing S_in T_in peripheral.handle (at_stage (Within c_stands.phases) c_stands.turns) (at_stage (Within j) c_stands.turns) _ _ _ central.link peripheral.link
+          c_stands.stand.own (phase_of b c_stands.phases c_stands.turns (past_of peripheral.station before) (c_stands.stand.others peripheral.station in_too)) kept_here in
+          let done = c_done c_stands.phases b _ c_second place.1 in
+          let slot = facts_c.turn.slot in
+          let packet = packet_now given before rest central peripheral (facts_in central.link) octets peripheral.link distinct in_too at is_open_too refl sent in
+          let c = facts_in central.link in
+          let p = facts_in peripheral.link in
+          central_judges whole S_in T_in pair_ends slot c p packet.channel octets true packet.packet packet.same
+          (subst (λ b. AreAnsweredEnds S_in T_in slot b c p) (done.sends packet.front packet.last) done.answered_so)

@@ -10,5 +10,7 @@ pub mod CallPlaces
 pub mod OneSide
 pub mod EndCalls
 pub mod PairSteps
-pub mod Pairs
+pub mod BothEnds
 pub mod Conclusions
+pub mod OnAirNow
+pub mod FarEnds

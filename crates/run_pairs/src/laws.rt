@@ -2,17 +2,20 @@
 //! the contracts are the laws.
 ghost use Rattle.std.specs.Prelude.{◌≡◌, ◌++◌, ◌∷◌, ℕ, Bool, true, List, Some};
 ghost use Rattle.std.specs.List.{Contains};
+ghost use Rattle.ble_base.specs.declared.verdicts.Verdict.TheVariants.{Good};
 ghost use Rattle.run_laws.specs.link_model.OneLink.{AreInAgreement};
+ghost use Rattle.run_laws.specs.link_model.Packets.{verdict_of};
 ghost use Rattle.run_laws.specs.open_links.OpenLinks.{facts_in};
+ghost use Rattle.controller_model.specs.Step.{PacketHeard};
 ghost use Rattle.run_model.specs.Feeding.{AreDistinct};
-ghost use Rattle.run_model.specs.History.{Event, TurnBegan, turns_begun};
+ghost use Rattle.run_model.specs.History.{Called, Event, TurnBegan, turns_begun};
 ghost use Rattle.run_model.specs.LinkEnds.{HaveAddresses};
-ghost use Rattle.run_model.specs.Run.{Given, GoesOn, history_of, run_of};
+ghost use Rattle.run_model.specs.Run.{Given, GoesOn, facts_at, history_of, run_of};
 ghost use Rattle.link_pairs.specs.Ends.{is_lasting};
 ghost use Rattle.link_pairs.specs.Sound.{AreSoundEnds};
 ghost use Rattle.link_runs.specs.Open.{AreOpenEnds, AreTerminated, GoOnUnlessLate};
-ghost use Rattle.run_laws.specs.Ends.{AreEnds, IsOpen, OpenEnd};
-ghost use Rattle.run_pairs.specs.InTurns.{HearEachInTurn};
+ghost use Rattle.run_laws.specs.Ends.{AreEnds, IsOpen, OpenEnd, link_listened};
+ghost use Rattle.run_pairs.specs.InTurns.{HasSentNow, HearEachInTurn};
 
 /// Before each turn of a run, and at its end, both open ends of a link that hear each other in
 /// turns are linked, and the link lasts at both; or the central has taken LL_TERMINATE_IND, and is
@@ -104,6 +107,36 @@ pub fn no_procedure_ends_a_link_but_a_late_one()
         → IsOpen given before central → IsOpen given before peripheral
         → AreTerminated (record { central = Some (facts_in central.link);
             peripheral = Some (facts_in peripheral.link) }) }
+{
+    air_frame::laws::packet_tells_its_pdu();
+    controller_model::a_pdu_is_understood();
+    advertise::laws::connections_are_taken();
+}
+
+/// Where a station is called with a packet, listens on the link of one of the ends, and the far end
+/// has sent this packet on the channel of its event in the same turn, the packet is good (Core 5.2,
+/// volume 6 part B, sections 2.1 and 4.5.10).
+pub fn packets_of_a_link_are_understood()
+    ensures peripheral { (given : Given) (before rest : List Event) (octets : List ℕ)
+        (central peripheral : OpenEnd) → AreDistinct given.stations → HaveAddresses given
+        → Contains given.stations central.station → Contains given.stations peripheral.station
+        → history_of (run_of given)
+        ≡ before ++ Called peripheral.station (PacketHeard octets) ∷ rest
+        → AreEnds before central peripheral → HearEachInTurn given before central peripheral
+        → IsOpen given before central → IsOpen given before peripheral
+        → link_listened (facts_at given peripheral.station before).turn.doing
+        ≡ Some peripheral.handle
+        → HasSentNow given before peripheral central (facts_in peripheral.link).event.channel octets
+        → verdict_of peripheral.link.setup (facts_in peripheral.link) octets ≡ Good }
+    ensures central { (given : Given) (before rest : List Event) (octets : List ℕ)
+        (central peripheral : OpenEnd) → AreDistinct given.stations → HaveAddresses given
+        → Contains given.stations central.station → Contains given.stations peripheral.station
+        → history_of (run_of given) ≡ before ++ Called central.station (PacketHeard octets) ∷ rest
+        → AreEnds before central peripheral → HearEachInTurn given before central peripheral
+        → IsOpen given before central → IsOpen given before peripheral
+        → link_listened (facts_at given central.station before).turn.doing ≡ Some central.handle
+        → HasSentNow given before central peripheral (facts_in central.link).event.channel octets
+        → verdict_of central.link.setup (facts_in central.link) octets ≡ Good }
 {
     air_frame::laws::packet_tells_its_pdu();
     controller_model::a_pdu_is_understood();

@@ -92,7 +92,7 @@ HearsNow given before end far step =
     (octets : List ℕ) (link : OpenLink) → step ≡ PacketHeard octets → ReceivesGood (facts_at given end.station before) octets link
     → HaveOneConnectInd link.setup end.link.setup → HasSentNow given before end far (facts_in link).event.channel octets
 
-packet_now : (given : Given) (before rest : List Event) (end far : OpenEnd) (listener : EndFacts) (octets : List ℕ) (p : OpenLink) → AreDistinct given.stations
+pub packet_now : (given : Given) (before rest : List Event) (end far : OpenEnd) (listener : EndFacts) (octets : List ℕ) (p : OpenLink) → AreDistinct given.stations
     → is_in far.station given.stations ≡ true → history_of (run_of given) ≡ before ++ rest
     → link_at far.handle (facts_at given far.station before).links ≡ Some p → p.setup ≡ far.link.setup
     → HasSentNow given before end far listener.event.channel octets
