@@ -37,7 +37,7 @@ use Rattle.run_model.proofs.OfStations.{OfStations, run_of_stations}
 use Rattle.run_model.proofs.Places.{each_at}
 use Rattle.run_model.proofs.Stations.{is_in}
 use Rattle.run_laws.specs.Access.{IsConnectSent, connects_sent}
-use Rattle.run_laws.specs.Ends.{HaveOneConnectInd, OpenEnd, ReceivesGood, link_listened}
+use Rattle.run_laws.specs.Ends.{HasSent, HaveOneConnectInd, IsOpen, OpenEnd, link_listened}
 use Rattle.run_laws.proofs.ChSel.{one_channel}
 use Rattle.run_laws.proofs.DistinctAccess.{AreApart, found_at, sent_distinct, sent_in_order}
 use Rattle.run_laws.proofs.EachCall.{IsPhase, call_at}
@@ -46,7 +46,6 @@ use Rattle.run_laws.proofs.LinkPhases.{HasRole, IsInPhase, SendsAs}
 use Rattle.run_laws.proofs.SameEvent.{one_event}
 use Rattle.run_laws.proofs.TurnSteps.{IsListening}
 use Rattle.run_laws.proofs.TwoStations.{AreTwo, differs_back}
-
 use Rattle.run_pairs.specs.InTurns.{HasSentNow, HearEachInTurn, HearsInTurn}
 use Rattle.run_pairs.proofs.OnAirNow.{IsLinkOnAirNow, IsOnAirNow, WasSentNow, sent_now}
 
@@ -211,7 +210,8 @@ module _ (understood : IsUnderstood) (taken : AreTaken) (apart : AreApart) (give
 
 module _ (understood : IsUnderstood) (taken : AreTaken) (apart : AreApart) (given : Given) (six : HaveAddresses given) (distinct : AreDistinct given.stations)
     (two : AreTwo given) (before rest : List Event) (station : ℕ) (octets : List ℕ) (at : history_of (run_of given) ≡ before ++ Called station (PacketHeard octets) ∷ rest)
-    (link : OpenLink) (takes : ReceivesGood (facts_at given station before) octets link) where
+    (link : OpenLink) (handle : ℕ) (listening : link_listened (facts_at given station before).turn.doing ≡ Some handle)
+    (is_open : link_at handle (facts_at given station before).links ≡ Some link) (begins : take 4 octets ≡ access_octets link.setup.link.fields.access) where
   call : IsPhase given before station (Some octets)
   call = call_at given before rest station (PacketHeard octets) six distinct at
 
@@ -229,21 +229,21 @@ module _ (understood : IsUnderstood) (taken : AreTaken) (apart : AreApart) (give
 
   channel_is : sent.channel ≡ (facts_in link).event.channel
   channel_is = one_channel sent.channel (facts_in link).event.channel
-      (sym sent.listens ∙ listens_for facts takes.handle facts.turn.doing link call.in_turn.listens takes.listens takes.is_open)
+      (sym sent.listens ∙ listens_for facts handle facts.turn.doing link call.in_turn.listens listening is_open)
 
   one_of : (air : IsLinkOnAirNow sent.phases (facts_at given sent.sender before) sent.channel octets) → HaveOneConnectInd air.link.setup link.setup
   one_of air =
       let after = link_after (PacketSent (facts_at given sent.sender before).turn.slot) air.link in
       let whole = Called station (PacketHeard octets) ∷ rest in
-      let has = has_connect_ind understood taken given before whole station takes.handle link distinct six at takes.is_open in
+      let has = has_connect_ind understood taken given before whole station handle link distinct six at is_open in
       let too = has_connect_ind understood taken given before whole sent.sender air.handle after distinct six at air.is_open in
-      let listens = listens_as sent.phases takes.handle facts.links facts.turn.doing link sent.phase takes.listens takes.is_open in
+      let listens = listens_as sent.phases handle facts.links facts.turn.doing link sent.phase listening is_open in
       let sender = one_sender understood taken apart given six distinct before whole at two station sent.sender call.is_one sent.is_one sent.differs
       link.setup air.link.setup has too sent.phases listens air.role in
       let address = same_access link.setup.link.fields.access air.link.setup.link.fields.access
       (end_below understood taken apart given six distinct before whole at station link.setup has)
       (end_below understood taken apart given six distinct before whole at sent.sender air.link.setup too)
-      (sym (is_addressed link.setup (facts_in link) octets takes.is_good) ∙ ap (take 4) air.packet ∙ sent_begins air.link.setup (facts_in air.link)) in
+      (sym begins ∙ ap (take 4) air.packet ∙ sent_begins air.link.setup (facts_in air.link)) in
       let one = one_link understood taken apart given six distinct before whole at station sent.sender link.setup air.link.setup has too sender address in
       record { fields = sym one.fields; opened = sym one.opened }
 
@@ -292,7 +292,8 @@ pub hears_in_turn : IsUnderstood → AreTaken → AreApart → (given : Given) �
 hears_in_turn understood taken apart given six distinct two history rest at end far in_it differs same = λ before after octets link is takes own.
     let event = Called end.station (PacketHeard octets) in
     let place : history_of (run_of given) ≡ before ++ event ∷ (after ++ rest) = at ∙ ap (λ events. events ++ rest) is ∙ append_assoc before (event ∷ after) rest in
-    just_sent understood taken apart given six distinct two before (after ++ rest) end.station octets place link takes end far refl in_it differs
+    just_sent understood taken apart given six distinct two before (after ++ rest) end.station octets place link takes.handle takes.listens takes.is_open
+    (is_addressed link.setup (facts_in link) octets takes.is_good) end far refl in_it differs
     (record { fields = own.fields ∙ same.fields; opened = own.opened ∙ same.opened })
 
 pub hear_in_turn : IsUnderstood → AreTaken → AreApart → (given : Given) → HaveAddresses given → AreDistinct given.stations → AreTwo given → (history rest : List Event)
@@ -303,3 +304,14 @@ hear_in_turn understood taken apart given six distinct two history rest at one o
   other_hears = hears_in_turn understood taken apart given six distinct two history rest at other one in_it (differs_back one.station other.station differs)
       (record { fields = sym same.fields; opened = sym same.opened });
 }
+
+-- a packet that the far end sent last, and that reaches the end, was sent in this turn
+pub sent_in_turn : IsUnderstood → AreTaken → AreApart → (given : Given) → HaveAddresses given → AreDistinct given.stations → AreTwo given → (before rest : List Event)
+    (octets : List ℕ) (end far : OpenEnd) → history_of (run_of given) ≡ before ++ Called end.station (PacketHeard octets) ∷ rest → is_in far.station given.stations ≡ true
+    → (end.station == far.station) ≡ false → HaveOneConnectInd end.link.setup far.link.setup → IsOpen given before end
+    → link_listened (facts_at given end.station before).turn.doing ≡ Some end.handle → HasSent given before far (facts_in end.link).event.channel octets
+    → HasSentNow given before end far (facts_in end.link).event.channel octets
+sent_in_turn understood taken apart given six distinct two before rest octets end far at in_it differs same opened listening sent =
+    let begins = ap (take 4) sent.packet ∙ sent_begins sent.link.setup (facts_in sent.link)
+    ∙ ap (λ (f : ConnectFields). access_octets f.access) (sent.is_end.fields ∙ sym same.fields) in
+    just_sent understood taken apart given six distinct two before rest end.station octets at end.link end.handle listening opened begins end far refl in_it differs same

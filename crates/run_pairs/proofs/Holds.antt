@@ -363,9 +363,10 @@ module _ (slot handle : ℕ) (begun : Facts) (link : OpenLink) (at : link_at han
               let both = parts same in
               let two = fit.span ∙ ap (λ (long : Bool). if long then 4 else 2) both.1 in
               let in_hold = sym (ap (λ (o : Option Hold). is_held_in o slot) some) ∙ held in
-              let has = (some_entered (link_at other entering.links) one found).1 in
-              (at_least _ (subst (λ (l : OpenLink). has_entered l ≡ true) (is_now same) has),
-              inr (within_hold hold.from.0 hold.slots slot in_hold two (past hold some) ∙ ap (λ n. n + 1) (sym fit.slot), both.0))
+              let has = (some_entered (link_at other entering.links) one found).1 in (
+                at_least _ (subst (λ (l : OpenLink). has_entered l ≡ true) (is_now same) has),
+                inr (within_hold hold.from.0 hold.slots slot in_hold two (past hold some) ∙ ap (λ n. n + 1) (sym fit.slot), both.0),
+              )
 
       by : (place : Option OpenLink) → in_event (link_at other entering.links) ≡ place → Begins (goes_on_with entering (second_exchange other place))
       by None is_none = idle _ refl refl

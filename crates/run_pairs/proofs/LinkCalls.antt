@@ -259,4 +259,3 @@ pub passes_under : (setup : Setup) (facts : Facts) (received : Option (List ℕ)
     → link_at handle (facts_after setup facts (step_of received)).links ≡ Some after
     → HasPassed facts (has_room setup facts) received handle (facts_after setup facts (step_of received)).turn.doing after
 passes_under setup facts received handle after listens is = passes_by setup facts received handle after facts.turn.doing refl (phase_passes_on setup facts received listens) is
-

@@ -117,4 +117,3 @@ scans_off (Some channel) = refl
 pub initiates_off : (channel : Option ℕ) → is_on_link (initiates_on channel) ≡ false
 initiates_off None = refl
 initiates_off (Some channel) = refl
-

@@ -97,16 +97,20 @@ pub fn no_procedure_ends_a_link_but_a_late_one()
         → history_of (run_of given) ≡ before ++ rest
         → AreEnds before central peripheral → HearEachInTurn given before central peripheral
         → IsOpen given before central → IsOpen given before peripheral
-        → GoOnUnlessLate (record { central = Some (facts_in central.link);
-            peripheral = Some (facts_in peripheral.link) }) }
+        → GoOnUnlessLate (record {
+          central = Some (facts_in central.link);
+          peripheral = Some (facts_in peripheral.link);
+        }) }
     ensures codes { (given : Given) (before rest : List Event) (central peripheral : OpenEnd)
         → AreDistinct given.stations → HaveAddresses given
         → Contains given.stations central.station → Contains given.stations peripheral.station
         → history_of (run_of given) ≡ before ++ rest
         → AreEnds before central peripheral → HearEachInTurn given before central peripheral
         → IsOpen given before central → IsOpen given before peripheral
-        → AreTerminated (record { central = Some (facts_in central.link);
-            peripheral = Some (facts_in peripheral.link) }) }
+        → AreTerminated (record {
+          central = Some (facts_in central.link);
+          peripheral = Some (facts_in peripheral.link);
+        }) }
 {
     air_frame::laws::packet_tells_its_pdu();
     controller_model::a_pdu_is_understood();

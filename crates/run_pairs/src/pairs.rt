@@ -1,6 +1,6 @@
 //! The same laws for runs of two stations, where the two ends of each link hear each other. The
 //! bodies only call the laws that they rest on: the contracts are the laws.
-ghost use Rattle.std.specs.Prelude.{◌≡◌, ◌++◌, ◌∷◌, [], ℕ, Bool, true, List, Some, length};
+ghost use Rattle.std.specs.Prelude.{◌≡◌, ◌≢◌, ◌++◌, ◌∷◌, [], ℕ, Bool, true, List, Some, length};
 ghost use Rattle.std.specs.List.{Contains};
 ghost use Rattle.ble_base.specs.declared.verdicts.Verdict.TheVariants.{Good};
 ghost use Rattle.run_laws.specs.link_model.OneLink.{AreInAgreement};
@@ -16,21 +16,31 @@ ghost use Rattle.run_model.specs.Run.{Given, GoesOn, facts_at, history_of, run_o
 ghost use Rattle.link_pairs.specs.Ends.{is_lasting};
 ghost use Rattle.link_pairs.specs.Sound.{AreSoundEnds};
 ghost use Rattle.link_runs.specs.Open.{AreOpenEnds, AreTerminated, GoOnUnlessLate};
-ghost use Rattle.run_laws.specs.Ends.{AreEnds, IsOpen, OpenEnd, link_listened};
+ghost use Rattle.run_laws.specs.Ends.{AreEnds, HasSent, HaveOneConnectInd, IsOpen, OpenEnd, link_listened};
 ghost use Rattle.run_pairs.specs.InTurns.{HasSentNow, HearEachInTurn};
 
 /// In a run of two stations, with any number of links each, each good packet that an end of a link
 /// receives is what the other end of this link sent in the same turn. Another link may have the same
 /// access address and channel. But no two links of one central have one address, and a central sends
-/// in the first phase of a turn, where no central listens (Core 5.2, volume 6 part B, sections 2.1.2
-/// and 4.5.1).
+/// in the first phase of a turn, where no central listens. A packet that the far end sent last, and
+/// that reaches an end that listens on the link, was sent in the same turn (Core 5.2, volume 6 part
+/// B, sections 2.1.2 and 4.5.1).
 pub fn both_ends_hear_each_other_in_turns()
-    ensures { (given : Given) (one other : ℕ) (before rest : List Event)
+    ensures hear { (given : Given) (one other : ℕ) (before rest : List Event)
         (central peripheral : OpenEnd) → given.stations ≡ one ∷ other ∷ []
         → AreDistinct given.stations → HaveAddresses given
         → Contains given.stations central.station → Contains given.stations peripheral.station
         → history_of (run_of given) ≡ before ++ rest → AreEnds before central peripheral
         → HearEachInTurn given before central peripheral }
+    ensures now { (given : Given) (one other : ℕ) (before rest : List Event) (octets : List ℕ)
+        (end far : OpenEnd) → given.stations ≡ one ∷ other ∷ []
+        → AreDistinct given.stations → HaveAddresses given
+        → Contains given.stations far.station → end.station ≢ far.station
+        → history_of (run_of given) ≡ before ++ Called end.station (PacketHeard octets) ∷ rest
+        → HaveOneConnectInd end.link.setup far.link.setup → IsOpen given before end
+        → link_listened (facts_at given end.station before).turn.doing ≡ Some end.handle
+        → HasSent given before far (facts_in end.link).event.channel octets
+        → HasSentNow given before end far (facts_in end.link).event.channel octets }
 {
     controller_model::a_pdu_is_understood();
     advertise::laws::connections_are_taken();
@@ -114,8 +124,10 @@ pub fn ends_of_a_pair_are_sound()
         → history_of (run_of (given_of a b script)) ≡ before ++ rest
         → AreEnds before central peripheral → IsOpen (given_of a b script) before central
         → IsOpen (given_of a b script) before peripheral
-        → GoOnUnlessLate (record { central = Some (facts_in central.link);
-            peripheral = Some (facts_in peripheral.link) }) }
+        → GoOnUnlessLate (record {
+          central = Some (facts_in central.link);
+          peripheral = Some (facts_in peripheral.link);
+        }) }
     ensures codes { (a b : List ℕ) (script : Script) (before rest : List Event)
         (central peripheral : OpenEnd)
         → length script.a.public ≡ 6 → length script.b.public ≡ 6
@@ -124,8 +136,10 @@ pub fn ends_of_a_pair_are_sound()
         → history_of (run_of (given_of a b script)) ≡ before ++ rest
         → AreEnds before central peripheral → IsOpen (given_of a b script) before central
         → IsOpen (given_of a b script) before peripheral
-        → AreTerminated (record { central = Some (facts_in central.link);
-            peripheral = Some (facts_in peripheral.link) }) }
+        → AreTerminated (record {
+          central = Some (facts_in central.link);
+          peripheral = Some (facts_in peripheral.link);
+        }) }
 {
     both_ends_hear_each_other_in_turns();
     crate::laws::ends_that_last_are_sound();
@@ -133,8 +147,9 @@ pub fn ends_of_a_pair_are_sound()
 }
 
 /// Where a station of a pair is called with a packet, listens on the link of one of the ends, and
-/// the far end has sent this packet on the channel of its event in the same turn, the packet is good
-/// (Core 5.2, volume 6 part B, sections 2.1 and 4.5.10).
+/// the last that happened to the far end is that it sent this packet on the channel of its event, the
+/// packet is good, and was sent in the same turn (Core 5.2, volume 6 part B, sections 2.1 and
+/// 4.5.10).
 pub fn packets_of_a_pair_are_understood()
     ensures peripheral { (a b : List ℕ) (script : Script) (before rest : List Event)
         (octets : List ℕ) (central peripheral : OpenEnd)
@@ -147,9 +162,10 @@ pub fn packets_of_a_pair_are_understood()
         → IsOpen (given_of a b script) before peripheral
         → link_listened (facts_at (given_of a b script) peripheral.station before).turn.doing
         ≡ Some peripheral.handle
-        → HasSentNow (given_of a b script) before peripheral central
-        (facts_in peripheral.link).event.channel octets
-        → verdict_of peripheral.link.setup (facts_in peripheral.link) octets ≡ Good }
+        → HasSent (given_of a b script) before central (facts_in peripheral.link).event.channel octets
+        → (verdict_of peripheral.link.setup (facts_in peripheral.link) octets ≡ Good)
+        × HasSentNow (given_of a b script) before peripheral central
+        (facts_in peripheral.link).event.channel octets }
     ensures central { (a b : List ℕ) (script : Script) (before rest : List Event)
         (octets : List ℕ) (central peripheral : OpenEnd)
         → length script.a.public ≡ 6 → length script.b.public ≡ 6
@@ -161,9 +177,10 @@ pub fn packets_of_a_pair_are_understood()
         → IsOpen (given_of a b script) before peripheral
         → link_listened (facts_at (given_of a b script) central.station before).turn.doing
         ≡ Some central.handle
-        → HasSentNow (given_of a b script) before central peripheral
-        (facts_in central.link).event.channel octets
-        → verdict_of central.link.setup (facts_in central.link) octets ≡ Good }
+        → HasSent (given_of a b script) before peripheral (facts_in central.link).event.channel octets
+        → (verdict_of central.link.setup (facts_in central.link) octets ≡ Good)
+        × HasSentNow (given_of a b script) before central peripheral
+        (facts_in central.link).event.channel octets }
 {
     both_ends_hear_each_other_in_turns();
     crate::laws::packets_of_a_link_are_understood();

@@ -12,7 +12,7 @@ returns-clause-before_a_turn c = λ a b script before rest slot radios central p
     let given = given_of a b script in
     let distinct = pair_distinct a b script in
     let six = pair_addresses a b script long long_too in
-    let hear = c.both_ends_hear_each_other_in_turns.ensures given 0 1 before (TurnBegan slot radios ∷ rest) central peripheral refl distinct six is is_too at ends in
+    let hear = c.both_ends_hear_each_other_in_turns.ensures.hear given 0 1 before (TurnBegan slot radios ∷ rest) central peripheral refl distinct six is is_too at ends in
     c.open_ends_are_linked.ensures.before_a_turn given before rest slot radios central peripheral distinct six is is_too at ends hear is_open is_open_too
 
 pub returns-clause-at_the_end : goal.returns-clause-at_the_end
@@ -20,5 +20,5 @@ returns-clause-at_the_end c = λ a b script history central peripheral long long
     let given = given_of a b script in
     let distinct = pair_distinct a b script in
     let six = pair_addresses a b script long long_too in
-    let hear = c.both_ends_hear_each_other_in_turns.ensures given 0 1 history [] central peripheral refl distinct six is is_too (whole_history given history goes) ends in
+    let hear = c.both_ends_hear_each_other_in_turns.ensures.hear given 0 1 history [] central peripheral refl distinct six is is_too (whole_history given history goes) ends in
     c.open_ends_are_linked.ensures.at_the_end given history central peripheral distinct six is is_too goes ends hear is_open is_open_too

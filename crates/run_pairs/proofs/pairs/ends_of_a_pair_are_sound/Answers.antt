@@ -12,7 +12,7 @@ returns-clause-before_a_turn c = λ a b script before rest slot radios central p
     let given = given_of a b script in
     let distinct = pair_distinct a b script in
     let six = pair_addresses a b script long long_too in
-    let hear = c.both_ends_hear_each_other_in_turns.ensures given 0 1 before (TurnBegan slot radios ∷ rest) central peripheral refl distinct six is is_too at ends in
+    let hear = c.both_ends_hear_each_other_in_turns.ensures.hear given 0 1 before (TurnBegan slot radios ∷ rest) central peripheral refl distinct six is is_too at ends in
     c.ends_that_last_are_sound.ensures.before_a_turn given before rest slot radios central peripheral distinct six is is_too at ends hear is_open is_open_too c_lasts p_lasts
 
 pub returns-clause-at_the_end : goal.returns-clause-at_the_end
@@ -20,7 +20,7 @@ returns-clause-at_the_end c = λ a b script history central peripheral long long
     let given = given_of a b script in
     let distinct = pair_distinct a b script in
     let six = pair_addresses a b script long long_too in
-    let hear = c.both_ends_hear_each_other_in_turns.ensures given 0 1 history [] central peripheral refl distinct six is is_too (whole_history given history goes) ends in
+    let hear = c.both_ends_hear_each_other_in_turns.ensures.hear given 0 1 history [] central peripheral refl distinct six is is_too (whole_history given history goes) ends in
     c.ends_that_last_are_sound.ensures.at_the_end given history central peripheral distinct six is is_too goes ends hear is_open is_open_too c_lasts p_lasts
 
 pub returns-clause-agreement : goal.returns-clause-agreement
@@ -28,7 +28,7 @@ returns-clause-agreement c = λ a b script before rest central peripheral long l
     let given = given_of a b script in
     let distinct = pair_distinct a b script in
     let six = pair_addresses a b script long long_too in
-    let hear = c.both_ends_hear_each_other_in_turns.ensures given 0 1 before rest central peripheral refl distinct six is is_too at ends in
+    let hear = c.both_ends_hear_each_other_in_turns.ensures.hear given 0 1 before rest central peripheral refl distinct six is is_too at ends in
     c.ends_that_last_are_sound.ensures.agreement given before rest central peripheral distinct six is is_too at ends hear is_open is_open_too
 
 pub returns-clause-procedures : goal.returns-clause-procedures
@@ -36,7 +36,7 @@ returns-clause-procedures c = λ a b script before rest central peripheral long 
     let given = given_of a b script in
     let distinct = pair_distinct a b script in
     let six = pair_addresses a b script long long_too in
-    let hear = c.both_ends_hear_each_other_in_turns.ensures given 0 1 before rest central peripheral refl distinct six is is_too at ends in
+    let hear = c.both_ends_hear_each_other_in_turns.ensures.hear given 0 1 before rest central peripheral refl distinct six is is_too at ends in
     c.no_procedure_ends_a_link_but_a_late_one.ensures.procedures given before rest central peripheral distinct six is is_too at ends hear is_open is_open_too
 
 pub returns-clause-codes : goal.returns-clause-codes
@@ -44,5 +44,5 @@ returns-clause-codes c = λ a b script before rest central peripheral long long_
     let given = given_of a b script in
     let distinct = pair_distinct a b script in
     let six = pair_addresses a b script long long_too in
-    let hear = c.both_ends_hear_each_other_in_turns.ensures given 0 1 before rest central peripheral refl distinct six is is_too at ends in
+    let hear = c.both_ends_hear_each_other_in_turns.ensures.hear given 0 1 before rest central peripheral refl distinct six is is_too at ends in
     c.no_procedure_ends_a_link_but_a_late_one.ensures.codes given before rest central peripheral distinct six is is_too at ends hear is_open is_open_too

@@ -1,10 +1,11 @@
 -- The proof of the law `packets_of_a_pair_are_understood`.
-use Rattle.std.proofs.Common.{◌∷◌, refl}
+use Rattle.std.proofs.Common.{◌∷◌, refl, sym}
+use Rattle.controller_model.specs.Step.{PacketHeard}
+use Rattle.run_model.specs.History.{Called}
 use Rattle.run_model.specs.Pair.{given_of}
 use Rattle.run_model.proofs.LinkEnds.{pair_addresses}
 use Rattle.run_model.proofs.Ordered.{pair_distinct}
-use Rattle.controller_model.specs.Step.{PacketHeard}
-use Rattle.run_model.specs.History.{Called}
+use Rattle.run_laws.proofs.SameEvent.{one_connect_ind, two_stations}
 use Rattle.run_pairs.proofs.pairs.packets_of_a_pair_are_understood.Goals as goal
 
 pub returns-clause-peripheral : goal.returns-clause-peripheral
@@ -12,13 +13,24 @@ returns-clause-peripheral c = λ a b script before rest octets central periphera
     let given = given_of a b script in
     let distinct = pair_distinct a b script in
     let six = pair_addresses a b script long long_too in
-    let hear = c.both_ends_hear_each_other_in_turns.ensures given 0 1 before (Called peripheral.station (PacketHeard octets) ∷ rest) central peripheral refl distinct six is is_too at ends in
-    c.packets_of_a_link_are_understood.ensures.peripheral given before rest octets central peripheral distinct six is is_too at ends hear is_open is_open_too listens sent
+    let hear = c.both_ends_hear_each_other_in_turns.ensures.hear given 0 1 before (Called peripheral.station (PacketHeard octets) ∷ rest) central peripheral refl distinct six
+    is is_too at ends in
+    let same = one_connect_ind before central peripheral ends in
+    let now = c.both_ends_hear_each_other_in_turns.ensures.now given 0 1 before rest octets peripheral central refl distinct six is
+    (λ equal. two_stations before central peripheral ends (sym equal)) at (record { fields = sym same.fields; opened = sym same.opened }) is_open_too listens sent in (
+      c.packets_of_a_link_are_understood.ensures.peripheral given before rest octets central peripheral distinct six is is_too at ends hear is_open is_open_too listens now,
+      now,
+    )
 
 pub returns-clause-central : goal.returns-clause-central
 returns-clause-central c = λ a b script before rest octets central peripheral long long_too is is_too at ends is_open is_open_too listens sent.
     let given = given_of a b script in
     let distinct = pair_distinct a b script in
     let six = pair_addresses a b script long long_too in
-    let hear = c.both_ends_hear_each_other_in_turns.ensures given 0 1 before (Called central.station (PacketHeard octets) ∷ rest) central peripheral refl distinct six is is_too at ends in
-    c.packets_of_a_link_are_understood.ensures.central given before rest octets central peripheral distinct six is is_too at ends hear is_open is_open_too listens sent
+    let hear = c.both_ends_hear_each_other_in_turns.ensures.hear given 0 1 before (Called central.station (PacketHeard octets) ∷ rest) central peripheral refl distinct six
+    is is_too at ends in
+    let now = c.both_ends_hear_each_other_in_turns.ensures.now given 0 1 before rest octets central peripheral refl distinct six is_too
+    (two_stations before central peripheral ends) at (one_connect_ind before central peripheral ends) is_open listens sent in (
+      c.packets_of_a_link_are_understood.ensures.central given before rest octets central peripheral distinct six is is_too at ends hear is_open is_open_too listens now,
+      now,
+    )
