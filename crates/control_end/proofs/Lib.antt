@@ -8,3 +8,5 @@ pub mod Room
 pub mod Sendable
 -- what the crates above use of those below
 pub use Rattle.control_model.proofs as control_model
+pub use Rattle.table_laws.proofs as table_laws
+pub use Rattle.control_model.proofs.procedure_values as procedure_values

@@ -6,3 +6,5 @@ pub mod Moving
 pub mod Outcomes
 pub mod Sending
 pub mod Waiting
+-- what the crates above use of those below
+pub use Rattle.procedures.proofs.procedure_values as procedure_values

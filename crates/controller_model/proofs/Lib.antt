@@ -59,3 +59,4 @@ pub mod Resets
 pub use Rattle.link_model.proofs.control_model as control_model
 pub use Rattle.link_model.proofs as link_model
 pub use Rattle.open_links.proofs as open_links
+pub use Rattle.open_links.proofs.link_end as link_end

@@ -11,34 +11,34 @@ use Rattle.hci_cmd.specs.declared.command.Command.{Command}
 use Rattle.hci_cmd.specs.declared.command.Command.TheVariants.{Disconnect, LeConnectionUpdate, LeParamNegative, LeParamReply, LeReadRemoteFeatures, LeSetChannels, LeSetDataLength, ReadRemoteVersion}
 use Rattle.exclusive_stages.specs.declared.stages.PeerAtCentral.{PeerAtCentral}
 use Rattle.exclusive_stages.specs.declared.stages.PeerAtCentral.TheVariants.{Absent, GrantUnsent}
-use Rattle.procedure_values.specs.declared.asks.Ask.{Ask}
-use Rattle.procedure_values.specs.declared.asks.Ask.TheVariants.{Features, Length, Map, Request, Update, Version}
-use Rattle.procedure_values.specs.Asks.{is_same_kind, kind_of_ask}
-use Rattle.procedure_values.specs.Wants.{count_of}
-use Rattle.procedure_values.specs.Values.{IsParams, IsPayloadMax}
-use Rattle.procedure_stages.specs.declared.closing.Closing.{Closing}
-use Rattle.procedure_stages.specs.declared.closing.Closing.TheVariants.{Open}
-use Rattle.procedure_stages.specs.declared.stages.Progress.{Progress}
-use Rattle.procedure_stages.specs.declared.stages.Progress.TheVariants.{Central as central, Peripheral as peripheral}
-use Rattle.procedure_stages.specs.Closing.{is_disconnecting, is_open}
-use Rattle.procedure_stages.specs.InProgress.{is_host_asked, peer_becomes}
-use Rattle.procedure_stages.specs.Kinds.{is_kind, own_kind, role_of}
-use Rattle.procedure_stages.specs.declared.steps.Effect.{Effect}
-use Rattle.procedure_stages.specs.declared.steps.Effect.TheVariants.{AskHost}
-use Rattle.procedures.specs.Beginning.{may_ask_of}
-use Rattle.procedures.specs.Going.{host_answer_step, is_answer, terminate_step}
-use Rattle.procedures.specs.Table.{TableFacts}
-use Rattle.control_model.specs.Control.{Answers, Asks, Control, Disconnects, table_if}
-use Rattle.control_model.proofs.Calls.{open_step}
-use Rattle.control_octets.specs.Fitting.{AskFits, RequestFits}
-use Rattle.unencrypted_ends.specs.Unencrypted.{asks_no_encryption}
-use Rattle.joint_controls.specs.Joint.{is_map}
-use Rattle.link_model.specs.Facts.{Facts}
-use Rattle.link_model.specs.Hosts.{asked_unless, facts_answered, facts_asked, facts_disconnected, is_to_come}
-use Rattle.link_model.specs.Rows.{central_with}
-use Rattle.link_model.specs.Setup.{Setup}
-use Rattle.link_model.specs.Step.{Step, ProcedureAsked}
-use Rattle.link_model.specs.End.{facts_after}
+use Rattle.open_links.specs.procedure_values.declared.asks.Ask.{Ask}
+use Rattle.open_links.specs.procedure_values.declared.asks.Ask.TheVariants.{Features, Length, Map, Request, Update, Version}
+use Rattle.open_links.specs.procedure_values.Asks.{is_same_kind, kind_of_ask}
+use Rattle.open_links.specs.procedure_values.Wants.{count_of}
+use Rattle.open_links.specs.procedure_values.Values.{IsParams, IsPayloadMax}
+use Rattle.procedure_events.specs.procedure_stages.declared.closing.Closing.{Closing}
+use Rattle.procedure_events.specs.procedure_stages.declared.closing.Closing.TheVariants.{Open}
+use Rattle.procedure_events.specs.procedure_stages.declared.stages.Progress.{Progress}
+use Rattle.procedure_events.specs.procedure_stages.declared.stages.Progress.TheVariants.{Central as central, Peripheral as peripheral}
+use Rattle.procedure_events.specs.procedure_stages.Closing.{is_disconnecting, is_open}
+use Rattle.procedure_events.specs.procedure_stages.InProgress.{is_host_asked, peer_becomes}
+use Rattle.procedure_events.specs.procedure_stages.Kinds.{is_kind, own_kind, role_of}
+use Rattle.procedure_events.specs.procedure_stages.declared.steps.Effect.{Effect}
+use Rattle.procedure_events.specs.procedure_stages.declared.steps.Effect.TheVariants.{AskHost}
+use Rattle.procedure_events.specs.procedures.Beginning.{may_ask_of}
+use Rattle.procedure_events.specs.procedures.Going.{host_answer_step, is_answer, terminate_step}
+use Rattle.procedure_events.specs.procedures.Table.{TableFacts}
+use Rattle.open_links.specs.control_model.Control.{Answers, Asks, Control, Disconnects, table_if}
+use Rattle.open_links.proofs.control_model.Calls.{open_step}
+use Rattle.link_pairs.specs.control_octets.Fitting.{AskFits, RequestFits}
+use Rattle.link_pairs.specs.unencrypted_ends.Unencrypted.{asks_no_encryption}
+use Rattle.link_pairs.specs.joint_controls.Joint.{is_map}
+use Rattle.open_links.specs.link_model.Facts.{Facts}
+use Rattle.open_links.specs.link_model.Hosts.{asked_unless, facts_answered, facts_asked, facts_disconnected, is_to_come}
+use Rattle.open_links.specs.link_model.Rows.{central_with}
+use Rattle.open_links.specs.link_model.Setup.{Setup}
+use Rattle.open_links.specs.link_model.Step.{Step, ProcedureAsked}
+use Rattle.open_links.specs.link_model.End.{facts_after}
 use Rattle.host_view.specs.declared.links.Link.{Link}
 use Rattle.host_view.specs.View.{View}
 use Rattle.host_view.specs.declared.links.Asked.{Asked}

@@ -7,22 +7,22 @@ use Rattle.ble_base.specs.declared.roles.Role.TheVariants.{Central, Peripheral}
 use Rattle.data_pdu.specs.declared.ctrl.CtrlRead.{CtrlRead}
 use Rattle.instants.specs.declared.indications.Indication.{Indication}
 use Rattle.instants.specs.Track.{event_of, next_number, track_after_take}
-use Rattle.procedure_values.specs.Drafts.{is_out}
-use Rattle.procedure_stages.specs.declared.steps.Effect.{Effect}
-use Rattle.procedure_stages.specs.declared.steps.Effect.TheVariants.{Indicated}
-use Rattle.procedure_stages.specs.declared.steps.Step.{Step as TableStep}
-use Rattle.procedure_stages.specs.Kinds.{role_of}
-use Rattle.procedures.specs.Going.{entered_step}
-use Rattle.procedures.specs.Queue.{next_of}
-use Rattle.procedures.specs.Sending.{acked_step}
-use Rattle.procedures.specs.Table.{TableFacts}
-use Rattle.procedures.specs.Taking.{facts_with, lacks_room, outcome_of, took_step}
-use Rattle.control_model.specs.Control.{Control, Step, Enters, SeesAcknowledged, Sends, Takes, after, ended, following, goes_out, is_to_come, indicated_by, moved, table_if, taken, went}
-use Rattle.control_model.proofs.Calls.{open_step, settled_as}
-use Rattle.control_end.specs.declared.answers.Taken.{Taken}
-use Rattle.control_end.specs.Answers.{done_by_acknowledgement, effect_shown, nothing_taken, step_shown, taken_of}
-use Rattle.control_end.specs.Held.{Held, held_after, held_of}
-use Rattle.control_end.proofs.Depending.{step_held}
+use Rattle.open_links.specs.procedure_values.Drafts.{is_out}
+use Rattle.procedure_events.specs.procedure_stages.declared.steps.Effect.{Effect}
+use Rattle.procedure_events.specs.procedure_stages.declared.steps.Effect.TheVariants.{Indicated}
+use Rattle.procedure_events.specs.procedure_stages.declared.steps.Step.{Step as TableStep}
+use Rattle.procedure_events.specs.procedure_stages.Kinds.{role_of}
+use Rattle.procedure_events.specs.procedures.Going.{entered_step}
+use Rattle.procedure_events.specs.procedures.Queue.{next_of}
+use Rattle.procedure_events.specs.procedures.Sending.{acked_step}
+use Rattle.procedure_events.specs.procedures.Table.{TableFacts}
+use Rattle.procedure_events.specs.procedures.Taking.{facts_with, lacks_room, outcome_of, took_step}
+use Rattle.open_links.specs.control_model.Control.{Control, Step, Enters, SeesAcknowledged, Sends, Takes, after, ended, following, goes_out, is_to_come, indicated_by, moved, table_if, taken, went}
+use Rattle.open_links.proofs.control_model.Calls.{open_step, settled_as}
+use Rattle.open_links.specs.control_end.declared.answers.Taken.{Taken}
+use Rattle.open_links.specs.control_end.Answers.{done_by_acknowledgement, effect_shown, nothing_taken, step_shown, taken_of}
+use Rattle.open_links.specs.control_end.Held.{Held, held_after, held_of}
+use Rattle.open_links.proofs.control_end.Depending.{step_held}
 use Rattle.host_view.specs.declared.links.Link.{Link}
 use Rattle.host_asks.specs.Knowing.{KnowsTable}
 use Rattle.host_asks.specs.Noting.{link_with_request}

@@ -11,32 +11,32 @@ use Rattle.ble_base.specs.declared.notes.Note.TheVariants.{Enter}
 use Rattle.data_pdu.specs.Header.{header_in}
 use Rattle.data_pdu.specs.declared.header.DataHeader.{DataHeader}
 use Rattle.instants.specs.Track.{next_number}
-use Rattle.procedure_stages.specs.declared.steps.Effect.{Effect}
-use Rattle.procedure_stages.specs.declared.steps.Effect.TheVariants.{AskHost, Lengths as new_lengths, Nothing}
-use Rattle.procedures.specs.Beginning.{begin_step}
-use Rattle.procedures.specs.Going.{entered_step}
-use Rattle.procedures.specs.Table
-use Rattle.control_end.specs.declared.answers.Entry.{Entry}
-use Rattle.control_end.specs.declared.answers.Taken.{Taken}
-use Rattle.control_end.specs.Answers.{entry_of, entry_step, is_update_waiting, no_entry}
-use Rattle.control_end.specs.Held.{Held, held_of}
-use Rattle.link_model.specs.declared.events.ConnectionEvent.{ConnectionEvent}
-use Rattle.link_model.specs.declared.state.KnownLengths.{KnownLengths}
-use Rattle.link_model.specs.declared.state.Leaving.{Leaving}
-use Rattle.link_model.specs.Acknowledgement.{Pdu}
-use Rattle.link_model.specs.Controls.{goes_on, is_procedure_pdu, is_quiet_now, pdu_fixed, read_of}
-use Rattle.link_model.specs.Data.{is_control, is_empty}
-use Rattle.link_model.specs.End.{facts_after}
-use Rattle.link_model.specs.Entering.{began_notes, done_notes, event_notes, facts_entered}
-use Rattle.link_model.specs.Events.{applied_notes}
-use Rattle.link_model.specs.Facts.{Facts, first_facts}
-use Rattle.link_model.specs.Fixing.{fixed_anew}
-use Rattle.link_model.specs.Packets.{good_pdu}
-use Rattle.link_model.specs.Receiving.{accepted_if, accepts, acked_kind, acknowledged_if, acks_control, answers_with_control, code_of, control_acked_if, effect_of, effect_received, effect_unless_known, facts_before_taking, facts_hearing, facts_received, given_if, given_notes, has_acknowledged, heard_in_slot, leaving_by, notes_hearing, procedures_give, procedures_take_if, received_notes, refused_notes, took_notes_if}
-use Rattle.link_model.specs.Sending.{control_gone_if, sent_notes, sent_notes_if, takes_leave}
-use Rattle.link_model.specs.Setup.{Setup}
-use Rattle.link_model.specs.Step.{Step, DataGiven, DataReported, Disconnected, EventEntered, PacketReceived, PacketSent, PduFixed, ProcedureAsked, RequestAnswered}
-use Rattle.link_model.specs.Verdicts.{pdu_of}
+use Rattle.procedure_events.specs.procedure_stages.declared.steps.Effect.{Effect}
+use Rattle.procedure_events.specs.procedure_stages.declared.steps.Effect.TheVariants.{AskHost, Lengths as new_lengths, Nothing}
+use Rattle.procedure_events.specs.procedures.Beginning.{begin_step}
+use Rattle.procedure_events.specs.procedures.Going.{entered_step}
+use Rattle.procedure_events.specs.procedures.Table
+use Rattle.open_links.specs.control_end.declared.answers.Entry.{Entry}
+use Rattle.open_links.specs.control_end.declared.answers.Taken.{Taken}
+use Rattle.open_links.specs.control_end.Answers.{entry_of, entry_step, is_update_waiting, no_entry}
+use Rattle.open_links.specs.control_end.Held.{Held, held_of}
+use Rattle.open_links.specs.link_model.declared.events.ConnectionEvent.{ConnectionEvent}
+use Rattle.open_links.specs.link_model.declared.state.KnownLengths.{KnownLengths}
+use Rattle.open_links.specs.link_model.declared.state.Leaving.{Leaving}
+use Rattle.open_links.specs.link_model.Acknowledgement.{Pdu}
+use Rattle.open_links.specs.link_model.Controls.{goes_on, is_procedure_pdu, is_quiet_now, pdu_fixed, read_of}
+use Rattle.open_links.specs.link_model.Data.{is_control, is_empty}
+use Rattle.open_links.specs.link_model.End.{facts_after}
+use Rattle.open_links.specs.link_model.Entering.{began_notes, done_notes, event_notes, facts_entered}
+use Rattle.open_links.specs.link_model.Events.{applied_notes}
+use Rattle.open_links.specs.link_model.Facts.{Facts, first_facts}
+use Rattle.open_links.specs.link_model.Fixing.{fixed_anew}
+use Rattle.open_links.specs.link_model.Packets.{good_pdu}
+use Rattle.open_links.specs.link_model.Receiving.{accepted_if, accepts, acked_kind, acknowledged_if, acks_control, answers_with_control, code_of, control_acked_if, effect_of, effect_received, effect_unless_known, facts_before_taking, facts_hearing, facts_received, given_if, given_notes, has_acknowledged, heard_in_slot, leaving_by, notes_hearing, procedures_give, procedures_take_if, received_notes, refused_notes, took_notes_if}
+use Rattle.open_links.specs.link_model.Sending.{control_gone_if, sent_notes, sent_notes_if, takes_leave}
+use Rattle.open_links.specs.link_model.Setup.{Setup}
+use Rattle.open_links.specs.link_model.Step.{Step, DataGiven, DataReported, Disconnected, EventEntered, PacketReceived, PacketSent, PduFixed, ProcedureAsked, RequestAnswered}
+use Rattle.open_links.specs.link_model.Verdicts.{pdu_of}
 use Rattle.host_view.specs.declared.links.Link.{Link}
 use Rattle.host_view.specs.Links.{is_asked}
 use Rattle.host_view.specs.Noted.{nothing_asked, opened_link}

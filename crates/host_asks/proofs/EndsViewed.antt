@@ -11,18 +11,18 @@ use Rattle.hci_cmd.specs.declared.command.Command.{Command}
 use Rattle.hci_cmd.specs.declared.command.Command.TheVariants.{LeReadRemoteFeatures, ReadRemoteVersion}
 use Rattle.hci_evt.specs.Event.{written}
 use Rattle.hci_evt.specs.declared.event.Event.TheVariants.{ParamRequest}
-use Rattle.procedure_values.specs.declared.asks.Ask.TheVariants.{Features as ask_features, Version as ask_version}
-use Rattle.procedure_stages.specs.declared.steps.Effect.{Effect}
-use Rattle.procedure_stages.specs.Kinds.{role_of}
-use Rattle.procedure_stages.specs.Steps.{asks_host}
-use Rattle.procedure_stages.specs.declared.steps.Effect.TheVariants.{AskHost}
-use Rattle.link_model.specs.declared.state.PeerFacts.{PeerFacts}
-use Rattle.link_model.specs.declared.state.PeerVersion.{PeerVersion}
-use Rattle.link_model.specs.End.{facts_after, notes_after}
-use Rattle.link_model.specs.Hosts.{facts_answered}
-use Rattle.link_model.specs.Setup.{Setup}
-use Rattle.link_model.specs.Step.{Step}
-use Rattle.link_model.specs.Facts.{Facts}
+use Rattle.open_links.specs.procedure_values.declared.asks.Ask.TheVariants.{Features as ask_features, Version as ask_version}
+use Rattle.procedure_events.specs.procedure_stages.declared.steps.Effect.{Effect}
+use Rattle.procedure_events.specs.procedure_stages.Kinds.{role_of}
+use Rattle.procedure_events.specs.procedure_stages.Steps.{asks_host}
+use Rattle.procedure_events.specs.procedure_stages.declared.steps.Effect.TheVariants.{AskHost}
+use Rattle.open_links.specs.link_model.declared.state.PeerFacts.{PeerFacts}
+use Rattle.open_links.specs.link_model.declared.state.PeerVersion.{PeerVersion}
+use Rattle.open_links.specs.link_model.End.{facts_after, notes_after}
+use Rattle.open_links.specs.link_model.Hosts.{facts_answered}
+use Rattle.open_links.specs.link_model.Setup.{Setup}
+use Rattle.open_links.specs.link_model.Step.{Step}
+use Rattle.open_links.specs.link_model.Facts.{Facts}
 use Rattle.host_view.specs.Changes.{answered, view_after}
 use Rattle.host_view.specs.Refusals.{count_if, first_refusal}
 use Rattle.host_view.specs.Status.{rows_of}

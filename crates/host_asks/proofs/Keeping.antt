@@ -4,12 +4,12 @@ use Rattle.std.proofs.lemmas.List.Quantifiers.{position-Some}
 use Rattle.ble_base.specs.declared.error_codes.ErrCode.{ErrCode}
 use Rattle.ble_base.specs.declared.procedure_kinds.Kind.{Kind}
 use Rattle.ble_base.specs.declared.procedure_kinds.Kind.TheVariants.{Update, Request, Map, Phy, Features, Version, Length, Encrypt}
-use Rattle.procedure_values.specs.declared.asks.Ask.{Ask}
-use Rattle.procedure_values.specs.declared.asks.Ask.TheVariants.{Phy as ask_phy}
-use Rattle.procedure_values.specs.Asks.{is_same_kind, kind_of_ask}
-use Rattle.procedure_values.specs.Wants.{count_of, is_wanted, place_of, wanted_with, without_place}
-use Rattle.procedure_values.proofs.Counts.{count-removed, count-with, count-without, wanted-counted}
-use Rattle.procedure_stages.specs.Kinds.{is_kind}
+use Rattle.open_links.specs.procedure_values.declared.asks.Ask.{Ask}
+use Rattle.open_links.specs.procedure_values.declared.asks.Ask.TheVariants.{Phy as ask_phy}
+use Rattle.open_links.specs.procedure_values.Asks.{is_same_kind, kind_of_ask}
+use Rattle.open_links.specs.procedure_values.Wants.{count_of, is_wanted, place_of, wanted_with, without_place}
+use Rattle.open_links.proofs.procedure_values.Counts.{count-removed, count-with, count-without, wanted-counted}
+use Rattle.procedure_events.specs.procedure_stages.Kinds.{is_kind}
 use Rattle.host_view.specs.declared.links.Asked.{Asked}
 use Rattle.host_view.specs.Links.{is_asked}
 use Rattle.host_view.specs.Changes.{with_asked}

@@ -1,13 +1,13 @@
 -- The view knows an end while it lasts.
 use Rattle.std.proofs.Common.{◌≡◌, List, [], ◌∷◌, Option, Some, None, Err, ap, sym, ◌∙◌}
 use Rattle.ble_base.specs.declared.addresses.Address.{Address}
-use Rattle.control_model.specs.Control.{Answers, Control, Step as ControlStep, after, after_all}
-use Rattle.link_model.specs.Setup.{Setup}
-use Rattle.link_model.specs.Facts.{Facts}
-use Rattle.link_model.specs.Step.{Step}
-use Rattle.link_model.specs.End.{facts_after}
-use Rattle.link_model.specs.ControlSteps.{control_steps_in}
-use Rattle.link_model.proofs.ControlSteps.{one_step}
+use Rattle.open_links.specs.control_model.Control.{Answers, Control, Step as ControlStep, after, after_all}
+use Rattle.open_links.specs.link_model.Setup.{Setup}
+use Rattle.open_links.specs.link_model.Facts.{Facts}
+use Rattle.open_links.specs.link_model.Step.{Step}
+use Rattle.open_links.specs.link_model.End.{facts_after}
+use Rattle.open_links.specs.link_model.ControlSteps.{control_steps_in}
+use Rattle.open_links.proofs.link_model.ControlSteps.{one_step}
 use Rattle.host_asks.specs.Commands.{facts_commanded, host_step_of}
 use Rattle.host_asks.specs.Knowing.{KnowsAsks}
 use Rattle.host_asks.specs.Lasting.{AllMayHappen, IsCommanded, LinkEvent, Makes, MakesUnreported, MayHappen, ViewedEnd, first_viewed, viewed_after, viewed_after_all}

@@ -5,9 +5,9 @@ use Rattle.ble_base.specs.declared.roles.Role.{Role}
 use Rattle.ble_base.specs.declared.roles.Role.TheVariants.{Central, Peripheral}
 use Rattle.hci_cmd.specs.declared.command.Command.{Command}
 use Rattle.hci_cmd.specs.declared.command.Command.TheVariants.{LeConnectionUpdate, LeReadRemoteFeatures, LeSetChannels, ReadRemoteVersion}
-use Rattle.procedure_values.specs.declared.asks.Ask.{Ask}
-use Rattle.procedure_values.specs.declared.asks.Ask.TheVariants.{Features, Version}
-use Rattle.link_model.specs.Step.{ProcedureAsked}
+use Rattle.open_links.specs.procedure_values.declared.asks.Ask.{Ask}
+use Rattle.open_links.specs.procedure_values.declared.asks.Ask.TheVariants.{Features, Version}
+use Rattle.open_links.specs.link_model.Step.{ProcedureAsked}
 use Rattle.open_links.specs.Hosts.{asked_map_by, link_asked_map, links_asked, links_asked_map}
 use Rattle.open_links.specs.OpenLinks.{Links, OpenLink, facts_in, link_after, link_at, link_from, with_change, with_change_from}
 use Rattle.host_asks.specs.Commands.{ask_unless, is_about, map_by, update_by}

@@ -7,15 +7,15 @@ use Rattle.ble_base.specs.declared.error_codes.ErrCode.{ErrCode}
 use Rattle.ble_base.specs.declared.notes.Note.TheVariants.{Opened, Shut, Up}
 use Rattle.hci_evt.specs.Event.{written}
 use Rattle.hci_evt.specs.declared.event.Event.TheVariants.{ParamRequest}
-use Rattle.procedure_stages.specs.declared.steps.Effect.{Effect}
-use Rattle.procedure_stages.specs.declared.steps.Effect.TheVariants.{AskHost, Nothing}
-use Rattle.procedure_stages.specs.Steps.{asks_host}
-use Rattle.link_model.specs.Setup.{Setup}
-use Rattle.link_model.specs.Facts.{Facts, first_facts}
-use Rattle.link_model.specs.Hosts.{facts_answered}
-use Rattle.link_model.specs.Step.{Step, RequestAnswered}
-use Rattle.link_model.specs.End.{facts_after, facts_of, notes_after}
-use Rattle.link_model.proofs.Pasts.{grows}
+use Rattle.procedure_events.specs.procedure_stages.declared.steps.Effect.{Effect}
+use Rattle.procedure_events.specs.procedure_stages.declared.steps.Effect.TheVariants.{AskHost, Nothing}
+use Rattle.procedure_events.specs.procedure_stages.Steps.{asks_host}
+use Rattle.open_links.specs.link_model.Setup.{Setup}
+use Rattle.open_links.specs.link_model.Facts.{Facts, first_facts}
+use Rattle.open_links.specs.link_model.Hosts.{facts_answered}
+use Rattle.open_links.specs.link_model.Step.{Step, RequestAnswered}
+use Rattle.open_links.specs.link_model.End.{facts_after, facts_of, notes_after}
+use Rattle.open_links.proofs.link_model.Pasts.{grows}
 use Rattle.open_links.specs.Hosts.{links_answered}
 use Rattle.open_links.specs.OpenLinks.{Links, OpenLink, facts_in, link_after, link_at, new_link, with_change, with_link, without_link}
 use Rattle.open_links.proofs.Handles.{changed_have, changed_is, opened_at, opened_has, other_stays, shut_have}

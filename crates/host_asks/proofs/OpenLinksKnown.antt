@@ -5,12 +5,12 @@ use Rattle.ble_base.specs.declared.notes.Note.TheVariants.{Done}
 use Rattle.ble_base.specs.declared.roles.Role.{Role}
 use Rattle.hci_cmd.specs.declared.command.Command.{Command}
 use Rattle.hci_cmd.specs.declared.command.Command.TheVariants.{LeReadRemoteFeatures, ReadRemoteVersion}
-use Rattle.procedure_stages.specs.Kinds.{role_of}
-use Rattle.link_model.specs.Setup.{Setup}
-use Rattle.link_model.specs.Facts.{Facts}
-use Rattle.link_model.specs.Step.{Step}
-use Rattle.link_model.proofs.ControlSteps.{keeps_role}
-use Rattle.link_model.proofs.Pasts.{grows}
+use Rattle.procedure_events.specs.procedure_stages.Kinds.{role_of}
+use Rattle.open_links.specs.link_model.Setup.{Setup}
+use Rattle.open_links.specs.link_model.Facts.{Facts}
+use Rattle.open_links.specs.link_model.Step.{Step}
+use Rattle.open_links.proofs.link_model.ControlSteps.{keeps_role}
+use Rattle.open_links.proofs.link_model.Pasts.{grows}
 use Rattle.open_links.specs.OpenLinks.{HasHandle, HaveHandles, Links, OpenLink, facts_in, link_at, link_from}
 use Rattle.open_links.proofs.Handles.{has_its_handle}
 use Rattle.host_view.specs.View.{View}

@@ -11,41 +11,41 @@ use Rattle.instants.specs.declared.indications.Indication.TheVariants.{Update as
 use Rattle.exclusive_stages.specs.Awaited.{awaits_phy_ind, awaits_phy_rsp, central_answered, has_phy_of_central, peer_answered, reads_as_answer}
 use Rattle.exclusive_stages.specs.declared.stages.CentralStage.TheVariants.{PhySent}
 use Rattle.exclusive_stages.specs.declared.stages.PeripheralStage.TheVariants.{PhySent as phy_sent, RequestAcknowledged, RequestGranted}
-use Rattle.procedure_values.specs.declared.asks.Ask.{Ask}
-use Rattle.procedure_values.specs.Values.{are_valid}
-use Rattle.procedure_values.specs.Wants.{is_wanted, place_of, without_place}
-use Rattle.procedure_stages.specs.declared.stages.Ahead.{Ahead}
-use Rattle.procedure_stages.specs.declared.stages.Ahead.TheVariants.{Nothing, Update as update_ahead, Map as map_ahead}
-use Rattle.procedure_stages.specs.declared.stages.Central.{Central}
-use Rattle.procedure_stages.specs.declared.stages.Exchange.TheVariants.{FeaturesSent, VersionUnsent, VersionSent, LengthSent}
-use Rattle.procedure_stages.specs.declared.stages.OwnCentral.{OwnCentral}
-use Rattle.procedure_stages.specs.declared.stages.OwnCentral.TheVariants.{Exclusive as exclusive, EncryptSent, EncryptUnsent, Exchange as exchange}
-use Rattle.procedure_stages.specs.declared.stages.OwnPeripheral.{OwnPeripheral}
-use Rattle.procedure_stages.specs.declared.stages.OwnPeripheral.TheVariants.{Exclusive as exclusive_p, Exchange as exchange_p}
-use Rattle.procedure_stages.specs.declared.stages.Peripheral.{Peripheral}
-use Rattle.procedure_stages.specs.declared.stages.Progress.{Progress}
-use Rattle.procedure_stages.specs.declared.stages.Progress.TheVariants.{Central as central, Peripheral as peripheral}
-use Rattle.procedure_stages.specs.declared.steps.Effect.{Effect}
-use Rattle.procedure_stages.specs.declared.steps.Effect.TheVariants.{AskHost}
-use Rattle.procedure_stages.specs.Awaited.{awaits_features, awaits_lengths, is_own_encryption, is_version}
-use Rattle.procedure_stages.specs.Collisions.{collision}
-use Rattle.procedure_stages.specs.Exclusive.{central_stage, peripheral_stage}
-use Rattle.procedure_stages.specs.Foreign.{is_foreign}
-use Rattle.procedure_stages.specs.InProgress.{is_host_asked}
-use Rattle.procedure_stages.specs.Kinds.{kind_at_central, kind_at_peripheral, own_exchange, own_kind, role_of, without_own}
-use Rattle.procedure_stages.specs.Opcodes.{connection_param_req_opcode, first_opcode, later_opcode, is_opcode, phy_req_opcode}
-use Rattle.procedures.specs.declared.outcome.Outcome.{Outcome}
-use Rattle.procedures.specs.Encryption.{cipher_at_central, start_rsp_at_central}
-use Rattle.procedures.specs.Features.{features_taken}
-use Rattle.procedures.specs.Length.{length_taken}
-use Rattle.procedures.specs.Outcomes.{ended, unchanged}
-use Rattle.procedures.specs.Phy.{phy_ind_taken}
-use Rattle.procedures.specs.Refusals.{refused_if, refused_with}
-use Rattle.procedures.specs.Request.{after_grant, against_central, collided, outlived, request_judged}
-use Rattle.procedures.specs.Table.{TableFacts}
-use Rattle.procedures.specs.Taking.{outcome_of, taken_by_role, taken_by, taken_by_central, taken_by_either, taken_by_peripheral, wanted_after}
-use Rattle.procedures.specs.Update.{follow, update_taken}
-use Rattle.procedures.specs.Version.{version_taken}
+use Rattle.open_links.specs.procedure_values.declared.asks.Ask.{Ask}
+use Rattle.open_links.specs.procedure_values.Values.{are_valid}
+use Rattle.open_links.specs.procedure_values.Wants.{is_wanted, place_of, without_place}
+use Rattle.procedure_events.specs.procedure_stages.declared.stages.Ahead.{Ahead}
+use Rattle.procedure_events.specs.procedure_stages.declared.stages.Ahead.TheVariants.{Nothing, Update as update_ahead, Map as map_ahead}
+use Rattle.procedure_events.specs.procedure_stages.declared.stages.Central.{Central}
+use Rattle.procedure_events.specs.procedure_stages.declared.stages.Exchange.TheVariants.{FeaturesSent, VersionUnsent, VersionSent, LengthSent}
+use Rattle.procedure_events.specs.procedure_stages.declared.stages.OwnCentral.{OwnCentral}
+use Rattle.procedure_events.specs.procedure_stages.declared.stages.OwnCentral.TheVariants.{Exclusive as exclusive, EncryptSent, EncryptUnsent, Exchange as exchange}
+use Rattle.procedure_events.specs.procedure_stages.declared.stages.OwnPeripheral.{OwnPeripheral}
+use Rattle.procedure_events.specs.procedure_stages.declared.stages.OwnPeripheral.TheVariants.{Exclusive as exclusive_p, Exchange as exchange_p}
+use Rattle.procedure_events.specs.procedure_stages.declared.stages.Peripheral.{Peripheral}
+use Rattle.procedure_events.specs.procedure_stages.declared.stages.Progress.{Progress}
+use Rattle.procedure_events.specs.procedure_stages.declared.stages.Progress.TheVariants.{Central as central, Peripheral as peripheral}
+use Rattle.procedure_events.specs.procedure_stages.declared.steps.Effect.{Effect}
+use Rattle.procedure_events.specs.procedure_stages.declared.steps.Effect.TheVariants.{AskHost}
+use Rattle.procedure_events.specs.procedure_stages.Awaited.{awaits_features, awaits_lengths, is_own_encryption, is_version}
+use Rattle.procedure_events.specs.procedure_stages.Collisions.{collision}
+use Rattle.procedure_events.specs.procedure_stages.Exclusive.{central_stage, peripheral_stage}
+use Rattle.procedure_events.specs.procedure_stages.Foreign.{is_foreign}
+use Rattle.procedure_events.specs.procedure_stages.InProgress.{is_host_asked}
+use Rattle.procedure_events.specs.procedure_stages.Kinds.{kind_at_central, kind_at_peripheral, own_exchange, own_kind, role_of, without_own}
+use Rattle.procedure_events.specs.procedure_stages.Opcodes.{connection_param_req_opcode, first_opcode, later_opcode, is_opcode, phy_req_opcode}
+use Rattle.procedure_events.specs.procedures.declared.outcome.Outcome.{Outcome}
+use Rattle.procedure_events.specs.procedures.Encryption.{cipher_at_central, start_rsp_at_central}
+use Rattle.procedure_events.specs.procedures.Features.{features_taken}
+use Rattle.procedure_events.specs.procedures.Length.{length_taken}
+use Rattle.procedure_events.specs.procedures.Outcomes.{ended, unchanged}
+use Rattle.procedure_events.specs.procedures.Phy.{phy_ind_taken}
+use Rattle.procedure_events.specs.procedures.Refusals.{refused_if, refused_with}
+use Rattle.procedure_events.specs.procedures.Request.{after_grant, against_central, collided, outlived, request_judged}
+use Rattle.procedure_events.specs.procedures.Table.{TableFacts}
+use Rattle.procedure_events.specs.procedures.Taking.{outcome_of, taken_by_role, taken_by, taken_by_central, taken_by_either, taken_by_peripheral, wanted_after}
+use Rattle.procedure_events.specs.procedures.Update.{follow, update_taken}
+use Rattle.procedure_events.specs.procedures.Version.{version_taken}
 use Rattle.host_view.specs.declared.links.Asked.{Asked}
 use Rattle.host_asks.proofs.Keeping.{KnowsKinds, asked_done, asked_refused, none_placed, own_over, version_over, version_unwanted}
 

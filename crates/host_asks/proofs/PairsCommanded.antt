@@ -1,11 +1,11 @@
 -- A relation of two ends that each step of a host leaves is left by each command.
 use Rattle.std.proofs.Common.{◌≡◌, ℕ, true, Option, Some, None}
 use Rattle.hci_cmd.specs.declared.command.Command.{Command}
-use Rattle.procedure_stages.specs.Kinds.{role_of}
-use Rattle.link_model.specs.Setup.{Setup}
-use Rattle.link_model.specs.Facts.{Facts}
-use Rattle.link_model.specs.Step.{Step}
-use Rattle.link_model.specs.End.{facts_after}
+use Rattle.procedure_events.specs.procedure_stages.Kinds.{role_of}
+use Rattle.open_links.specs.link_model.Setup.{Setup}
+use Rattle.open_links.specs.link_model.Facts.{Facts}
+use Rattle.open_links.specs.link_model.Step.{Step}
+use Rattle.open_links.specs.link_model.End.{facts_after}
 use Rattle.link_pairs.specs.Hosts.{MayHost}
 use Rattle.host_view.specs.View.{View}
 use Rattle.host_view.specs.Refusals.{first_refusal}

@@ -3,8 +3,8 @@ use Rattle.std.proofs.Common.{◌≡◌, ℕ, zero, suc, ◌+◌, Bool, true, fa
 use Rattle.std.specs.List.{AllByRecursion}
 use Rattle.ble_base.specs.declared.procedure_kinds.Kind.TheVariants.{Features, Version}
 use Rattle.hci_cmd.specs.declared.command.Command.{Command}
-use Rattle.link_model.specs.Facts.{Facts}
-use Rattle.link_model.specs.Step.{Step}
+use Rattle.open_links.specs.link_model.Facts.{Facts}
+use Rattle.open_links.specs.link_model.Step.{Step}
 use Rattle.link_pairs.specs.Hosts.{MayHost}
 use Rattle.host_view.specs.declared.links.Link.{Link}
 use Rattle.host_view.specs.View.{View}

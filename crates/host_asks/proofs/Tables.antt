@@ -19,44 +19,44 @@ use Rattle.exclusive_stages.specs.Acked.{own_acked_at_central, own_acked_at_peri
 use Rattle.exclusive_stages.specs.Held.{own_held_at_central, own_held_at_peripheral, peer_held_at_central}
 use Rattle.exclusive_stages.specs.Kinds.{is_host_asked_at_central}
 use Rattle.exclusive_stages.specs.Sent.{own_sent_by_central, own_sent_by_peripheral, peer_sent_by_central}
-use Rattle.procedure_values.specs.declared.asks.Ask.{Ask}
-use Rattle.procedure_values.specs.declared.asks.Ask.TheVariants.{Update as ask_update, Request as ask_request, Map as ask_map, Version as ask_version, Encrypt as ask_encrypt}
-use Rattle.procedure_values.specs.declared.drafts.Draft.{Draft}
-use Rattle.procedure_values.specs.declared.drafts.Draft.TheVariants.{Cipher, FeatureReq, LengthReq, PeripheralFeatureReq, VersionInd}
-use Rattle.procedure_values.specs.declared.drafts.Outgoing.{Outgoing}
-use Rattle.procedure_values.specs.declared.drafts.Outgoing.TheVariants.{Other}
-use Rattle.procedure_values.specs.Asks.{is_same_kind, kind_of_ask}
-use Rattle.procedure_values.specs.Wants.{count_of, is_wanted}
-use Rattle.procedure_values.proofs.Counts.{count-removed, wanted-counted}
-use Rattle.procedure_stages.specs.declared.closing.Closing.{Closing}
-use Rattle.procedure_stages.specs.declared.closing.Closing.TheVariants.{Open, Closed, Disconnecting}
-use Rattle.procedure_stages.specs.declared.stages.Exchange.{Exchange}
-use Rattle.procedure_stages.specs.declared.stages.Exchange.TheVariants.{FeaturesUnsent, LengthUnsent, VersionUnsent}
-use Rattle.procedure_stages.specs.declared.stages.OwnCentral.{OwnCentral}
-use Rattle.procedure_stages.specs.declared.stages.OwnCentral.TheVariants.{Exclusive as exclusive, EncryptSent, EncryptUnsent, Exchange as exchange}
-use Rattle.procedure_stages.specs.declared.stages.OwnPeripheral.{OwnPeripheral}
-use Rattle.procedure_stages.specs.declared.stages.OwnPeripheral.TheVariants.{Exclusive as exclusive_p, Exchange as exchange_p}
-use Rattle.procedure_stages.specs.declared.stages.Peripheral.{Peripheral}
-use Rattle.procedure_stages.specs.declared.stages.Progress.{Progress}
-use Rattle.procedure_stages.specs.declared.stages.Progress.TheVariants.{Central as central, Peripheral as peripheral}
-use Rattle.procedure_stages.specs.declared.steps.Effect.{Effect}
-use Rattle.procedure_stages.specs.declared.steps.Step.{Step}
-use Rattle.procedure_stages.specs.declared.steps.Effect.TheVariants.{AskHost, PeerEnds}
-use Rattle.procedure_stages.specs.Acked.{central_acked, done_at_central_by_ack, done_by_ack, peripheral_acked, progress_acked}
-use Rattle.procedure_stages.specs.Begun.{progress_begun}
-use Rattle.procedure_stages.specs.Closing.{is_disconnecting, is_open}
-use Rattle.procedure_stages.specs.Exclusive.{on_central_stage, on_peripheral_stage, pdu_of_draft, pdu_of_outgoing}
-use Rattle.procedure_stages.specs.Held.{done_held, progress_held}
-use Rattle.procedure_stages.specs.InProgress.{is_host_asked}
-use Rattle.procedure_stages.specs.Kinds.{begins, is_kind, kind_at_central, kind_at_peripheral, own_kind, role_of}
-use Rattle.procedure_stages.specs.Sent.{exchange_sent, own_draft_sent_by_central, own_draft_sent_by_peripheral, peer_draft_sent_by_central, progress_after_sending}
-use Rattle.procedure_stages.specs.Steps.{closing_after}
-use Rattle.procedures.specs.Beginning.{ask_at, ask_step, begin_at, begin_step, may_ask_of, place_to_begin}
-use Rattle.procedures.specs.Going.{entered_step}
-use Rattle.procedures.specs.Sending.{acked_step, facts_sent}
-use Rattle.procedures.specs.Table.{TableFacts}
-use Rattle.procedures.specs.Taking.{facts_with, outcome_of}
-use Rattle.table_laws.proofs.Begun.{Begins, begins_of}
+use Rattle.open_links.specs.procedure_values.declared.asks.Ask.{Ask}
+use Rattle.open_links.specs.procedure_values.declared.asks.Ask.TheVariants.{Update as ask_update, Request as ask_request, Map as ask_map, Version as ask_version, Encrypt as ask_encrypt}
+use Rattle.open_links.specs.procedure_values.declared.drafts.Draft.{Draft}
+use Rattle.open_links.specs.procedure_values.declared.drafts.Draft.TheVariants.{Cipher, FeatureReq, LengthReq, PeripheralFeatureReq, VersionInd}
+use Rattle.open_links.specs.procedure_values.declared.drafts.Outgoing.{Outgoing}
+use Rattle.open_links.specs.procedure_values.declared.drafts.Outgoing.TheVariants.{Other}
+use Rattle.open_links.specs.procedure_values.Asks.{is_same_kind, kind_of_ask}
+use Rattle.open_links.specs.procedure_values.Wants.{count_of, is_wanted}
+use Rattle.open_links.proofs.procedure_values.Counts.{count-removed, wanted-counted}
+use Rattle.procedure_events.specs.procedure_stages.declared.closing.Closing.{Closing}
+use Rattle.procedure_events.specs.procedure_stages.declared.closing.Closing.TheVariants.{Open, Closed, Disconnecting}
+use Rattle.procedure_events.specs.procedure_stages.declared.stages.Exchange.{Exchange}
+use Rattle.procedure_events.specs.procedure_stages.declared.stages.Exchange.TheVariants.{FeaturesUnsent, LengthUnsent, VersionUnsent}
+use Rattle.procedure_events.specs.procedure_stages.declared.stages.OwnCentral.{OwnCentral}
+use Rattle.procedure_events.specs.procedure_stages.declared.stages.OwnCentral.TheVariants.{Exclusive as exclusive, EncryptSent, EncryptUnsent, Exchange as exchange}
+use Rattle.procedure_events.specs.procedure_stages.declared.stages.OwnPeripheral.{OwnPeripheral}
+use Rattle.procedure_events.specs.procedure_stages.declared.stages.OwnPeripheral.TheVariants.{Exclusive as exclusive_p, Exchange as exchange_p}
+use Rattle.procedure_events.specs.procedure_stages.declared.stages.Peripheral.{Peripheral}
+use Rattle.procedure_events.specs.procedure_stages.declared.stages.Progress.{Progress}
+use Rattle.procedure_events.specs.procedure_stages.declared.stages.Progress.TheVariants.{Central as central, Peripheral as peripheral}
+use Rattle.procedure_events.specs.procedure_stages.declared.steps.Effect.{Effect}
+use Rattle.procedure_events.specs.procedure_stages.declared.steps.Step.{Step}
+use Rattle.procedure_events.specs.procedure_stages.declared.steps.Effect.TheVariants.{AskHost, PeerEnds}
+use Rattle.procedure_events.specs.procedure_stages.Acked.{central_acked, done_at_central_by_ack, done_by_ack, peripheral_acked, progress_acked}
+use Rattle.procedure_events.specs.procedure_stages.Begun.{progress_begun}
+use Rattle.procedure_events.specs.procedure_stages.Closing.{is_disconnecting, is_open}
+use Rattle.procedure_events.specs.procedure_stages.Exclusive.{on_central_stage, on_peripheral_stage, pdu_of_draft, pdu_of_outgoing}
+use Rattle.procedure_events.specs.procedure_stages.Held.{done_held, progress_held}
+use Rattle.procedure_events.specs.procedure_stages.InProgress.{is_host_asked}
+use Rattle.procedure_events.specs.procedure_stages.Kinds.{begins, is_kind, kind_at_central, kind_at_peripheral, own_kind, role_of}
+use Rattle.procedure_events.specs.procedure_stages.Sent.{exchange_sent, own_draft_sent_by_central, own_draft_sent_by_peripheral, peer_draft_sent_by_central, progress_after_sending}
+use Rattle.procedure_events.specs.procedure_stages.Steps.{closing_after}
+use Rattle.procedure_events.specs.procedures.Beginning.{ask_at, ask_step, begin_at, begin_step, may_ask_of, place_to_begin}
+use Rattle.procedure_events.specs.procedures.Going.{entered_step}
+use Rattle.procedure_events.specs.procedures.Sending.{acked_step, facts_sent}
+use Rattle.procedure_events.specs.procedures.Table.{TableFacts}
+use Rattle.procedure_events.specs.procedures.Taking.{facts_with, outcome_of}
+use Rattle.open_links.proofs.table_laws.Begun.{Begins, begins_of}
 use Rattle.host_view.specs.declared.links.Asked.{Asked}
 use Rattle.host_view.specs.declared.links.Link.{Link}
 use Rattle.host_view.specs.Changes.{asking}

@@ -4,13 +4,13 @@
 use Rattle.std.specs.Prelude.{◌≡◌, ℕ, ◌+◌, true, false, is_some}
 use Rattle.ble_base.specs.declared.procedure_kinds.Kind.{Kind}
 use Rattle.ble_base.specs.declared.procedure_kinds.Kind.TheVariants.{Map}
-use Rattle.procedure_values.specs.Asks.{is_same_kind}
-use Rattle.procedure_values.specs.Wants.{count_of}
-use Rattle.procedure_stages.specs.Closing.{is_disconnecting, is_open}
-use Rattle.procedure_stages.specs.InProgress.{is_host_asked}
-use Rattle.procedure_stages.specs.Kinds.{is_kind, own_kind, role_of}
-use Rattle.procedures.specs.Table.{TableFacts}
-use Rattle.link_model.specs.Facts.{Facts}
+use Rattle.open_links.specs.procedure_values.Asks.{is_same_kind}
+use Rattle.open_links.specs.procedure_values.Wants.{count_of}
+use Rattle.procedure_events.specs.procedure_stages.Closing.{is_disconnecting, is_open}
+use Rattle.procedure_events.specs.procedure_stages.InProgress.{is_host_asked}
+use Rattle.procedure_events.specs.procedure_stages.Kinds.{is_kind, own_kind, role_of}
+use Rattle.procedure_events.specs.procedures.Table.{TableFacts}
+use Rattle.open_links.specs.link_model.Facts.{Facts}
 use Rattle.host_view.specs.declared.links.Link.{Link}
 use Rattle.host_view.specs.Links.{is_asked}
 use Rattle.host_view.specs.Refusals.{count_if}

@@ -3,11 +3,11 @@ use Rattle.std.specs.Prelude.{◌≡◌, ℕ, true, false, List, [], ◌∷◌, 
 use Rattle.ble_base.specs.declared.addresses.Address.{Address}
 use Rattle.ble_base.specs.declared.error_codes.ErrCode.{ErrCode}
 use Rattle.hci_cmd.specs.declared.command.Command.{Command}
-use Rattle.link_model.specs.Setup.{Setup}
-use Rattle.link_model.specs.Facts.{Facts, first_facts}
-use Rattle.link_model.specs.Hosts.{facts_answered}
-use Rattle.link_model.specs.Step.{Step}
-use Rattle.link_model.specs.End.{facts_after}
+use Rattle.open_links.specs.link_model.Setup.{Setup}
+use Rattle.open_links.specs.link_model.Facts.{Facts, first_facts}
+use Rattle.open_links.specs.link_model.Hosts.{facts_answered}
+use Rattle.open_links.specs.link_model.Step.{Step}
+use Rattle.open_links.specs.link_model.End.{facts_after}
 use Rattle.host_view.specs.declared.links.Link.{Link}
 use Rattle.host_view.specs.View.{View}
 use Rattle.host_view.specs.Links.{link_in}

@@ -4,8 +4,8 @@ use Rattle.std.specs.Option.{option_map}
 use Rattle.ble_base.specs.declared.procedure_kinds.Kind.{Kind}
 use Rattle.hci_cmd.specs.declared.command.Command.{Command}
 use Rattle.hci_cmd.specs.declared.command.Command.TheVariants.{LeReadRemoteFeatures, ReadRemoteVersion}
-use Rattle.procedure_stages.specs.declared.steps.Effect.{Effect}
-use Rattle.link_model.specs.Step.{Step}
+use Rattle.procedure_events.specs.procedure_stages.declared.steps.Effect.{Effect}
+use Rattle.open_links.specs.link_model.Step.{Step}
 use Rattle.open_links.specs.OpenLinks.{HaveHandles, Links, OpenLink, facts_in, link_after, link_at}
 use Rattle.host_view.specs.View.{View}
 use Rattle.host_view.specs.Changes.{view_after}

@@ -2,13 +2,13 @@
 use Rattle.std.specs.Prelude.{Bool, true, false, fold}
 use Rattle.ble_base.specs.declared.notes.Note.{Note}
 use Rattle.ble_base.specs.declared.notes.Note.TheVariants.{Done, Refused}
-use Rattle.procedure_stages.specs.declared.steps.Effect.{Effect}
-use Rattle.procedure_stages.specs.declared.steps.Effect.TheVariants.{AskHost, Nothing}
-use Rattle.link_model.specs.Setup.{Setup}
-use Rattle.link_model.specs.Facts.{Facts}
-use Rattle.link_model.specs.Step.{Step, Disconnected, PacketReceived, ProcedureAsked, RequestAnswered}
-use Rattle.link_model.specs.End.{notes_after}
-use Rattle.link_model.specs.Receiving.{effect_of}
+use Rattle.procedure_events.specs.procedure_stages.declared.steps.Effect.{Effect}
+use Rattle.procedure_events.specs.procedure_stages.declared.steps.Effect.TheVariants.{AskHost, Nothing}
+use Rattle.open_links.specs.link_model.Setup.{Setup}
+use Rattle.open_links.specs.link_model.Facts.{Facts}
+use Rattle.open_links.specs.link_model.Step.{Step, Disconnected, PacketReceived, ProcedureAsked, RequestAnswered}
+use Rattle.open_links.specs.link_model.End.{notes_after}
+use Rattle.open_links.specs.link_model.Receiving.{effect_of}
 use Rattle.host_view.specs.declared.links.Link.{Link}
 use Rattle.host_view.specs.Changes.{answered}
 

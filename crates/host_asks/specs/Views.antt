@@ -7,10 +7,10 @@ use Rattle.ble_base.specs.declared.notes.Note.TheVariants.{Done, Opened, Refused
 use Rattle.hci_cmd.specs.declared.command.Command.{Command}
 use Rattle.hci_cmd.specs.declared.command.Command.TheVariants.{HostCompleted, LeEnableEncryption, LeKeyNegative, LeKeyReply, LeReadRemoteFeatures, LeSetPhy, ReadRemoteVersion, Reset}
 use Rattle.hci_evt.specs.declared.event.Event.{Event}
-use Rattle.procedure_stages.specs.declared.steps.Effect.{Effect}
-use Rattle.procedure_stages.specs.declared.steps.Effect.TheVariants.{Nothing}
-use Rattle.link_model.specs.declared.state.PeerFacts.{PeerFacts}
-use Rattle.link_model.specs.Facts.{Facts}
+use Rattle.procedure_events.specs.procedure_stages.declared.steps.Effect.{Effect}
+use Rattle.procedure_events.specs.procedure_stages.declared.steps.Effect.TheVariants.{Nothing}
+use Rattle.open_links.specs.link_model.declared.state.PeerFacts.{PeerFacts}
+use Rattle.open_links.specs.link_model.Facts.{Facts}
 use Rattle.procedure_events.specs.Calls.{events_known}
 use Rattle.host_view.specs.declared.links.Link.{Link}
 use Rattle.host_view.specs.View.{View}

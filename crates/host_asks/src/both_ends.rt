@@ -2,9 +2,9 @@
 //! rest on: the contracts are the laws.
 ghost use Rattle.std.specs.Prelude.{◌≡◌, ℕ, Bool, true};
 ghost use Rattle.hci_cmd.specs.declared.command.Command.{Command};
-ghost use Rattle.procedure_stages.specs.Kinds.{role_of};
-ghost use Rattle.link_model.specs.Setup.{Setup};
-ghost use Rattle.link_model.specs.Facts.{Facts};
+ghost use Rattle.procedure_events.specs.procedure_stages.Kinds.{role_of};
+ghost use Rattle.open_links.specs.link_model.Setup.{Setup};
+ghost use Rattle.open_links.specs.link_model.Facts.{Facts};
 ghost use Rattle.link_pairs.specs.Ends.{AreEnds};
 ghost use Rattle.link_pairs.specs.Parting.{ArePartingFrom};
 ghost use Rattle.link_pairs.specs.Shown.{AreLinked};

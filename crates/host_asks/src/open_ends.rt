@@ -3,7 +3,7 @@
 ghost use Rattle.std.specs.Prelude.{◌≡◌, ℕ, true, List, Some, None, Ok, Err, is_some};
 ghost use Rattle.std.specs.Prelude.{if◌then◌else◌};
 ghost use Rattle.hci_cmd.specs.declared.command.Command.{Command};
-ghost use Rattle.procedure_values.specs.declared.asks.Ask.{Ask};
+ghost use Rattle.open_links.specs.procedure_values.declared.asks.Ask.{Ask};
 ghost use Rattle.open_links.specs.Hosts.{links_answered, links_asked, links_asked_map};
 ghost use Rattle.open_links.specs.Hosts.{links_disconnected};
 ghost use Rattle.open_links.specs.OpenLinks.{Links, OpenLink, facts_in, link_at};

@@ -2,8 +2,8 @@
 ghost use Rattle.std.specs.Prelude.{◌≡◌, ℕ, true, false, None};
 ghost use Rattle.ble_base.specs.declared.procedure_kinds.Kind.{Kind};
 ghost use Rattle.hci_cmd.specs.declared.command.Command.{Command};
-ghost use Rattle.procedure_stages.specs.InProgress.{is_host_asked};
-ghost use Rattle.link_model.specs.Facts.{Facts};
+ghost use Rattle.procedure_events.specs.procedure_stages.InProgress.{is_host_asked};
+ghost use Rattle.open_links.specs.link_model.Facts.{Facts};
 ghost use Rattle.host_view.specs.declared.links.Link.{Link};
 ghost use Rattle.host_view.specs.Links.{is_asked};
 ghost use Rattle.host_asks.specs.Commands.{link_accepted};

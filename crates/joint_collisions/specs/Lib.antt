@@ -9,3 +9,4 @@ pub use Rattle.joint_controls.specs as joint_controls
 pub use Rattle.joint_controls.specs.control_model as control_model
 pub use Rattle.joint_controls.specs.procedures as procedures
 pub use Rattle.joint_controls.specs.procedure_values as procedure_values
+pub use Rattle.joint_controls.specs.procedure_stages as procedure_stages

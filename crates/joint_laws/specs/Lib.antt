@@ -13,3 +13,4 @@ pub use Rattle.joint_exchanges.specs.exchange_pairs as exchange_pairs
 pub use Rattle.joint_collisions.specs.control_model as control_model
 pub use Rattle.joint_collisions.specs.procedures as procedures
 pub use Rattle.joint_collisions.specs.procedure_values as procedure_values
+pub use Rattle.joint_collisions.specs.procedure_stages as procedure_stages

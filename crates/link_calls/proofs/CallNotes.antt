@@ -17,28 +17,28 @@ use Rattle.hci_cmd.specs.Command.{command_of}
 use Rattle.hci_evt.specs.declared.event.Event.{Event}
 use Rattle.hci_evt.specs.declared.event.Event.TheVariants.{DisconnectionComplete, HardwareError, CompletedPackets, BufferOverflow}
 use Rattle.hci_evt.specs.Event.{mask_bit_of, written}
-use Rattle.host_view.specs.View.{View}
-use Rattle.host_view.specs.Unbuilt.{status_of}
+use Rattle.run_laws.specs.host_view.View.{View}
+use Rattle.run_laws.specs.host_view.Unbuilt.{status_of}
 use Rattle.run_laws.specs.open_links.declared.ended.LinkEnded.{LinkEnded}
 use Rattle.run_laws.specs.open_links.declared.offers.Offer.{Offer}
 use Rattle.run_laws.specs.open_links.declared.offers.Offer.TheVariants.{NoLink, Empty, Overflow, Kept}
 use Rattle.run_laws.specs.open_links.Data.{completed_from}
 use Rattle.run_laws.specs.open_links.OpenLinks.{Links, OpenLink, facts_in, handles_from, link_at}
 use Rattle.run_laws.specs.open_links.Turns.{due_in, ending_in, enters_in, notes_entering, notes_if}
-use Rattle.controller_model.specs.declared.doing.Doing.{Doing}
-use Rattle.controller_model.specs.declared.doing.Doing.TheVariants.{Advertises, CentralSends, PeripheralSends}
-use Rattle.controller_model.specs.Step.{HostOctet, TurnBegins, TurnEnds}
-use Rattle.controller_model.specs.Facts.{Setup, Facts}
-use Rattle.controller_model.specs.Answers.{answer_to}
-use Rattle.controller_model.specs.Commands.{events_caused, notes_before, notes_commanded, notes_known}
-use Rattle.controller_model.specs.Data.{acl_packet, event_completed, facts_handed, note_received, notes_handed, notes_offered, offer_of}
-use Rattle.controller_model.specs.Entering.{events_entering, notes_all_entering}
-use Rattle.controller_model.specs.Events.{notes_of_events, passes}
-use Rattle.controller_model.specs.Links.{ends_for, facts_ending, note_shut, notes_ended, notes_ending, notes_leaving}
-use Rattle.controller_model.specs.Packets.{notes_doing, notes_sent}
-use Rattle.controller_model.specs.Radio.{outcome_begun}
-use Rattle.controller_model.specs.Side.{notes_after, notes_fed, result_of}
-use Rattle.controller_model.proofs.EndNotes.{entered_each, sent_each}
+use Rattle.run_laws.specs.controller_model.declared.doing.Doing.{Doing}
+use Rattle.run_laws.specs.controller_model.declared.doing.Doing.TheVariants.{Advertises, CentralSends, PeripheralSends}
+use Rattle.run_laws.specs.controller_model.Step.{HostOctet, TurnBegins, TurnEnds}
+use Rattle.run_laws.specs.controller_model.Facts.{Setup, Facts}
+use Rattle.run_laws.specs.controller_model.Answers.{answer_to}
+use Rattle.run_laws.specs.controller_model.Commands.{events_caused, notes_before, notes_commanded, notes_known}
+use Rattle.run_laws.specs.controller_model.Data.{acl_packet, event_completed, facts_handed, note_received, notes_handed, notes_offered, offer_of}
+use Rattle.run_laws.specs.controller_model.Entering.{events_entering, notes_all_entering}
+use Rattle.run_laws.specs.controller_model.Events.{notes_of_events, passes}
+use Rattle.run_laws.specs.controller_model.Links.{ends_for, facts_ending, note_shut, notes_ended, notes_ending, notes_leaving}
+use Rattle.run_laws.specs.controller_model.Packets.{notes_doing, notes_sent}
+use Rattle.run_laws.specs.controller_model.Radio.{outcome_begun}
+use Rattle.run_laws.specs.controller_model.Side.{notes_after, notes_fed, result_of}
+use Rattle.run_laws.proofs.controller_model.EndNotes.{entered_each, sent_each}
 
 abbrev pub is_taking : Note → Bool
 is_taking (Took handle number llid body) = true

@@ -15,14 +15,14 @@ use Rattle.run_laws.proofs.open_links.Unmoved.{entered_setup}
 use Rattle.slot_plan.specs.Holding.{is_held_in, winner_of}
 use Rattle.slot_plan.specs.declared.Activity.{Activity}
 use Rattle.slot_plan.specs.declared.Activity.TheVariants.{Link, Advertise, Scan, Initiate}
-use Rattle.controller_model.specs.declared.doing.Doing.TheVariants.{Rests}
-use Rattle.controller_model.specs.Step.{TurnBegins}
-use Rattle.controller_model.specs.Facts.{Setup, Facts, first_facts}
-use Rattle.controller_model.specs.Heard.{has_room}
-use Rattle.controller_model.specs.Links.{facts_ending}
-use Rattle.controller_model.specs.Radio.{doing_held, doing_won, exchange_if, facts_entering, first_exchange, initiator_channel, plan_in, radio_served, scanner_channel, second_exchange, served, slots_since, turn_begins, winner_served}
-use Rattle.controller_model.specs.Side.{facts_after}
-use Rattle.controller_model.proofs.Always.{ending_is}
+use Rattle.run_laws.specs.controller_model.declared.doing.Doing.TheVariants.{Rests}
+use Rattle.run_laws.specs.controller_model.Step.{TurnBegins}
+use Rattle.run_laws.specs.controller_model.Facts.{Setup, Facts, first_facts}
+use Rattle.run_laws.specs.controller_model.Heard.{has_room}
+use Rattle.run_laws.specs.controller_model.Links.{facts_ending}
+use Rattle.run_laws.specs.controller_model.Radio.{doing_held, doing_won, exchange_if, facts_entering, first_exchange, initiator_channel, plan_in, radio_served, scanner_channel, second_exchange, served, slots_since, turn_begins, winner_served}
+use Rattle.run_laws.specs.controller_model.Side.{facts_after}
+use Rattle.run_laws.proofs.controller_model.Always.{ending_is}
 use Rattle.link_calls.specs.Phases.{link_receiving}
 use Rattle.run_laws.specs.run_model.Run.{step_of}
 use Rattle.run_laws.proofs.Agreed.{step_facts}
@@ -36,7 +36,7 @@ use Rattle.link_calls.specs.Uses.{listens_under, sends_under}
 use Rattle.link_calls.proofs.RadioUses.{Listening, Sending, Uses, advertises_off, exchange_uses, first_of_both, initiates_off, no_link, off_uses, rests_uses, scans_off, winner_wants}
 use Rattle.link_calls.proofs.UnderHandles.{WasAlike, end_under, map_under, octet_under, entries_after}
 use Rattle.link_calls.specs.Turns.{sent_if}
-use Rattle.controller_model.specs.Entering.{all_entered}
+use Rattle.run_laws.specs.controller_model.Entering.{all_entered}
 
 -- it has entered an event
 abbrev pub HasEntered : OpenLink → Type 0

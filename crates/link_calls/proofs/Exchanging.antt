@@ -21,17 +21,17 @@ use Rattle.run_laws.specs.link_model.Times.{has_second_exchange}
 use Rattle.run_laws.specs.open_links.OpenLinks.{Links, OpenLink, facts_in, has_entered, in_event, link_after, link_at, new_link}
 use Rattle.run_laws.specs.open_links.Turns.{entered_if, enters_in, is_anchor, link_entered, wants_entering, wants_if}
 use Rattle.run_laws.proofs.open_links.Unmoved.{entered_setup}
-use Rattle.controller_model.specs.declared.doing.Doing.{Doing}
-use Rattle.controller_model.specs.declared.doing.Doing.TheVariants.{Advertises, CentralListens, CentralSends, PeripheralListens, PeripheralSends, Rests}
-use Rattle.controller_model.specs.Entering.{HasEntered, IsInEvent}
-use Rattle.controller_model.specs.Facts.{Facts, Radio, Setup, first_facts}
-use Rattle.controller_model.specs.Heard.{has_room}
-use Rattle.controller_model.specs.Links.{facts_ending}
-use Rattle.controller_model.specs.Radio.{doing_held, doing_won, exchange_if, facts_entering, facts_won, first_exchange, initiator_channel, plan_in, radio_held, radio_served, scanner_channel, second_exchange, served, slots_since, span_at, turn_begins, winner_served}
-use Rattle.controller_model.specs.Side.{facts_after, facts_of}
-use Rattle.controller_model.specs.Step.{HostOctet, TurnBegins, TurnEnds}
-use Rattle.controller_model.proofs.Always.{ending_is}
-use Rattle.controller_model.proofs.Exchanges.{always_in_event}
+use Rattle.run_laws.specs.controller_model.declared.doing.Doing.{Doing}
+use Rattle.run_laws.specs.controller_model.declared.doing.Doing.TheVariants.{Advertises, CentralListens, CentralSends, PeripheralListens, PeripheralSends, Rests}
+use Rattle.run_laws.specs.controller_model.Entering.{HasEntered, IsInEvent}
+use Rattle.run_laws.specs.controller_model.Facts.{Facts, Radio, Setup, first_facts}
+use Rattle.run_laws.specs.controller_model.Heard.{has_room}
+use Rattle.run_laws.specs.controller_model.Links.{facts_ending}
+use Rattle.run_laws.specs.controller_model.Radio.{doing_held, doing_won, exchange_if, facts_entering, facts_won, first_exchange, initiator_channel, plan_in, radio_held, radio_served, scanner_channel, second_exchange, served, slots_since, span_at, turn_begins, winner_served}
+use Rattle.run_laws.specs.controller_model.Side.{facts_after, facts_of}
+use Rattle.run_laws.specs.controller_model.Step.{HostOctet, TurnBegins, TurnEnds}
+use Rattle.run_laws.proofs.controller_model.Always.{ending_is}
+use Rattle.run_laws.proofs.controller_model.Exchanges.{always_in_event}
 use Rattle.run_laws.specs.run_model.Feeding.{AreDistinct}
 use Rattle.run_laws.specs.run_model.History.{Event, past_of}
 use Rattle.run_laws.specs.run_model.Run.{Given, facts_at, history_of, run_of, setup_at, step_of}

@@ -11,7 +11,7 @@ use Rattle.hci_cmd.specs.Command.{command_of}
 use Rattle.h4_frames.specs.declared.packet.HostPacket.TheVariants.{Command as HostCommand, Acl}
 use Rattle.h4_frames.specs.declared.packet.Fed.{Fed}
 use Rattle.h4_frames.specs.declared.packet.Fed.TheVariants.{More, Packet, LostSync}
-use Rattle.host_view.specs.Unbuilt.{status_of}
+use Rattle.run_laws.specs.host_view.Unbuilt.{status_of}
 use Rattle.run_laws.specs.link_model.declared.setup.LinkSetup.{LinkSetup}
 use Rattle.run_laws.specs.open_links.declared.ended.LinkEnded.{LinkEnded}
 use Rattle.run_laws.specs.open_links.declared.offers.Offer.{Offer}
@@ -22,16 +22,16 @@ use Rattle.slot_plan.specs.declared.Activity.{Activity}
 use Rattle.slot_plan.specs.declared.Activity.TheVariants.{Link, Advertise, Scan, Initiate}
 use Rattle.slot_plan.specs.declared.plan.Hold.{Hold}
 use Rattle.slot_plan.specs.Holding.{is_held_in, winner_of}
-use Rattle.controller_model.specs.Commands.{facts_commanded, facts_known, radio_after, radio_unadvertised}
-use Rattle.controller_model.specs.Data.{facts_handed, facts_offered, offer_of}
-use Rattle.controller_model.specs.Facts.{Facts, Radio, Setup, free_radio}
-use Rattle.controller_model.specs.Heard.{link_taken, opens}
-use Rattle.controller_model.specs.Links.{ends_for, facts_ending, facts_shut, is_link, stopped}
-use Rattle.controller_model.specs.Outcome.{facts_passed}
-use Rattle.controller_model.specs.Radio.{facts_entering, facts_won, plan_in, radio_held, radio_served, served, span_at, turn_begins, winner_served}
-use Rattle.controller_model.specs.Side.{facts_after, facts_fed, result_of}
-use Rattle.controller_model.specs.Step.{HostOctet, TurnBegins, TurnEnds}
-use Rattle.controller_model.proofs.Phases.{EachOutcome, heard_is, unheard_is}
+use Rattle.run_laws.specs.controller_model.Commands.{facts_commanded, facts_known, radio_after, radio_unadvertised}
+use Rattle.run_laws.specs.controller_model.Data.{facts_handed, facts_offered, offer_of}
+use Rattle.run_laws.specs.controller_model.Facts.{Facts, Radio, Setup, free_radio}
+use Rattle.run_laws.specs.controller_model.Heard.{link_taken, opens}
+use Rattle.run_laws.specs.controller_model.Links.{ends_for, facts_ending, facts_shut, is_link, stopped}
+use Rattle.run_laws.specs.controller_model.Outcome.{facts_passed}
+use Rattle.run_laws.specs.controller_model.Radio.{facts_entering, facts_won, plan_in, radio_held, radio_served, served, span_at, turn_begins, winner_served}
+use Rattle.run_laws.specs.controller_model.Side.{facts_after, facts_fed, result_of}
+use Rattle.run_laws.specs.controller_model.Step.{HostOctet, TurnBegins, TurnEnds}
+use Rattle.run_laws.proofs.controller_model.Phases.{EachOutcome, heard_is, unheard_is}
 use Rattle.run_laws.specs.run_model.Run.{step_of}
 
 -- ---- the radio is held by the same link, or by none

@@ -4,7 +4,7 @@ use Rattle.std.specs.Prelude.{⊤, ◌&&◌, nat_lt, if◌then◌else◌}
 use Rattle.std.specs.List.{Contains}
 use Rattle.ble_base.specs.Limits.{payload_octets}
 use Rattle.adv_pdu.specs.declared.pdu.AdvPdu.{AdvPdu}
-use Rattle.scan_init.specs.Reports.{does_ask, scan_answer}
+use Rattle.run_laws.specs.scan_init.Reports.{does_ask, scan_answer}
 use Rattle.run_laws.specs.link_model.ControlSteps.{AreAsksInRange, IsAskInRange}
 use Rattle.run_laws.specs.link_model.Setup.{Setup as EndSetup}
 use Rattle.run_laws.specs.link_model.Step.{Step as EndStep, DataGiven, DataReported, EventEntered, PacketReceived, PacketSent, PduFixed, RequestAnswered}
@@ -12,15 +12,15 @@ use Rattle.run_laws.specs.open_links.Data.{complete_in}
 use Rattle.run_laws.specs.open_links.OpenLinks.{OpenLink, link_after, link_at}
 use Rattle.run_laws.specs.open_links.Turns.{entered_if, enters_in, link_entered}
 use Rattle.run_laws.proofs.open_links.Unmoved.{entered_setup}
-use Rattle.controller_model.specs.declared.doing.Doing.{Doing}
-use Rattle.controller_model.specs.declared.doing.Doing.TheVariants.{Advertises, Connects}
-use Rattle.controller_model.specs.Facts.{Facts, Setup, first_facts}
-use Rattle.controller_model.specs.Heard.{asks_if, has_room, replies_in, reply_if}
-use Rattle.controller_model.specs.Outcome.{facts_passed}
-use Rattle.controller_model.specs.Side.{facts_after, facts_of}
-use Rattle.controller_model.specs.Step.{TurnBegins}
-use Rattle.controller_model.proofs.Always.{MayBegin}
-use Rattle.controller_model.proofs.Phases.{EachOutcome, heard_is, unheard_is}
+use Rattle.run_laws.specs.controller_model.declared.doing.Doing.{Doing}
+use Rattle.run_laws.specs.controller_model.declared.doing.Doing.TheVariants.{Advertises, Connects}
+use Rattle.run_laws.specs.controller_model.Facts.{Facts, Setup, first_facts}
+use Rattle.run_laws.specs.controller_model.Heard.{asks_if, has_room, replies_in, reply_if}
+use Rattle.run_laws.specs.controller_model.Outcome.{facts_passed}
+use Rattle.run_laws.specs.controller_model.Side.{facts_after, facts_of}
+use Rattle.run_laws.specs.controller_model.Step.{TurnBegins}
+use Rattle.run_laws.proofs.controller_model.Always.{MayBegin}
+use Rattle.run_laws.proofs.controller_model.Phases.{EachOutcome, heard_is, unheard_is}
 use Rattle.run_laws.specs.run_model.Feeding.{AreDistinct}
 use Rattle.run_laws.specs.run_model.History.{Event, past_of}
 use Rattle.run_laws.specs.run_model.Run.{Given, facts_at, history_of, run_of, setup_at, step_of}

@@ -8,7 +8,7 @@ use Rattle.ble_base.specs.declared.error_codes.ErrCode.{ErrCode}
 use Rattle.ble_base.specs.declared.notes.Note.TheVariants.{Done, Refused, Took}
 use Rattle.ble_base.specs.declared.procedure_kinds.Kind.{Kind}
 use Rattle.hci_evt.specs.declared.event.Event.{Event}
-use Rattle.host_view.specs.View.{View}
+use Rattle.run_laws.specs.host_view.View.{View}
 use Rattle.run_laws.specs.link_model.declared.setup.LinkSetup.{LinkSetup}
 use Rattle.run_laws.specs.link_model.End.{facts_of as end_facts}
 use Rattle.run_laws.specs.link_model.Facts.{Facts as EndFacts}
@@ -17,28 +17,28 @@ use Rattle.run_laws.specs.link_model.Setup.{Setup as EndSetup}
 use Rattle.run_laws.specs.link_model.Packets.{good_pdu}
 use Rattle.run_laws.specs.link_model.Step.{Step as EndStep, EventEntered, PacketReceived, PacketSent, PduFixed, RequestAnswered}
 use Rattle.run_laws.proofs.link_model.Agreeing.{others_leave}
-use Rattle.scan_init.specs.Reports.{scan_answer}
+use Rattle.run_laws.specs.scan_init.Reports.{scan_answer}
 use Rattle.slot_plan.specs.declared.Activity.{Activity}
 use Rattle.slot_plan.specs.declared.Activity.TheVariants.{Link, Advertise, Scan, Initiate}
 use Rattle.slot_plan.specs.Holding.{is_held_in, winner_of}
 use Rattle.run_laws.specs.open_links.OpenLinks.{Links, OpenLink, facts_in, link_after, link_at, link_served, with_change, new_link}
 use Rattle.run_laws.specs.open_links.Turns.{due_in, entered_if, enters_in, link_entered, links_without}
 use Rattle.run_laws.proofs.open_links.Unmoved.{entered_setup}
-use Rattle.controller_model.specs.declared.doing.Doing.{Doing}
-use Rattle.controller_model.specs.declared.doing.Doing.TheVariants.{Advertises, CentralSends, CentralListens, PeripheralListens, PeripheralSends}
-use Rattle.controller_model.specs.Step.{TurnBegins}
-use Rattle.controller_model.specs.Facts.{Setup, Facts}
-use Rattle.controller_model.specs.Events.{notes_of_events}
-use Rattle.controller_model.specs.Heard.{events_received, events_reported, has_room, heard, link_heard, link_received, link_taken, notes_taken, opens, replies_in, reply_if, scanner_heard, unheard}
-use Rattle.controller_model.specs.Links.{events_opened, facts_ending}
-use Rattle.controller_model.specs.Outcome.{Outcome, facts_passed, notes_passed}
-use Rattle.controller_model.specs.Packets.{notes_doing}
-use Rattle.controller_model.specs.Radio.{facts_entering, outcome_begun, plan_in, radio_served, served, turn_begins, winner_served}
-use Rattle.controller_model.specs.Side.{facts_after, notes_after}
-use Rattle.controller_model.proofs.Always.{ending_is, links_won, opening_is, winning_is}
-use Rattle.controller_model.proofs.EndNotes.{received_each}
-use Rattle.controller_model.proofs.Phases.{EachOutcome, heard_is, unheard_is}
-use Rattle.controller_model.proofs.Places.{receiving_is}
+use Rattle.run_laws.specs.controller_model.declared.doing.Doing.{Doing}
+use Rattle.run_laws.specs.controller_model.declared.doing.Doing.TheVariants.{Advertises, CentralSends, CentralListens, PeripheralListens, PeripheralSends}
+use Rattle.run_laws.specs.controller_model.Step.{TurnBegins}
+use Rattle.run_laws.specs.controller_model.Facts.{Setup, Facts}
+use Rattle.run_laws.specs.controller_model.Events.{notes_of_events}
+use Rattle.run_laws.specs.controller_model.Heard.{events_received, events_reported, has_room, heard, link_heard, link_received, link_taken, notes_taken, opens, replies_in, reply_if, scanner_heard, unheard}
+use Rattle.run_laws.specs.controller_model.Links.{events_opened, facts_ending}
+use Rattle.run_laws.specs.controller_model.Outcome.{Outcome, facts_passed, notes_passed}
+use Rattle.run_laws.specs.controller_model.Packets.{notes_doing}
+use Rattle.run_laws.specs.controller_model.Radio.{facts_entering, outcome_begun, plan_in, radio_served, served, turn_begins, winner_served}
+use Rattle.run_laws.specs.controller_model.Side.{facts_after, notes_after}
+use Rattle.run_laws.proofs.controller_model.Always.{ending_is, links_won, opening_is, winning_is}
+use Rattle.run_laws.proofs.controller_model.EndNotes.{received_each}
+use Rattle.run_laws.proofs.controller_model.Phases.{EachOutcome, heard_is, unheard_is}
+use Rattle.run_laws.proofs.controller_model.Places.{receiving_is}
 use Rattle.run_laws.specs.run_model.Run.{step_of}
 use Rattle.run_laws.proofs.Agreed.{ack_answered, ack_fixed, ack_of, step_facts}
 use Rattle.run_laws.proofs.LinkPasses.{IsPassingOn, LeavesAll, OpensOne, ReceivesOn}

@@ -1,6 +1,6 @@
 -- What a controller does with its links, with the phase that it stands in.
 use Rattle.std.proofs.Common.{ℕ, refl}
-use Rattle.controller_model.specs.Facts.{Setup, Facts, first_facts}
+use Rattle.run_laws.specs.controller_model.Facts.{Setup, Facts, first_facts}
 use Rattle.run_laws.proofs.LinkPasses.{phase_passes_on}
 use Rattle.run_laws.proofs.LinkPhases.{IsAtStage, begins_in, passes_in}
 use Rattle.run_laws.proofs.TurnPlaces.{Between, IsTurned, Stage}

@@ -7,13 +7,13 @@ use Rattle.run_laws.specs.link_model.Packets.{packet_sent}
 use Rattle.run_laws.specs.link_model.Step.{PacketSent}
 use Rattle.run_laws.specs.open_links.OpenLinks.{Links, OpenLink, facts_in, link_after, link_at, with_change}
 use Rattle.run_laws.proofs.open_links.Handles.{changed_is}
-use Rattle.controller_model.specs.declared.doing.Doing.{Doing}
-use Rattle.controller_model.specs.declared.doing.Doing.TheVariants.{Advertises, Scans, AwaitsResponse, CentralSends, PeripheralSends, Rests}
-use Rattle.controller_model.specs.Step.{HostOctet, TurnEnds}
-use Rattle.controller_model.specs.Facts.{Setup, Facts, Use, Sends, Listens, first_facts}
-use Rattle.controller_model.specs.Packets.{facts_doing, sends_on, use_for}
-use Rattle.controller_model.specs.Radio.{outcome_begun}
-use Rattle.controller_model.specs.Side.{facts_after, outcome_heard, outcome_unheard}
+use Rattle.run_laws.specs.controller_model.declared.doing.Doing.{Doing}
+use Rattle.run_laws.specs.controller_model.declared.doing.Doing.TheVariants.{Advertises, Scans, AwaitsResponse, CentralSends, PeripheralSends, Rests}
+use Rattle.run_laws.specs.controller_model.Step.{HostOctet, TurnEnds}
+use Rattle.run_laws.specs.controller_model.Facts.{Setup, Facts, Use, Sends, Listens, first_facts}
+use Rattle.run_laws.specs.controller_model.Packets.{facts_doing, sends_on, use_for}
+use Rattle.run_laws.specs.controller_model.Radio.{outcome_begun}
+use Rattle.run_laws.specs.controller_model.Side.{facts_after, outcome_heard, outcome_unheard}
 use Rattle.run_laws.specs.run_model.Run.{step_of}
 use Rattle.link_calls.specs.Uses.{sends_under}
 use Rattle.run_laws.proofs.TurnPlaces.{Between, IsTurned, Stage}

@@ -3,21 +3,21 @@ use Rattle.std.proofs.Common.{◌≡◌, ℕ, Bool, true, false, Option, Some, N
 use Rattle.ble_base.specs.declared.addresses.Address.{Address}
 use Rattle.adv_pdu.specs.declared.pdu.AdvPdu.{AdvPdu}
 use Rattle.adv_pdu.specs.declared.pdu.ConnectFields.{ConnectFields}
-use Rattle.advertise.specs.declared.answers.AdvAnswer.{AdvAnswer}
-use Rattle.advertise.specs.declared.answers.AdvAnswer.TheVariants.{Ignore, Respond, Connect as Takes}
-use Rattle.advertise.specs.Advertising.{AdvertiserFacts}
-use Rattle.advertise.specs.Answers.{advertiser_answer}
+use Rattle.run_laws.specs.advertise.declared.answers.AdvAnswer.{AdvAnswer}
+use Rattle.run_laws.specs.advertise.declared.answers.AdvAnswer.TheVariants.{Ignore, Respond, Connect as Takes}
+use Rattle.run_laws.specs.advertise.Advertising.{AdvertiserFacts}
+use Rattle.run_laws.specs.advertise.Answers.{advertiser_answer}
 use Rattle.run_laws.specs.link_model.declared.setup.LinkSetup.{LinkSetup}
 use Rattle.run_laws.specs.open_links.OpenLinks.{free_from}
-use Rattle.scan_init.specs.Initiating.{InitiatorFacts}
-use Rattle.controller_model.specs.declared.doing.Doing.{Doing}
-use Rattle.controller_model.specs.declared.doing.Doing.TheVariants.{Advertises, AwaitsRequest, CentralListens, Initiates, PeripheralListens}
-use Rattle.controller_model.specs.Facts.{Setup, Facts}
-use Rattle.controller_model.specs.Heard.{advertiser_answers, advertiser_heard, connects, heard, if_pdu, initiator_heard, link_taken, link_to, opens, taken_if, taken_under, unheard}
-use Rattle.controller_model.specs.Outcome.{Outcome, facts_passed}
-use Rattle.controller_model.specs.Packets.{pdu_heard}
-use Rattle.controller_model.specs.Side.{facts_after}
-use Rattle.controller_model.proofs.Always.{opening_is}
+use Rattle.run_laws.specs.scan_init.Initiating.{InitiatorFacts}
+use Rattle.run_laws.specs.controller_model.declared.doing.Doing.{Doing}
+use Rattle.run_laws.specs.controller_model.declared.doing.Doing.TheVariants.{Advertises, AwaitsRequest, CentralListens, Initiates, PeripheralListens}
+use Rattle.run_laws.specs.controller_model.Facts.{Setup, Facts}
+use Rattle.run_laws.specs.controller_model.Heard.{advertiser_answers, advertiser_heard, connects, heard, if_pdu, initiator_heard, link_taken, link_to, opens, taken_if, taken_under, unheard}
+use Rattle.run_laws.specs.controller_model.Outcome.{Outcome, facts_passed}
+use Rattle.run_laws.specs.controller_model.Packets.{pdu_heard}
+use Rattle.run_laws.specs.controller_model.Side.{facts_after}
+use Rattle.run_laws.proofs.controller_model.Always.{opening_is}
 use Rattle.run_laws.specs.run_model.Run.{step_of}
 use Rattle.run_laws.proofs.LinkPasses.{IsPassingOn, LeavesAll, OpensOne, phase_passes_on}
 use Rattle.run_laws.proofs.TurnSteps.{IsListening}

@@ -17,9 +17,9 @@ use Rattle.data_pdu.specs.Layouts.{written}
 use Rattle.data_pdu.specs.declared.ctrl.Ctrl.{Ctrl}
 use Rattle.data_pdu.specs.declared.ctrl.Ctrl.TheVariants.{StartEncReq}
 use Rattle.wire_fields.specs.Field.{little_endian}
-use Rattle.control_model.specs.Control.{Control, Step as ControlStep, Answers, Asks, Enters, SeesAcknowledged, Sends, Takes, after, after_all}
-use Rattle.link_end.specs.Sound.{HasLengths, MayCome}
-use Rattle.link_end.proofs.Lengths.{lengths_after}
+use Rattle.run_laws.specs.control_model.Control.{Control, Step as ControlStep, Answers, Asks, Enters, SeesAcknowledged, Sends, Takes, after, after_all}
+use Rattle.run_laws.specs.link_end.Sound.{HasLengths, MayCome}
+use Rattle.run_laws.proofs.link_end.Lengths.{lengths_after}
 use Rattle.run_laws.specs.run_model.procedure_values.declared.asks.Ask.{Ask}
 use Rattle.run_laws.specs.run_model.procedure_values.Limits.{tx_of}
 use Rattle.run_laws.specs.link_model.Acknowledgement.{Acknowledgement, Pdu, empty_pdu, is_acked}

@@ -5,7 +5,7 @@ use Rattle.std.specs.List.{AllByRecursion}
 use Rattle.std.proofs.lemmas.Bool.{eqb-true}
 use Rattle.ble_base.specs.declared.roles.Role.{Role}
 use Rattle.ble_base.specs.declared.roles.Role.TheVariants.{Central, Peripheral}
-use Rattle.advertise.specs.Advertising.{AdvertiserFacts, event_channel}
+use Rattle.run_laws.specs.advertise.Advertising.{AdvertiserFacts, event_channel}
 use Rattle.run_laws.specs.open_links.OpenLinks.{Links, OpenLink, link_at}
 use Rattle.run_laws.specs.open_links.Wants.{want_if as want_link}
 use Rattle.run_laws.specs.open_links.Turns.{wants_entering}
@@ -13,16 +13,16 @@ use Rattle.slot_plan.specs.Winner.{first_activity, first_of, is_before}
 use Rattle.slot_plan.specs.declared.Activity.{Activity}
 use Rattle.slot_plan.specs.declared.Activity.TheVariants.{Link, Advertise, Scan, Initiate}
 use Rattle.slot_plan.specs.declared.Want.{Want}
-use Rattle.controller_model.specs.declared.doing.Doing.{Doing}
-use Rattle.controller_model.specs.declared.doing.Doing.TheVariants.{Rests}
-use Rattle.controller_model.specs.Facts.{Setup, Facts, first_facts}
-use Rattle.controller_model.specs.Radio.{advertiser_wants, advertises_at, advertises_on, exchange_begins, initiates_on, initiator_channel, scanner_channel, scans_on, want_if, wants_in}
-use Rattle.controller_model.proofs.LinkNotes.{AreIn, all_in, first_in, rest_in}
+use Rattle.run_laws.specs.controller_model.declared.doing.Doing.{Doing}
+use Rattle.run_laws.specs.controller_model.declared.doing.Doing.TheVariants.{Rests}
+use Rattle.run_laws.specs.controller_model.Facts.{Setup, Facts, first_facts}
+use Rattle.run_laws.specs.controller_model.Radio.{advertiser_wants, advertises_at, advertises_on, exchange_begins, initiates_on, initiator_channel, scanner_channel, scans_on, want_if, wants_in}
+use Rattle.run_laws.proofs.controller_model.LinkNotes.{AreIn, all_in, first_in, rest_in}
 use Rattle.link_calls.specs.Uses.{is_on_link}
 use Rattle.run_laws.proofs.OpenSteps.{none_open, open_has}
 use Rattle.link_calls.proofs.LinkCalls.{off_listens, off_sends}
 use Rattle.link_calls.specs.Uses.{listens_under, sends_under}
-use Rattle.controller_model.specs.Entering.{wants_from}
+use Rattle.run_laws.specs.controller_model.Entering.{wants_from}
 
 -- ---- what wins a slot wants it
 

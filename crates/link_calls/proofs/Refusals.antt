@@ -7,7 +7,7 @@ use Rattle.data_pdu.specs.declared.ctrl.Ctrl.TheVariants.{TerminateInd}
 use Rattle.data_pdu.specs.declared.ctrl.CtrlRead.{CtrlRead}
 use Rattle.data_pdu.specs.declared.ctrl.CtrlRead.TheVariants.{Known}
 use Rattle.data_pdu.specs.Header.{header_in}
-use Rattle.host_view.specs.View.{View}
+use Rattle.run_laws.specs.host_view.View.{View}
 use Rattle.run_laws.specs.procedure_stages.declared.stages.Progress.{Progress}
 use Rattle.run_laws.specs.procedure_stages.declared.stages.Progress.TheVariants.{Central as central, Peripheral as peripheral}
 use Rattle.run_laws.specs.procedure_stages.declared.stages.Peripheral.{Peripheral as PeripheralTable}
@@ -15,13 +15,13 @@ use Rattle.run_laws.specs.procedure_stages.declared.steps.Effect.{Effect}
 use Rattle.run_laws.specs.procedure_stages.declared.steps.Effect.TheVariants.{AskHost, Indicated, Lengths as new_lengths, Nothing}
 use Rattle.run_laws.specs.procedure_stages.Kinds.{role_of}
 use Rattle.run_laws.specs.procedure_stages.Steps.{asks_host}
-use Rattle.procedures.specs.Table.{TableFacts}
-use Rattle.procedures.specs.Taking.{lacks_room, outcome_of, took_step}
+use Rattle.collision_steps.specs.procedures.Table.{TableFacts}
+use Rattle.collision_steps.specs.procedures.Taking.{lacks_room, outcome_of, took_step}
 use Rattle.collision_steps.specs.Answers.{stops_run}
 use Rattle.collision_steps.proofs.PeripheralTaking.{took}
 use Rattle.collision_steps.proofs.Stopping.{told}
-use Rattle.control_model.specs.Control.{Control, SeesAcknowledged, Sends, Takes}
-use Rattle.control_model.proofs.Moving.{same_role}
+use Rattle.run_laws.specs.control_model.Control.{Control, SeesAcknowledged, Sends, Takes}
+use Rattle.run_laws.proofs.control_model.Moving.{same_role}
 use Rattle.run_laws.specs.control_end.Answers.{effect_shown, nothing_taken, step_shown, taken_of}
 use Rattle.run_laws.specs.control_end.Held.{Held, held_after, held_of}
 use Rattle.run_laws.specs.link_model.Acknowledgement.{Pdu}
@@ -34,8 +34,8 @@ use Rattle.run_laws.specs.link_model.Verdicts.{pdu_of}
 use Rattle.run_laws.specs.link_model.declared.state.KnownLengths.{KnownLengths}
 use Rattle.run_laws.proofs.link_model.ControlSteps.{keeps_role}
 use Rattle.run_laws.specs.open_links.OpenLinks.{OpenLink, facts_in, link_at}
-use Rattle.controller_model.specs.Facts.{Facts}
-use Rattle.controller_model.specs.Heard.{effect_in, is_refused}
+use Rattle.run_laws.specs.controller_model.Facts.{Facts}
+use Rattle.run_laws.specs.controller_model.Heard.{effect_in, is_refused}
 use Rattle.link_calls.specs.Phases.{refuses_at}
 
 -- ---- the table of a peripheral

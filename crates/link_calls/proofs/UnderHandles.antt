@@ -13,7 +13,7 @@ use Rattle.hci_cmd.specs.declared.command.Command.TheVariants.{Reset}
 use Rattle.hci_cmd.specs.declared.command.CmdRead.{CmdRead}
 use Rattle.hci_cmd.specs.declared.command.CmdRead.TheVariants.{Known, UnknownOpcode, BadLength}
 use Rattle.hci_cmd.specs.Command.{command_of}
-use Rattle.host_view.specs.Unbuilt.{status_of}
+use Rattle.run_laws.specs.host_view.Unbuilt.{status_of}
 use Rattle.run_laws.specs.link_model.Setup.{Setup as EndSetup}
 use Rattle.run_laws.specs.link_model.Facts.{Facts as EndFacts}
 use Rattle.run_laws.specs.link_model.Step.{Step as EndStep, DataGiven, DataReported, PduFixed, PacketSent}
@@ -25,17 +25,17 @@ use Rattle.run_laws.specs.open_links.OpenLinks.{Links, OpenLink, facts_in, link_
 use Rattle.run_laws.specs.open_links.Turns.{ending_in, link_entered, links_without, place_without, staying_by}
 use Rattle.run_laws.proofs.open_links.Ends.{stays_where_not_due}
 use Rattle.run_laws.proofs.open_links.Handles.{changed_is, other_stays}
-use Rattle.controller_model.specs.declared.doing.Doing.{Doing}
-use Rattle.controller_model.specs.declared.doing.Doing.TheVariants.{Advertises, CentralSends, PeripheralListens, PeripheralSends}
-use Rattle.controller_model.specs.Step.{HostOctet, TurnEnds}
-use Rattle.controller_model.specs.Facts.{Setup, Facts}
-use Rattle.controller_model.specs.Commands.{facts_commanded, facts_known, links_after}
-use Rattle.controller_model.specs.Entering.{all_entered}
-use Rattle.controller_model.specs.Data.{facts_handed, facts_offered, offer_of}
-use Rattle.controller_model.specs.Packets.{links_sending}
-use Rattle.controller_model.specs.Radio.{links_fixing}
-use Rattle.controller_model.specs.Side.{facts_after, facts_fed, result_of}
-use Rattle.controller_model.proofs.Always.{leaving_is}
+use Rattle.run_laws.specs.controller_model.declared.doing.Doing.{Doing}
+use Rattle.run_laws.specs.controller_model.declared.doing.Doing.TheVariants.{Advertises, CentralSends, PeripheralListens, PeripheralSends}
+use Rattle.run_laws.specs.controller_model.Step.{HostOctet, TurnEnds}
+use Rattle.run_laws.specs.controller_model.Facts.{Setup, Facts}
+use Rattle.run_laws.specs.controller_model.Commands.{facts_commanded, facts_known, links_after}
+use Rattle.run_laws.specs.controller_model.Entering.{all_entered}
+use Rattle.run_laws.specs.controller_model.Data.{facts_handed, facts_offered, offer_of}
+use Rattle.run_laws.specs.controller_model.Packets.{links_sending}
+use Rattle.run_laws.specs.controller_model.Radio.{links_fixing}
+use Rattle.run_laws.specs.controller_model.Side.{facts_after, facts_fed, result_of}
+use Rattle.run_laws.proofs.controller_model.Always.{leaving_is}
 use Rattle.run_laws.proofs.Agreed.{ack_given, ack_of, ack_reported, step_facts}
 use Rattle.link_calls.specs.Entries.{count_entry, entries_in}
 use Rattle.link_calls.specs.Hosts.{HasHeardHost, GetsData, Unchanged}

@@ -7,9 +7,9 @@ use Rattle.run_laws.specs.run_model.procedure_values.declared.asks.Ask.{Ask}
 use Rattle.run_laws.specs.link_model.Setup.{Setup as EndSetup}
 use Rattle.run_laws.specs.link_model.Step.{PacketReceived, RequestAnswered}
 use Rattle.run_laws.specs.open_links.OpenLinks.{OpenLink, link_after, link_at, new_link}
-use Rattle.controller_model.specs.declared.doing.Doing.{Doing}
-use Rattle.controller_model.specs.Facts.{Facts}
-use Rattle.controller_model.specs.Heard.{effect_in, is_refused}
+use Rattle.run_laws.specs.controller_model.declared.doing.Doing.{Doing}
+use Rattle.run_laws.specs.controller_model.Facts.{Facts}
+use Rattle.run_laws.specs.controller_model.Heard.{effect_in, is_refused}
 use Rattle.link_calls.specs.Turns.{sent_if}
 use Rattle.link_calls.specs.Uses.{is_on_link, listens_under, sends_under}
 

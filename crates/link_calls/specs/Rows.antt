@@ -1,7 +1,7 @@
 -- Both ends of a new link, as worked examples have them.
 use Rattle.std.specs.Prelude.{[], ◌∷◌}
 use Rattle.ble_base.specs.declared.roles.Role.TheVariants.{Central, Peripheral}
-use Rattle.controller_model.specs.Rows.{address_a, address_b}
+use Rattle.run_laws.specs.controller_model.Rows.{address_a, address_b}
 use Rattle.run_laws.specs.link_model.Step.{EventEntered, PacketSent, PduFixed}
 use Rattle.run_laws.specs.open_links.OpenLinks.{OpenLink, new_link}
 use Rattle.run_laws.specs.Rows.{end_with}

@@ -5,7 +5,7 @@ use Rattle.run_laws.specs.link_model.Step.{PacketSent, PduFixed}
 use Rattle.run_laws.specs.open_links.Data.{link_reported}
 use Rattle.run_laws.specs.open_links.OpenLinks.{Links, OpenLink, link_after, link_at}
 use Rattle.run_laws.specs.open_links.Turns.{due_in, ending_in, link_entered}
-use Rattle.controller_model.specs.declared.doing.Doing.{Doing}
+use Rattle.run_laws.specs.controller_model.declared.doing.Doing.{Doing}
 use Rattle.link_calls.specs.Uses.{fixes_under, sends_under}
 
 -- ---- a link, changed or not

@@ -1,7 +1,7 @@
 -- On which link a controller sends or listens in a phase (Core 5.2, volume 6 part B, section 4.5.1).
 use Rattle.std.specs.Prelude.{ℕ, ◌==◌, ◌||◌, Bool, true, false}
-use Rattle.controller_model.specs.declared.doing.Doing.{Doing}
-use Rattle.controller_model.specs.declared.doing.Doing.TheVariants.{CentralListens, CentralSends, PeripheralListens, PeripheralSends}
+use Rattle.run_laws.specs.controller_model.declared.doing.Doing.{Doing}
+use Rattle.run_laws.specs.controller_model.declared.doing.Doing.TheVariants.{CentralListens, CentralSends, PeripheralListens, PeripheralSends}
 
 -- it sends or listens on a link
 abbrev pub is_on_link : Doing → Bool

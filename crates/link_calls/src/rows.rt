@@ -1,7 +1,7 @@
 //! Worked examples, which the definitions compute.
 ghost use Rattle.std.specs.Prelude.{◌≡◌, [], ◌∷◌};
-ghost use Rattle.controller_model.specs.declared.doing.Doing.TheVariants.{CentralSends};
-ghost use Rattle.controller_model.specs.declared.doing.Doing.TheVariants.{PeripheralListens, Rests};
+ghost use Rattle.run_laws.specs.controller_model.declared.doing.Doing.TheVariants.{CentralSends};
+ghost use Rattle.run_laws.specs.controller_model.declared.doing.Doing.TheVariants.{PeripheralListens, Rests};
 ghost use Rattle.run_laws.specs.link_model.Step.{EventEntered, PacketSent, PduFixed};
 ghost use Rattle.link_calls.specs.Exchanges.{HasExchange};
 ghost use Rattle.link_calls.specs.Rows.{central_in_event, new_central, new_peripheral};

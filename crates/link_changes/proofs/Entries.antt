@@ -14,7 +14,7 @@ use Rattle.instants.specs.Follows.{Follows}
 use Rattle.instants.specs.Parameters.{anchor_in, params_in}
 use Rattle.instants.specs.Track.{TrackFacts, event_of, is_due, next_anchor_of, next_number, track_after_enter, track_changed, track_in_next, track_unchanged}
 use Rattle.instants.specs.declared.track.Change.{Change}
-use Rattle.control_model.specs.Control.{Control}
+use Rattle.link_model.specs.control_model.Control.{Control}
 use Rattle.link_model.specs.Controls.{goes_on}
 use Rattle.link_model.specs.End.{facts_of, notes_after, notes_of}
 use Rattle.link_model.specs.Entering.{began_notes, done_notes}

@@ -6,7 +6,7 @@ use Rattle.ble_base.specs.declared.notes.Note.{Note}
 use Rattle.ble_base.specs.declared.procedure_kinds.Kind.{Kind}
 use Rattle.data_pdu.specs.Header.{header_in}
 use Rattle.data_pdu.specs.declared.header.DataHeader.{DataHeader}
-use Rattle.control_end.specs.declared.answers.Taken.{Taken}
+use Rattle.link_model.specs.control_end.declared.answers.Taken.{Taken}
 use Rattle.link_model.specs.Acknowledgement.{Pdu, is_acked}
 use Rattle.link_model.specs.Controls.{is_procedure_pdu, pdu_fixed}
 use Rattle.link_model.specs.Data.{is_empty, numbered}

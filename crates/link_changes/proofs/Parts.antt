@@ -13,17 +13,17 @@ use Rattle.data_pdu.specs.declared.ctrl.CtrlRead.{CtrlRead}
 use Rattle.instants.specs.Track.{event_of, track_after_take}
 use Rattle.instants.specs.declared.indications.Indication.{Indication}
 use Rattle.instants.specs.declared.indications.Params.{Params}
-use Rattle.procedure_stages.specs.Kinds.{role_of}
-use Rattle.procedures.specs.Queue.{next_of}
-use Rattle.procedures.specs.Sending.{next_ctrl_of}
-use Rattle.procedures.specs.Table.{TableFacts}
-use Rattle.procedures.specs.Taking.{took_step}
-use Rattle.control_model.specs.Control.{Control, Step, Sends, Takes, after, ended, following, goes_out, indicated_by, is_to_come, moved, taken, went}
-use Rattle.control_model.specs.Supported.{read_supported}
-use Rattle.control_model.specs.Waits.{is_of_table_alone}
-use Rattle.control_model.proofs.Calls.{open_step}
-use Rattle.control_model.proofs.Moving.{table_alone}
-use Rattle.control_model.proofs.Waiting.{free_to_take}
+use Rattle.link_model.specs.procedure_stages.Kinds.{role_of}
+use Rattle.link_model.specs.procedures.Queue.{next_of}
+use Rattle.link_model.specs.procedures.Sending.{next_ctrl_of}
+use Rattle.link_model.specs.procedures.Table.{TableFacts}
+use Rattle.link_model.specs.procedures.Taking.{took_step}
+use Rattle.link_model.specs.control_model.Control.{Control, Step, Sends, Takes, after, ended, following, goes_out, indicated_by, is_to_come, moved, taken, went}
+use Rattle.link_model.specs.control_model.Supported.{read_supported}
+use Rattle.link_model.specs.control_model.Waits.{is_of_table_alone}
+use Rattle.link_model.proofs.control_model.Calls.{open_step}
+use Rattle.link_model.proofs.control_model.Moving.{table_alone}
+use Rattle.link_model.proofs.control_model.Waiting.{free_to_take}
 use Rattle.link_changes.specs.Noted.{indication_noted, indication_read, taking_if}
 use Rattle.link_changes.proofs.Knowing.{Knows, knows_over, knows_silent, knows_taken}
 use Rattle.link_changes.proofs.Notes.{IsSilent, IsStill, silent_none}

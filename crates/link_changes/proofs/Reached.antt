@@ -5,12 +5,12 @@ use Rattle.ble_base.specs.declared.roles.Role.{Role}
 use Rattle.ble_base.specs.declared.roles.Role.TheVariants.{Central, Peripheral}
 use Rattle.instants.specs.declared.indications.Indication.{Indication}
 use Rattle.instants.specs.declared.indications.Params.{Params}
-use Rattle.procedure_stages.specs.Kinds.{role_of}
-use Rattle.control_model.specs.Control.{Control, Step, after, after_all, first_control, went}
-use Rattle.control_model.specs.Waits.{AreInRange}
-use Rattle.control_model.proofs.Central.{free}
-use Rattle.control_model.proofs.Moving.{role_after}
-use Rattle.control_model.proofs.Waiting.{Awaits, awaits}
+use Rattle.link_model.specs.procedure_stages.Kinds.{role_of}
+use Rattle.link_model.specs.control_model.Control.{Control, Step, after, after_all, first_control, went}
+use Rattle.link_model.specs.control_model.Waits.{AreInRange}
+use Rattle.link_model.proofs.control_model.Central.{free}
+use Rattle.link_model.proofs.control_model.Moving.{role_after}
+use Rattle.link_model.proofs.control_model.Waiting.{Awaits, awaits}
 use Rattle.link_changes.proofs.Readable.{IsGood, Readable, reads}
 
 pub record Reached (role : Role) (max_rx : ℕ) (first : Params) (slot : ℕ) (c : Control) : Type 0 where

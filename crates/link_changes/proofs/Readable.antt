@@ -13,36 +13,36 @@ use Rattle.ble_base.specs.declared.roles.Role.TheVariants.{Central as central_ro
 use Rattle.instants.specs.declared.indications.Indication.{Indication}
 use Rattle.instants.specs.declared.indications.Params.{Params}
 use Rattle.instants.specs.Track.{event_of, next_number, track_after_take}
-use Rattle.procedure_values.specs.Asks.{kind_of_ask}
-use Rattle.procedure_values.specs.Drafts.{is_out}
-use Rattle.procedure_values.specs.Values.{IsParams}
-use Rattle.procedure_values.specs.Wants.{place_of, wanted_at, without_place}
-use Rattle.procedure_values.specs.declared.asks.Ask.{Ask}
-use Rattle.procedure_values.specs.declared.asks.Ask.TheVariants.{Update as ask_update, Map as ask_map, Features as ask_features, Version as ask_version, Encrypt as ask_encrypt}
-use Rattle.procedure_values.specs.declared.drafts.Draft.{Draft}
-use Rattle.procedure_values.specs.declared.drafts.Draft.TheVariants.{Cipher, Grant, Map, Update}
-use Rattle.procedure_values.specs.declared.drafts.Outgoing.{Outgoing}
-use Rattle.procedure_values.specs.declared.drafts.Outgoing.TheVariants.{Nothing, Other}
-use Rattle.procedure_values.specs.declared.drafts.Rejection.{Rejection as TheRejection}
-use Rattle.procedure_stages.specs.Begun.{draft_begun, feature_draft}
-use Rattle.procedure_stages.specs.Closing.{is_disconnecting, is_open}
-use Rattle.procedure_stages.specs.InProgress.{is_host_asked}
-use Rattle.procedure_stages.specs.Kinds.{role_of}
-use Rattle.procedure_stages.specs.Queue.{QueueFacts, next_by, next_disconnect, next_draft, with_reply, without_next}
-use Rattle.procedure_stages.specs.Steps.{is_version_effect}
-use Rattle.procedure_stages.specs.declared.closing.Closing.{Closing}
-use Rattle.procedure_stages.specs.declared.reply.Reply.{Reply}
-use Rattle.procedure_stages.specs.declared.reply.Reply.TheVariants.{Answer, Nothing as no_reply, Reject}
-use Rattle.procedure_stages.specs.declared.stages.Progress.{Progress}
-use Rattle.procedures.specs.Beginning.{ask_at, begin_at, begin_step, first_draft, place_to_begin, with_first_draft}
-use Rattle.procedures.specs.Going.{entered_step, host_answer_step, is_answer, terminate_step}
-use Rattle.procedures.specs.Queue.{next_of}
-use Rattle.procedures.specs.Table.{TableFacts}
-use Rattle.procedures.specs.Taking.{facts_with, outcome_of}
-use Rattle.table_laws.proofs.Outcomes.{is_reply, took as took_reply}
-use Rattle.control_model.specs.Control.{Control, Step, Answers, Asks, Disconnects, Enters, Owes, SeesAcknowledged, Sends, Takes, after, after_all, ended, first_control, following, goes_out, indicated_by, is_to_come, moved, table_if, taken, went}
-use Rattle.control_model.specs.Waits.{IsInRange}
-use Rattle.control_model.proofs.Calls.{any_step, either_way, took_by}
+use Rattle.link_model.specs.procedure_values.Asks.{kind_of_ask}
+use Rattle.link_model.specs.procedure_values.Drafts.{is_out}
+use Rattle.link_model.specs.procedure_values.Values.{IsParams}
+use Rattle.link_model.specs.procedure_values.Wants.{place_of, wanted_at, without_place}
+use Rattle.link_model.specs.procedure_values.declared.asks.Ask.{Ask}
+use Rattle.link_model.specs.procedure_values.declared.asks.Ask.TheVariants.{Update as ask_update, Map as ask_map, Features as ask_features, Version as ask_version, Encrypt as ask_encrypt}
+use Rattle.link_model.specs.procedure_values.declared.drafts.Draft.{Draft}
+use Rattle.link_model.specs.procedure_values.declared.drafts.Draft.TheVariants.{Cipher, Grant, Map, Update}
+use Rattle.link_model.specs.procedure_values.declared.drafts.Outgoing.{Outgoing}
+use Rattle.link_model.specs.procedure_values.declared.drafts.Outgoing.TheVariants.{Nothing, Other}
+use Rattle.link_model.specs.procedure_values.declared.drafts.Rejection.{Rejection as TheRejection}
+use Rattle.link_model.specs.procedure_stages.Begun.{draft_begun, feature_draft}
+use Rattle.link_model.specs.procedure_stages.Closing.{is_disconnecting, is_open}
+use Rattle.link_model.specs.procedure_stages.InProgress.{is_host_asked}
+use Rattle.link_model.specs.procedure_stages.Kinds.{role_of}
+use Rattle.link_model.specs.procedure_stages.Queue.{QueueFacts, next_by, next_disconnect, next_draft, with_reply, without_next}
+use Rattle.link_model.specs.procedure_stages.Steps.{is_version_effect}
+use Rattle.link_model.specs.procedure_stages.declared.closing.Closing.{Closing}
+use Rattle.link_model.specs.procedure_stages.declared.reply.Reply.{Reply}
+use Rattle.link_model.specs.procedure_stages.declared.reply.Reply.TheVariants.{Answer, Nothing as no_reply, Reject}
+use Rattle.link_model.specs.procedure_stages.declared.stages.Progress.{Progress}
+use Rattle.link_model.specs.procedures.Beginning.{ask_at, begin_at, begin_step, first_draft, place_to_begin, with_first_draft}
+use Rattle.link_model.specs.procedures.Going.{entered_step, host_answer_step, is_answer, terminate_step}
+use Rattle.link_model.specs.procedures.Queue.{next_of}
+use Rattle.link_model.specs.procedures.Table.{TableFacts}
+use Rattle.link_model.specs.procedures.Taking.{facts_with, outcome_of}
+use Rattle.link_model.proofs.table_laws.Outcomes.{is_reply, took as took_reply}
+use Rattle.link_model.specs.control_model.Control.{Control, Step, Answers, Asks, Disconnects, Enters, Owes, SeesAcknowledged, Sends, Takes, after, after_all, ended, first_control, following, goes_out, indicated_by, is_to_come, moved, table_if, taken, went}
+use Rattle.link_model.specs.control_model.Waits.{IsInRange}
+use Rattle.link_model.proofs.control_model.Calls.{any_step, either_way, took_by}
 
 -- ---- asks and drafts whose values fit their PDUs
 

@@ -7,12 +7,12 @@ use Rattle.data_pdu.specs.declared.ctrl.Ctrl.TheVariants.{ChannelMapInd, Connect
 use Rattle.data_pdu.specs.declared.ctrl.CtrlRead.TheVariants.{Known, Unknown}
 use Rattle.data_pdu.proofs.Rows.{written_is_known}
 use Rattle.wire_fields.specs.Field.{little_endian}
-use Rattle.procedure_values.specs.Drafts.{ctrl_of_draft, ctrl_of_outgoing, indication_of, indication_of_draft, instant_at, no_offsets}
-use Rattle.procedure_values.specs.Values.{IsParams, ParamValues}
-use Rattle.procedure_values.specs.declared.drafts.Draft.{Draft}
-use Rattle.procedure_values.specs.declared.drafts.Draft.TheVariants.{Cipher, FeatureReq as feature_req, FeatureRsp as feature_rsp, Grant, LengthReq as length_req, LengthRsp as length_rsp, Map, PeripheralFeatureReq as peripheral_feature_req, PhyInd, PhyReq as phy_req, PhyRsp as phy_rsp, Request, UnknownRsp as unknown_rsp, Update, VersionInd as version_draft}
-use Rattle.procedure_values.specs.declared.drafts.Outgoing.{Outgoing}
-use Rattle.procedure_values.specs.declared.drafts.Outgoing.TheVariants.{Disconnect, Nothing, Other, Rejection}
+use Rattle.link_model.specs.procedure_values.Drafts.{ctrl_of_draft, ctrl_of_outgoing, indication_of, indication_of_draft, instant_at, no_offsets}
+use Rattle.link_model.specs.procedure_values.Values.{IsParams, ParamValues}
+use Rattle.link_model.specs.procedure_values.declared.drafts.Draft.{Draft}
+use Rattle.link_model.specs.procedure_values.declared.drafts.Draft.TheVariants.{Cipher, FeatureReq as feature_req, FeatureRsp as feature_rsp, Grant, LengthReq as length_req, LengthRsp as length_rsp, Map, PeripheralFeatureReq as peripheral_feature_req, PhyInd, PhyReq as phy_req, PhyRsp as phy_rsp, Request, UnknownRsp as unknown_rsp, Update, VersionInd as version_draft}
+use Rattle.link_model.specs.procedure_values.declared.drafts.Outgoing.{Outgoing}
+use Rattle.link_model.specs.procedure_values.declared.drafts.Outgoing.TheVariants.{Disconnect, Nothing, Other, Rejection}
 use Rattle.link_changes.specs.Noted.{indication_read}
 use Rattle.link_changes.proofs.Readable.{IsGoodDraft}
 

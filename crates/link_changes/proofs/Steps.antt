@@ -16,19 +16,19 @@ use Rattle.data_pdu.specs.declared.ctrl.Ctrl.TheVariants.{StartEncReq}
 use Rattle.data_pdu.specs.declared.header.DataHeader.{DataHeader}
 use Rattle.wire_fields.specs.Field.{little_endian}
 use Rattle.instants.specs.Track.{event_of, next_number}
-use Rattle.procedure_values.specs.declared.asks.Ask.{Ask}
-use Rattle.procedure_values.specs.declared.asks.Ask.TheVariants.{Map as ask_map, Update as ask_update}
-use Rattle.procedure_stages.specs.Queue.{waiting_in}
-use Rattle.procedure_stages.specs.Kinds.{role_of}
-use Rattle.procedures.specs.Beginning.{begin_step}
-use Rattle.procedures.specs.Sending.{next_ctrl_of}
-use Rattle.control_model.specs.Control.{Control, Step as ControlStep, Answers, Asks, Disconnects, Enters, SeesAcknowledged, Sends, Takes, after, entered}
-use Rattle.control_model.specs.Waits.{is_of_table_alone}
-use Rattle.control_model.proofs.Moving.{central_takes, peripheral_sends, table_alone}
-use Rattle.control_end.specs.Answers.{entry_step, is_update_waiting, no_entry}
-use Rattle.control_end.specs.Held.{held_of}
-use Rattle.control_end.specs.declared.answers.Entry.{Entry}
-use Rattle.control_end.specs.declared.answers.Taken.{Taken}
+use Rattle.link_model.specs.procedure_values.declared.asks.Ask.{Ask}
+use Rattle.link_model.specs.procedure_values.declared.asks.Ask.TheVariants.{Map as ask_map, Update as ask_update}
+use Rattle.link_model.specs.procedure_stages.Queue.{waiting_in}
+use Rattle.link_model.specs.procedure_stages.Kinds.{role_of}
+use Rattle.link_model.specs.procedures.Beginning.{begin_step}
+use Rattle.link_model.specs.procedures.Sending.{next_ctrl_of}
+use Rattle.link_model.specs.control_model.Control.{Control, Step as ControlStep, Answers, Asks, Disconnects, Enters, SeesAcknowledged, Sends, Takes, after, entered}
+use Rattle.link_model.specs.control_model.Waits.{is_of_table_alone}
+use Rattle.link_model.proofs.control_model.Moving.{central_takes, peripheral_sends, table_alone}
+use Rattle.link_model.specs.control_end.Answers.{entry_step, is_update_waiting, no_entry}
+use Rattle.link_model.specs.control_end.Held.{held_of}
+use Rattle.link_model.specs.control_end.declared.answers.Entry.{Entry}
+use Rattle.link_model.specs.control_end.declared.answers.Taken.{Taken}
 use Rattle.link_model.specs.Acknowledgement.{Pdu, is_acked}
 use Rattle.link_model.specs.Controls.{goes_on, is_procedure_pdu, next_control, pdu_fixed, pdu_of_control, read_of}
 use Rattle.link_model.specs.ControlSteps.{IsAskInRange}

@@ -11,28 +11,28 @@ use Rattle.data_pdu.specs.declared.ctrl.CtrlRead.{CtrlRead}
 use Rattle.data_pdu.specs.declared.ctrl.CtrlRead.TheVariants.{Known, Unknown, Bare}
 use Rattle.instants.specs.declared.indications.Indication.{Indication}
 use Rattle.exclusive_stages.specs.Awaited.{awaits_phy_ind, central_answered, has_phy_of_central, reads_as_answer}
-use Rattle.procedure_stages.specs.Awaited.{awaits_features, awaits_lengths}
-use Rattle.procedure_stages.specs.Collisions.{collision}
-use Rattle.procedure_stages.specs.Exclusive.{peripheral_stage}
-use Rattle.procedure_stages.specs.Foreign.{is_foreign}
-use Rattle.procedure_stages.specs.Kinds.{kind_at_peripheral, own_exchange, role_of}
-use Rattle.procedure_stages.specs.Opcodes.{first_opcode, is_opcode, later_opcode}
-use Rattle.procedure_stages.specs.declared.stages.Ahead.{Ahead}
-use Rattle.procedure_stages.specs.declared.stages.Ahead.TheVariants.{Nothing, Update as update_ahead, Map as map_ahead}
-use Rattle.procedure_stages.specs.declared.stages.Peripheral.{Peripheral}
-use Rattle.procedure_stages.specs.declared.stages.Progress.{Progress}
-use Rattle.procedure_stages.specs.declared.stages.Progress.TheVariants.{Central as central, Peripheral as peripheral}
-use Rattle.procedure_stages.specs.declared.steps.Step.{Step}
-use Rattle.procedures.specs.Phy.{phy_ind_taken}
-use Rattle.procedures.specs.Refusals.{refused_if}
-use Rattle.procedures.specs.Request.{after_grant, outlived}
-use Rattle.procedures.specs.Table.{TableFacts}
-use Rattle.procedures.specs.Taking.{facts_with, lacks_room, outcome_of, taken_by, taken_by_either, taken_by_peripheral, taken_by_role, took_step}
-use Rattle.procedures.specs.Update.{follow}
-use Rattle.procedures.specs.declared.outcome.Outcome.{Outcome}
-use Rattle.control_model.specs.Control.{indicated_by}
-use Rattle.control_model.specs.Supported.{begins_encryption, read_supported}
-use Rattle.control_model.proofs.Calls.{settled_as}
+use Rattle.link_model.specs.procedure_stages.Awaited.{awaits_features, awaits_lengths}
+use Rattle.link_model.specs.procedure_stages.Collisions.{collision}
+use Rattle.link_model.specs.procedure_stages.Exclusive.{peripheral_stage}
+use Rattle.link_model.specs.procedure_stages.Foreign.{is_foreign}
+use Rattle.link_model.specs.procedure_stages.Kinds.{kind_at_peripheral, own_exchange, role_of}
+use Rattle.link_model.specs.procedure_stages.Opcodes.{first_opcode, is_opcode, later_opcode}
+use Rattle.link_model.specs.procedure_stages.declared.stages.Ahead.{Ahead}
+use Rattle.link_model.specs.procedure_stages.declared.stages.Ahead.TheVariants.{Nothing, Update as update_ahead, Map as map_ahead}
+use Rattle.link_model.specs.procedure_stages.declared.stages.Peripheral.{Peripheral}
+use Rattle.link_model.specs.procedure_stages.declared.stages.Progress.{Progress}
+use Rattle.link_model.specs.procedure_stages.declared.stages.Progress.TheVariants.{Central as central, Peripheral as peripheral}
+use Rattle.link_model.specs.procedure_stages.declared.steps.Step.{Step}
+use Rattle.link_model.specs.procedures.Phy.{phy_ind_taken}
+use Rattle.link_model.specs.procedures.Refusals.{refused_if}
+use Rattle.link_model.specs.procedures.Request.{after_grant, outlived}
+use Rattle.link_model.specs.procedures.Table.{TableFacts}
+use Rattle.link_model.specs.procedures.Taking.{facts_with, lacks_room, outcome_of, taken_by, taken_by_either, taken_by_peripheral, taken_by_role, took_step}
+use Rattle.link_model.specs.procedures.Update.{follow}
+use Rattle.link_model.specs.procedures.declared.outcome.Outcome.{Outcome}
+use Rattle.link_model.specs.control_model.Control.{indicated_by}
+use Rattle.link_model.specs.control_model.Supported.{begins_encryption, read_supported}
+use Rattle.link_model.proofs.control_model.Calls.{settled_as}
 use Rattle.link_changes.specs.Noted.{indication_read}
 
 -- where it does not end the link, it hands this indication on, or none

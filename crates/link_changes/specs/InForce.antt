@@ -16,7 +16,7 @@ use Rattle.link_model.specs.End.{facts_of}
 use Rattle.link_model.specs.Setup.{Setup, algorithm_of, first_anchor, first_params}
 use Rattle.link_model.specs.Step.{Step, EventEntered, ProcedureAsked}
 use Rattle.link_changes.specs.Noted.{applied_noted, changes_noted, takings_noted}
-use Rattle.procedure_values.specs.declared.asks.Ask.TheVariants.{Map}
+use Rattle.link_model.specs.procedure_values.declared.asks.Ask.TheVariants.{Map}
 
 -- ---- what is taken for granted of a central
 

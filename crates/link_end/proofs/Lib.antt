@@ -16,3 +16,6 @@ pub mod Tying
 -- what the crates above use of those below
 pub use Rattle.link_model.proofs as link_model
 pub use Rattle.link_model.proofs.control_model as control_model
+pub use Rattle.control_end.proofs as control_end
+pub use Rattle.link_model.proofs.table_laws as table_laws
+pub use Rattle.link_model.proofs.procedure_values as procedure_values

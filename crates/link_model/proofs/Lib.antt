@@ -21,3 +21,5 @@ pub mod Received
 -- what the crates above use of those below
 pub use Rattle.control_end.proofs.control_model as control_model
 pub use Rattle.control_end.proofs as control_end
+pub use Rattle.control_end.proofs.table_laws as table_laws
+pub use Rattle.control_end.proofs.procedure_values as procedure_values

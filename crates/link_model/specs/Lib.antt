@@ -30,3 +30,4 @@ pub use Rattle.control_end.specs.control_model as control_model
 pub use Rattle.control_end.specs.procedure_stages as procedure_stages
 pub use Rattle.control_end.specs.procedure_values as procedure_values
 pub use Rattle.control_end.specs as control_end
+pub use Rattle.control_end.specs.procedures as procedures

@@ -16,3 +16,5 @@ pub use Rattle.control_octets.specs as control_octets
 pub use Rattle.joint_laws.specs.control_model as control_model
 pub use Rattle.joint_laws.specs.procedures as procedures
 pub use Rattle.joint_laws.specs.procedure_values as procedure_values
+pub use Rattle.unencrypted_ends.specs as unencrypted_ends
+pub use Rattle.joint_laws.specs.procedure_stages as procedure_stages

@@ -15,3 +15,10 @@ pub mod Handed
 pub mod Intervals
 pub mod Anchors
 pub mod OnTime
+-- what the crates above use of those below
+pub use Rattle.link_end.proofs as link_end
+pub use Rattle.link_end.proofs.link_model as link_model
+pub use Rattle.link_end.proofs.control_end as control_end
+pub use Rattle.link_end.proofs.control_model as control_model
+pub use Rattle.link_end.proofs.table_laws as table_laws
+pub use Rattle.link_end.proofs.procedure_values as procedure_values

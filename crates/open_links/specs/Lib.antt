@@ -10,3 +10,8 @@ pub mod Hearing
 pub mod Knowing
 pub mod Sound
 pub mod Slots
+-- what the crates above use of those below
+pub use Rattle.link_end.specs.control_model as control_model
+pub use Rattle.link_end.specs.link_model as link_model
+pub use Rattle.link_end.specs.control_end as control_end
+pub use Rattle.link_end.specs.procedure_values as procedure_values

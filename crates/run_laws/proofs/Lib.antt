@@ -31,3 +31,5 @@ pub use Rattle.run_model.proofs.link_model as link_model
 pub use Rattle.run_model.proofs.open_links as open_links
 pub use Rattle.plain_links.proofs as plain_links
 pub use Rattle.run_model.proofs as run_model
+pub use Rattle.controller_model.proofs as controller_model
+pub use Rattle.run_model.proofs.link_end as link_end

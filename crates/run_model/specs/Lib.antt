@@ -25,3 +25,4 @@ pub use Rattle.controller_model.specs.link_model as link_model
 pub use Rattle.controller_model.specs.open_links as open_links
 pub use Rattle.controller_model.specs.procedure_stages as procedure_stages
 pub use Rattle.controller_model.specs.procedure_values as procedure_values
+pub use Rattle.controller_model.specs.control_model as control_model

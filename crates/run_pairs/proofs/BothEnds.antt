@@ -24,15 +24,15 @@ use Rattle.controller_model.specs.Side.{facts_after, facts_of}
 use Rattle.controller_model.specs.Step.{Step, HostOctet, TurnBegins, PacketHeard, NothingHeard, TurnEnds}
 use Rattle.controller_model.proofs.Pasts.{facts_more}
 use Rattle.controller_model.proofs.Places.{link_receiving, refuses_at}
-use Rattle.run_model.specs.Feeding.{AreDistinct}
-use Rattle.run_model.specs.History.{Event, Called, TurnBegan, HostFed, Noted, Transmitted, past_of, steps_in}
-use Rattle.run_model.specs.Run.{Given, facts_at, history_of, run_of, setup_at, step_of}
-use Rattle.run_model.proofs.Calls.{past_other, past_own, same_station}
-use Rattle.run_model.proofs.LinkEnds.{AreTaken}
-use Rattle.run_model.proofs.Stations.{is_in}
-use Rattle.link_pairs.specs.Ends.{AreEnds}
-use Rattle.link_pairs.specs.Hearing.{received as received_facts}
-use Rattle.link_pairs.specs.Turns.{sent_if as sends_if}
+use Rattle.run_laws.specs.run_model.Feeding.{AreDistinct}
+use Rattle.run_laws.specs.run_model.History.{Event, Called, TurnBegan, HostFed, Noted, Transmitted, past_of, steps_in}
+use Rattle.run_laws.specs.run_model.Run.{Given, facts_at, history_of, run_of, setup_at, step_of}
+use Rattle.run_laws.proofs.run_model.Calls.{past_other, past_own, same_station}
+use Rattle.run_laws.proofs.run_model.LinkEnds.{AreTaken}
+use Rattle.run_laws.proofs.run_model.Stations.{is_in}
+use Rattle.link_runs.specs.link_pairs.Ends.{AreEnds}
+use Rattle.link_runs.specs.link_pairs.Hearing.{received as received_facts}
+use Rattle.link_runs.specs.link_pairs.Turns.{sent_if as sends_if}
 use Rattle.link_runs.specs.Open.{AreOpenEnds}
 use Rattle.link_runs.specs.Runs.{MayHostAll}
 use Rattle.link_runs.specs.Turn.{facts_hosted}

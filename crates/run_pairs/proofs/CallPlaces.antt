@@ -3,15 +3,15 @@ use Rattle.std.proofs.Common.{◌≡◌, ℕ, suc, ◌+◌, ◌-◌, ◌==◌, B
 use Rattle.std.specs.Prelude.{fold, map, take, if◌then◌else◌}
 use Rattle.controller_model.specs.Step.{Step, HostOctet, TurnBegins, PacketHeard, NothingHeard, TurnEnds}
 use Rattle.controller_model.specs.Side.{notes_after}
-use Rattle.run_model.specs.Due.{Each}
-use Rattle.run_model.specs.Feeding.{AreDistinct}
-use Rattle.run_model.specs.History.{Event, TurnBegan, HostFed, Called, Noted, Transmitted, packet_received, past_of, turns_begun}
-use Rattle.run_model.specs.Run.{Given, GoesOn, after_call, after_feed, after_octets, facts_at, hearings_of, history_of, octets_left, run_of, setup_at, step_of}
+use Rattle.run_laws.specs.run_model.Due.{Each}
+use Rattle.run_laws.specs.run_model.Feeding.{AreDistinct}
+use Rattle.run_laws.specs.run_model.History.{Event, TurnBegan, HostFed, Called, Noted, Transmitted, packet_received, past_of, turns_begun}
+use Rattle.run_laws.specs.run_model.Run.{Given, GoesOn, after_call, after_feed, after_octets, facts_at, hearings_of, history_of, octets_left, run_of, setup_at, step_of}
 use Rattle.std.proofs.lemmas.List.Sums.{fold-append}
-use Rattle.run_model.proofs.Calls.{past_by, past_other}
-use Rattle.run_model.proofs.Places.{each_at, each_called, each_event}
-use Rattle.run_model.proofs.Stations.{among, is_in, not_before}
-use Rattle.run_model.proofs.Walk.{AtBegins, AtEnds, AtListening, IsKept, IsStopped, IsWhole, Place, ends_whole, ends_with, run_kept}
+use Rattle.run_laws.proofs.run_model.Calls.{past_by, past_other}
+use Rattle.run_laws.proofs.run_model.Places.{each_at, each_called, each_event}
+use Rattle.run_laws.proofs.run_model.Stations.{among, is_in, not_before}
+use Rattle.run_laws.proofs.run_model.Walk.{AtBegins, AtEnds, AtListening, IsKept, IsStopped, IsWhole, Place, ends_whole, ends_with, run_kept}
 use Rattle.run_laws.proofs.TurnPlaces.{AllStand, Between, Standing, Within, at_stage, event_past, standing, stands_first, stands_kept}
 
 -- a station stands so, or there if it was called before in the round

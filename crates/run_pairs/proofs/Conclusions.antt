@@ -30,18 +30,18 @@ use Rattle.run_laws.proofs.link_model.Acknowledging.{ack_sent}
 use Rattle.run_laws.proofs.link_model.Hearing.{IsHeardWhole}
 use Rattle.run_laws.specs.open_links.OpenLinks.{OpenLink, facts_in}
 use Rattle.controller_model.specs.declared.doing.Doing.{Doing}
-use Rattle.run_model.specs.Feeding.{AreDistinct}
-use Rattle.run_model.specs.History.{Event, Called, past_of}
-use Rattle.run_model.specs.LinkEnds.{HaveAddresses}
-use Rattle.run_model.specs.Run.{Given, facts_at, history_of, run_of, setup_at}
-use Rattle.run_model.proofs.LinkEnds.{AreTaken, IsUnderstood}
-use Rattle.run_model.proofs.Stations.{is_in}
-use Rattle.link_pairs.specs.Ends.{AreEnds, is_lasting}
-use Rattle.link_pairs.specs.Sound.{AreSoundEnds}
-use Rattle.link_pairs.specs.Turns.{prepared, sent_if}
-use Rattle.link_pairs.proofs.EndingNothing.{begun_ends_nothing, prepared_ends_nothing}
-use Rattle.link_pairs.proofs.NothingNew.{prepared_still}
-use Rattle.link_pairs.proofs.Sounding.{are_sound}
+use Rattle.run_laws.specs.run_model.Feeding.{AreDistinct}
+use Rattle.run_laws.specs.run_model.History.{Event, Called, past_of}
+use Rattle.run_laws.specs.run_model.LinkEnds.{HaveAddresses}
+use Rattle.run_laws.specs.run_model.Run.{Given, facts_at, history_of, run_of, setup_at}
+use Rattle.run_laws.proofs.run_model.LinkEnds.{AreTaken, IsUnderstood}
+use Rattle.run_laws.proofs.run_model.Stations.{is_in}
+use Rattle.link_runs.specs.link_pairs.Ends.{AreEnds, is_lasting}
+use Rattle.link_runs.specs.link_pairs.Sound.{AreSoundEnds}
+use Rattle.link_runs.specs.link_pairs.Turns.{prepared, sent_if}
+use Rattle.link_runs.proofs.link_pairs.EndingNothing.{begun_ends_nothing, prepared_ends_nothing}
+use Rattle.link_runs.proofs.link_pairs.NothingNew.{prepared_still}
+use Rattle.link_runs.proofs.link_pairs.Sounding.{are_sound}
 use Rattle.link_runs.specs.Open.{AreOpenEnds, AreTerminated, GoOnUnlessLate, GoesOnUnlessLate}
 use Rattle.link_runs.proofs.GoingOn.{lasting_goes, lasting_took_none}
 use Rattle.link_runs.proofs.Shutting.{are_terminated}

@@ -25,10 +25,10 @@ use Rattle.controller_model.specs.Facts.{Setup, Facts}
 use Rattle.controller_model.specs.Side.{facts_after}
 use Rattle.controller_model.specs.Step.{TurnBegins}
 use Rattle.controller_model.proofs.Places.{link_receiving, refusal, refused_if, refuses_at}
-use Rattle.link_pairs.specs.Ends.{HasExchange}
-use Rattle.link_pairs.specs.Hearing.{received}
-use Rattle.link_pairs.specs.Turns.{MayExchange, entered_in, prepared}
-use Rattle.link_pairs.specs.Turns as turns
+use Rattle.link_runs.specs.link_pairs.Ends.{HasExchange}
+use Rattle.link_runs.specs.link_pairs.Hearing.{received}
+use Rattle.link_runs.specs.link_pairs.Turns.{MayExchange, entered_in, prepared}
+use Rattle.link_runs.specs.link_pairs.Turns as turns
 use Rattle.run_laws.proofs.Agreed.{step_facts}
 use Rattle.run_laws.proofs.LinkPhases.{HasRole, IsInPhase}
 use Rattle.run_laws.proofs.TurnPlaces.{Between}

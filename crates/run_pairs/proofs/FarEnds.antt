@@ -28,14 +28,14 @@ use Rattle.controller_model.specs.Heard.{access_found}
 use Rattle.controller_model.specs.Packets.{listens_on}
 use Rattle.controller_model.specs.Step.{PacketHeard}
 use Rattle.controller_model.proofs.DataChannels.{link_channel}
-use Rattle.run_model.specs.Feeding.{AreDistinct}
-use Rattle.run_model.specs.History.{Event, Called, Transmitted, turns_begun}
-use Rattle.run_model.specs.LinkEnds.{HasConnectInd, HaveAddresses}
-use Rattle.run_model.specs.Run.{Given, facts_at, history_of, run_of, setup_at}
-use Rattle.run_model.proofs.LinkEnds.{AreTaken, IsUnderstood, has_connect_ind}
-use Rattle.run_model.proofs.OfStations.{OfStations, run_of_stations}
-use Rattle.run_model.proofs.Places.{each_at}
-use Rattle.run_model.proofs.Stations.{is_in}
+use Rattle.run_laws.specs.run_model.Feeding.{AreDistinct}
+use Rattle.run_laws.specs.run_model.History.{Event, Called, Transmitted, turns_begun}
+use Rattle.run_laws.specs.run_model.LinkEnds.{HasConnectInd, HaveAddresses}
+use Rattle.run_laws.specs.run_model.Run.{Given, facts_at, history_of, run_of, setup_at}
+use Rattle.run_laws.proofs.run_model.LinkEnds.{AreTaken, IsUnderstood, has_connect_ind}
+use Rattle.run_laws.proofs.run_model.OfStations.{OfStations, run_of_stations}
+use Rattle.run_laws.proofs.run_model.Places.{each_at}
+use Rattle.run_laws.proofs.run_model.Stations.{is_in}
 use Rattle.run_laws.specs.Access.{IsConnectSent, connects_sent}
 use Rattle.run_laws.specs.Ends.{HasSent, HaveOneConnectInd, IsOpen, OpenEnd, link_listened}
 use Rattle.run_laws.proofs.ChSel.{one_channel}

@@ -15,7 +15,7 @@ use Rattle.h4_frames.specs.declared.packet.Fed.TheVariants.{More, Packet, LostSy
 use Rattle.hci_cmd.specs.declared.command.CmdRead.{CmdRead}
 use Rattle.hci_cmd.specs.declared.command.CmdRead.TheVariants.{Known, UnknownOpcode, BadLength}
 use Rattle.hci_cmd.specs.Command.{command_of}
-use Rattle.host_view.specs.Unbuilt.{status_of}
+use Rattle.controller_model.specs.host_view.Unbuilt.{status_of}
 use Rattle.slot_plan.specs.declared.Activity.{Activity}
 use Rattle.slot_plan.specs.declared.Activity.TheVariants.{Link, Advertise, Scan, Initiate}
 use Rattle.slot_plan.specs.declared.plan.Hold.{Hold}
@@ -48,8 +48,8 @@ use Rattle.controller_model.specs.Step.{HostOctet, TurnBegins, TurnEnds}
 use Rattle.controller_model.proofs.Always.{ending_is, leaving_is, opening_passes, radio_shut, radio_stopped}
 use Rattle.controller_model.proofs.Phases.{EachOutcome, heard_is, unheard_is}
 use Rattle.controller_model.proofs.Places.{link_receiving, refusal, refused_if, refuses_at}
-use Rattle.run_model.specs.Run.{step_of}
-use Rattle.link_pairs.specs.Ends.{HasExchange}
+use Rattle.run_laws.specs.run_model.Run.{step_of}
+use Rattle.link_runs.specs.link_pairs.Ends.{HasExchange}
 use Rattle.run_laws.proofs.Agreed.{step_facts}
 use Rattle.run_laws.proofs.open_links.Unmoved.{entered_setup}
 use Rattle.run_laws.proofs.Entering.{IsInTurn, turn_first, turn_kept}

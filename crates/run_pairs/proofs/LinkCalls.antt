@@ -21,7 +21,7 @@ use Rattle.controller_model.specs.Radio.{facts_entering, outcome_begun, plan_in,
 use Rattle.controller_model.specs.Side.{facts_after}
 use Rattle.controller_model.proofs.Always.{ending_is, links_won, winning_is}
 use Rattle.controller_model.proofs.Places.{link_receiving, receiving_is}
-use Rattle.run_model.specs.Run.{step_of}
+use Rattle.run_laws.specs.run_model.Run.{step_of}
 use Rattle.run_laws.proofs.LinkPasses.{IsPassingOn, LeavesAll, OpensOne, ReceivesOn, is_on_link, phase_passes_on}
 use Rattle.run_laws.proofs.TurnSteps.{IsListening, begins_slot}
 use Rattle.run_pairs.proofs.UnderHandles.{IsOpenedIf, WasOpen, change_if, change_under, entered_under, fixes_under, fixing_under, listens_under, opened_under, sending_under, sends_under, sent_if, staying_under}

@@ -13,16 +13,16 @@ use Rattle.controller_model.specs.Outcome.{facts_passed}
 use Rattle.controller_model.specs.Sent.{SendsOn}
 use Rattle.controller_model.specs.Side.{facts_after, facts_of, notes_after}
 use Rattle.controller_model.specs.Step.{Step, HostOctet, TurnBegins, PacketHeard, NothingHeard, TurnEnds}
-use Rattle.run_model.specs.Due.{Each}
-use Rattle.run_model.specs.Feeding.{AreDistinct}
-use Rattle.run_model.specs.History.{Event, TurnBegan, HostFed, Called, Transmitted, packet_received, past_of, turns_begun}
-use Rattle.run_model.specs.LinkEnds.{HaveAddresses}
-use Rattle.run_model.specs.Run.{Given, after_call, after_feed, after_octets, facts_at, hearings_of, history_of, octets_left, run_of, setup_at, step_of, use_at}
-use Rattle.run_model.proofs.Calls.{past_other}
-use Rattle.run_model.proofs.LinkEnds.{received_by}
-use Rattle.run_model.proofs.Places.{each_at, each_called, each_event}
-use Rattle.run_model.proofs.Stations.{among, in_more_other, in_more_same, is_in, not_before}
-use Rattle.run_model.proofs.Walk.{AtListening, IsKept, IsStopped, IsWhole, Place, ends_with, run_kept}
+use Rattle.run_laws.specs.run_model.Due.{Each}
+use Rattle.run_laws.specs.run_model.Feeding.{AreDistinct}
+use Rattle.run_laws.specs.run_model.History.{Event, TurnBegan, HostFed, Called, Transmitted, packet_received, past_of, turns_begun}
+use Rattle.run_laws.specs.run_model.LinkEnds.{HaveAddresses}
+use Rattle.run_laws.specs.run_model.Run.{Given, after_call, after_feed, after_octets, facts_at, hearings_of, history_of, octets_left, run_of, setup_at, step_of, use_at}
+use Rattle.run_laws.proofs.run_model.Calls.{past_other}
+use Rattle.run_laws.proofs.run_model.LinkEnds.{received_by}
+use Rattle.run_laws.proofs.run_model.Places.{each_at, each_called, each_event}
+use Rattle.run_laws.proofs.run_model.Stations.{among, in_more_other, in_more_same, is_in, not_before}
+use Rattle.run_laws.proofs.run_model.Walk.{AtListening, IsKept, IsStopped, IsWhole, Place, ends_with, run_kept}
 use Rattle.run_laws.proofs.ByCalls.{first_hears}
 use Rattle.run_laws.proofs.Hearings.{AreHearing, Hears, IsPduOnAir, IsUseInPhase, hearing_kept, own_facts, own_hears, sends_deaf, use_in_phase, use_same, wanted_is}
 use Rattle.run_laws.proofs.LinkPhases.{IsInPhase, SendsAs, in_phase, sends_as}

@@ -5,7 +5,7 @@ use Rattle.std.specs.Prelude.{⊤, fold, ◌&&◌, if◌then◌else◌}
 use Rattle.std.proofs.lemmas.List.Sums.{fold-append}
 use Rattle.adv_pdu.specs.declared.pdu.AdvPdu.{AdvPdu}
 use Rattle.adv_pdu.specs.Ranges.{IsInRange}
-use Rattle.procedure_values.specs.Values.{IsPayloadMax}
+use Rattle.link_runs.specs.procedure_values.Values.{IsPayloadMax}
 use Rattle.run_laws.specs.link_model.Setup.{Setup as EndSetup}
 use Rattle.run_laws.specs.link_model.Step.{Step as EndStep, DataGiven, DataReported, Disconnected, EventEntered, PacketReceived, PacketSent, PduFixed, ProcedureAsked, RequestAnswered}
 use Rattle.run_laws.specs.link_model.Facts.{Facts as EndFacts}
@@ -25,9 +25,9 @@ use Rattle.controller_model.proofs.Always.{MayBegin, opening_passes}
 use Rattle.controller_model.proofs.LinkFields.{range_of_test}
 use Rattle.controller_model.proofs.Phases.{EachOutcome, heard_is, unheard_is}
 use Rattle.controller_model.proofs.Places.{link_receiving, refused_if, refuses_at}
-use Rattle.run_model.specs.Run.{step_of}
-use Rattle.run_model.proofs.LinkEnds.{AreTaken}
-use Rattle.link_pairs.specs.Hosts.{MayHost}
+use Rattle.run_laws.specs.run_model.Run.{step_of}
+use Rattle.run_laws.proofs.run_model.LinkEnds.{AreTaken}
+use Rattle.link_runs.specs.link_pairs.Hosts.{MayHost}
 use Rattle.link_runs.specs.Runs.{MayHostAll}
 use Rattle.run_laws.proofs.Entering.{taken_in_range}
 use Rattle.run_laws.proofs.InAgreement.{IsStation, OpenedBefore, first_station, station_begins, station_ends, station_fed, station_passes}

@@ -14,11 +14,11 @@ use Rattle.run_laws.proofs.link_model.Hearing.{IsHeardWhole}
 use Rattle.run_laws.specs.open_links.OpenLinks.{OpenLink, facts_in}
 use Rattle.controller_model.specs.declared.doing.Doing.{Doing}
 use Rattle.controller_model.proofs.Places.{refusal}
-use Rattle.link_pairs.specs.Ends.{AreEnds}
-use Rattle.link_pairs.specs.Hearing.{IsPacketOf, answered, received}
-use Rattle.link_pairs.specs.Turns.{MayExchange, central_begun, prepared}
-use Rattle.link_pairs.specs.Turns as turns
-use Rattle.control_octets.specs.Fitting.{CodeFits}
+use Rattle.link_runs.specs.link_pairs.Ends.{AreEnds}
+use Rattle.link_runs.specs.link_pairs.Hearing.{IsPacketOf, answered, received}
+use Rattle.link_runs.specs.link_pairs.Turns.{MayExchange, central_begun, prepared}
+use Rattle.link_runs.specs.link_pairs.Turns as turns
+use Rattle.link_runs.specs.control_octets.Fitting.{CodeFits}
 use Rattle.link_runs.specs.Open.{AreOpenEnds}
 use Rattle.link_runs.specs.Runs.{MayHostAll}
 use Rattle.link_runs.specs.Turn.{facts_hosted}

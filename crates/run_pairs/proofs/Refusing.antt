@@ -5,7 +5,7 @@ use Rattle.ble_base.specs.declared.roles.Role.{Role}
 use Rattle.ble_base.specs.declared.roles.Role.TheVariants.{Central, Peripheral}
 use Rattle.data_pdu.specs.declared.header.DataHeader.{DataHeader}
 use Rattle.data_pdu.specs.Header.{header_in}
-use Rattle.procedure_values.specs.declared.asks.Ask.{Ask}
+use Rattle.link_runs.specs.procedure_values.declared.asks.Ask.{Ask}
 use Rattle.run_laws.specs.link_model.Acknowledgement.{Pdu, is_acked}
 use Rattle.run_laws.specs.link_model.Facts.{Facts}
 use Rattle.run_laws.specs.link_model.Hosts.{facts_answered}
@@ -15,8 +15,8 @@ use Rattle.run_laws.specs.link_model.Sending.{control_gone_if, facts_sent, fixed
 use Rattle.run_laws.specs.link_model.Setup.{Setup}
 use Rattle.run_laws.specs.link_model.Controls.{is_procedure_pdu}
 use Rattle.run_laws.specs.link_model.Verdicts.{pdu_of}
-use Rattle.link_pairs.specs.Hearing.{received}
-use Rattle.link_pairs.proofs.Items.{never}
+use Rattle.link_runs.specs.link_pairs.Hearing.{received}
+use Rattle.link_runs.proofs.link_pairs.Items.{never}
 use Rattle.run_pairs.proofs.Stages.{with_more}
 
 -- after a good packet no control PDU leaves the queue of a peripheral

@@ -3,8 +3,8 @@ use Rattle.std.proofs.Common.{◌≡◌, ℕ, ◌&&◌, Bool, true, false, Optio
 use Rattle.std.specs.Prelude.{if◌then◌else◌}
 use Rattle.ble_base.specs.declared.roles.Role.{Role}
 use Rattle.data_pdu.specs.Header.{header_in}
-use Rattle.procedure_stages.specs.declared.steps.Effect.{Effect}
-use Rattle.procedure_stages.specs.declared.steps.Effect.TheVariants.{Lengths as new_lengths}
+use Rattle.link_runs.specs.procedure_stages.declared.steps.Effect.{Effect}
+use Rattle.link_runs.specs.procedure_stages.declared.steps.Effect.TheVariants.{Lengths as new_lengths}
 use Rattle.run_laws.specs.link_model.declared.state.KnownLengths.{KnownLengths}
 use Rattle.run_laws.specs.link_model.Acknowledgement.{Pdu}
 use Rattle.run_laws.specs.link_model.Controls.{is_procedure_pdu}
@@ -18,7 +18,7 @@ use Rattle.run_laws.specs.link_model.Sending.{control_gone_if, facts_sent, takes
 use Rattle.run_laws.specs.link_model.Setup.{Setup as EndSetup}
 use Rattle.run_laws.specs.link_model.Step.{Step as EndStep, DataGiven, DataReported, Disconnected, EventEntered, PacketReceived, PacketSent, PduFixed, ProcedureAsked, RequestAnswered}
 use Rattle.run_laws.specs.link_model.Verdicts.{pdu_of}
-use Rattle.link_pairs.specs.Hosts.{MayHost}
+use Rattle.link_runs.specs.link_pairs.Hosts.{MayHost}
 use Rattle.link_runs.specs.Runs.{MayHostAll}
 use Rattle.link_runs.specs.Turn.{facts_hosted}
 

@@ -3,12 +3,12 @@ use Rattle.std.proofs.Common.{◌≡◌, ◌&&◌, ◌⊎◌, Result, inl, inr, 
 use Rattle.ble_base.specs.declared.error_codes.ErrCode.{ErrCode}
 use Rattle.ble_base.specs.ErrorCodes.{terminated_by_local_host}
 use Rattle.ble_base.specs.declared.verdicts.Verdict.TheVariants.{Good}
-use Rattle.procedure_values.specs.declared.asks.Ask.{Ask}
-use Rattle.procedure_stages.specs.InProgress.{is_host_asked}
-use Rattle.procedures.specs.Going.{host_answer_step, is_answer}
-use Rattle.procedures.specs.Table.{TableFacts}
-use Rattle.control_model.specs.Control.{Control, table_if}
-use Rattle.joint_controls.specs.Joint.{has_passed, last_change}
+use Rattle.link_runs.specs.procedure_values.declared.asks.Ask.{Ask}
+use Rattle.link_runs.specs.procedure_stages.InProgress.{is_host_asked}
+use Rattle.link_runs.specs.procedures.Going.{host_answer_step, is_answer}
+use Rattle.link_runs.specs.procedures.Table.{TableFacts}
+use Rattle.link_runs.specs.control_model.Control.{Control, table_if}
+use Rattle.link_runs.specs.joint_controls.Joint.{has_passed, last_change}
 use Rattle.run_laws.specs.link_model.declared.events.Reception.{Reception}
 use Rattle.run_laws.specs.link_model.Acknowledgement.{Acknowledgement}
 use Rattle.run_laws.specs.link_model.End.{facts_after}
@@ -21,30 +21,30 @@ use Rattle.run_laws.specs.link_model.Packets.{verdict_of}
 use Rattle.run_laws.specs.link_model.declared.state.Leaving.{Leaving}
 use Rattle.run_laws.specs.link_model.Times.{due_of, ended_by_procedures, ending_of}
 use Rattle.run_laws.proofs.link_model.Hearing.{IsHeardWhole}
-use Rattle.link_pairs.specs.Ends.{AreEnds, IsAtRest, is_lasting, turns_at}
-use Rattle.link_pairs.specs.Hearing.{IsPacketOf, answered, received}
-use Rattle.link_pairs.specs.Hosts.{MayHost}
-use Rattle.link_pairs.specs.Parting.{ArePartingFrom, HasSeenTerminate}
-use Rattle.link_pairs.specs.Shown.{AreLinked, Shows, link_of}
-use Rattle.link_pairs.specs.Sound.{EndsForInstant}
-use Rattle.link_pairs.specs.Turns.{MayExchange, central_begun, prepared, sent_if}
-use Rattle.link_pairs.proofs.CentralHears.{hears}
-use Rattle.link_pairs.proofs.Counts.{turned}
-use Rattle.link_pairs.proofs.Ending.{answered_ends, central_lasts as central_goes, peripheral_lasts as peripheral_goes}
-use Rattle.link_pairs.proofs.EndingNothing.{begun_ends_nothing, host_ends_nothing, prepared_ends_nothing}
-use Rattle.link_pairs.proofs.First.{first_linked}
-use Rattle.link_pairs.proofs.HeardCounts.{hearing_agreed}
-use Rattle.link_pairs.proofs.Hosting.{central_hosts, peripheral_hosts}
-use Rattle.link_pairs.proofs.NothingNew.{host_still, prepared_still, sender_still, taker_still}
-use Rattle.link_pairs.proofs.PartingBegins.{central_took, peripheral_took}
-use Rattle.link_pairs.proofs.PartingEndings.{taker_ends}
-use Rattle.link_pairs.proofs.PeripheralHears.{hears_linked}
-use Rattle.link_pairs.proofs.Reading.{AreHeard, are_heard, is_read}
-use Rattle.link_pairs.proofs.SenderHears.{has_seen, hears_the_end}
-use Rattle.link_pairs.proofs.Sounding.{are_sound}
-use Rattle.link_pairs.proofs.TakerSends.{begun_parting}
-use Rattle.link_pairs.proofs.Turning.{begun_hears, prepared_hears, turn_begun}
-use Rattle.link_pairs.proofs.Understanding.{good_at_central, good_at_peripheral}
+use Rattle.link_runs.specs.link_pairs.Ends.{AreEnds, IsAtRest, is_lasting, turns_at}
+use Rattle.link_runs.specs.link_pairs.Hearing.{IsPacketOf, answered, received}
+use Rattle.link_runs.specs.link_pairs.Hosts.{MayHost}
+use Rattle.link_runs.specs.link_pairs.Parting.{ArePartingFrom, HasSeenTerminate}
+use Rattle.link_runs.specs.link_pairs.Shown.{AreLinked, Shows, link_of}
+use Rattle.link_runs.specs.link_pairs.Sound.{EndsForInstant}
+use Rattle.link_runs.specs.link_pairs.Turns.{MayExchange, central_begun, prepared, sent_if}
+use Rattle.link_runs.proofs.link_pairs.CentralHears.{hears}
+use Rattle.link_runs.proofs.link_pairs.Counts.{turned}
+use Rattle.link_runs.proofs.link_pairs.Ending.{answered_ends, central_lasts as central_goes, peripheral_lasts as peripheral_goes}
+use Rattle.link_runs.proofs.link_pairs.EndingNothing.{begun_ends_nothing, host_ends_nothing, prepared_ends_nothing}
+use Rattle.link_runs.proofs.link_pairs.First.{first_linked}
+use Rattle.link_runs.proofs.link_pairs.HeardCounts.{hearing_agreed}
+use Rattle.link_runs.proofs.link_pairs.Hosting.{central_hosts, peripheral_hosts}
+use Rattle.link_runs.proofs.link_pairs.NothingNew.{host_still, prepared_still, sender_still, taker_still}
+use Rattle.link_runs.proofs.link_pairs.PartingBegins.{central_took, peripheral_took}
+use Rattle.link_runs.proofs.link_pairs.PartingEndings.{taker_ends}
+use Rattle.link_runs.proofs.link_pairs.PeripheralHears.{hears_linked}
+use Rattle.link_runs.proofs.link_pairs.Reading.{AreHeard, are_heard, is_read}
+use Rattle.link_runs.proofs.link_pairs.SenderHears.{has_seen, hears_the_end}
+use Rattle.link_runs.proofs.link_pairs.Sounding.{are_sound}
+use Rattle.link_runs.proofs.link_pairs.TakerSends.{begun_parting}
+use Rattle.link_runs.proofs.link_pairs.Turning.{begun_hears, prepared_hears, turn_begun}
+use Rattle.link_runs.proofs.link_pairs.Understanding.{good_at_central, good_at_peripheral}
 use Rattle.link_runs.specs.Open.{AreOpenEnds, GoesOnUnlessLate}
 use Rattle.link_runs.proofs.EventsKept.{answered_in_event, ended_no_reply}
 use Rattle.link_runs.proofs.GoingOn.{lasting_by, lasting_goes, open_goes_on, shut_by, still_lasts}

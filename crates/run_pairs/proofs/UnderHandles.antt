@@ -12,7 +12,7 @@ use Rattle.hci_cmd.specs.declared.command.Command.TheVariants.{Reset}
 use Rattle.hci_cmd.specs.declared.command.CmdRead.{CmdRead}
 use Rattle.hci_cmd.specs.declared.command.CmdRead.TheVariants.{Known, UnknownOpcode, BadLength}
 use Rattle.hci_cmd.specs.Command.{command_of}
-use Rattle.host_view.specs.Unbuilt.{status_of}
+use Rattle.controller_model.specs.host_view.Unbuilt.{status_of}
 use Rattle.run_laws.specs.link_model.Setup.{Setup as EndSetup}
 use Rattle.run_laws.specs.link_model.Step.{Step as EndStep, DataGiven, DataReported, PduFixed, PacketSent}
 use Rattle.run_laws.specs.open_links.declared.offers.Offer.{Offer}
@@ -33,7 +33,7 @@ use Rattle.controller_model.specs.Packets.{links_sending}
 use Rattle.controller_model.specs.Radio.{links_fixing}
 use Rattle.controller_model.specs.Side.{facts_after, facts_fed, result_of}
 use Rattle.controller_model.proofs.Always.{leaving_is}
-use Rattle.link_pairs.specs.Hosts.{MayHost}
+use Rattle.link_runs.specs.link_pairs.Hosts.{MayHost}
 use Rattle.link_runs.specs.Runs.{MayHostAll}
 use Rattle.link_runs.specs.Turn.{facts_hosted}
 use Rattle.run_laws.proofs.Agreed.{step_facts}

@@ -2,8 +2,8 @@
 use Rattle.std.specs.Prelude.{◌≡◌, ℕ, List, ◌∷◌, ◌++◌}
 use Rattle.run_laws.specs.open_links.OpenLinks.{OpenLink, facts_in}
 use Rattle.controller_model.specs.Step.{PacketHeard}
-use Rattle.run_model.specs.History.{Event, Called}
-use Rattle.run_model.specs.Run.{Given, facts_at}
+use Rattle.run_laws.specs.run_model.History.{Event, Called}
+use Rattle.run_laws.specs.run_model.Run.{Given, facts_at}
 use Rattle.run_laws.specs.Ends.{HasSent, HaveOneConnectInd, OpenEnd, ReceivesGood}
 
 -- the far end has sent this packet on this channel, in the turn in which the end is called

@@ -5,11 +5,11 @@ use Rattle.run_laws.specs.link_model.Facts.{Facts}
 use Rattle.run_laws.specs.link_model.OneLink.{AreInAgreement}
 use Rattle.run_laws.specs.link_model.Setup.{Setup}
 use Rattle.run_laws.specs.link_model.Times.{ending_of}
-use Rattle.link_pairs.specs.Ends.{heard_turns, is_lasting}
-use Rattle.link_pairs.specs.Parting.{ArePartingFrom, HasSeenTerminate}
-use Rattle.link_pairs.specs.Shown.{AreLinked}
-use Rattle.link_pairs.specs.Sound.{EndsForInstant}
-use Rattle.link_pairs.specs.Turns.{HaveBegun}
+use Rattle.link_runs.specs.link_pairs.Ends.{heard_turns, is_lasting}
+use Rattle.link_runs.specs.link_pairs.Parting.{ArePartingFrom, HasSeenTerminate}
+use Rattle.link_runs.specs.link_pairs.Shown.{AreLinked}
+use Rattle.link_runs.specs.link_pairs.Sound.{EndsForInstant}
+use Rattle.link_runs.specs.link_pairs.Turns.{HaveBegun}
 use Rattle.link_runs.specs.Open.{AreOpenEnds, GoesOnUnlessLate}
 
 -- ---- both have begun the turn in this slot, and nothing is received in it

@@ -1,9 +1,9 @@
 -- The proof of the law `ends_of_a_pair_are_linked`.
 use Rattle.std.proofs.Common.{[], ◌∷◌, refl}
-use Rattle.run_model.specs.Pair.{given_of}
-use Rattle.run_model.proofs.LinkEnds.{pair_addresses}
-use Rattle.run_model.proofs.Ordered.{pair_distinct}
-use Rattle.run_model.specs.History.{TurnBegan}
+use Rattle.run_laws.specs.run_model.Pair.{given_of}
+use Rattle.run_laws.proofs.run_model.LinkEnds.{pair_addresses}
+use Rattle.run_laws.proofs.run_model.Ordered.{pair_distinct}
+use Rattle.run_laws.specs.run_model.History.{TurnBegan}
 use Rattle.run_pairs.proofs.CallPlaces.{whole_history}
 use Rattle.run_pairs.proofs.pairs.ends_of_a_pair_are_linked.Goals as goal
 
