@@ -1,9 +1,8 @@
 -- In every run two ends of one link stand to each other so as each call leaves them.
 use Rattle.std.proofs.Common.{◌≡◌, ◌⊎◌, inl, inr, ℕ, zero, suc, ◌+◌, ◌==◌, Bool, true, false, Option, Some, None, List, [], ◌∷◌, ◌++◌, append-nil, append_assoc, is_none, refl, sym, ap, subst, ◌∙◌, arith}
-use Rattle.std.specs.Prelude.{⊤, fold, if◌then◌else◌}
+use Rattle.std.specs.Prelude.{⊤, if◌then◌else◌}
 use Rattle.std.specs.Option.{option_map}
 use Rattle.std.proofs.lemmas.Bool.{eqb-true}
-use Rattle.std.proofs.lemmas.List.Sums.{fold-append}
 use Rattle.ble_base.specs.declared.error_codes.ErrCode.{ErrCode}
 use Rattle.ble_base.specs.declared.roles.Role.TheVariants.{Central, Peripheral}
 use Rattle.ble_base.specs.declared.verdicts.Verdict.TheVariants.{Good}
@@ -45,7 +44,7 @@ use Rattle.run_laws.proofs.TurnPlaces.{Between, Standing, Within, at_stage, even
 use Rattle.run_laws.proofs.TwoStations.{differs_back}
 use Rattle.run_pairs.specs.InTurns.{HasSentNow, HearEachInTurn, HearsInTurn}
 use Rattle.run_pairs.specs.Stages.{AreHeardEnds}
-use Rattle.run_pairs.proofs.CallPlaces.{StandsAt, StandsInPhase, stands_called}
+use Rattle.run_pairs.proofs.CallPlaces.{more_of, StandsAt, StandsInPhase, stands_called}
 use Rattle.run_pairs.proofs.EndCalls.{IsEndBegun, central_sends, central_silent, central_takes_in, end_begun, peripheral_listens, peripheral_takes_in, peripheral_unsent, refused_facts, taking_facts}
 use Rattle.run_pairs.proofs.LinkCalls.{HasPassed, IsNew, Stays, Takes, begins_under, passes_under}
 use Rattle.run_pairs.proofs.OneSide.{LastBefore, StationAt, begun_setup, received_last, station_first, station_kept, taken_setup}
@@ -54,9 +53,6 @@ use Rattle.run_pairs.proofs.Stages.{new_ends}
 use Rattle.run_pairs.proofs.UnderHandles.{end_under, fixes_under, listens_under, octet_under, sends_under, sent_if}
 
 -- ---- the standing of a controller after one more call
-
-more_of : {A B : Type 0} (f : A → B → A) (start : A) (past : List B) (one : B) (so_far : A) → fold f start past ≡ so_far → fold f start (past ++ one ∷ []) ≡ f so_far one
-more_of f start past one so_far is = fold-append f start past (one ∷ []) ∙ ap (λ a. f a one) is
 
 fed_next : (past : List Step) (octet turns : ℕ) → standing past ≡ Some (at_stage Between turns) → standing (past ++ HostOctet octet ∷ []) ≡ Some (at_stage Between turns)
 fed_next past octet turns is = more_of _ _ past (HostOctet octet) _ is
@@ -334,12 +330,15 @@ module _ (whole : IsHeardWhole) (taken : AreTaken) (given : Given) (distinct : A
             silent : (sends_next setup_c facts_c central.handle received) ≡ false
             silent = replies ∙ central_silent one.setup facts_c.turn.slot octets (room_of setup_c facts_c) (facts_in one) role
 
-            facts_are : facts_in c ≡ refused_facts (refuses_at central.handle (room_of setup_c facts_c) octets facts_c) S (received_facts S facts_c.turn.slot octets (room_of setup_c facts_c) (facts_in one))
+            facts_are : facts_in c ≡ refused_facts (refuses_at central.handle (room_of setup_c facts_c) octets facts_c) S (received_facts S facts_c.turn.slot octets (room_of
+                setup_c facts_c) (facts_in one))
             facts_are =
                 ap facts_in same ∙ taking_facts (sends_next setup_c facts_c central.handle received) central.handle (room_of setup_c facts_c) octets facts_c one
                 ∙ ap (λ b. sends_if b one.setup facts_c.turn.slot
-                (refused_facts (refuses_at central.handle (room_of setup_c facts_c) octets facts_c) one.setup (received_facts one.setup facts_c.turn.slot octets (room_of setup_c facts_c) (facts_in one)))) silent
-                ∙ ap (λ (s : EndSetup). refused_facts (refuses_at central.handle (room_of setup_c facts_c) octets facts_c) s (received_facts s facts_c.turn.slot octets (room_of setup_c facts_c) (facts_in one))) setups
+                (refused_facts (refuses_at central.handle (room_of setup_c facts_c) octets facts_c) one.setup (received_facts one.setup facts_c.turn.slot octets (room_of setup_c
+                facts_c) (facts_in one)))) silent
+                ∙ ap (λ (s : EndSetup). refused_facts (refuses_at central.handle (room_of setup_c facts_c) octets facts_c) s (received_facts s facts_c.turn.slot octets (room_of
+                setup_c facts_c) (facts_in one))) setups
 
             facts_same : facts_at given central.station before ≡ facts_c
             facts_same = ap (facts_of setup_c) (sym pc_is)
@@ -553,7 +552,8 @@ module _ (whole : IsHeardWhole) (taken : AreTaken) (given : Given) (distinct : A
         let has = end_under setup_p facts_p h p (after_call_at setup_p pp TurnEnds h p at_p) in
         let setups : has.link.setup ≡ T = sym (ap (λ (l : OpenLink). l.setup) has.is ∙ reported_setup has.reports has.link) ∙ setup_too in
         let facts_are = ap facts_in has.is ∙ reported_facts has.reports T has.link in
-        by (facts_of setup_p (pp ++ TurnEnds ∷ [])).turn.doing called other c p has.link has.reports at_c setup has.was setups facts_are (none_code (ending_of (facts_in p)) has.stays) (keeps c has.link at_c setup has.was setups)
+        by (facts_of setup_p (pp ++ TurnEnds ∷ [])).turn.doing called other c p has.link has.reports at_c setup has.was setups facts_are (none_code (ending_of (facts_in p))
+        has.stays) (keeps c has.link at_c setup has.was setups)
       where
         slot_is : facts_p.turn.slot + 1 ≡ turns
         slot_is = (station_at setup_p pp (at_stage (Within 3) turns) own).holds.in_turn.slot_is

@@ -80,7 +80,7 @@ all_between given history turns station is all = record {
 }
 
 -- a fold over one more
-more_of : {A B : Type 0} (f : A → B → A) (start : A) (past : List B) (one : B) (so_far : A) → fold f start past ≡ so_far → fold f start (past ++ one ∷ []) ≡ f so_far one
+pub more_of : {A B : Type 0} (f : A → B → A) (start : A) (past : List B) (one : B) (so_far : A) → fold f start past ≡ so_far → fold f start (past ++ one ∷ []) ≡ f so_far one
 more_of f start past one so_far is = fold-append f start past (one ∷ []) ∙ ap (λ a. f a one) is
 
 -- an octet leaves each station between two turns

@@ -270,7 +270,8 @@ module _ (whole : IsHeardWhole) (understood : IsUnderstood) (taken : AreTaken) (
           → AreBothBegun S_in T_in peripheral.handle facts_p.turn.slot facts_p.turn.doing central.link peripheral.link
       p_begun zero i is (inr stands) = stands facts_p.turn.slot (sym p_side.holds.in_turn.slot_is)
       p_begun zero i is (inl new) =
-          let old = open_has (OpenedBefore facts_p.turn.slot) 0 peripheral.handle facts_p.links peripheral.link (p_side.station.old (on_link peripheral.handle facts_p.turn.doing listens)) is_open_too in
+          let old = open_has (OpenedBefore facts_p.turn.slot) 0 peripheral.handle facts_p.links peripheral.link (p_side.station.old (on_link peripheral.handle facts_p.turn.doing
+          listens)) is_open_too in
           not_new _ T_in.opened facts_p.turn.slot p_stands.turns old p_side.holds.in_turn.slot_is (ap (λ n. n + 1) (sym pair_ends.one_link.opened) ∙ new)
       p_begun (suc n) i is stands = absurd (omega (arith, is))
 

@@ -7,7 +7,8 @@ use Rattle.run_laws.specs.run_model.Run.{Given, facts_at}
 use Rattle.run_laws.specs.Ends.{HasSent, HaveOneConnectInd, OpenEnd, ReceivesGood}
 
 -- the far end has sent this packet on this channel, in the turn in which the end is called
-pub record HasSentNow (given : Given) (before : List Event) (end far : OpenEnd) (channel : ℕ) (octets : List ℕ) : Type 0 where
+pub record HasSentNow (given : Given) (before : List Event) (end far : OpenEnd) (channel : ℕ) (octets : List ℕ)
+    : Type 0 where
   pub sent : HasSent given before far channel octets
   pub now : sent.slot ≡ (facts_at given end.station before).turn.slot
 

@@ -1,5 +1,5 @@
--- Two open ends of a link in a turn, from call to call: as both have begun it, as the peripheral has heard what it hears,
--- and as the central has, too (Core 5.2, volume 6 part B, sections 4.5.1, 4.5.9, 5.1.6 and 5.5.1).
+-- Two open ends of a link in a turn, from call to call: as both have begun it, as the peripheral has heard what it
+-- hears, and as the central has, too (Core 5.2, volume 6 part B, sections 4.5.1, 4.5.9, 5.1.6 and 5.5.1).
 use Rattle.std.specs.Prelude.{◌≡◌, ◌⊎◌, ℕ, ◌+◌, ◌≤◌, Bool, true, false, None, Some, is_none}
 use Rattle.run_laws.specs.link_model.Facts.{Facts}
 use Rattle.run_laws.specs.link_model.OneLink.{AreInAgreement}
@@ -53,7 +53,8 @@ pub record IsOverLink (c p : Facts) : Type 0 where
 pub data AreAnsweredEnds (central peripheral : Setup) (slot : ℕ) (answers : Bool) (c p : Facts) : Type 0 where
   Lasts : IsAnsweredLink central peripheral slot answers c p → AreAnsweredEnds central peripheral slot answers c p
   PeripheralTook : ArePartingFrom peripheral central p c → AreAnsweredEnds central peripheral slot answers c p
-  CentralTook : ArePartingFrom central peripheral c p → answers ≡ false → AreAnsweredEnds central peripheral slot answers c p
+  CentralTook :
+      ArePartingFrom central peripheral c p → answers ≡ false → AreAnsweredEnds central peripheral slot answers c p
   IsLate : IsLateLink c p → answers ≡ false → AreAnsweredEnds central peripheral slot answers c p
   IsOver : IsOverLink c p → answers ≡ false → AreAnsweredEnds central peripheral slot answers c p
 

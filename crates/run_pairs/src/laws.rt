@@ -46,8 +46,8 @@ pub fn open_ends_are_linked()
     advertise::laws::connections_are_taken();
 }
 
-/// Where the link lasts at both ends then, no procedure or LL_TERMINATE_IND of the peer having ended
-/// it, they are a joint run that goes on: in events of one number in which the same number of
+/// Where the link lasts at both ends then, which neither a procedure ended nor LL_TERMINATE_IND of
+/// the peer, they are a joint run that goes on: in events of one number in which the same number of
 /// indications hold they have equal parameters and one anchor, and at most ten control PDUs wait at
 /// each. At any place of a run their counts agree, also where one of them ends the link in this
 /// turn (Core 5.2, volume 6 part B, sections 4.5.9, 4.5.10 and 5.5).

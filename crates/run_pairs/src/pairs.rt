@@ -16,15 +16,16 @@ ghost use Rattle.run_laws.specs.run_model.Run.{Given, GoesOn, facts_at, history_
 ghost use Rattle.link_runs.specs.link_pairs.Ends.{is_lasting};
 ghost use Rattle.link_runs.specs.link_pairs.Sound.{AreSoundEnds};
 ghost use Rattle.link_runs.specs.Open.{AreOpenEnds, AreTerminated, GoOnUnlessLate};
-ghost use Rattle.run_laws.specs.Ends.{AreEnds, HasSent, HaveOneConnectInd, IsOpen, OpenEnd, link_listened};
+ghost use Rattle.run_laws.specs.Ends.{AreEnds, HasSent, HaveOneConnectInd, IsOpen, OpenEnd};
+ghost use Rattle.run_laws.specs.Ends.{link_listened};
 ghost use Rattle.run_pairs.specs.InTurns.{HasSentNow, HearEachInTurn};
 
 /// In a run of two stations, with any number of links each, each good packet that an end of a link
-/// receives is what the other end of this link sent in the same turn. Another link may have the same
-/// access address and channel. But no two links of one central have one address, and a central sends
-/// in the first phase of a turn, where no central listens. A packet that the far end sent last, and
-/// that reaches an end that listens on the link, was sent in the same turn (Core 5.2, volume 6 part
-/// B, sections 2.1.2 and 4.5.1).
+/// receives is what the other end of this link sent in the same turn. Another link may have the
+/// same access address and channel. But no two links of one central have one address, and a central
+/// sends in the first phase of a turn, where no central listens. A packet that the far end sent
+/// last, and that reaches an end that listens on the link, was sent in the same turn (Core 5.2,
+/// volume 6 part B, sections 2.1.2 and 4.5.1).
 pub fn both_ends_hear_each_other_in_turns()
     ensures hear { (given : Given) (one other : ℕ) (before rest : List Event)
         (central peripheral : OpenEnd) → given.stations ≡ one ∷ other ∷ []
@@ -47,10 +48,10 @@ pub fn both_ends_hear_each_other_in_turns()
     scan_init::laws::searches_give_each_valid_address();
 }
 
-/// Before each turn of a run of a pair, and at its end, both open ends of a link are linked, and the
-/// link lasts at both; or the central has taken LL_TERMINATE_IND, and is shut once it has sent. So
-/// it is whatever each host does, and whatever the radio loses or changes (Core 5.2, volume 6 part
-/// B, sections 4.5 and 5.1.6).
+/// Before each turn of a run of a pair, and at its end, both open ends of a link are linked, and
+/// the link lasts at both; or the central has taken LL_TERMINATE_IND, and is shut once it has sent.
+/// So it is whatever each host does, and whatever the radio loses or changes (Core 5.2, volume 6
+/// part B, sections 4.5 and 5.1.6).
 pub fn ends_of_a_pair_are_linked()
     ensures before_a_turn { (a b : List ℕ) (script : Script) (before rest : List Event)
         (slot : ℕ) (radios : List Bool) (central peripheral : OpenEnd)
@@ -78,11 +79,11 @@ pub fn ends_of_a_pair_are_linked()
 }
 
 /// Where the link lasts at both ends then, they are a joint run that goes on. At any place of the
-/// run their counts agree, no procedure of the central has ended the link, and one of the peripheral
-/// only with 0x28, where the Instant of the last indication that the central sent has passed there.
-/// So an end that is shut at the end of a turn is shut with 0x16 or with the code of its peer, or it
-/// is a peripheral and shut with 0x28 (Core 5.2, volume 6 part B, sections 4.5.9, 5.1.6, 5.3 and
-/// 5.5).
+/// run their counts agree, no procedure of the central has ended the link, and one of the
+/// peripheral only with 0x28, where the Instant of the last indication that the central sent has
+/// passed there. So an end that is shut at the end of a turn is shut with 0x16 or with the code of
+/// its peer, or it is a peripheral and shut with 0x28 (Core 5.2, volume 6 part B, sections 4.5.9,
+/// 5.1.6, 5.3 and 5.5).
 pub fn ends_of_a_pair_are_sound()
     ensures before_a_turn { (a b : List ℕ) (script : Script) (before rest : List Event)
         (slot : ℕ) (radios : List Bool) (central peripheral : OpenEnd)
@@ -147,8 +148,8 @@ pub fn ends_of_a_pair_are_sound()
 }
 
 /// Where a station of a pair is called with a packet, listens on the link of one of the ends, and
-/// the last that happened to the far end is that it sent this packet on the channel of its event, the
-/// packet is good, and was sent in the same turn (Core 5.2, volume 6 part B, sections 2.1 and
+/// the last that happened to the far end is that it sent this packet on the channel of its event,
+/// the packet is good, and was sent in the same turn (Core 5.2, volume 6 part B, sections 2.1 and
 /// 4.5.10).
 pub fn packets_of_a_pair_are_understood()
     ensures peripheral { (a b : List ℕ) (script : Script) (before rest : List Event)
@@ -162,7 +163,8 @@ pub fn packets_of_a_pair_are_understood()
         → IsOpen (given_of a b script) before peripheral
         → link_listened (facts_at (given_of a b script) peripheral.station before).turn.doing
         ≡ Some peripheral.handle
-        → HasSent (given_of a b script) before central (facts_in peripheral.link).event.channel octets
+        → HasSent (given_of a b script) before central
+        (facts_in peripheral.link).event.channel octets
         → (verdict_of peripheral.link.setup (facts_in peripheral.link) octets ≡ Good)
         × HasSentNow (given_of a b script) before peripheral central
         (facts_in peripheral.link).event.channel octets }
@@ -177,7 +179,8 @@ pub fn packets_of_a_pair_are_understood()
         → IsOpen (given_of a b script) before peripheral
         → link_listened (facts_at (given_of a b script) central.station before).turn.doing
         ≡ Some central.handle
-        → HasSent (given_of a b script) before peripheral (facts_in central.link).event.channel octets
+        → HasSent (given_of a b script) before peripheral
+        (facts_in central.link).event.channel octets
         → (verdict_of central.link.setup (facts_in central.link) octets ≡ Good)
         × HasSentNow (given_of a b script) before central peripheral
         (facts_in central.link).event.channel octets }
