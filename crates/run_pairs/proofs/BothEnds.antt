@@ -117,24 +117,24 @@ packet_now given before rest end far listener octets p distinct in_too at is_ope
 -- ---- what is kept of both ends
 
 abbrev pub ByStanding : EndSetup → EndSetup → ℕ → Option Standing → Option Standing → Doing → OpenLink → OpenLink → Type 0
-ByStanding S T h None other doing c p = ⊤
-ByStanding S T h (Some one) None doing c p = ⊤
-ByStanding S T h (Some one) (Some other) doing c p = AtPlace S T h one.stage other.stage one.begun other.begun doing c p
+ByStanding c_end p_end p_handle None other doing c p = ⊤
+ByStanding c_end p_end p_handle (Some one) None doing c p = ⊤
+ByStanding c_end p_end p_handle (Some one) (Some other) doing c p = AtPlace c_end p_end p_handle one.stage other.stage one.begun other.begun doing c p
 
-by_standing : (S T : EndSetup) (h : ℕ) (one other : Standing) (may may_too : Option Standing) (doing : Doing) (c p : OpenLink) → may ≡ Some one → may_too ≡ Some other
-    → AtPlace S T h one.stage other.stage one.begun other.begun doing c p → ByStanding S T h may may_too doing c p
-by_standing S T h one other may may_too doing c p is is_too at =
-    subst (λ o. ByStanding S T h o may_too doing c p) (sym is) (subst (λ o. ByStanding S T h (Some one) o doing c p) (sym is_too) at)
+by_standing : (c_end p_end : EndSetup) (p_handle : ℕ) (one other : Standing) (may may_too : Option Standing) (doing : Doing) (c p : OpenLink) → may ≡ Some one → may_too ≡ Some other
+    → AtPlace c_end p_end p_handle one.stage other.stage one.begun other.begun doing c p → ByStanding c_end p_end p_handle may may_too doing c p
+by_standing c_end p_end p_handle one other may may_too doing c p is is_too at =
+    subst (λ o. ByStanding c_end p_end p_handle o may_too doing c p) (sym is) (subst (λ o. ByStanding c_end p_end p_handle (Some one) o doing c p) (sym is_too) at)
 
-pub at_standing : (S T : EndSetup) (h : ℕ) (one other : Standing) (may may_too : Option Standing) (doing : Doing) (c p : OpenLink) → may ≡ Some one → may_too ≡ Some other
-    → ByStanding S T h may may_too doing c p → AtPlace S T h one.stage other.stage one.begun other.begun doing c p
-at_standing S T h one other may may_too doing c p is is_too by =
-    subst (λ o. ByStanding S T h (Some one) o doing c p) is_too (subst (λ o. ByStanding S T h o may_too doing c p) is by)
+pub at_standing : (c_end p_end : EndSetup) (p_handle : ℕ) (one other : Standing) (may may_too : Option Standing) (doing : Doing) (c p : OpenLink) → may ≡ Some one → may_too ≡ Some other
+    → ByStanding c_end p_end p_handle may may_too doing c p → AtPlace c_end p_end p_handle one.stage other.stage one.begun other.begun doing c p
+at_standing c_end p_end p_handle one other may may_too doing c p is is_too by =
+    subst (λ o. ByStanding c_end p_end p_handle (Some one) o doing c p) is_too (subst (λ o. ByStanding c_end p_end p_handle o may_too doing c p) is by)
 
 -- ---- in the middle of a turn
 
-module _ (S T : EndSetup) (h : ℕ) where
-  new_or : (turns : ℕ) (R Q : ℕ → Type 0) → ((slot : ℕ) → turns ≡ slot + 1 → R slot → Q slot) → NewOr S T h turns R → NewOr S T h turns Q
+module _ (c_end p_end : EndSetup) (p_handle : ℕ) where
+  new_or : (turns : ℕ) (R Q : ℕ → Type 0) → ((slot : ℕ) → turns ≡ slot + 1 → R slot → Q slot) → NewOr c_end p_end p_handle turns R → NewOr c_end p_end p_handle turns Q
   new_or turns R Q more (inl new) = inl new
   new_or turns R Q more (inr is) = inr (λ slot now. more slot now (is slot now))
 
@@ -170,14 +170,14 @@ sends_next setup facts handle received = sends_under handle (facts_after setup f
 module _ (whole : IsHeardWhole) (taken : AreTaken) (given : Given) (distinct : AreDistinct given.stations) (central peripheral : OpenEnd)
     (ends : AreEnds central.link.setup peripheral.link.setup) (in_it : is_in central.station given.stations ≡ true)
     (in_too : is_in peripheral.station given.stations ≡ true) where
-  abbrev S : EndSetup
-  S = central.link.setup
+  abbrev c_end : EndSetup
+  c_end = central.link.setup
 
-  abbrev T : EndSetup
-  T = peripheral.link.setup
+  abbrev p_end : EndSetup
+  p_end = peripheral.link.setup
 
-  abbrev h : ℕ
-  h = peripheral.handle
+  abbrev p_handle : ℕ
+  p_handle = peripheral.handle
 
   abbrev setup_c : Setup
   setup_c = setup_at given central.station
@@ -187,8 +187,8 @@ module _ (whole : IsHeardWhole) (taken : AreTaken) (given : Given) (distinct : A
 
   abbrev Keeps : List Step → List Step → Type 0
   Keeps pc pp =
-      (c p : OpenLink) → link_at central.handle (facts_of setup_c pc).links ≡ Some c → c.setup ≡ S → link_at h (facts_of setup_p pp).links ≡ Some p → p.setup ≡ T
-      → ByStanding S T h (standing pc) (standing pp) (facts_of setup_p pp).turn.doing c p
+      (c p : OpenLink) → link_at central.handle (facts_of setup_c pc).links ≡ Some c → c.setup ≡ c_end → link_at p_handle (facts_of setup_p pp).links ≡ Some p → p.setup ≡ p_end
+      → ByStanding c_end p_end p_handle (standing pc) (standing pp) (facts_of setup_p pp).turn.doing c p
 
   station_at : (setup : Setup) (past : List Step) (at : Standing) → standing past ≡ Some at → StationAt setup at.stage at.begun (facts_of setup past)
   station_at setup past at is = turned setup (StationAt setup) (station_kept taken setup) past at (station_first setup) is
@@ -208,10 +208,10 @@ module _ (whole : IsHeardWhole) (taken : AreTaken) (given : Given) (distinct : A
   one_connect link end same = record { fields = ap (λ (s : EndSetup). s.link.fields) same; opened = ap (λ (s : EndSetup). s.opened) same }
 
   -- both ends were opened in the turn
-  pub both_new : (slot : ℕ) (c p : OpenLink) → c.setup ≡ S → p.setup ≡ T → c.past ≡ [] → p.past ≡ [] → S.opened ≡ slot → AreHeardEnds S T slot (facts_in c) (facts_in p)
+  pub both_new : (slot : ℕ) (c p : OpenLink) → c.setup ≡ c_end → p.setup ≡ p_end → c.past ≡ [] → p.past ≡ [] → c_end.opened ≡ slot → AreHeardEnds c_end p_end slot (facts_in c) (facts_in p)
   both_new slot c p setup setup_too none none_too now =
-      subst (λ (f : EndFacts). AreHeardEnds S T slot f (facts_in p)) (sym (new_facts c none ∙ ap first_end setup))
-      (subst (λ (f : EndFacts). AreHeardEnds S T slot (first_end S) f) (sym (new_facts p none_too ∙ ap first_end setup_too)) (new_ends whole S T ends slot now))
+      subst (λ (f : EndFacts). AreHeardEnds c_end p_end slot f (facts_in p)) (sym (new_facts c none ∙ ap first_end setup))
+      (subst (λ (f : EndFacts). AreHeardEnds c_end p_end slot (first_end c_end) f) (sym (new_facts p none_too ∙ ap first_end setup_too)) (new_ends whole c_end p_end ends slot now))
 
   module _ (pc pp : List Step) (keeps : Keeps pc pp) where
     abbrev facts_c : Facts
@@ -225,14 +225,14 @@ module _ (whole : IsHeardWhole) (taken : AreTaken) (given : Given) (distinct : A
     central_fed : (octet turns : ℕ) → standing pc ≡ Some (at_stage Between turns) → standing pp ≡ Some (at_stage Between turns) → Keeps (pc ++ HostOctet octet ∷ []) pp
     central_fed octet turns own other = λ c p at_c setup at_p setup_too.
         let was = octet_under setup_c facts_c octet central.handle c (after_call_at setup_c pc (HostOctet octet) central.handle c at_c) in
-        let setups : was.link.setup ≡ S = sym was.setup ∙ setup in
-        let prior = at_standing S T h (at_stage Between turns) (at_stage Between turns) (standing pc) (standing pp) facts_p.turn.doing was.link p own other
+        let setups : was.link.setup ≡ c_end = sym was.setup ∙ setup in
+        let prior = at_standing c_end p_end p_handle (at_stage Between turns) (at_stage Between turns) (standing pc) (standing pp) facts_p.turn.doing was.link p own other
         (keeps was.link p was.was setups at_p setup_too) in
         let may = subst (λ (s : EndSetup). MayHostAll s was.steps (facts_in was.link)) setups was.may in
         let facts_are = was.facts ∙ ap (λ (s : EndSetup). facts_hosted s was.steps (facts_in was.link)) setups in
-        by_standing S T h (at_stage Between turns) (at_stage Between turns) _ _ facts_p.turn.doing c p (fed_next pc octet turns own) other
-        (subst (λ (f : EndFacts). AreOpenEnds S T turns f (facts_in p)) (sym facts_are)
-        (central_hosted_all whole S T ends h turns was.steps (facts_in was.link) (facts_in p) may prior))
+        by_standing c_end p_end p_handle (at_stage Between turns) (at_stage Between turns) _ _ facts_p.turn.doing c p (fed_next pc octet turns own) other
+        (subst (λ (f : EndFacts). AreOpenEnds c_end p_end turns f (facts_in p)) (sym facts_are)
+        (central_hosted_all whole c_end p_end ends p_handle turns was.steps (facts_in was.link) (facts_in p) may prior))
 
     central_begun : (slot : ℕ) (on : Bool) → standing pc ≡ Some (at_stage Between slot) → (called : Bool)
         → standing pp ≡ Some (if called then at_stage (Within 0) (slot + 1) else at_stage Between slot) → Keeps (pc ++ TurnBegins slot on ∷ []) pp
@@ -241,30 +241,30 @@ module _ (whole : IsHeardWhole) (taken : AreTaken) (given : Given) (distinct : A
         let at = after_call_at setup_c pc (TurnBegins slot on) central.handle c at_c in
         let station = station_at setup_c pc (at_stage Between slot) own in
         let has = begins_under setup_c facts_c slot on central.handle c at in
-        let setups : has.link.setup ≡ S = sym (begun_setup slot facts_c on central.handle after.turn.doing c has) ∙ setup in
+        let setups : has.link.setup ≡ c_end = sym (begun_setup slot facts_c on central.handle after.turn.doing c has) ∙ setup in
         let begun = subst (λ (s : EndSetup). IsEndBegun s slot (fixes_under central.handle after.turn.doing) (sends_under central.handle after.turn.doing) has.link c) setups
         (end_begun setup_c slot facts_c on central.handle c station.holds has (station.last central.handle has.link has.was)) in
         let same = central_sends after.links central.handle c at after.turn.doing (begins_in_phase setup_c pc slot on own) (ap (λ (s : EndSetup). s.link.role) setup ∙ ends.is_central) in
         by called other c p (keeps has.link p has.was setups at_p setup_too) same begun
       where
         by : {exchanges sends : Bool} {before : OpenLink} → (b : Bool) → standing pp ≡ Some (if b then at_stage (Within 0) (slot + 1) else at_stage Between slot) → (c p : OpenLink)
-            → ByStanding S T h (standing pc) (standing pp) facts_p.turn.doing before p → exchanges ≡ sends → IsEndBegun S slot exchanges sends before c
-            → ByStanding S T h (standing (pc ++ TurnBegins slot on ∷ [])) (standing pp) facts_p.turn.doing c p
+            → ByStanding c_end p_end p_handle (standing pc) (standing pp) facts_p.turn.doing before p → exchanges ≡ sends → IsEndBegun c_end slot exchanges sends before c
+            → ByStanding c_end p_end p_handle (standing (pc ++ TurnBegins slot on ∷ [])) (standing pp) facts_p.turn.doing c p
         by {exchanges} {sends} {before} false is c p prior same begun =
-            by_standing S T h (at_stage (Within 0) (slot + 1)) (at_stage Between slot) _ _ facts_p.turn.doing c p (begun_next pc slot on own) is
-            (central_begins whole S T ends h slot exchanges sends before c p same begun
-            (at_standing S T h (at_stage Between slot) (at_stage Between slot) _ _ facts_p.turn.doing before p own is prior))
+            by_standing c_end p_end p_handle (at_stage (Within 0) (slot + 1)) (at_stage Between slot) _ _ facts_p.turn.doing c p (begun_next pc slot on own) is
+            (central_begins whole c_end p_end ends p_handle slot exchanges sends before c p same begun
+            (at_standing c_end p_end p_handle (at_stage Between slot) (at_stage Between slot) _ _ facts_p.turn.doing before p own is prior))
         by {exchanges} {sends} {before} true is c p prior same begun =
-            let both = central_begins_too whole S T ends h slot exchanges sends facts_p.turn.doing before c p same begun
-            (at_standing S T h (at_stage Between slot) (at_stage (Within 0) (slot + 1)) _ _ facts_p.turn.doing before p own is prior) in
-            by_standing S T h (at_stage (Within 0) (slot + 1)) (at_stage (Within 0) (slot + 1)) _ _ facts_p.turn.doing c p (begun_next pc slot on own) is
-            (refl, inr (λ now same_slot. subst (λ n. AreBothBegun S T h n facts_p.turn.doing c p) (in_slot slot now (slot + 1) refl same_slot) both))
+            let both = central_begins_too whole c_end p_end ends p_handle slot exchanges sends facts_p.turn.doing before c p same begun
+            (at_standing c_end p_end p_handle (at_stage Between slot) (at_stage (Within 0) (slot + 1)) _ _ facts_p.turn.doing before p own is prior) in
+            by_standing c_end p_end p_handle (at_stage (Within 0) (slot + 1)) (at_stage (Within 0) (slot + 1)) _ _ facts_p.turn.doing c p (begun_next pc slot on own) is
+            (refl, inr (λ now same_slot. subst (λ n. AreBothBegun c_end p_end p_handle n facts_p.turn.doing c p) (in_slot slot now (slot + 1) refl same_slot) both))
 
     -- it takes nothing in a phase
-    central_stays : (j phases slot : ℕ) (c p : OpenLink) → InTurn S T h j phases slot facts_p.turn.doing c p → InTurn S T h j (suc phases) slot facts_p.turn.doing c p
+    central_stays : (j phases slot : ℕ) (c p : OpenLink) → InTurn c_end p_end p_handle j phases slot facts_p.turn.doing c p → InTurn c_end p_end p_handle j (suc phases) slot facts_p.turn.doing c p
     central_stays zero phases slot c p is = is
     central_stays (suc j) zero slot c p is = is
-    central_stays (suc j) (suc zero) slot c p is = central_deaf whole S T ends h slot c p is
+    central_stays (suc j) (suc zero) slot c p is = central_deaf whole c_end p_end ends p_handle slot c p is
     central_stays (suc j) (suc (suc phases)) slot c p is = is
 
     central_passed : (before rest : List Event) (received : Option (List ℕ)) (j phases turns : ℕ) → history_of (run_of given) ≡ before ++ rest
@@ -273,7 +273,7 @@ module _ (whole : IsHeardWhole) (taken : AreTaken) (given : Given) (distinct : A
     central_passed before rest received j phases turns at_run pc_is pp_is hears own where_it other = λ c p at_c setup at_p setup_too.
         let at = after_call_at setup_c pc (step_of received) central.handle c at_c in
         let station = station_at setup_c pc (at_stage (Within phases) turns) own in
-        by_standing S T h (at_stage (Within (suc phases)) turns) (at_stage (Within j) turns) _ _ facts_p.turn.doing c p (passed_next pc received phases turns own) other
+        by_standing c_end p_end p_handle (at_stage (Within (suc phases)) turns) (at_stage (Within j) turns) _ _ facts_p.turn.doing c p (passed_next pc received phases turns own) other
         (refl, by c p setup at_p setup_too (passes_under setup_c facts_c received central.handle c station.holds.in_turn.listens at))
       where
         slot_is : facts_c.turn.slot + 1 ≡ turns
@@ -282,43 +282,43 @@ module _ (whole : IsHeardWhole) (taken : AreTaken) (given : Given) (distinct : A
         phase_is : IsInPhase phases facts_c.links facts_c.turn.doing
         phase_is = in_phase setup_c pc phases turns own
 
-        prior : (c p : OpenLink) → link_at central.handle facts_c.links ≡ Some c → c.setup ≡ S → link_at h facts_p.links ≡ Some p → p.setup ≡ T
-            → NewOr S T h turns (λ slot. InTurn S T h j phases slot facts_p.turn.doing c p)
+        prior : (c p : OpenLink) → link_at central.handle facts_c.links ≡ Some c → c.setup ≡ c_end → link_at p_handle facts_p.links ≡ Some p → p.setup ≡ p_end
+            → NewOr c_end p_end p_handle turns (λ slot. InTurn c_end p_end p_handle j phases slot facts_p.turn.doing c p)
         prior c p at_c setup at_p setup_too =
-            (at_standing S T h (at_stage (Within phases) turns) (at_stage (Within j) turns) _ _ facts_p.turn.doing c p own other (keeps c p at_c setup at_p setup_too)).1
+            (at_standing c_end p_end p_handle (at_stage (Within phases) turns) (at_stage (Within j) turns) _ _ facts_p.turn.doing c p own other (keeps c p at_c setup at_p setup_too)).1
 
         -- it takes a packet, in the second phase
-        in_second : (n m slot : ℕ) (c p : OpenLink) → n ≡ 1 → (m ≡ n) ⊎ (m ≡ suc n) → InTurn S T h m n slot facts_p.turn.doing c p → IsPeripheralDone S T h slot c p
+        in_second : (n m slot : ℕ) (c p : OpenLink) → n ≡ 1 → (m ≡ n) ⊎ (m ≡ suc n) → InTurn c_end p_end p_handle m n slot facts_p.turn.doing c p → IsPeripheralDone c_end p_end p_handle slot c p
         in_second zero m slot c p is place stand = absurd (cc)
         in_second (suc zero) zero slot c p is (inl same) stand = absurd (cc)
         in_second (suc zero) zero slot c p is (inr same) stand = absurd (cc)
         in_second (suc zero) (suc m) slot c p is place stand = stand
         in_second (suc (suc n)) m slot c p is place stand = absurd (omega (arith, is))
 
-        heard_in : (n m slot : ℕ) (c p : OpenLink) → n ≡ 1 → (m ≡ n) ⊎ (m ≡ suc n) → AreHeardEnds S T slot (facts_in c) (facts_in p)
-            → InTurn S T h m (suc n) slot facts_p.turn.doing c p
+        heard_in : (n m slot : ℕ) (c p : OpenLink) → n ≡ 1 → (m ≡ n) ⊎ (m ≡ suc n) → AreHeardEnds c_end p_end slot (facts_in c) (facts_in p)
+            → InTurn c_end p_end p_handle m (suc n) slot facts_p.turn.doing c p
         heard_in zero m slot c p is place heard = absurd (cc)
         heard_in (suc zero) zero slot c p is (inl same) heard = absurd (cc)
         heard_in (suc zero) zero slot c p is (inr same) heard = absurd (cc)
         heard_in (suc zero) (suc m) slot c p is place heard = heard
         heard_in (suc (suc n)) m slot c p is place heard = absurd (omega (arith, is))
 
-        by : (c p : OpenLink) → c.setup ≡ S → link_at h facts_p.links ≡ Some p → p.setup ≡ T
+        by : (c p : OpenLink) → c.setup ≡ c_end → link_at p_handle facts_p.links ≡ Some p → p.setup ≡ p_end
             → HasPassed facts_c (has_room setup_c facts_c) received central.handle (facts_after setup_c facts_c (step_of received)).turn.doing c
-            → NewOr S T h turns (λ slot. InTurn S T h j (suc phases) slot facts_p.turn.doing c p)
+            → NewOr c_end p_end p_handle turns (λ slot. InTurn c_end p_end p_handle j (suc phases) slot facts_p.turn.doing c p)
         by c p setup at_p setup_too (IsNew end made opened off) =
             inl (ap (λ n. n + 1) (sym (ap (λ (s : EndSetup). s.opened) setup) ∙ ap (λ (l : OpenLink). l.setup.opened) made ∙ opened) ∙ slot_is)
         by c p setup at_p setup_too (Stays was none nothing listened) =
-            new_or S T h turns _ _ (λ slot now is. central_stays j phases slot c p is) (prior c p was setup at_p setup_too)
+            new_or c_end p_end p_handle turns _ _ (λ slot now is. central_stays j phases slot c p is) (prior c p was setup at_p setup_too)
         by c p setup at_p setup_too (Takes one octets was got on same replies) =
-            new_or S T h turns _ _ (λ slot now is. heard_in phases j slot c p second where_it
-            (subst (λ n. AreHeardEnds S T n (facts_in c) (facts_in p)) (in_slot facts_c.turn.slot slot turns slot_is now)
-            (central_takes whole S T ends h facts_c.turn.slot octets (has_room setup_c facts_c) (refuses_at central.handle (has_room setup_c facts_c) octets facts_c) one c p
-            (subst (λ n. IsPeripheralDone S T h n one p) (sym (in_slot facts_c.turn.slot slot turns slot_is now)) (in_second phases j slot one p second where_it is))
+            new_or c_end p_end p_handle turns _ _ (λ slot now is. heard_in phases j slot c p second where_it
+            (subst (λ n. AreHeardEnds c_end p_end n (facts_in c) (facts_in p)) (in_slot facts_c.turn.slot slot turns slot_is now)
+            (central_takes whole c_end p_end ends p_handle facts_c.turn.slot octets (has_room setup_c facts_c) (refuses_at central.handle (has_room setup_c facts_c) octets facts_c) one c p
+            (subst (λ n. IsPeripheralDone c_end p_end p_handle n one p) (sym (in_slot facts_c.turn.slot slot turns slot_is now)) (in_second phases j slot one p second where_it is))
             facts_are (λ good. packet good))))
             (prior one p was setups at_p setup_too)
           where
-            setups : one.setup ≡ S
+            setups : one.setup ≡ c_end
             setups = sym (ap (λ (l : OpenLink). l.setup) same ∙ taken_setup (sends_next setup_c facts_c central.handle received) central.handle (room_of setup_c facts_c) octets facts_c one) ∙ setup
 
             role : one.setup.link.role ≡ Central
@@ -330,7 +330,7 @@ module _ (whole : IsHeardWhole) (taken : AreTaken) (given : Given) (distinct : A
             silent : (sends_next setup_c facts_c central.handle received) ≡ false
             silent = replies ∙ central_silent one.setup facts_c.turn.slot octets (room_of setup_c facts_c) (facts_in one) role
 
-            facts_are : facts_in c ≡ refused_facts (refuses_at central.handle (room_of setup_c facts_c) octets facts_c) S (received_facts S facts_c.turn.slot octets (room_of
+            facts_are : facts_in c ≡ refused_facts (refuses_at central.handle (room_of setup_c facts_c) octets facts_c) c_end (received_facts c_end facts_c.turn.slot octets (room_of
                 setup_c facts_c) (facts_in one))
             facts_are =
                 ap facts_in same ∙ taking_facts (sends_next setup_c facts_c central.handle received) central.handle (room_of setup_c facts_c) octets facts_c one
@@ -343,74 +343,74 @@ module _ (whole : IsHeardWhole) (taken : AreTaken) (given : Given) (distinct : A
             facts_same : facts_at given central.station before ≡ facts_c
             facts_same = ap (facts_of setup_c) (sym pc_is)
 
-            packet : verdict_of S (facts_in one) octets ≡ Good → IsPacketNow T facts_c.turn.slot (facts_in one) p octets
+            packet : verdict_of c_end (facts_in one) octets ≡ Good → IsPacketNow p_end facts_c.turn.slot (facts_in one) p octets
             packet good =
                 let heard = hears octets one (ap step_of got) (record {
                   handle = central.handle;
                   listens = ap (λ (f : Facts). link_listened f.turn.doing) facts_same ∙ listens_is central.handle facts_c.turn.doing on;
                   is_open = ap (λ (f : Facts). link_at central.handle f.links) facts_same ∙ was;
                   is_good = ap (λ (s : EndSetup). verdict_of s (facts_in one) octets) setups ∙ good;
-                }) (one_connect one.setup S setups) in
-                subst (λ (f : Facts). IsPacketNow T f.turn.slot (facts_in one) p octets) facts_same
+                }) (one_connect one.setup c_end setups) in
+                subst (λ (f : Facts). IsPacketNow p_end f.turn.slot (facts_in one) p octets) facts_same
                 (packet_now given before rest central peripheral (facts_in one) octets p distinct in_too at_run
-                (ap (λ (past : List Step). link_at h (facts_of setup_p past).links) (sym pp_is) ∙ at_p) setup_too heard)
+                (ap (λ (past : List Step). link_at p_handle (facts_of setup_p past).links) (sym pp_is) ∙ at_p) setup_too heard)
 
     central_ended : (turns : ℕ) → standing pc ≡ Some (at_stage (Within 3) turns) → (called : Bool)
         → standing pp ≡ Some (if called then at_stage Between turns else at_stage (Within 3) turns) → Keeps (pc ++ TurnEnds ∷ []) pp
     central_ended turns own called other = λ c p at_c setup at_p setup_too.
         let has = end_under setup_c facts_c central.handle c (after_call_at setup_c pc TurnEnds central.handle c at_c) in
-        let setups : has.link.setup ≡ S = sym (ap (λ (l : OpenLink). l.setup) has.is ∙ reported_setup has.reports has.link) ∙ setup in
-        let facts_are = ap facts_in has.is ∙ reported_facts has.reports S has.link in
+        let setups : has.link.setup ≡ c_end = sym (ap (λ (l : OpenLink). l.setup) has.is ∙ reported_setup has.reports has.link) ∙ setup in
+        let facts_are = ap facts_in has.is ∙ reported_facts has.reports c_end has.link in
         by called other c p has.link has.reports has.was setups at_p setup_too facts_are (none_code (ending_of (facts_in c)) has.stays) (keeps has.link p has.was setups at_p setup_too)
       where
         slot_is : facts_c.turn.slot + 1 ≡ turns
         slot_is = (station_at setup_c pc (at_stage (Within 3) turns) own).holds.in_turn.slot_is
 
         by : (b : Bool) → standing pp ≡ Some (if b then at_stage Between turns else at_stage (Within 3) turns) → (c p before : OpenLink) (reports : Bool)
-            → link_at central.handle facts_c.links ≡ Some before → before.setup ≡ S → link_at h facts_p.links ≡ Some p → p.setup ≡ T
-            → facts_in c ≡ (if reports then end_after S (facts_in before) DataReported else facts_in before) → is_none (ending_of (facts_in c)) ≡ true
-            → ByStanding S T h (standing pc) (standing pp) facts_p.turn.doing before p
-            → ByStanding S T h (standing (pc ++ TurnEnds ∷ [])) (standing pp) facts_p.turn.doing c p
+            → link_at central.handle facts_c.links ≡ Some before → before.setup ≡ c_end → link_at p_handle facts_p.links ≡ Some p → p.setup ≡ p_end
+            → facts_in c ≡ (if reports then end_after c_end (facts_in before) DataReported else facts_in before) → is_none (ending_of (facts_in c)) ≡ true
+            → ByStanding c_end p_end p_handle (standing pc) (standing pp) facts_p.turn.doing before p
+            → ByStanding c_end p_end p_handle (standing (pc ++ TurnEnds ∷ [])) (standing pp) facts_p.turn.doing c p
         by false is c p before reports was setups at_p setup_too facts_are stays kept =
-            let prior = at_standing S T h (at_stage (Within 3) turns) (at_stage (Within 3) turns) _ _ facts_p.turn.doing before p own is kept in
-            by_standing S T h (at_stage Between turns) (at_stage (Within 3) turns) _ _ facts_p.turn.doing c p (ended_next pc turns own) is (record {
-              heard = λ slot now. subst (λ (f : EndFacts). AreHeardEnds S T slot f (facts_in p)) (sym facts_are)
-                  (central_reports whole S T ends h slot reports (facts_in before) (facts_in p) (heard_by prior.1 slot now));
+            let prior = at_standing c_end p_end p_handle (at_stage (Within 3) turns) (at_stage (Within 3) turns) _ _ facts_p.turn.doing before p own is kept in
+            by_standing c_end p_end p_handle (at_stage Between turns) (at_stage (Within 3) turns) _ _ facts_p.turn.doing c p (ended_next pc turns own) is (record {
+              heard = λ slot now. subst (λ (f : EndFacts). AreHeardEnds c_end p_end slot f (facts_in p)) (sym facts_are)
+                  (central_reports whole c_end p_end ends p_handle slot reports (facts_in before) (facts_in p) (heard_by prior.1 slot now));
               stays = stays;
             })
           where
-            heard_by : NewOr S T h turns (λ slot. AreHeardEnds S T slot (facts_in before) (facts_in p)) → (slot : ℕ) → turns ≡ slot + 1
-                → AreHeardEnds S T slot (facts_in before) (facts_in p)
+            heard_by : NewOr c_end p_end p_handle turns (λ slot. AreHeardEnds c_end p_end slot (facts_in before) (facts_in p)) → (slot : ℕ) → turns ≡ slot + 1
+                → AreHeardEnds c_end p_end slot (facts_in before) (facts_in p)
             heard_by (inr stand) slot now = stand slot now
             heard_by (inl new) slot now =
                 let here = in_slot facts_c.turn.slot slot turns slot_is now in
-                let opened : S.opened ≡ slot = in_slot S.opened slot turns new now in
+                let opened : c_end.opened ≡ slot = in_slot c_end.opened slot turns new now in
                 let station = station_at setup_c pc (at_stage (Within 3) turns) own in
                 let far = station_at setup_p pp (at_stage (Within 3) turns) is in
                 let there = in_slot facts_p.turn.slot slot turns far.holds.in_turn.slot_is now in
                 both_new slot before p setups setup_too
                 (station.new central.handle before was (ap (λ (s : EndSetup). s.opened) setups ∙ opened ∙ sym here))
-                (far.new h p at_p (ap (λ (s : EndSetup). s.opened) setup_too ∙ sym ends.one_link.opened ∙ opened ∙ sym there)) opened
+                (far.new p_handle p at_p (ap (λ (s : EndSetup). s.opened) setup_too ∙ sym ends.one_link.opened ∙ opened ∙ sym there)) opened
         by true is c p before reports was setups at_p setup_too facts_are stays kept =
-            let prior = at_standing S T h (at_stage (Within 3) turns) (at_stage Between turns) _ _ facts_p.turn.doing before p own is kept in
-            let heard = subst (λ (f : EndFacts). AreHeardEnds S T facts_c.turn.slot f (facts_in p)) (sym facts_are)
-            (central_reports whole S T ends h facts_c.turn.slot reports (facts_in before) (facts_in p) (prior.heard facts_c.turn.slot (sym slot_is))) in
-            by_standing S T h (at_stage Between turns) (at_stage Between turns) _ _ facts_p.turn.doing c p (ended_next pc turns own) is
-            (subst (λ n. AreOpenEnds S T n (facts_in c) (facts_in p)) slot_is (heard.opens stays prior.stays))
+            let prior = at_standing c_end p_end p_handle (at_stage (Within 3) turns) (at_stage Between turns) _ _ facts_p.turn.doing before p own is kept in
+            let heard = subst (λ (f : EndFacts). AreHeardEnds c_end p_end facts_c.turn.slot f (facts_in p)) (sym facts_are)
+            (central_reports whole c_end p_end ends p_handle facts_c.turn.slot reports (facts_in before) (facts_in p) (prior.heard facts_c.turn.slot (sym slot_is))) in
+            by_standing c_end p_end p_handle (at_stage Between turns) (at_stage Between turns) _ _ facts_p.turn.doing c p (ended_next pc turns own) is
+            (subst (λ n. AreOpenEnds c_end p_end n (facts_in c) (facts_in p)) slot_is (heard.opens stays prior.stays))
 
     -- ---- at the peripheral
 
     peripheral_fed : (octet turns : ℕ) → standing pc ≡ Some (at_stage Between turns) → standing pp ≡ Some (at_stage Between turns) → Keeps pc (pp ++ HostOctet octet ∷ [])
     peripheral_fed octet turns other own = λ c p at_c setup at_p setup_too.
-        let was = octet_under setup_p facts_p octet h p (after_call_at setup_p pp (HostOctet octet) h p at_p) in
-        let setups : was.link.setup ≡ T = sym was.setup ∙ setup_too in
-        let prior = at_standing S T h (at_stage Between turns) (at_stage Between turns) (standing pc) (standing pp) facts_p.turn.doing c was.link other own
+        let was = octet_under setup_p facts_p octet p_handle p (after_call_at setup_p pp (HostOctet octet) p_handle p at_p) in
+        let setups : was.link.setup ≡ p_end = sym was.setup ∙ setup_too in
+        let prior = at_standing c_end p_end p_handle (at_stage Between turns) (at_stage Between turns) (standing pc) (standing pp) facts_p.turn.doing c was.link other own
         (keeps c was.link at_c setup was.was setups) in
         let may = subst (λ (s : EndSetup). MayHostAll s was.steps (facts_in was.link)) setups was.may in
         let facts_are = was.facts ∙ ap (λ (s : EndSetup). facts_hosted s was.steps (facts_in was.link)) setups in
-        by_standing S T h (at_stage Between turns) (at_stage Between turns) _ _ _ c p other (fed_next pp octet turns own)
-        (subst (λ (f : EndFacts). AreOpenEnds S T turns (facts_in c) f) (sym facts_are)
-        (peripheral_hosted_all whole S T ends h turns was.steps (facts_in c) (facts_in was.link) may prior))
+        by_standing c_end p_end p_handle (at_stage Between turns) (at_stage Between turns) _ _ _ c p other (fed_next pp octet turns own)
+        (subst (λ (f : EndFacts). AreOpenEnds c_end p_end turns (facts_in c) f) (sym facts_are)
+        (peripheral_hosted_all whole c_end p_end ends p_handle turns was.steps (facts_in c) (facts_in was.link) may prior))
 
     -- what the peripheral does after a call
     doing_next : (step : Step) → (facts_after setup_p facts_p step).turn.doing ≡ (facts_of setup_p (pp ++ step ∷ [])).turn.doing
@@ -420,49 +420,49 @@ module _ (whole : IsHeardWhole) (taken : AreTaken) (given : Given) (distinct : A
         → standing pc ≡ Some (if called then at_stage (Within 0) (slot + 1) else at_stage Between slot) → Keeps pc (pp ++ TurnBegins slot on ∷ [])
     peripheral_begun slot on own called other = λ c p at_c setup at_p setup_too.
         let after = facts_after setup_p facts_p (TurnBegins slot on) in
-        let at = after_call_at setup_p pp (TurnBegins slot on) h p at_p in
+        let at = after_call_at setup_p pp (TurnBegins slot on) p_handle p at_p in
         let station = station_at setup_p pp (at_stage Between slot) own in
-        let has = begins_under setup_p facts_p slot on h p at in
-        let setups : has.link.setup ≡ T = sym (begun_setup slot facts_p on h after.turn.doing p has) ∙ setup_too in
-        let begun = subst (λ (s : EndSetup). IsEndBegun s slot (fixes_under h after.turn.doing) (sends_under h after.turn.doing) has.link p) setups
-        (end_begun setup_p slot facts_p on h p station.holds has (station.last h has.link has.was)) in
-        let due : due_of T (facts_in has.link) slot ≡ None = ap (λ (s : EndSetup). due_of s (facts_in has.link) slot) (sym setups) ∙ has.not_due in
+        let has = begins_under setup_p facts_p slot on p_handle p at in
+        let setups : has.link.setup ≡ p_end = sym (begun_setup slot facts_p on p_handle after.turn.doing p has) ∙ setup_too in
+        let begun = subst (λ (s : EndSetup). IsEndBegun s slot (fixes_under p_handle after.turn.doing) (sends_under p_handle after.turn.doing) has.link p) setups
+        (end_begun setup_p slot facts_p on p_handle p station.holds has (station.last p_handle has.link has.was)) in
+        let due : due_of p_end (facts_in has.link) slot ≡ None = ap (λ (s : EndSetup). due_of s (facts_in has.link) slot) (sym setups) ∙ has.not_due in
         let role = ap (λ (s : EndSetup). s.link.role) setup_too ∙ ends.is_peripheral in
         let phase = begins_in_phase setup_p pp slot on own in
-        let none = peripheral_unsent after.links h p at after.turn.doing phase role in
-        let same = peripheral_listens after.links h p at after.turn.doing phase role in
-        subst (λ (d : Doing). ByStanding S T h (standing pc) (standing (pp ++ TurnBegins slot on ∷ [])) d c p) (doing_next (TurnBegins slot on))
+        let none = peripheral_unsent after.links p_handle p at after.turn.doing phase role in
+        let same = peripheral_listens after.links p_handle p at after.turn.doing phase role in
+        subst (λ (d : Doing). ByStanding c_end p_end p_handle (standing pc) (standing (pp ++ TurnBegins slot on ∷ [])) d c p) (doing_next (TurnBegins slot on))
         (by after.turn.doing called other c p (keeps c has.link at_c setup has.was setups) none same begun due)
       where
         by : {exchanges sends : Bool} {before : OpenLink} (doing : Doing) (b : Bool) → standing pc ≡ Some (if b then at_stage (Within 0) (slot + 1) else at_stage Between slot)
-            → (c p : OpenLink) → ByStanding S T h (standing pc) (standing pp) facts_p.turn.doing c before → sends ≡ false → listens_under h doing ≡ exchanges
-            → IsEndBegun T slot exchanges sends before p → due_of T (facts_in before) slot ≡ None
-            → ByStanding S T h (standing pc) (standing (pp ++ TurnBegins slot on ∷ [])) doing c p
+            → (c p : OpenLink) → ByStanding c_end p_end p_handle (standing pc) (standing pp) facts_p.turn.doing c before → sends ≡ false → listens_under p_handle doing ≡ exchanges
+            → IsEndBegun p_end slot exchanges sends before p → due_of p_end (facts_in before) slot ≡ None
+            → ByStanding c_end p_end p_handle (standing pc) (standing (pp ++ TurnBegins slot on ∷ [])) doing c p
         by {exchanges} {sends} {before} doing false is c p prior none same begun due =
-            by_standing S T h (at_stage Between slot) (at_stage (Within 0) (slot + 1)) _ _ doing c p is (begun_next pp slot on own)
-            (peripheral_begins whole S T ends h slot exchanges sends doing before c p none same begun due
-            (at_standing S T h (at_stage Between slot) (at_stage Between slot) _ _ facts_p.turn.doing c before is own prior))
+            by_standing c_end p_end p_handle (at_stage Between slot) (at_stage (Within 0) (slot + 1)) _ _ doing c p is (begun_next pp slot on own)
+            (peripheral_begins whole c_end p_end ends p_handle slot exchanges sends doing before c p none same begun due
+            (at_standing c_end p_end p_handle (at_stage Between slot) (at_stage Between slot) _ _ facts_p.turn.doing c before is own prior))
         by {exchanges} {sends} {before} doing true is c p prior none same begun due =
-            let both = peripheral_begins_too whole S T ends h slot exchanges sends doing before c p none same begun due
-            (at_standing S T h (at_stage (Within 0) (slot + 1)) (at_stage Between slot) _ _ facts_p.turn.doing c before is own prior) in
-            by_standing S T h (at_stage (Within 0) (slot + 1)) (at_stage (Within 0) (slot + 1)) _ _ doing c p is (begun_next pp slot on own)
-            (refl, inr (λ now same_slot. subst (λ n. AreBothBegun S T h n doing c p) (in_slot slot now (slot + 1) refl same_slot) both))
+            let both = peripheral_begins_too whole c_end p_end ends p_handle slot exchanges sends doing before c p none same begun due
+            (at_standing c_end p_end p_handle (at_stage (Within 0) (slot + 1)) (at_stage Between slot) _ _ facts_p.turn.doing c before is own prior) in
+            by_standing c_end p_end p_handle (at_stage (Within 0) (slot + 1)) (at_stage (Within 0) (slot + 1)) _ _ doing c p is (begun_next pp slot on own)
+            (refl, inr (λ now same_slot. subst (λ n. AreBothBegun c_end p_end p_handle n doing c p) (in_slot slot now (slot + 1) refl same_slot) both))
 
     -- the peripheral has heard nothing in the first phase, or nothing happens in a later one
-    peripheral_stays : (i phases slot : ℕ) (doing : Doing) (c p : OpenLink) → (i ≡ phases) ⊎ (i ≡ suc phases) → InTurn S T h phases i slot facts_p.turn.doing c p
-        → InTurn S T h (suc phases) i slot doing c p
-    peripheral_stays zero zero slot doing c p place is = peripheral_deaf whole S T ends h slot facts_p.turn.doing c p is
-    peripheral_stays (suc zero) zero slot doing c p place is = peripheral_deaf whole S T ends h slot facts_p.turn.doing c p is
+    peripheral_stays : (i phases slot : ℕ) (doing : Doing) (c p : OpenLink) → (i ≡ phases) ⊎ (i ≡ suc phases) → InTurn c_end p_end p_handle phases i slot facts_p.turn.doing c p
+        → InTurn c_end p_end p_handle (suc phases) i slot doing c p
+    peripheral_stays zero zero slot doing c p place is = peripheral_deaf whole c_end p_end ends p_handle slot facts_p.turn.doing c p is
+    peripheral_stays (suc zero) zero slot doing c p place is = peripheral_deaf whole c_end p_end ends p_handle slot facts_p.turn.doing c p is
     peripheral_stays (suc (suc i)) zero slot doing c p (inl same) is = absurd (omega (arith, same))
     peripheral_stays (suc (suc i)) zero slot doing c p (inr same) is = absurd (omega (arith, same))
     peripheral_stays i (suc phases) slot doing c p place is = is
 
     -- it takes a packet, in the first phase
-    in_first : (n i slot : ℕ) (c p : OpenLink) → n ≡ 0 → InTurn S T h n i slot facts_p.turn.doing c p → AreBothBegun S T h slot facts_p.turn.doing c p
+    in_first : (n i slot : ℕ) (c p : OpenLink) → n ≡ 0 → InTurn c_end p_end p_handle n i slot facts_p.turn.doing c p → AreBothBegun c_end p_end p_handle slot facts_p.turn.doing c p
     in_first zero i slot c p is stand = stand
     in_first (suc n) i slot c p is stand = absurd (omega (arith, is))
 
-    done_in : (n i slot : ℕ) (doing : Doing) (c p : OpenLink) → n ≡ 0 → (i ≡ n) ⊎ (i ≡ suc n) → IsPeripheralDone S T h slot c p → InTurn S T h (suc n) i slot doing c p
+    done_in : (n i slot : ℕ) (doing : Doing) (c p : OpenLink) → n ≡ 0 → (i ≡ n) ⊎ (i ≡ suc n) → IsPeripheralDone c_end p_end p_handle slot c p → InTurn c_end p_end p_handle (suc n) i slot doing c p
     done_in zero zero slot doing c p is place done = done
     done_in zero (suc zero) slot doing c p is place done = done
     done_in zero (suc (suc i)) slot doing c p is (inl same) done = absurd (omega (arith, same))
@@ -473,11 +473,11 @@ module _ (whole : IsHeardWhole) (taken : AreTaken) (given : Given) (distinct : A
         → pc ≡ past_of central.station before → pp ≡ past_of peripheral.station before → HearsNow given before peripheral central (step_of received)
         → standing pp ≡ Some (at_stage (Within phases) turns) → (i ≡ phases) ⊎ (i ≡ suc phases) → standing pc ≡ Some (at_stage (Within i) turns) → Keeps pc (pp ++ step_of received ∷ [])
     peripheral_passed before rest received i phases turns at_run pc_is pp_is hears own where_it other = λ c p at_c setup at_p setup_too.
-        let at = after_call_at setup_p pp (step_of received) h p at_p in
+        let at = after_call_at setup_p pp (step_of received) p_handle p at_p in
         let station = station_at setup_p pp (at_stage (Within phases) turns) own in
         let doing = (facts_of setup_p (pp ++ step_of received ∷ [])).turn.doing in
-        by_standing S T h (at_stage (Within i) turns) (at_stage (Within (suc phases)) turns) _ _ doing c p other (passed_next pp received phases turns own)
-        (refl, by doing c p setup at_c setup_too (passes_under setup_p facts_p received h p station.holds.in_turn.listens at))
+        by_standing c_end p_end p_handle (at_stage (Within i) turns) (at_stage (Within (suc phases)) turns) _ _ doing c p other (passed_next pp received phases turns own)
+        (refl, by doing c p setup at_c setup_too (passes_under setup_p facts_p received p_handle p station.holds.in_turn.listens at))
       where
         slot_is : facts_p.turn.slot + 1 ≡ turns
         slot_is = (station_at setup_p pp (at_stage (Within phases) turns) own).holds.in_turn.slot_is
@@ -485,73 +485,73 @@ module _ (whole : IsHeardWhole) (taken : AreTaken) (given : Given) (distinct : A
         phase_is : IsInPhase phases facts_p.links facts_p.turn.doing
         phase_is = in_phase setup_p pp phases turns own
 
-        prior : (c p : OpenLink) → link_at central.handle facts_c.links ≡ Some c → c.setup ≡ S → link_at h facts_p.links ≡ Some p → p.setup ≡ T
-            → NewOr S T h turns (λ slot. InTurn S T h phases i slot facts_p.turn.doing c p)
+        prior : (c p : OpenLink) → link_at central.handle facts_c.links ≡ Some c → c.setup ≡ c_end → link_at p_handle facts_p.links ≡ Some p → p.setup ≡ p_end
+            → NewOr c_end p_end p_handle turns (λ slot. InTurn c_end p_end p_handle phases i slot facts_p.turn.doing c p)
         prior c p at_c setup at_p setup_too =
-            (at_standing S T h (at_stage (Within i) turns) (at_stage (Within phases) turns) _ _ facts_p.turn.doing c p other own (keeps c p at_c setup at_p setup_too)).1
+            (at_standing c_end p_end p_handle (at_stage (Within i) turns) (at_stage (Within phases) turns) _ _ facts_p.turn.doing c p other own (keeps c p at_c setup at_p setup_too)).1
 
-        by : (doing : Doing) (c p : OpenLink) → c.setup ≡ S → link_at central.handle facts_c.links ≡ Some c → p.setup ≡ T
-            → HasPassed facts_p (has_room setup_p facts_p) received h (facts_after setup_p facts_p (step_of received)).turn.doing p
-            → NewOr S T h turns (λ slot. InTurn S T h (suc phases) i slot doing c p)
+        by : (doing : Doing) (c p : OpenLink) → c.setup ≡ c_end → link_at central.handle facts_c.links ≡ Some c → p.setup ≡ p_end
+            → HasPassed facts_p (has_room setup_p facts_p) received p_handle (facts_after setup_p facts_p (step_of received)).turn.doing p
+            → NewOr c_end p_end p_handle turns (λ slot. InTurn c_end p_end p_handle (suc phases) i slot doing c p)
         by doing c p setup at_c setup_too (IsNew end made opened off) =
             inl (ap (λ n. n + 1) (ends.one_link.opened ∙ sym (ap (λ (s : EndSetup). s.opened) setup_too) ∙ ap (λ (l : OpenLink). l.setup.opened) made ∙ opened) ∙ slot_is)
         by doing c p setup at_c setup_too (Stays was none nothing listened) =
-            new_or S T h turns _ _ (λ slot now is. peripheral_stays i phases slot doing c p where_it is) (prior c p at_c setup was setup_too)
+            new_or c_end p_end p_handle turns _ _ (λ slot now is. peripheral_stays i phases slot doing c p where_it is) (prior c p at_c setup was setup_too)
         by doing c p setup at_c setup_too (Takes one octets was got on same replies) =
-            new_or S T h turns _ _ (λ slot now is. done_in phases i slot doing c p first where_it
-            (subst (λ n. IsPeripheralDone S T h n c p) (in_slot facts_p.turn.slot slot turns slot_is now)
-            (peripheral_takes whole S T ends h facts_p.turn.slot octets (room_of setup_p facts_p) (refuses_at h (room_of setup_p facts_p) octets facts_p)
-            (sends_next setup_p facts_p h received) facts_p.turn.doing c one p
-            (subst (λ n. AreBothBegun S T h n facts_p.turn.doing c one) (sym (in_slot facts_p.turn.slot slot turns slot_is now)) (in_first phases i slot c one first is))
+            new_or c_end p_end p_handle turns _ _ (λ slot now is. done_in phases i slot doing c p first where_it
+            (subst (λ n. IsPeripheralDone c_end p_end p_handle n c p) (in_slot facts_p.turn.slot slot turns slot_is now)
+            (peripheral_takes whole c_end p_end ends p_handle facts_p.turn.slot octets (room_of setup_p facts_p) (refuses_at p_handle (room_of setup_p facts_p) octets facts_p)
+            (sends_next setup_p facts_p p_handle received) facts_p.turn.doing c one p
+            (subst (λ n. AreBothBegun c_end p_end p_handle n facts_p.turn.doing c one) (sym (in_slot facts_p.turn.slot slot turns slot_is now)) (in_first phases i slot c one first is))
             on replies_are facts_are unsent (λ good. packet good))))
             (prior c one at_c setup was setups)
           where
-            setups : one.setup ≡ T
-            setups = sym (ap (λ (l : OpenLink). l.setup) same ∙ taken_setup (sends_next setup_p facts_p h received) h (room_of setup_p facts_p) octets facts_p one) ∙ setup_too
+            setups : one.setup ≡ p_end
+            setups = sym (ap (λ (l : OpenLink). l.setup) same ∙ taken_setup (sends_next setup_p facts_p p_handle received) p_handle (room_of setup_p facts_p) octets facts_p one) ∙ setup_too
 
             role : one.setup.link.role ≡ Peripheral
             role = ap (λ (s : EndSetup). s.link.role) setups ∙ ends.is_peripheral
 
             first : phases ≡ 0
-            first = peripheral_takes_in facts_p.links h one was phases facts_p.turn.doing phase_is on role
+            first = peripheral_takes_in facts_p.links p_handle one was phases facts_p.turn.doing phase_is on role
 
-            replies_are : sends_next setup_p facts_p h received ≡ replies_of T (facts_in one) facts_p.turn.slot octets (room_of setup_p facts_p)
+            replies_are : sends_next setup_p facts_p p_handle received ≡ replies_of p_end (facts_in one) facts_p.turn.slot octets (room_of setup_p facts_p)
             replies_are = replies ∙ ap (λ (s : EndSetup). replies_of s (facts_in one) facts_p.turn.slot octets (room_of setup_p facts_p)) setups
 
-            facts_are : facts_in p ≡ sends_if (sends_next setup_p facts_p h received) T facts_p.turn.slot
-                (refused_facts (refuses_at h (room_of setup_p facts_p) octets facts_p) T (received_facts T facts_p.turn.slot octets (room_of setup_p facts_p) (facts_in one)))
+            facts_are : facts_in p ≡ sends_if (sends_next setup_p facts_p p_handle received) p_end facts_p.turn.slot
+                (refused_facts (refuses_at p_handle (room_of setup_p facts_p) octets facts_p) p_end (received_facts p_end facts_p.turn.slot octets (room_of setup_p facts_p) (facts_in one)))
             facts_are =
-                ap facts_in same ∙ taking_facts (sends_next setup_p facts_p h received) h (room_of setup_p facts_p) octets facts_p one
-                ∙ ap (λ (s : EndSetup). sends_if (sends_next setup_p facts_p h received) s facts_p.turn.slot
-                (refused_facts (refuses_at h (room_of setup_p facts_p) octets facts_p) s (received_facts s facts_p.turn.slot octets (room_of setup_p facts_p) (facts_in one)))) setups
+                ap facts_in same ∙ taking_facts (sends_next setup_p facts_p p_handle received) p_handle (room_of setup_p facts_p) octets facts_p one
+                ∙ ap (λ (s : EndSetup). sends_if (sends_next setup_p facts_p p_handle received) s facts_p.turn.slot
+                (refused_facts (refuses_at p_handle (room_of setup_p facts_p) octets facts_p) s (received_facts s facts_p.turn.slot octets (room_of setup_p facts_p) (facts_in one)))) setups
 
-            unsent : sends_next setup_p facts_p h received ≡ false → LastBefore facts_p.turn.slot p.past
+            unsent : sends_next setup_p facts_p p_handle received ≡ false → LastBefore facts_p.turn.slot p.past
             unsent none =
                 subst (λ (l : OpenLink). LastBefore facts_p.turn.slot l.past)
-                (sym (same ∙ ap (λ b. sent_if b facts_p.turn.slot (link_receiving h (room_of setup_p facts_p) octets facts_p one)) none))
-                (received_last h (room_of setup_p facts_p) octets facts_p one facts_p.turn.slot)
+                (sym (same ∙ ap (λ b. sent_if b facts_p.turn.slot (link_receiving p_handle (room_of setup_p facts_p) octets facts_p one)) none))
+                (received_last p_handle (room_of setup_p facts_p) octets facts_p one facts_p.turn.slot)
 
             facts_same : facts_at given peripheral.station before ≡ facts_p
             facts_same = ap (facts_of setup_p) (sym pp_is)
 
-            packet : verdict_of T (facts_in one) octets ≡ Good → IsPacketNow S facts_p.turn.slot (facts_in one) c octets
+            packet : verdict_of p_end (facts_in one) octets ≡ Good → IsPacketNow c_end facts_p.turn.slot (facts_in one) c octets
             packet good =
                 let heard = hears octets one (ap step_of got) (record {
-                  handle = h;
-                  listens = ap (λ (f : Facts). link_listened f.turn.doing) facts_same ∙ listens_is h facts_p.turn.doing on;
-                  is_open = ap (λ (f : Facts). link_at h f.links) facts_same ∙ was;
+                  handle = p_handle;
+                  listens = ap (λ (f : Facts). link_listened f.turn.doing) facts_same ∙ listens_is p_handle facts_p.turn.doing on;
+                  is_open = ap (λ (f : Facts). link_at p_handle f.links) facts_same ∙ was;
                   is_good = ap (λ (s : EndSetup). verdict_of s (facts_in one) octets) setups ∙ good;
-                }) (one_connect one.setup T setups) in
-                subst (λ (f : Facts). IsPacketNow S f.turn.slot (facts_in one) c octets) facts_same
+                }) (one_connect one.setup p_end setups) in
+                subst (λ (f : Facts). IsPacketNow c_end f.turn.slot (facts_in one) c octets) facts_same
                 (packet_now given before rest peripheral central (facts_in one) octets c distinct in_it at_run
                 (ap (λ (past : List Step). link_at central.handle (facts_of setup_c past).links) (sym pc_is) ∙ at_c) setup heard)
 
     peripheral_ended : (turns : ℕ) → standing pp ≡ Some (at_stage (Within 3) turns) → (called : Bool)
         → standing pc ≡ Some (if called then at_stage Between turns else at_stage (Within 3) turns) → Keeps pc (pp ++ TurnEnds ∷ [])
     peripheral_ended turns own called other = λ c p at_c setup at_p setup_too.
-        let has = end_under setup_p facts_p h p (after_call_at setup_p pp TurnEnds h p at_p) in
-        let setups : has.link.setup ≡ T = sym (ap (λ (l : OpenLink). l.setup) has.is ∙ reported_setup has.reports has.link) ∙ setup_too in
-        let facts_are = ap facts_in has.is ∙ reported_facts has.reports T has.link in
+        let has = end_under setup_p facts_p p_handle p (after_call_at setup_p pp TurnEnds p_handle p at_p) in
+        let setups : has.link.setup ≡ p_end = sym (ap (λ (l : OpenLink). l.setup) has.is ∙ reported_setup has.reports has.link) ∙ setup_too in
+        let facts_are = ap facts_in has.is ∙ reported_facts has.reports p_end has.link in
         by (facts_of setup_p (pp ++ TurnEnds ∷ [])).turn.doing called other c p has.link has.reports at_c setup has.was setups facts_are (none_code (ending_of (facts_in p))
         has.stays) (keeps c has.link at_c setup has.was setups)
       where
@@ -559,36 +559,36 @@ module _ (whole : IsHeardWhole) (taken : AreTaken) (given : Given) (distinct : A
         slot_is = (station_at setup_p pp (at_stage (Within 3) turns) own).holds.in_turn.slot_is
 
         by : (doing : Doing) (b : Bool) → standing pc ≡ Some (if b then at_stage Between turns else at_stage (Within 3) turns) → (c p before : OpenLink) (reports : Bool)
-            → link_at central.handle facts_c.links ≡ Some c → c.setup ≡ S → link_at h facts_p.links ≡ Some before → before.setup ≡ T
-            → facts_in p ≡ (if reports then end_after T (facts_in before) DataReported else facts_in before) → is_none (ending_of (facts_in p)) ≡ true
-            → ByStanding S T h (standing pc) (standing pp) facts_p.turn.doing c before
-            → ByStanding S T h (standing pc) (standing (pp ++ TurnEnds ∷ [])) doing c p
+            → link_at central.handle facts_c.links ≡ Some c → c.setup ≡ c_end → link_at p_handle facts_p.links ≡ Some before → before.setup ≡ p_end
+            → facts_in p ≡ (if reports then end_after p_end (facts_in before) DataReported else facts_in before) → is_none (ending_of (facts_in p)) ≡ true
+            → ByStanding c_end p_end p_handle (standing pc) (standing pp) facts_p.turn.doing c before
+            → ByStanding c_end p_end p_handle (standing pc) (standing (pp ++ TurnEnds ∷ [])) doing c p
         by doing false is c p before reports at_c setup was setups facts_are stays kept =
-            let prior = at_standing S T h (at_stage (Within 3) turns) (at_stage (Within 3) turns) _ _ facts_p.turn.doing c before is own kept in
-            by_standing S T h (at_stage (Within 3) turns) (at_stage Between turns) _ _ doing c p is (ended_next pp turns own) (record {
-              heard = λ slot now. subst (λ (f : EndFacts). AreHeardEnds S T slot (facts_in c) f) (sym facts_are)
-                  (peripheral_reports whole S T ends h slot reports (facts_in c) (facts_in before) (heard_by prior.1 slot now));
+            let prior = at_standing c_end p_end p_handle (at_stage (Within 3) turns) (at_stage (Within 3) turns) _ _ facts_p.turn.doing c before is own kept in
+            by_standing c_end p_end p_handle (at_stage (Within 3) turns) (at_stage Between turns) _ _ doing c p is (ended_next pp turns own) (record {
+              heard = λ slot now. subst (λ (f : EndFacts). AreHeardEnds c_end p_end slot (facts_in c) f) (sym facts_are)
+                  (peripheral_reports whole c_end p_end ends p_handle slot reports (facts_in c) (facts_in before) (heard_by prior.1 slot now));
               stays = stays;
             })
           where
-            heard_by : NewOr S T h turns (λ slot. AreHeardEnds S T slot (facts_in c) (facts_in before)) → (slot : ℕ) → turns ≡ slot + 1
-                → AreHeardEnds S T slot (facts_in c) (facts_in before)
+            heard_by : NewOr c_end p_end p_handle turns (λ slot. AreHeardEnds c_end p_end slot (facts_in c) (facts_in before)) → (slot : ℕ) → turns ≡ slot + 1
+                → AreHeardEnds c_end p_end slot (facts_in c) (facts_in before)
             heard_by (inr stand) slot now = stand slot now
             heard_by (inl new) slot now =
                 let here = in_slot facts_p.turn.slot slot turns slot_is now in
-                let opened : S.opened ≡ slot = in_slot S.opened slot turns new now in
+                let opened : c_end.opened ≡ slot = in_slot c_end.opened slot turns new now in
                 let station = station_at setup_p pp (at_stage (Within 3) turns) own in
                 let far = station_at setup_c pc (at_stage (Within 3) turns) is in
                 let there = in_slot facts_c.turn.slot slot turns far.holds.in_turn.slot_is now in
                 both_new slot c before setup setups
                 (far.new central.handle c at_c (ap (λ (s : EndSetup). s.opened) setup ∙ opened ∙ sym there))
-                (station.new h before was (ap (λ (s : EndSetup). s.opened) setups ∙ sym ends.one_link.opened ∙ opened ∙ sym here)) opened
+                (station.new p_handle before was (ap (λ (s : EndSetup). s.opened) setups ∙ sym ends.one_link.opened ∙ opened ∙ sym here)) opened
         by doing true is c p before reports at_c setup was setups facts_are stays kept =
-            let prior = at_standing S T h (at_stage Between turns) (at_stage (Within 3) turns) _ _ facts_p.turn.doing c before is own kept in
-            let heard = subst (λ (f : EndFacts). AreHeardEnds S T facts_p.turn.slot (facts_in c) f) (sym facts_are)
-            (peripheral_reports whole S T ends h facts_p.turn.slot reports (facts_in c) (facts_in before) (prior.heard facts_p.turn.slot (sym slot_is))) in
-            by_standing S T h (at_stage Between turns) (at_stage Between turns) _ _ doing c p is (ended_next pp turns own)
-            (subst (λ n. AreOpenEnds S T n (facts_in c) (facts_in p)) slot_is (heard.opens prior.stays stays))
+            let prior = at_standing c_end p_end p_handle (at_stage Between turns) (at_stage (Within 3) turns) _ _ facts_p.turn.doing c before is own kept in
+            let heard = subst (λ (f : EndFacts). AreHeardEnds c_end p_end facts_p.turn.slot (facts_in c) f) (sym facts_are)
+            (peripheral_reports whole c_end p_end ends p_handle facts_p.turn.slot reports (facts_in c) (facts_in before) (prior.heard facts_p.turn.slot (sym slot_is))) in
+            by_standing c_end p_end p_handle (at_stage Between turns) (at_stage Between turns) _ _ doing c p is (ended_next pp turns own)
+            (subst (λ n. AreOpenEnds c_end p_end n (facts_in c) (facts_in p)) slot_is (heard.opens prior.stays stays))
 
   -- ---- any call
 

@@ -63,53 +63,53 @@ sent_agrees true setup slot c other agreed =
     subst (λ (a : Acknowledgement). AreInAgreement a other) (sym (ack_sent slot c)) (sent (end_of c.acknowledgement) (end_of other) (pdu_fixed c) agreed)
 sent_agrees false setup slot c other agreed = agreed
 
-module _ (whole : IsHeardWhole) (S T : EndSetup) (ends : AreEnds S T) (h : ℕ) where
-  heard_sound : (slot : ℕ) (c p : EndFacts) → AreHeardEnds S T slot c p → IsSoundPlace c p
+module _ (whole : IsHeardWhole) (c_end p_end : EndSetup) (ends : AreEnds c_end p_end) (p_handle : ℕ) where
+  heard_sound : (slot : ℕ) (c p : EndFacts) → AreHeardEnds c_end p_end slot c p → IsSoundPlace c p
   heard_sound slot c p heard = record { goes_on = heard.central_goes_on; unless_late = heard.peripheral_goes_on; agreement = heard.agreement }
 
-  answered_sound : (slot : ℕ) (answers : Bool) (c p : EndFacts) → AreAnsweredEnds S T slot answers c p → IsSoundPlace c p
-  answered_sound slot answers c p done = heard_sound slot c p (central_unheard whole S T ends slot answers c p done)
+  answered_sound : (slot : ℕ) (answers : Bool) (c p : EndFacts) → AreAnsweredEnds c_end p_end slot answers c p → IsSoundPlace c p
+  answered_sound slot answers c p done = heard_sound slot c p (central_unheard whole c_end p_end ends slot answers c p done)
 
-  open_sound : (turns : ℕ) (c p : EndFacts) → AreOpenEnds S T turns c p → IsSoundPlace c p
+  open_sound : (turns : ℕ) (c p : EndFacts) → AreOpenEnds c_end p_end turns c p → IsSoundPlace c p
   open_sound turns c p (inl link) = record {
     goes_on = lasting_goes c link.central_lasts;
     unless_late = inl (lasting_goes p link.peripheral_lasts);
-    agreement = linked_agree S T ends turns false c p link.linked link.central_lasts link.peripheral_lasts;
+    agreement = linked_agree c_end p_end ends turns false c p link.linked link.central_lasts link.peripheral_lasts;
   }
   open_sound turns c p (inr parting) = record { goes_on = parting.took.goes_on; unless_late = inl parting.sent.goes_on; agreement = parting.agreement }
 
   -- neither procedure ended the link, between two turns
-  open_goes : (turns : ℕ) (c p : EndFacts) → AreOpenEnds S T turns c p → p.control.ends ≡ None
+  open_goes : (turns : ℕ) (c p : EndFacts) → AreOpenEnds c_end p_end turns c p → p.control.ends ≡ None
   open_goes turns c p (inl link) = lasting_goes p link.peripheral_lasts
   open_goes turns c p (inr parting) = parting.sent.goes_on
 
-  central_begun_sound : (slot : ℕ) (c p : OpenLink) → IsCentralBegun S T h slot c p → IsSoundPlace (facts_in c) (facts_in p)
+  central_begun_sound : (slot : ℕ) (c p : OpenLink) → IsCentralBegun c_end p_end p_handle slot c p → IsSoundPlace (facts_in c) (facts_in p)
   central_begun_sound slot c p begun =
       let before = open_sound slot begun.before (facts_in p) begun.ends_before in
-      let ready = prepared S slot begun.transmits begun.before in
-      let counts = (prepared_still S slot begun.transmits begun.before).acknowledgement in
+      let ready = prepared c_end slot begun.transmits begun.before in
+      let counts = (prepared_still c_end slot begun.transmits begun.before).acknowledgement in
       subst (λ (f : EndFacts). IsSoundPlace f (facts_in p)) (sym begun.is) (record {
-        goes_on = (begun_ends_nothing S slot begun.transmits begun.before).procedures ∙ before.goes_on;
+        goes_on = (begun_ends_nothing c_end slot begun.transmits begun.before).procedures ∙ before.goes_on;
         unless_late = inl (open_goes slot begun.before (facts_in p) begun.ends_before);
-        agreement = sent_agrees begun.transmits S slot ready (facts_in p).acknowledgement
+        agreement = sent_agrees begun.transmits c_end slot ready (facts_in p).acknowledgement
             (subst (λ (a : Acknowledgement). AreInAgreement a (facts_in p).acknowledgement) (sym counts) before.agreement);
       })
 
-  peripheral_begun_sound : (slot : ℕ) (doing : Doing) (c p : OpenLink) → IsPeripheralBegun S T h slot doing c p → IsSoundPlace (facts_in c) (facts_in p)
+  peripheral_begun_sound : (slot : ℕ) (doing : Doing) (c p : OpenLink) → IsPeripheralBegun c_end p_end p_handle slot doing c p → IsSoundPlace (facts_in c) (facts_in p)
   peripheral_begun_sound slot doing c p begun =
       let before = open_sound slot (facts_in c) begun.before begun.ends_before in
-      let counts = (prepared_still T slot begun.listens begun.before).acknowledgement in
+      let counts = (prepared_still p_end slot begun.listens begun.before).acknowledgement in
       subst (λ (f : EndFacts). IsSoundPlace (facts_in c) f) (sym begun.is) (record {
         goes_on = before.goes_on;
-        unless_late = inl ((prepared_ends_nothing T slot begun.listens begun.before).procedures ∙ open_goes slot (facts_in c) begun.before begun.ends_before);
+        unless_late = inl ((prepared_ends_nothing p_end slot begun.listens begun.before).procedures ∙ open_goes slot (facts_in c) begun.before begun.ends_before);
         agreement = subst (λ (a : Acknowledgement). AreInAgreement (facts_in c).acknowledgement a) (sym counts) before.agreement;
       })
 
-  begun_sound : (slot : ℕ) (doing : Doing) (c p : OpenLink) → AreBothBegun S T h slot doing c p → IsSoundPlace (facts_in c) (facts_in p)
+  begun_sound : (slot : ℕ) (doing : Doing) (c p : OpenLink) → AreBothBegun c_end p_end p_handle slot doing c p → IsSoundPlace (facts_in c) (facts_in p)
   begun_sound slot doing c p both =
-      answered_sound slot false (facts_in c) (facts_in p) (peripheral_unheard whole S T ends slot both.transmits both.listens (facts_in c) (facts_in p) both.begun)
+      answered_sound slot false (facts_in c) (facts_in p) (peripheral_unheard whole c_end p_end ends slot both.transmits both.listens (facts_in c) (facts_in p) both.begun)
 
-  in_turn_sound : (others phases slot : ℕ) (doing : Doing) (c p : OpenLink) → InTurn S T h others phases slot doing c p → IsSoundPlace (facts_in c) (facts_in p)
+  in_turn_sound : (others phases slot : ℕ) (doing : Doing) (c p : OpenLink) → InTurn c_end p_end p_handle others phases slot doing c p → IsSoundPlace (facts_in c) (facts_in p)
   in_turn_sound zero phases slot doing c p both = begun_sound slot doing c p both
   in_turn_sound (suc others) zero slot doing c p done = answered_sound slot done.answers (facts_in c) (facts_in p) done.answered_so
   in_turn_sound (suc others) (suc zero) slot doing c p done = answered_sound slot done.answers (facts_in c) (facts_in p) done.answered_so
@@ -117,8 +117,8 @@ module _ (whole : IsHeardWhole) (S T : EndSetup) (ends : AreEnds S T) (h : ℕ) 
 
   -- ---- between two turns
 
-  pub open_ends_sound : (turns : ℕ) (c p : EndFacts) → AreOpenEnds S T turns c p → is_lasting c ≡ true → is_lasting p ≡ true → AreSoundEnds S T c p
-  open_ends_sound turns c p (inl link) c_lasts p_lasts = are_sound S T ends turns false c p link.linked c_lasts p_lasts
+  pub open_ends_sound : (turns : ℕ) (c p : EndFacts) → AreOpenEnds c_end p_end turns c p → is_lasting c ≡ true → is_lasting p ≡ true → AreSoundEnds c_end p_end c p
+  open_ends_sound turns c p (inl link) c_lasts p_lasts = are_sound c_end p_end ends turns false c p link.linked c_lasts p_lasts
   open_ends_sound turns c p (inr parting) c_lasts p_lasts =
       absurd (let none = lasting_took_none c c_lasts in
       let h : true ≡ false = sym parting.took.took ∙ ap (λ (o : Option ErrCode). is_some o) none in absurd cc)
@@ -130,11 +130,11 @@ module _ (whole : IsHeardWhole) (understood : IsUnderstood) (taken : AreTaken) (
     (in_it : is_in central.station given.stations ≡ true) (in_too : is_in peripheral.station given.stations ≡ true)
     (of_one : AreEndsIn before central peripheral) (is_open : IsOpen given before central) (is_open_too : IsOpen given before peripheral)
     (hear : HearEachInTurn given before central peripheral) where
-  abbrev S_in : EndSetup
-  S_in = central.link.setup
+  abbrev c_here : EndSetup
+  c_here = central.link.setup
 
-  abbrev T_in : EndSetup
-  T_in = peripheral.link.setup
+  abbrev p_here : EndSetup
+  p_here = peripheral.link.setup
 
   side_at : (station : ℕ) (somewhere : StandsSomewhere (past_of station before)) → StationAt (setup_at given station) somewhere.at.stage somewhere.at.begun (facts_at given station before)
   side_at station somewhere =
@@ -146,7 +146,7 @@ module _ (whole : IsHeardWhole) (understood : IsUnderstood) (taken : AreTaken) (
       open_has IsSetUp 0 end.handle (facts_at given end.station before).links end.link
       (side_at end.station (stands_in_run given before rest end.station distinct is_one at)).each opened
 
-  pub pair_ends : AreEnds S_in T_in
+  pub pair_ends : AreEnds c_here p_here
   pair_ends =
       let one = set_up central in_it is_open in
       let other = set_up peripheral in_too is_open_too in record {
@@ -158,36 +158,36 @@ module _ (whole : IsHeardWhole) (understood : IsUnderstood) (taken : AreTaken) (
         peripheral_max = other.max;
       }
 
-  kept_here : ByStanding S_in T_in peripheral.handle (standing (past_of central.station before)) (standing (past_of peripheral.station before))
+  kept_here : ByStanding c_here p_here peripheral.handle (standing (past_of central.station before)) (standing (past_of peripheral.station before))
       (facts_at given peripheral.station before).turn.doing central.link peripheral.link
   kept_here =
       kept_to whole taken given distinct central peripheral pair_ends in_it in_too (apart_ends before central peripheral of_one) before rest at hear before []
       (sym (append-nil before)) central.link peripheral.link is_open refl is_open_too refl
 
-  pub open_linked : (slot : ℕ) → AllBetween given before slot → AreOpenEnds S_in T_in slot (facts_in central.link) (facts_in peripheral.link)
+  pub open_linked : (slot : ℕ) → AllBetween given before slot → AreOpenEnds c_here p_here slot (facts_in central.link) (facts_in peripheral.link)
   open_linked slot between =
-      at_standing S_in T_in peripheral.handle (at_stage Between slot) (at_stage Between slot) _ _ _ central.link peripheral.link (between central.station in_it)
+      at_standing c_here p_here peripheral.handle (at_stage Between slot) (at_stage Between slot) _ _ _ central.link peripheral.link (between central.station in_it)
       (between peripheral.station in_too) kept_here
 
   pub lasting_sound : (slot : ℕ) → AllBetween given before slot → is_lasting (facts_in central.link) ≡ true → is_lasting (facts_in peripheral.link) ≡ true
-      → AreSoundEnds S_in T_in (facts_in central.link) (facts_in peripheral.link)
-  lasting_sound slot between = open_ends_sound whole S_in T_in pair_ends peripheral.handle slot (facts_in central.link) (facts_in peripheral.link) (open_linked slot between)
+      → AreSoundEnds c_here p_here (facts_in central.link) (facts_in peripheral.link)
+  lasting_sound slot between = open_ends_sound whole c_here p_here pair_ends peripheral.handle slot (facts_in central.link) (facts_in peripheral.link) (open_linked slot between)
 
   -- ---- at any place
 
   place_sound : (one other : Stage) (turns others : ℕ) → StationAt (setup_at given central.station) one turns (facts_at given central.station before)
       → StationAt (setup_at given peripheral.station) other others (facts_at given peripheral.station before)
-      → AtPlace S_in T_in peripheral.handle one other turns others (facts_at given peripheral.station before).turn.doing central.link peripheral.link
+      → AtPlace c_here p_here peripheral.handle one other turns others (facts_at given peripheral.station before).turn.doing central.link peripheral.link
       → IsSoundPlace (facts_in central.link) (facts_in peripheral.link)
-  place_sound Between Between turns others side far stand = open_sound whole S_in T_in pair_ends peripheral.handle turns (facts_in central.link) (facts_in peripheral.link) stand
-  place_sound Between (Within zero) turns others side far stand = peripheral_begun_sound whole S_in T_in pair_ends peripheral.handle turns _ central.link peripheral.link stand
+  place_sound Between Between turns others side far stand = open_sound whole c_here p_here pair_ends peripheral.handle turns (facts_in central.link) (facts_in peripheral.link) stand
+  place_sound Between (Within zero) turns others side far stand = peripheral_begun_sound whole c_here p_here pair_ends peripheral.handle turns _ central.link peripheral.link stand
   place_sound Between (Within (suc phases)) turns others side far stand =
       let slot = (facts_at given peripheral.station before).turn.slot in
-      heard_sound whole S_in T_in pair_ends peripheral.handle slot (facts_in central.link) (facts_in peripheral.link) (stand.heard slot (sym far.holds.in_turn.slot_is))
-  place_sound (Within zero) Between turns others side far stand = central_begun_sound whole S_in T_in pair_ends peripheral.handle others central.link peripheral.link stand
+      heard_sound whole c_here p_here pair_ends peripheral.handle slot (facts_in central.link) (facts_in peripheral.link) (stand.heard slot (sym far.holds.in_turn.slot_is))
+  place_sound (Within zero) Between turns others side far stand = central_begun_sound whole c_here p_here pair_ends peripheral.handle others central.link peripheral.link stand
   place_sound (Within (suc phases)) Between turns others side far stand =
       let slot = (facts_at given central.station before).turn.slot in
-      heard_sound whole S_in T_in pair_ends peripheral.handle slot (facts_in central.link) (facts_in peripheral.link) (stand.heard slot (sym side.holds.in_turn.slot_is))
+      heard_sound whole c_here p_here pair_ends peripheral.handle slot (facts_in central.link) (facts_in peripheral.link) (stand.heard slot (sym side.holds.in_turn.slot_is))
   place_sound (Within phases) (Within other) turns others side far stand = by stand.1
     where
       slot_here : (facts_at given central.station before).turn.slot + 1 ≡ turns
@@ -199,16 +199,16 @@ module _ (whole : IsHeardWhole) (understood : IsUnderstood) (taken : AreTaken) (
       one_slot : (a b n : ℕ) → a + 1 ≡ n → b + 1 ≡ n → a ≡ b
       one_slot a b n is is_too = omega (arith, is, is_too)
 
-      by : NewOr S_in T_in peripheral.handle turns (λ slot. InTurn S_in T_in peripheral.handle other phases slot (facts_at given peripheral.station before).turn.doing central.link peripheral.link)
+      by : NewOr c_here p_here peripheral.handle turns (λ slot. InTurn c_here p_here peripheral.handle other phases slot (facts_at given peripheral.station before).turn.doing central.link peripheral.link)
           → IsSoundPlace (facts_in central.link) (facts_in peripheral.link)
       by (inr stands) =
           let slot = (facts_at given central.station before).turn.slot in
-          in_turn_sound whole S_in T_in pair_ends peripheral.handle other phases slot _ central.link peripheral.link (stands slot (sym slot_here))
+          in_turn_sound whole c_here p_here pair_ends peripheral.handle other phases slot _ central.link peripheral.link (stands slot (sym slot_here))
       by (inl new) =
           let slot = (facts_at given central.station before).turn.slot in
-          let opened : S_in.opened ≡ slot = one_slot S_in.opened slot turns new slot_here in
-          let there : S_in.opened ≡ (facts_at given peripheral.station before).turn.slot = one_slot S_in.opened _ turns new slot_there in
-          heard_sound whole S_in T_in pair_ends peripheral.handle slot (facts_in central.link) (facts_in peripheral.link)
+          let opened : c_here.opened ≡ slot = one_slot c_here.opened slot turns new slot_here in
+          let there : c_here.opened ≡ (facts_at given peripheral.station before).turn.slot = one_slot c_here.opened _ turns new slot_there in
+          heard_sound whole c_here p_here pair_ends peripheral.handle slot (facts_in central.link) (facts_in peripheral.link)
           (both_new whole taken given distinct central peripheral pair_ends in_it in_too slot central.link peripheral.link refl refl
           (side.new central.handle central.link is_open opened) (far.new peripheral.handle peripheral.link is_open_too (sym pair_ends.one_link.opened ∙ there)) opened)
 
@@ -217,7 +217,7 @@ module _ (whole : IsHeardWhole) (understood : IsUnderstood) (taken : AreTaken) (
       let one = stands_in_run given before rest central.station distinct in_it at in
       let other = stands_in_run given before rest peripheral.station distinct in_too at in
       place_sound one.at.stage other.at.stage one.at.begun other.at.begun (side_at central.station one) (side_at peripheral.station other)
-      (at_standing S_in T_in peripheral.handle one.at other.at _ _ _ central.link peripheral.link one.is other.is kept_here)
+      (at_standing c_here p_here peripheral.handle one.at other.at _ _ _ central.link peripheral.link one.is other.is kept_here)
 
   pub goes_on_here : GoOnUnlessLate (record { central = Some (facts_in central.link); peripheral = Some (facts_in peripheral.link) })
   goes_on_here = record { central = sound_here.goes_on; peripheral = sound_here.unless_late }
@@ -266,29 +266,29 @@ module _ (whole : IsHeardWhole) (understood : IsUnderstood) (taken : AreTaken) (
           (in_phase (setup_at given peripheral.station) (past_of peripheral.station before) p_stands.phases p_stands.turns p_stands.stand.own)
           (listens_by peripheral.handle facts_p.turn.doing listens) of_one.is_peripheral
 
-      p_begun : (n i : ℕ) → n ≡ 0 → NewOr S_in T_in peripheral.handle p_stands.turns (λ slot. InTurn S_in T_in peripheral.handle n i slot facts_p.turn.doing central.link peripheral.link)
-          → AreBothBegun S_in T_in peripheral.handle facts_p.turn.slot facts_p.turn.doing central.link peripheral.link
+      p_begun : (n i : ℕ) → n ≡ 0 → NewOr c_here p_here peripheral.handle p_stands.turns (λ slot. InTurn c_here p_here peripheral.handle n i slot facts_p.turn.doing central.link peripheral.link)
+          → AreBothBegun c_here p_here peripheral.handle facts_p.turn.slot facts_p.turn.doing central.link peripheral.link
       p_begun zero i is (inr stands) = stands facts_p.turn.slot (sym p_side.holds.in_turn.slot_is)
       p_begun zero i is (inl new) =
           let old = open_has (OpenedBefore facts_p.turn.slot) 0 peripheral.handle facts_p.links peripheral.link (p_side.station.old (on_link peripheral.handle facts_p.turn.doing
           listens)) is_open_too in
-          not_new _ T_in.opened facts_p.turn.slot p_stands.turns old p_side.holds.in_turn.slot_is (ap (λ n. n + 1) (sym pair_ends.one_link.opened) ∙ new)
+          not_new _ p_here.opened facts_p.turn.slot p_stands.turns old p_side.holds.in_turn.slot_is (ap (λ n. n + 1) (sym pair_ends.one_link.opened) ∙ new)
       p_begun (suc n) i is stands = absurd (omega (arith, is))
 
-      pub peripheral_understands : verdict_of T_in (facts_in peripheral.link) octets ≡ Good
+      pub peripheral_understands : verdict_of p_here (facts_in peripheral.link) octets ≡ Good
       peripheral_understands =
           let b = p_stands.stand.was_called central.station in
           let i = if b then suc p_stands.phases else p_stands.phases in
-          let place = at_standing S_in T_in peripheral.handle (at_stage (Within i) p_stands.turns) (at_stage (Within p_stands.phases) p_stands.turns) _ _ _ central.link peripheral.link
+          let place = at_standing c_here p_here peripheral.handle (at_stage (Within i) p_stands.turns) (at_stage (Within p_stands.phases) p_stands.turns) _ _ _ central.link peripheral.link
           (phase_of b p_stands.phases p_stands.turns (past_of central.station before) (p_stands.stand.others central.station in_it)) p_stands.stand.own kept_here in
           let both = p_begun p_stands.phases i p_first place.1 in
           let slot = facts_p.turn.slot in
           let packet = packet_now given before rest peripheral central (facts_in peripheral.link) octets central.link distinct in_it at is_open refl sent in
           let c = facts_in central.link in
           let p = facts_in peripheral.link in
-          let begun = subst (λ b. AreBegunEnds S_in T_in slot b true c p) (both.sends packet.front packet.last)
-          (subst (λ b. AreBegunEnds S_in T_in slot both.transmits b c p) (both.hears (listens_by peripheral.handle facts_p.turn.doing listens)) both.begun) in
-          peripheral_judges whole S_in T_in pair_ends slot c p packet.channel octets true packet.packet packet.same begun
+          let begun = subst (λ b. AreBegunEnds c_here p_here slot b true c p) (both.sends packet.front packet.last)
+          (subst (λ b. AreBegunEnds c_here p_here slot both.transmits b c p) (both.hears (listens_by peripheral.handle facts_p.turn.doing listens)) both.begun) in
+          peripheral_judges whole c_here p_here pair_ends slot c p packet.channel octets true packet.packet packet.same begun
 
     -- the central hears the peripheral
     module _ (heard_at : history_of (run_of given) ≡ before ++ Called central.station (PacketHeard octets) ∷ later)
@@ -309,26 +309,26 @@ module _ (whole : IsHeardWhole) (understood : IsUnderstood) (taken : AreTaken) (
           (listens_by central.handle facts_c.turn.doing listens) of_one.is_central
 
       c_done : (n : ℕ) (b : Bool) (doing : Doing) → n ≡ 1
-          → NewOr S_in T_in peripheral.handle c_stands.turns (λ slot. InTurn S_in T_in peripheral.handle (if b then suc n else n) n slot doing central.link peripheral.link)
-          → IsPeripheralDone S_in T_in peripheral.handle facts_c.turn.slot central.link peripheral.link
+          → NewOr c_here p_here peripheral.handle c_stands.turns (λ slot. InTurn c_here p_here peripheral.handle (if b then suc n else n) n slot doing central.link peripheral.link)
+          → IsPeripheralDone c_here p_here peripheral.handle facts_c.turn.slot central.link peripheral.link
       c_done zero b doing is stands = absurd (omega (arith, is))
       c_done (suc zero) true doing is (inr stands) = stands facts_c.turn.slot (sym c_side.holds.in_turn.slot_is)
       c_done (suc zero) false doing is (inr stands) = stands facts_c.turn.slot (sym c_side.holds.in_turn.slot_is)
       c_done (suc zero) b doing is (inl new) =
           let old = open_has (OpenedBefore facts_c.turn.slot) 0 central.handle facts_c.links central.link (c_side.station.old (on_link central.handle facts_c.turn.doing listens)) is_open in
-          not_new _ S_in.opened facts_c.turn.slot c_stands.turns old c_side.holds.in_turn.slot_is new
+          not_new _ c_here.opened facts_c.turn.slot c_stands.turns old c_side.holds.in_turn.slot_is new
       c_done (suc (suc n)) b doing is stands = absurd (omega (arith, is))
 
-      pub central_understands : verdict_of S_in (facts_in central.link) octets ≡ Good
+      pub central_understands : verdict_of c_here (facts_in central.link) octets ≡ Good
       central_understands =
           let b = c_stands.stand.was_called peripheral.station in
           let j = if b then suc c_stands.phases else c_stands.phases in
-          let place = at_standing S_in T_in peripheral.handle (at_stage (Within c_stands.phases) c_stands.turns) (at_stage (Within j) c_stands.turns) _ _ _ central.link peripheral.link
+          let place = at_standing c_here p_here peripheral.handle (at_stage (Within c_stands.phases) c_stands.turns) (at_stage (Within j) c_stands.turns) _ _ _ central.link peripheral.link
           c_stands.stand.own (phase_of b c_stands.phases c_stands.turns (past_of peripheral.station before) (c_stands.stand.others peripheral.station in_too)) kept_here in
           let done = c_done c_stands.phases b _ c_second place.1 in
           let slot = facts_c.turn.slot in
           let packet = packet_now given before rest central peripheral (facts_in central.link) octets peripheral.link distinct in_too at is_open_too refl sent in
           let c = facts_in central.link in
           let p = facts_in peripheral.link in
-          central_judges whole S_in T_in pair_ends slot c p packet.channel octets true packet.packet packet.same
-          (subst (λ b. AreAnsweredEnds S_in T_in slot b c p) (done.sends packet.front packet.last) done.answered_so)
+          central_judges whole c_here p_here pair_ends slot c p packet.channel octets true packet.packet packet.same
+          (subst (λ b. AreAnsweredEnds c_here p_here slot b c p) (done.sends packet.front packet.last) done.answered_so)

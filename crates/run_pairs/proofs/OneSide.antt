@@ -5,7 +5,7 @@ use Rattle.std.specs.Prelude.{⊤, fold, ◌&&◌, if◌then◌else◌}
 use Rattle.std.proofs.lemmas.List.Sums.{fold-append}
 use Rattle.adv_pdu.specs.declared.pdu.AdvPdu.{AdvPdu}
 use Rattle.adv_pdu.specs.Ranges.{IsInRange}
-use Rattle.link_runs.specs.procedure_values.Values.{IsPayloadMax}
+use Rattle.run_laws.specs.run_model.procedure_values.Values.{IsPayloadMax}
 use Rattle.run_laws.specs.link_model.Setup.{Setup as EndSetup}
 use Rattle.run_laws.specs.link_model.Step.{Step as EndStep, DataGiven, DataReported, Disconnected, EventEntered, PacketReceived, PacketSent, PduFixed, ProcedureAsked, RequestAnswered}
 use Rattle.run_laws.specs.link_model.Facts.{Facts as EndFacts}

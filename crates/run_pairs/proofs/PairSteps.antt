@@ -1,7 +1,6 @@
 -- How two ends of a link stand to each other at each place of a turn, and what each call on one of them makes of that.
 use Rattle.std.proofs.Common.{◌≡◌, ◌⊎◌, inl, inr, ℕ, zero, suc, ◌+◌, Bool, true, false, Option, None, List, [], ◌∷◌, ◌++◌, is_none, refl, sym, ap, subst, ◌∙◌, arith}
 use Rattle.std.specs.Prelude.{if◌then◌else◌}
-use Rattle.ble_base.specs.ErrorCodes.{unsupported_remote_feature}
 use Rattle.ble_base.specs.declared.verdicts.Verdict.TheVariants.{Good}
 use Rattle.run_laws.specs.link_model.End.{facts_after as end_after}
 use Rattle.run_laws.specs.link_model.Facts.{Facts as EndFacts}
@@ -15,10 +14,10 @@ use Rattle.run_laws.specs.open_links.OpenLinks.{OpenLink, facts_in}
 use Rattle.controller_model.specs.declared.doing.Doing.{Doing}
 use Rattle.controller_model.proofs.Places.{refusal}
 use Rattle.link_runs.specs.link_pairs.Ends.{AreEnds}
+use Rattle.link_runs.specs.link_pairs.Hosts.{MayHost}
 use Rattle.link_runs.specs.link_pairs.Hearing.{IsPacketOf, answered, received}
 use Rattle.link_runs.specs.link_pairs.Turns.{MayExchange, central_begun, prepared}
 use Rattle.link_runs.specs.link_pairs.Turns as turns
-use Rattle.link_runs.specs.control_octets.Fitting.{CodeFits}
 use Rattle.link_runs.specs.Open.{AreOpenEnds}
 use Rattle.link_runs.specs.Runs.{MayHostAll}
 use Rattle.link_runs.specs.Turn.{facts_hosted}
@@ -46,24 +45,24 @@ pub record IsPacketNow (other : EndSetup) (slot : ℕ) (listener : EndFacts) (se
   pub packet : IsPacketOf other slot (facts_in sender) channel octets
   pub same : channel ≡ listener.event.channel
 
-module _ (S T : EndSetup) (peripheral_handle : ℕ) where
+module _ (c_end p_end : EndSetup) (peripheral_handle : ℕ) where
   -- ---- the central has begun the turn in this slot, and the peripheral has not
   pub record IsCentralBegun (slot : ℕ) (c p : OpenLink) : Type 0 where
     pub before : EndFacts
     pub transmits : Bool
-    pub is : facts_in c ≡ central_begun S slot transmits before
-    pub may : MayExchange S slot transmits before
-    pub ends_before : AreOpenEnds S T slot before (facts_in p)
+    pub is : facts_in c ≡ central_begun c_end slot transmits before
+    pub may : MayExchange c_end slot transmits before
+    pub ends_before : AreOpenEnds c_end p_end slot before (facts_in p)
     pub sends : SentIf transmits slot c.past
 
   -- ---- the peripheral has, and the central has not
   pub record IsPeripheralBegun (slot : ℕ) (doing : Doing) (c p : OpenLink) : Type 0 where
     pub before : EndFacts
     pub listens : Bool
-    pub is : facts_in p ≡ prepared T slot listens before
-    pub may : MayExchange T slot listens before
-    pub not_due : is_none (due_of T before slot) ≡ true
-    pub ends_before : AreOpenEnds S T slot (facts_in c) before
+    pub is : facts_in p ≡ prepared p_end slot listens before
+    pub may : MayExchange p_end slot listens before
+    pub not_due : is_none (due_of p_end before slot) ≡ true
+    pub ends_before : AreOpenEnds c_end p_end slot (facts_in c) before
     pub hears : listens_under peripheral_handle doing ≡ true → listens ≡ true
     pub unsent : SentIf false slot p.past
 
@@ -71,7 +70,7 @@ module _ (S T : EndSetup) (peripheral_handle : ℕ) where
   pub record AreBothBegun (slot : ℕ) (doing : Doing) (c p : OpenLink) : Type 0 where
     pub transmits : Bool
     pub listens : Bool
-    pub begun : AreBegunEnds S T slot transmits listens (facts_in c) (facts_in p)
+    pub begun : AreBegunEnds c_end p_end slot transmits listens (facts_in c) (facts_in p)
     pub sends : SentIf transmits slot c.past
     pub hears : listens_under peripheral_handle doing ≡ true → listens ≡ true
     pub unsent : SentIf false slot p.past
@@ -79,7 +78,7 @@ module _ (S T : EndSetup) (peripheral_handle : ℕ) where
   -- ---- the peripheral has heard what it hears in the turn
   pub record IsPeripheralDone (slot : ℕ) (c p : OpenLink) : Type 0 where
     pub answers : Bool
-    pub answered_so : AreAnsweredEnds S T slot answers (facts_in c) (facts_in p)
+    pub answered_so : AreAnsweredEnds c_end p_end slot answers (facts_in c) (facts_in p)
     pub sends : SentIf answers slot p.past
 
   -- ---- by how many phases of the turn are over at the central, and at the peripheral
@@ -87,7 +86,7 @@ module _ (S T : EndSetup) (peripheral_handle : ℕ) where
   abbrev pub ByCentral : ℕ → ℕ → OpenLink → OpenLink → Type 0
   ByCentral zero slot c p = IsPeripheralDone slot c p
   ByCentral (suc zero) slot c p = IsPeripheralDone slot c p
-  ByCentral (suc (suc phases)) slot c p = AreHeardEnds S T slot (facts_in c) (facts_in p)
+  ByCentral (suc (suc phases)) slot c p = AreHeardEnds c_end p_end slot (facts_in c) (facts_in p)
 
   abbrev pub InTurn : ℕ → ℕ → ℕ → Doing → OpenLink → OpenLink → Type 0
   InTurn zero phases slot doing c p = AreBothBegun slot doing c p
@@ -95,14 +94,14 @@ module _ (S T : EndSetup) (peripheral_handle : ℕ) where
 
   -- the link was opened in the turn, or they stand so
   abbrev pub NewOr : ℕ → (ℕ → Type 0) → Type 0
-  NewOr turns R = (S.opened + 1 ≡ turns) ⊎ ((slot : ℕ) → turns ≡ slot + 1 → R slot)
+  NewOr turns R = (c_end.opened + 1 ≡ turns) ⊎ ((slot : ℕ) → turns ≡ slot + 1 → R slot)
 
   pub record IsCentralEnded (turns : ℕ) (c p : OpenLink) : Type 0 where
-    pub heard : (slot : ℕ) → turns ≡ slot + 1 → AreHeardEnds S T slot (facts_in c) (facts_in p)
+    pub heard : (slot : ℕ) → turns ≡ slot + 1 → AreHeardEnds c_end p_end slot (facts_in c) (facts_in p)
     pub stays : is_none (ending_of (facts_in c)) ≡ true
 
   pub record IsPeripheralEnded (turns : ℕ) (c p : OpenLink) : Type 0 where
-    pub heard : (slot : ℕ) → turns ≡ slot + 1 → AreHeardEnds S T slot (facts_in c) (facts_in p)
+    pub heard : (slot : ℕ) → turns ≡ slot + 1 → AreHeardEnds c_end p_end slot (facts_in c) (facts_in p)
     pub stays : is_none (ending_of (facts_in p)) ≡ true
 
   -- ---- by where the controllers of both stand, and how many turns each began; the doing is that of the peripheral
@@ -116,50 +115,50 @@ module _ (S T : EndSetup) (peripheral_handle : ℕ) where
   CentralWithin (suc phases) turns others c p = IsPeripheralEnded turns c p
 
   abbrev pub AtPlace : Stage → Stage → ℕ → ℕ → Doing → OpenLink → OpenLink → Type 0
-  AtPlace Between Between turns others doing c p = AreOpenEnds S T turns (facts_in c) (facts_in p)
+  AtPlace Between Between turns others doing c p = AreOpenEnds c_end p_end turns (facts_in c) (facts_in p)
   AtPlace Between (Within phases) turns others doing c p = PeripheralWithin phases turns others doing c p
   AtPlace (Within phases) Between turns others doing c p = CentralWithin phases turns others c p
   AtPlace (Within phases) (Within other) turns others doing c p = (turns ≡ others) × NewOr turns (λ slot. InTurn other phases slot doing c p)
 
 -- a request may be refused
-may_refuse : CodeFits (record { 0 = unsupported_remote_feature })
-may_refuse = omega arith
+may_refuse : (facts : EndFacts) → MayHost (RequestAnswered refusal) facts
+may_refuse facts = omega arith
 
-module _ (whole : IsHeardWhole) (S T : EndSetup) (ends : AreEnds S T) (h : ℕ) where
+module _ (whole : IsHeardWhole) (c_end p_end : EndSetup) (ends : AreEnds c_end p_end) (p_handle : ℕ) where
   -- ---- hosts
 
-  pub central_hosted_all : (turns : ℕ) (steps : List EndStep) (c p : EndFacts) → MayHostAll S steps c → AreOpenEnds S T turns c p
-      → AreOpenEnds S T turns (facts_hosted S steps c) p
+  pub central_hosted_all : (turns : ℕ) (steps : List EndStep) (c p : EndFacts) → MayHostAll c_end steps c → AreOpenEnds c_end p_end turns c p
+      → AreOpenEnds c_end p_end turns (facts_hosted c_end steps c) p
   central_hosted_all turns [] c p may both = both
   central_hosted_all turns (step ∷ steps) c p may both =
-      central_hosted_all turns steps (end_after S c step) p may.1 (central_hosted_open S T turns c p step may.0 both)
+      central_hosted_all turns steps (end_after c_end c step) p may.1 (central_hosted_open c_end p_end turns c p step may.0 both)
 
-  pub peripheral_hosted_all : (turns : ℕ) (steps : List EndStep) (c p : EndFacts) → MayHostAll T steps p → AreOpenEnds S T turns c p
-      → AreOpenEnds S T turns c (facts_hosted T steps p)
+  pub peripheral_hosted_all : (turns : ℕ) (steps : List EndStep) (c p : EndFacts) → MayHostAll p_end steps p → AreOpenEnds c_end p_end turns c p
+      → AreOpenEnds c_end p_end turns c (facts_hosted p_end steps p)
   peripheral_hosted_all turns [] c p may both = both
   peripheral_hosted_all turns (step ∷ steps) c p may both =
-      peripheral_hosted_all turns steps c (end_after T p step) may.1 (peripheral_hosted_open S T turns c p step may.0 both)
+      peripheral_hosted_all turns steps c (end_after p_end p step) may.1 (peripheral_hosted_open c_end p_end turns c p step may.0 both)
 
   -- ---- a turn begins
 
-  pub central_begins : (slot : ℕ) (exchanges sends : Bool) (before c p : OpenLink) → exchanges ≡ sends → IsEndBegun S slot exchanges sends before c
-      → AreOpenEnds S T slot (facts_in before) (facts_in p) → IsCentralBegun S T h slot c p
+  pub central_begins : (slot : ℕ) (exchanges sends : Bool) (before c p : OpenLink) → exchanges ≡ sends → IsEndBegun c_end slot exchanges sends before c
+      → AreOpenEnds c_end p_end slot (facts_in before) (facts_in p) → IsCentralBegun c_end p_end p_handle slot c p
   central_begins slot exchanges sends before c p same begun both = record {
     before = facts_in before;
     transmits = sends;
-    is = begun.facts ∙ ap (λ b. turns.sent_if sends S slot (prepared S slot b (facts_in before))) same;
-    may = subst (λ b. MayExchange S slot b (facts_in before)) same begun.may;
+    is = begun.facts ∙ ap (λ b. turns.sent_if sends c_end slot (prepared c_end slot b (facts_in before))) same;
+    may = subst (λ b. MayExchange c_end slot b (facts_in before)) same begun.may;
     ends_before = both;
     sends = unsent_if sends slot c.past begun.unsent;
   }
 
-  pub peripheral_begins : (slot : ℕ) (exchanges sends : Bool) (doing : Doing) (before c p : OpenLink) → sends ≡ false → listens_under h doing ≡ exchanges
-      → IsEndBegun T slot exchanges sends before p → due_of T (facts_in before) slot ≡ None → AreOpenEnds S T slot (facts_in c) (facts_in before)
-      → IsPeripheralBegun S T h slot doing c p
+  pub peripheral_begins : (slot : ℕ) (exchanges sends : Bool) (doing : Doing) (before c p : OpenLink) → sends ≡ false → listens_under p_handle doing ≡ exchanges
+      → IsEndBegun p_end slot exchanges sends before p → due_of p_end (facts_in before) slot ≡ None → AreOpenEnds c_end p_end slot (facts_in c) (facts_in before)
+      → IsPeripheralBegun c_end p_end p_handle slot doing c p
   peripheral_begins slot exchanges sends doing before c p none same begun due both = record {
     before = facts_in before;
     listens = exchanges;
-    is = begun.facts ∙ ap (λ b. turns.sent_if b T slot (prepared T slot exchanges (facts_in before))) none;
+    is = begun.facts ∙ ap (λ b. turns.sent_if b p_end slot (prepared p_end slot exchanges (facts_in before))) none;
     may = begun.may;
     not_due = ap (λ (o : Option ℕ). is_none o) due;
     ends_before = both;
@@ -168,33 +167,33 @@ module _ (whole : IsHeardWhole) (S T : EndSetup) (ends : AreEnds S T) (h : ℕ) 
   }
 
   -- the other one has begun before
-  pub central_begins_too : (slot : ℕ) (exchanges sends : Bool) (doing : Doing) (before c p : OpenLink) → exchanges ≡ sends → IsEndBegun S slot exchanges sends before c
-      → IsPeripheralBegun S T h slot doing before p → AreBothBegun S T h slot doing c p
+  pub central_begins_too : (slot : ℕ) (exchanges sends : Bool) (doing : Doing) (before c p : OpenLink) → exchanges ≡ sends → IsEndBegun c_end slot exchanges sends before c
+      → IsPeripheralBegun c_end p_end p_handle slot doing before p → AreBothBegun c_end p_end p_handle slot doing c p
   central_begins_too slot exchanges sends doing before c p same begun other =
-      let facts_are : facts_in c ≡ central_begun S slot sends (facts_in before) =
-      begun.facts ∙ ap (λ b. turns.sent_if sends S slot (prepared S slot b (facts_in before))) same in
-      let both = both_begin whole S T ends slot sends other.listens (facts_in before) other.before other.ends_before
-      (λ lasts. subst (λ b. MayExchange S slot b (facts_in before)) same begun.may) (λ lasts. other.may) other.not_due in record {
+      let facts_are : facts_in c ≡ central_begun c_end slot sends (facts_in before) =
+      begun.facts ∙ ap (λ b. turns.sent_if sends c_end slot (prepared c_end slot b (facts_in before))) same in
+      let both = both_begin whole c_end p_end ends slot sends other.listens (facts_in before) other.before other.ends_before
+      (λ lasts. subst (λ b. MayExchange c_end slot b (facts_in before)) same begun.may) (λ lasts. other.may) other.not_due in record {
         transmits = sends;
         listens = other.listens;
-        begun = subst (λ (f : EndFacts). AreBegunEnds S T slot sends other.listens f (facts_in p)) (sym facts_are)
-            (subst (λ (f : EndFacts). AreBegunEnds S T slot sends other.listens (central_begun S slot sends (facts_in before)) f) (sym other.is) both);
+        begun = subst (λ (f : EndFacts). AreBegunEnds c_end p_end slot sends other.listens f (facts_in p)) (sym facts_are)
+            (subst (λ (f : EndFacts). AreBegunEnds c_end p_end slot sends other.listens (central_begun c_end slot sends (facts_in before)) f) (sym other.is) both);
         sends = unsent_if sends slot c.past begun.unsent;
         hears = other.hears;
         unsent = other.unsent;
       }
 
-  pub peripheral_begins_too : (slot : ℕ) (exchanges sends : Bool) (doing : Doing) (before c p : OpenLink) → sends ≡ false → listens_under h doing ≡ exchanges
-      → IsEndBegun T slot exchanges sends before p → due_of T (facts_in before) slot ≡ None → IsCentralBegun S T h slot c before → AreBothBegun S T h slot doing c p
+  pub peripheral_begins_too : (slot : ℕ) (exchanges sends : Bool) (doing : Doing) (before c p : OpenLink) → sends ≡ false → listens_under p_handle doing ≡ exchanges
+      → IsEndBegun p_end slot exchanges sends before p → due_of p_end (facts_in before) slot ≡ None → IsCentralBegun c_end p_end p_handle slot c before → AreBothBegun c_end p_end p_handle slot doing c p
   peripheral_begins_too slot exchanges sends doing before c p none same begun due other =
-      let facts_are : facts_in p ≡ prepared T slot exchanges (facts_in before) =
-      begun.facts ∙ ap (λ b. turns.sent_if b T slot (prepared T slot exchanges (facts_in before))) none in
-      let both = both_begin whole S T ends slot other.transmits exchanges other.before (facts_in before) other.ends_before
+      let facts_are : facts_in p ≡ prepared p_end slot exchanges (facts_in before) =
+      begun.facts ∙ ap (λ b. turns.sent_if b p_end slot (prepared p_end slot exchanges (facts_in before))) none in
+      let both = both_begin whole c_end p_end ends slot other.transmits exchanges other.before (facts_in before) other.ends_before
       (λ lasts. other.may) (λ lasts. begun.may) (ap (λ (o : Option ℕ). is_none o) due) in record {
         transmits = other.transmits;
         listens = exchanges;
-        begun = subst (λ (f : EndFacts). AreBegunEnds S T slot other.transmits exchanges f (facts_in p)) (sym other.is)
-            (subst (λ (f : EndFacts). AreBegunEnds S T slot other.transmits exchanges (central_begun S slot other.transmits other.before) f) (sym facts_are) both);
+        begun = subst (λ (f : EndFacts). AreBegunEnds c_end p_end slot other.transmits exchanges f (facts_in p)) (sym other.is)
+            (subst (λ (f : EndFacts). AreBegunEnds c_end p_end slot other.transmits exchanges (central_begun c_end slot other.transmits other.before) f) (sym facts_are) both);
         sends = other.sends;
         hears = λ listens. sym same ∙ listens;
         unsent = unsent_if false slot p.past (λ off. begun.unsent none);
@@ -202,103 +201,103 @@ module _ (whole : IsHeardWhole) (S T : EndSetup) (ends : AreEnds S T) (h : ℕ) 
 
   -- ---- the peripheral hears, or does not
 
-  pub peripheral_deaf : (slot : ℕ) (doing : Doing) (c p : OpenLink) → AreBothBegun S T h slot doing c p → IsPeripheralDone S T h slot c p
+  pub peripheral_deaf : (slot : ℕ) (doing : Doing) (c p : OpenLink) → AreBothBegun c_end p_end p_handle slot doing c p → IsPeripheralDone c_end p_end p_handle slot c p
   peripheral_deaf slot doing c p both = record {
     answers = false;
-    answered_so = peripheral_unheard whole S T ends slot both.transmits both.listens (facts_in c) (facts_in p) both.begun;
+    answered_so = peripheral_unheard whole c_end p_end ends slot both.transmits both.listens (facts_in c) (facts_in p) both.begun;
     sends = both.unsent;
   }
 
   -- it refuses a request of the central at once, before it answers
-  refuses_then : (slot : ℕ) (octets : List ℕ) (room refuses replies : Bool) (c p : EndFacts) → replies ≡ replies_of T p slot octets room
-      → AreAnsweredEnds S T slot (replies_of T p slot octets room) c (answered T slot octets room p)
-      → AreAnsweredEnds S T slot (replies_of T p slot octets room) c (turns.sent_if replies T slot (refused_facts refuses T (received T slot octets room p)))
+  refuses_then : (slot : ℕ) (octets : List ℕ) (room refuses replies : Bool) (c p : EndFacts) → replies ≡ replies_of p_end p slot octets room
+      → AreAnsweredEnds c_end p_end slot (replies_of p_end p slot octets room) c (answered p_end slot octets room p)
+      → AreAnsweredEnds c_end p_end slot (replies_of p_end p slot octets room) c (turns.sent_if replies p_end slot (refused_facts refuses p_end (received p_end slot octets room p)))
   refuses_then slot octets room false replies c p are done =
-      subst (λ b. AreAnsweredEnds S T slot (replies_of T p slot octets room) c (turns.sent_if b T slot (received T slot octets room p))) (sym are) done
+      subst (λ b. AreAnsweredEnds c_end p_end slot (replies_of p_end p slot octets room) c (turns.sent_if b p_end slot (received p_end slot octets room p))) (sym are) done
   refuses_then slot octets room true replies c p are done = by replies are
     where
-      done_then : AreAnsweredEnds S T slot (replies_of T p slot octets room) c (end_after T (answered T slot octets room p) (RequestAnswered refusal))
-      done_then = answered_quiet whole S T ends slot c (answered T slot octets room p) _ (replies_of T p slot octets room) (RequestAnswered refusal) may_refuse refl
-          (answer_quiet T (answered T slot octets room p) refusal) done
+      done_then : AreAnsweredEnds c_end p_end slot (replies_of p_end p slot octets room) c (end_after p_end (answered p_end slot octets room p) (RequestAnswered refusal))
+      done_then = answered_quiet whole c_end p_end ends slot c (answered p_end slot octets room p) _ (replies_of p_end p slot octets room) (RequestAnswered refusal) (may_refuse p) refl
+          (answer_quiet p_end (answered p_end slot octets room p) refusal) done
 
-      by : (b : Bool) → b ≡ replies_of T p slot octets room
-          → AreAnsweredEnds S T slot (replies_of T p slot octets room) c (turns.sent_if b T slot (end_after T (received T slot octets room p) (RequestAnswered refusal)))
+      by : (b : Bool) → b ≡ replies_of p_end p slot octets room
+          → AreAnsweredEnds c_end p_end slot (replies_of p_end p slot octets room) c (turns.sent_if b p_end slot (end_after p_end (received p_end slot octets room p) (RequestAnswered refusal)))
       by false none =
-          subst (λ b. AreAnsweredEnds S T slot (replies_of T p slot octets room) c (end_after T (turns.sent_if b T slot (received T slot octets room p)) (RequestAnswered refusal)))
+          subst (λ b. AreAnsweredEnds c_end p_end slot (replies_of p_end p slot octets room) c (end_after p_end (turns.sent_if b p_end slot (received p_end slot octets room p)) (RequestAnswered refusal)))
           (sym none) done_then
       by true does =
-          let stays = received_stays T slot octets room p ends.is_peripheral (sym does) in
-          let sent = subst (λ b. AreAnsweredEnds S T slot (replies_of T p slot octets room) c
-          (end_after T (turns.sent_if b T slot (received T slot octets room p)) (RequestAnswered refusal))) (sym does) done_then in
-          subst (λ (f : EndFacts). AreAnsweredEnds S T slot (replies_of T p slot octets room) c f)
-          (sym (refused_first slot refusal (received T slot octets room p) stays))
-          (answered_more whole S T ends slot (replies_of T p slot octets room) _ c _ sent)
+          let stays = received_stays p_end slot octets room p ends.is_peripheral (sym does) in
+          let sent = subst (λ b. AreAnsweredEnds c_end p_end slot (replies_of p_end p slot octets room) c
+          (end_after p_end (turns.sent_if b p_end slot (received p_end slot octets room p)) (RequestAnswered refusal))) (sym does) done_then in
+          subst (λ (f : EndFacts). AreAnsweredEnds c_end p_end slot (replies_of p_end p slot octets room) c f)
+          (sym (refused_first slot refusal (received p_end slot octets room p) stays))
+          (answered_more whole c_end p_end ends slot (replies_of p_end p slot octets room) _ c _ sent)
 
-  pub peripheral_takes : (slot : ℕ) (octets : List ℕ) (room refuses replies : Bool) (doing : Doing) (c before p : OpenLink) → AreBothBegun S T h slot doing c before
-      → listens_under h doing ≡ true → replies ≡ replies_of T (facts_in before) slot octets room
-      → facts_in p ≡ turns.sent_if replies T slot (refused_facts refuses T (received T slot octets room (facts_in before)))
+  pub peripheral_takes : (slot : ℕ) (octets : List ℕ) (room refuses replies : Bool) (doing : Doing) (c before p : OpenLink) → AreBothBegun c_end p_end p_handle slot doing c before
+      → listens_under p_handle doing ≡ true → replies ≡ replies_of p_end (facts_in before) slot octets room
+      → facts_in p ≡ turns.sent_if replies p_end slot (refused_facts refuses p_end (received p_end slot octets room (facts_in before)))
       → (replies ≡ false → LastBefore slot p.past)
-      → (verdict_of T (facts_in before) octets ≡ Good → IsPacketNow S slot (facts_in before) c octets) → IsPeripheralDone S T h slot c p
-  peripheral_takes slot octets room refuses replies doing c before p both listening are facts_are unsent now = by (good_or_unheard T slot octets room (facts_in before))
+      → (verdict_of p_end (facts_in before) octets ≡ Good → IsPacketNow c_end slot (facts_in before) c octets) → IsPeripheralDone c_end p_end p_handle slot c p
+  peripheral_takes slot octets room refuses replies doing c before p both listening are facts_are unsent now = by (good_or_unheard p_end slot octets room (facts_in before))
     where
       as_sent : (b : Bool) → b ≡ replies → SentIf b slot p.past
       as_sent b is = unsent_if b slot p.past (λ none. unsent (sym is ∙ none))
 
-      made : AreAnsweredEnds S T slot (replies_of T (facts_in before) slot octets room) (facts_in c) (answered T slot octets room (facts_in before)) → IsPeripheralDone S T h slot c p
+      made : AreAnsweredEnds c_end p_end slot (replies_of p_end (facts_in before) slot octets room) (facts_in c) (answered p_end slot octets room (facts_in before)) → IsPeripheralDone c_end p_end p_handle slot c p
       made done = record {
-        answers = replies_of T (facts_in before) slot octets room;
-        answered_so = subst (λ (f : EndFacts). AreAnsweredEnds S T slot (replies_of T (facts_in before) slot octets room) (facts_in c) f) (sym facts_are)
+        answers = replies_of p_end (facts_in before) slot octets room;
+        answered_so = subst (λ (f : EndFacts). AreAnsweredEnds c_end p_end slot (replies_of p_end (facts_in before) slot octets room) (facts_in c) f) (sym facts_are)
             (refuses_then slot octets room refuses replies (facts_in c) (facts_in before) are done);
-        sends = as_sent (replies_of T (facts_in before) slot octets room) (sym are);
+        sends = as_sent (replies_of p_end (facts_in before) slot octets room) (sym are);
       }
 
-      by : (verdict_of T (facts_in before) octets ≡ Good) ⊎ IsUnheard T slot octets room (facts_in before) → IsPeripheralDone S T h slot c p
+      by : (verdict_of p_end (facts_in before) octets ≡ Good) ⊎ IsUnheard p_end slot octets room (facts_in before) → IsPeripheralDone c_end p_end p_handle slot c p
       by (inl good) =
           let packet = now good in
-          let begun = subst (λ b. AreBegunEnds S T slot b true (facts_in c) (facts_in before)) (both.sends packet.front packet.last)
-          (subst (λ b. AreBegunEnds S T slot both.transmits b (facts_in c) (facts_in before)) (both.hears listening) both.begun) in
-          made (peripheral_heard whole S T ends slot (facts_in c) (facts_in before) packet.channel octets room packet.packet packet.same begun)
+          let begun = subst (λ b. AreBegunEnds c_end p_end slot b true (facts_in c) (facts_in before)) (both.sends packet.front packet.last)
+          (subst (λ b. AreBegunEnds c_end p_end slot both.transmits b (facts_in c) (facts_in before)) (both.hears listening) both.begun) in
+          made (peripheral_heard whole c_end p_end ends slot (facts_in c) (facts_in before) packet.channel octets room packet.packet packet.same begun)
       by (inr none) =
-          let same : answered T slot octets room (facts_in before) ≡ facts_in before =
-          ap (λ b. turns.sent_if b T slot (received T slot octets room (facts_in before))) none.replies ∙ none.same in
-          made (subst (λ b. AreAnsweredEnds S T slot b (facts_in c) (answered T slot octets room (facts_in before))) (sym none.replies)
-          (subst (λ (f : EndFacts). AreAnsweredEnds S T slot false (facts_in c) f) (sym same)
-          (peripheral_unheard whole S T ends slot both.transmits both.listens (facts_in c) (facts_in before) both.begun)))
+          let same : answered p_end slot octets room (facts_in before) ≡ facts_in before =
+          ap (λ b. turns.sent_if b p_end slot (received p_end slot octets room (facts_in before))) none.replies ∙ none.same in
+          made (subst (λ b. AreAnsweredEnds c_end p_end slot b (facts_in c) (answered p_end slot octets room (facts_in before))) (sym none.replies)
+          (subst (λ (f : EndFacts). AreAnsweredEnds c_end p_end slot false (facts_in c) f) (sym same)
+          (peripheral_unheard whole c_end p_end ends slot both.transmits both.listens (facts_in c) (facts_in before) both.begun)))
 
   -- ---- the central hears, or does not
 
-  pub central_deaf : (slot : ℕ) (c p : OpenLink) → IsPeripheralDone S T h slot c p → AreHeardEnds S T slot (facts_in c) (facts_in p)
-  central_deaf slot c p done = central_unheard whole S T ends slot done.answers (facts_in c) (facts_in p) done.answered_so
+  pub central_deaf : (slot : ℕ) (c p : OpenLink) → IsPeripheralDone c_end p_end p_handle slot c p → AreHeardEnds c_end p_end slot (facts_in c) (facts_in p)
+  central_deaf slot c p done = central_unheard whole c_end p_end ends slot done.answers (facts_in c) (facts_in p) done.answered_so
 
-  refused_heard : (slot : ℕ) (refuses : Bool) (c p : EndFacts) → AreHeardEnds S T slot c p → AreHeardEnds S T slot (refused_facts refuses S c) p
-  refused_heard slot true c p heard = central_quiet whole S T ends slot c p _ (RequestAnswered refusal) may_refuse refl (answer_quiet S c refusal) heard
+  refused_heard : (slot : ℕ) (refuses : Bool) (c p : EndFacts) → AreHeardEnds c_end p_end slot c p → AreHeardEnds c_end p_end slot (refused_facts refuses c_end c) p
+  refused_heard slot true c p heard = central_quiet whole c_end p_end ends slot c p _ (RequestAnswered refusal) (may_refuse c) refl (answer_quiet c_end c refusal) heard
   refused_heard slot false c p heard = heard
 
-  pub central_takes : (slot : ℕ) (octets : List ℕ) (room refuses : Bool) (before c p : OpenLink) → IsPeripheralDone S T h slot before p
-      → facts_in c ≡ refused_facts refuses S (received S slot octets room (facts_in before))
-      → (verdict_of S (facts_in before) octets ≡ Good → IsPacketNow T slot (facts_in before) p octets) → AreHeardEnds S T slot (facts_in c) (facts_in p)
-  central_takes slot octets room refuses before c p done facts_are now = by (good_or_unheard S slot octets room (facts_in before))
+  pub central_takes : (slot : ℕ) (octets : List ℕ) (room refuses : Bool) (before c p : OpenLink) → IsPeripheralDone c_end p_end p_handle slot before p
+      → facts_in c ≡ refused_facts refuses c_end (received c_end slot octets room (facts_in before))
+      → (verdict_of c_end (facts_in before) octets ≡ Good → IsPacketNow p_end slot (facts_in before) p octets) → AreHeardEnds c_end p_end slot (facts_in c) (facts_in p)
+  central_takes slot octets room refuses before c p done facts_are now = by (good_or_unheard c_end slot octets room (facts_in before))
     where
-      made : AreHeardEnds S T slot (received S slot octets room (facts_in before)) (facts_in p) → AreHeardEnds S T slot (facts_in c) (facts_in p)
-      made heard = subst (λ (f : EndFacts). AreHeardEnds S T slot f (facts_in p)) (sym facts_are)
-          (refused_heard slot refuses (received S slot octets room (facts_in before)) (facts_in p) heard)
+      made : AreHeardEnds c_end p_end slot (received c_end slot octets room (facts_in before)) (facts_in p) → AreHeardEnds c_end p_end slot (facts_in c) (facts_in p)
+      made heard = subst (λ (f : EndFacts). AreHeardEnds c_end p_end slot f (facts_in p)) (sym facts_are)
+          (refused_heard slot refuses (received c_end slot octets room (facts_in before)) (facts_in p) heard)
 
-      by : (verdict_of S (facts_in before) octets ≡ Good) ⊎ IsUnheard S slot octets room (facts_in before) → AreHeardEnds S T slot (facts_in c) (facts_in p)
+      by : (verdict_of c_end (facts_in before) octets ≡ Good) ⊎ IsUnheard c_end slot octets room (facts_in before) → AreHeardEnds c_end p_end slot (facts_in c) (facts_in p)
       by (inl good) =
           let packet = now good in
-          made (central_heard whole S T ends slot (facts_in before) (facts_in p) packet.channel octets room packet.packet packet.same
-          (subst (λ b. AreAnsweredEnds S T slot b (facts_in before) (facts_in p)) (done.sends packet.front packet.last) done.answered_so))
-      by (inr none) = made (subst (λ (f : EndFacts). AreHeardEnds S T slot f (facts_in p)) (sym none.same) (central_deaf slot before p done))
+          made (central_heard whole c_end p_end ends slot (facts_in before) (facts_in p) packet.channel octets room packet.packet packet.same
+          (subst (λ b. AreAnsweredEnds c_end p_end slot b (facts_in before) (facts_in p)) (done.sends packet.front packet.last) done.answered_so))
+      by (inr none) = made (subst (λ (f : EndFacts). AreHeardEnds c_end p_end slot f (facts_in p)) (sym none.same) (central_deaf slot before p done))
 
   -- ---- a turn ends
 
   abbrev reported_if : Bool → EndSetup → EndFacts → EndFacts
   reported_if reports setup facts = if reports then end_after setup facts DataReported else facts
 
-  pub central_reports : (slot : ℕ) (reports : Bool) (c p : EndFacts) → AreHeardEnds S T slot c p → AreHeardEnds S T slot (reported_if reports S c) p
-  central_reports slot true c p heard = central_quiet whole S T ends slot c p _ DataReported tt refl (reported_quiet S c) heard
+  pub central_reports : (slot : ℕ) (reports : Bool) (c p : EndFacts) → AreHeardEnds c_end p_end slot c p → AreHeardEnds c_end p_end slot (reported_if reports c_end c) p
+  central_reports slot true c p heard = central_quiet whole c_end p_end ends slot c p _ DataReported tt refl (reported_quiet c_end c) heard
   central_reports slot false c p heard = heard
 
-  pub peripheral_reports : (slot : ℕ) (reports : Bool) (c p : EndFacts) → AreHeardEnds S T slot c p → AreHeardEnds S T slot c (reported_if reports T p)
-  peripheral_reports slot true c p heard = peripheral_quiet whole S T ends slot c p _ DataReported tt refl (reported_quiet T p) heard
+  pub peripheral_reports : (slot : ℕ) (reports : Bool) (c p : EndFacts) → AreHeardEnds c_end p_end slot c p → AreHeardEnds c_end p_end slot c (reported_if reports p_end p)
+  peripheral_reports slot true c p heard = peripheral_quiet whole c_end p_end ends slot c p _ DataReported tt refl (reported_quiet p_end p) heard
   peripheral_reports slot false c p heard = heard

@@ -5,7 +5,7 @@ use Rattle.ble_base.specs.declared.roles.Role.{Role}
 use Rattle.ble_base.specs.declared.roles.Role.TheVariants.{Central, Peripheral}
 use Rattle.data_pdu.specs.declared.header.DataHeader.{DataHeader}
 use Rattle.data_pdu.specs.Header.{header_in}
-use Rattle.link_runs.specs.procedure_values.declared.asks.Ask.{Ask}
+use Rattle.run_laws.specs.run_model.procedure_values.declared.asks.Ask.{Ask}
 use Rattle.run_laws.specs.link_model.Acknowledgement.{Pdu, is_acked}
 use Rattle.run_laws.specs.link_model.Facts.{Facts}
 use Rattle.run_laws.specs.link_model.Hosts.{facts_answered}

@@ -3,8 +3,8 @@ use Rattle.std.proofs.Common.{◌≡◌, ℕ, ◌&&◌, Bool, true, false, Optio
 use Rattle.std.specs.Prelude.{if◌then◌else◌}
 use Rattle.ble_base.specs.declared.roles.Role.{Role}
 use Rattle.data_pdu.specs.Header.{header_in}
-use Rattle.link_runs.specs.procedure_stages.declared.steps.Effect.{Effect}
-use Rattle.link_runs.specs.procedure_stages.declared.steps.Effect.TheVariants.{Lengths as new_lengths}
+use Rattle.run_laws.specs.run_model.procedure_stages.declared.steps.Effect.{Effect}
+use Rattle.run_laws.specs.run_model.procedure_stages.declared.steps.Effect.TheVariants.{Lengths as new_lengths}
 use Rattle.run_laws.specs.link_model.declared.state.KnownLengths.{KnownLengths}
 use Rattle.run_laws.specs.link_model.Acknowledgement.{Pdu}
 use Rattle.run_laws.specs.link_model.Controls.{is_procedure_pdu}

@@ -3,8 +3,8 @@ use Rattle.std.proofs.Common.{◌≡◌, ◌&&◌, ◌⊎◌, Result, inl, inr, 
 use Rattle.ble_base.specs.declared.error_codes.ErrCode.{ErrCode}
 use Rattle.ble_base.specs.ErrorCodes.{terminated_by_local_host}
 use Rattle.ble_base.specs.declared.verdicts.Verdict.TheVariants.{Good}
-use Rattle.link_runs.specs.procedure_values.declared.asks.Ask.{Ask}
-use Rattle.link_runs.specs.procedure_stages.InProgress.{is_host_asked}
+use Rattle.run_laws.specs.run_model.procedure_values.declared.asks.Ask.{Ask}
+use Rattle.run_laws.specs.run_model.procedure_stages.InProgress.{is_host_asked}
 use Rattle.link_runs.specs.procedures.Going.{host_answer_step, is_answer}
 use Rattle.link_runs.specs.procedures.Table.{TableFacts}
 use Rattle.link_runs.specs.control_model.Control.{Control, table_if}
