@@ -1,4 +1,4 @@
--- A relation of two ends that each step of a host leaves is left by each command.
+-- A relation of two ends that each step of a host keeps is kept by each command.
 use Rattle.std.proofs.Common.{◌≡◌, ℕ, true, Option, Some, None}
 use Rattle.hci_cmd.specs.declared.command.Command.{Command}
 use Rattle.procedure_events.specs.procedure_stages.Kinds.{role_of}

@@ -1,4 +1,5 @@
--- How a step of one end changes the view of its link: by what the end notes, and by what its host receives.
+-- How a step of one end changes the view of its link: by what the end notes, and by what its host receives (our
+-- choice).
 use Rattle.std.specs.Prelude.{Bool, true, false, fold}
 use Rattle.ble_base.specs.declared.notes.Note.{Note}
 use Rattle.ble_base.specs.declared.notes.Note.TheVariants.{Done, Refused}

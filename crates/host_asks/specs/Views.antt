@@ -1,4 +1,4 @@
--- The view of all links, and the ends that it knows.
+-- The view of all links, and the ends that it knows (our choice).
 use Rattle.std.specs.Prelude.{◌≡◌, ℕ, Bool, true, false, List, [], Option, Some, None, is_some, if◌then◌else◌, ⊤}
 use Rattle.ble_base.specs.declared.procedure_kinds.Kind.{Kind}
 use Rattle.ble_base.specs.declared.procedure_kinds.Kind.TheVariants.{Features, Version}

@@ -14,8 +14,8 @@ ghost use Rattle.host_view.specs.Status.{rows_of};
 ghost use Rattle.host_asks.specs.Commands.{FitsReason, facts_commanded, host_step_of, is_about};
 ghost use Rattle.host_asks.specs.Views.{KnowsAt};
 
-/// Whatever command of a host is accepted while the view knows the end of its link, the two ends
-/// stay linked, or parting.
+/// Where a command on a link is accepted, and the view of that host knows its end of the link, the
+/// two ends stay linked, or parting (Core 5.2, volume 6 part B, sections 5.1 and 5.1.6).
 pub fn commands_leave_ends_linked()
     ensures central { (central peripheral : Setup) (turns : ℕ) (answers : Bool) (c p : Facts)
         (view : View) (command : Command) (handle slot : ℕ) → AreEnds central peripheral

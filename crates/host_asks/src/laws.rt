@@ -50,9 +50,9 @@ pub fn reasons_that_are_read_fit()
         → command_of opcode octets ≡ Known command → FitsReason command }
 {}
 
-/// The view knows the end after that step too, until a procedure ends the link. Where the end knows
-/// the features or the version of its peer already, the command makes no step: it is answered at
-/// once, and the view takes that as done.
+/// The view knows the end after the step of an accepted command too, until a procedure ends the
+/// link. Where the end knows the features or the version of its peer already, the command makes no
+/// step: it is answered at once, and the view takes it as done.
 pub fn a_command_keeps_what_is_known()
     ensures { (setup : Setup) (view : View) (command : Command) (handle slot : ℕ) (link : Link)
         (facts : Facts)
@@ -74,8 +74,8 @@ pub fn a_step_keeps_what_is_known()
         → KnowsAsks (link_after_step setup facts step link) (facts_after setup facts step) }
 {}
 
-/// A request of the peer that is refused waits for the host no more, whatever the view keeps of it.
-/// So where a mask withholds its event and it is refused at once, the view need not know of it.
+/// A request of the peer that is refused no longer waits for the host, whatever the view keeps of
+/// it. So where a mask withholds its event and it is refused at once, the view need not know of it.
 pub fn an_answer_keeps_what_is_known()
     ensures refused { (link : Link) (facts : Facts) (code : ErrCode) (waits : Bool)
         → KnowsAsks link facts

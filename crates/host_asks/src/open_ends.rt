@@ -16,7 +16,8 @@ ghost use Rattle.host_asks.specs.LinksCommanded.{KnowsOpenEnds, links_commanded,
 ghost use Rattle.host_asks.specs.Views.{leaves_other_links};
 
 /// Where the view knows the ends of all open links, each step that an accepted command makes on
-/// them may come, until a procedure ends the link; and the view knows the ends after it.
+/// them may come, until a procedure ends the link; and the view knows the ends after it, where the
+/// command is not Reset, Host Number Of Completed Packets, or one on encryption or PHYs.
 pub fn all_links_stay_known()
     ensures may { (view : View) (command : Command) (handle slot : ℕ) (links : Links)
         (link : OpenLink) → first_refusal (rows_of view command) ≡ 0 → FitsReason command

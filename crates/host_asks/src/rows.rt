@@ -1,4 +1,4 @@
-//! Worked examples, and why the view takes what is answered at once.
+//! Worked examples, and why the view takes as done what is answered at once.
 ghost use Rattle.std.specs.Prelude.{◌≡◌, ℕ, true, false, None};
 ghost use Rattle.ble_base.specs.declared.procedure_kinds.Kind.{Kind};
 ghost use Rattle.hci_cmd.specs.declared.command.Command.{Command};

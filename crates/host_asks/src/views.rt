@@ -58,7 +58,9 @@ pub fn notes_change_their_link()
         → link_in (fold view_noted view notes).links other ≡ link_in view.links other }
 {}
 
-/// An accepted command changes the links that it is about, and no other.
+/// An accepted command changes the links that it is about. It changes no other link, but for the
+/// commands that are left out here: Reset, which shuts all links, Host Number Of Completed Packets,
+/// and those on encryption and PHYs.
 pub fn commands_change_their_link()
     ensures own { (view : View) (command : Command) (handle : ℕ)
         → is_about handle command ≡ true
@@ -101,7 +103,8 @@ pub fn steps_keep_what_is_known()
 /// Where the view knows an end, and the table of conditions accepts a command on its link, the step
 /// that the command makes there may come, and the view knows the end after it. What the end knows
 /// of its peer already is answered by one event at once, and the view takes it as done. Otherwise
-/// the command makes a step. What is known of the ends of other links stays known.
+/// the command makes a step. What is known of the ends of other links stays known, but for the
+/// commands that are left out above.
 pub fn commands_keep_what_is_known()
     ensures may { (view : View) (command : Command) (handle slot : ℕ) (facts : Facts)
         → first_refusal (rows_of view command) ≡ 0 → FitsReason command

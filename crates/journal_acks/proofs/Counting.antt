@@ -112,9 +112,9 @@ HaveOwnNumbers given station history = (one other : ℕ) (a b : OpenLink) → li
 
 -- ---- one end
 
--- before the packet that an end is to send is on the air, the journal is one sending late; before it takes a packet that
--- was on the air, the journal is one reception ahead, but for a PDU that is not empty: that it is taken has a line of its
--- own, so until then it does not count
+-- before the packet that an end is to send is on the air, the journal is one sending late; before the end takes a
+-- packet that was on the air, the journal is one reception ahead, but for a PDU that is not empty: a line of its own
+-- says that it is taken, so until then it does not count
 abbrev pub ahead_if : Bool → Exchanged → Exchanged
 ahead_if true end = with_sent end
 ahead_if false end = end

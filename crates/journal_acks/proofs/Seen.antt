@@ -1,5 +1,5 @@
--- What is kept at each place of a run is seen before each turn, before each packet, also the one at which a run stops, and
--- at the end.
+-- What is kept at each place of a run is seen before each turn, before each packet, also the one at which a run stops,
+-- and at the end.
 use Rattle.std.proofs.Common.{◌≡◌, ℕ, Bool, List, [], ◌∷◌, ◌++◌}
 use Rattle.std.specs.Prelude.{map, take}
 use Rattle.controller_model.specs.Step.{TurnBegins, TurnEnds}

@@ -42,8 +42,8 @@ last_heard number side journal = heard_from number side [] None journal
 -- ---- the reasons
 
 -- the slot in which a link ends at a side: six intervals after that of its CONNECT_IND, where the side judged no packet
--- of the other side good; else the supervision timeout, in units of 10 ms, which are eight slots, after that of the last
--- such packet
+-- of the other side good; else the supervision timeout, in units of 10 ms, which are eight slots, after that of the
+-- last such packet
 abbrev pub end_slot : LinkBegun → Option ℕ → ℕ
 end_slot link None = link.slot + 6 * link.fields.interval
 end_slot link (Some slot) = slot + 8 * link.fields.timeout

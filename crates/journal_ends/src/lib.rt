@@ -1,5 +1,5 @@
-//! What each end of a link says and hears, from the lines of a journal, and the law of each run of
-//! two stations that it is what happened to that end. None of them names code.
+//! What each end of a link says and hears, by the lines of a journal, and the law that in each run
+//! of two stations it is what happened to that end. Definitions and laws; no code.
 #![tactic(auto)]
 
 mod ends;

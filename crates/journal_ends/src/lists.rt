@@ -1,4 +1,4 @@
-//! What any list of lines, and any past of an end, says of what the end says and hears. The bodies
+//! Laws of what an end says and hears, by any list of lines and by any past of the end. The bodies
 //! are empty: the contracts are the laws.
 ghost use Rattle.std.specs.Prelude.{◌≡◌, ℕ, List, map};
 ghost use Rattle.std.specs.Option.{option_map};

@@ -8,9 +8,10 @@ ghost use Rattle.journal_acks.specs.Rows.{data_acknowledged, data_packet, data_p
 ghost use Rattle.journal_acks.specs.Rows.{reply_packet};
 ghost use Rattle.journal_ends.specs.Seen.{Hears, Says, last_slot, seen_on};
 
-/// The central sends a PDU of data in the second slot of an event, and the peripheral takes it. Each
-/// end says that the link is opened, that it enters the event, and what it sends or takes, and hears
-/// the two packets of the other one, in turns 2 and 3. On another link a side says and hears nothing.
+/// The central sends a PDU of data in the second slot of an event, and the peripheral takes it.
+/// Each end says that the link is opened, that it enters the event, and what it sends or takes. It
+/// hears the two packets of the other one, in turns 2 and 3. On another link a side says and hears
+/// nothing.
 pub fn worked_ends()
     ensures central { seen_on B 1 data_acknowledged
         ≡ Says (Opened B 1 0 Central) ∷ Says (Enter B 1 0 25) ∷ Hears 2 first_reply

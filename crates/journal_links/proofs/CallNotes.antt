@@ -1,4 +1,5 @@
--- What a side notes of one link as a turn begins in which that enters an event, of PDUs, events and indications in force.
+-- What a side notes of PDUs, events and indications in force on one link, as a turn begins in which the link enters an
+-- event.
 use Rattle.std.proofs.Common.{◌≡◌, ◌≢◌, ℕ, ◌+◌, ◌<◌, ◌==◌, Bool, true, false, ◌⊎◌, inl, inr, Option, Some, None, List, [], ◌∷◌, ◌++◌, length, map, refl, sym, ap, subst, ◌∙◌, append-nil, arith}
 use Rattle.std.specs.Prelude.{All, if◌then◌else◌}
 use Rattle.std.specs.List.{AllByRecursion, filter, flat_map}

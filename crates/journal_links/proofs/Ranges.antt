@@ -1,5 +1,5 @@
--- The values of each link of a run are in their ranges: those of its CONNECT_IND, and what its host asks, which is nothing
--- so far.
+-- The values of each link of a run are in their ranges: those of its CONNECT_IND, and what its host asks, which is
+-- nothing so far.
 use Rattle.std.proofs.Common.{◌≡◌, ℕ, true, List, [], ◌∷◌, ◌++◌, Some, sym, subst}
 use Rattle.std.specs.List.{AllByRecursion}
 use Rattle.adv_pdu.specs.Ranges.{IsInRange}

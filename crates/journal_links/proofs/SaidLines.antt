@@ -1,4 +1,4 @@
--- The lines of a side on a link say the notes of its end, as far as they are of PDUs, events and indications in force.
+-- The lines of a side on a link that are of PDUs, events and indications in force say such notes of its end.
 use Rattle.std.proofs.Common.{◌≡◌, ℕ, Bool, true, false, ◌⊎◌, inl, inr, None, List, [], ◌∷◌, ◌++◌, fold, map, refl, sym, subst, ◌∙◌, append-nil, append_assoc, arith}
 use Rattle.std.specs.Prelude.{if◌then◌else◌}
 use Rattle.std.specs.List.{flat_map}

@@ -1,5 +1,5 @@
--- The changes of the parameters of a link that are in force at one end of it, by the lines of that end (Core 5.2, volume 6
--- part B, sections 5.1.1, 5.1.2 and 5.5).
+-- The changes of the parameters of a link that are in force at one end of it, by the lines of that end (Core 5.2,
+-- volume 6 part B, sections 5.1.1, 5.1.2 and 5.5).
 use Rattle.std.specs.Prelude.{ℕ, List, [], ◌∷◌}
 use Rattle.std.specs.List.{flat_map}
 use Rattle.ble_base.specs.declared.notes.Note.{Note}

@@ -29,8 +29,8 @@ ghost use Rattle.run_laws.specs.run_model.Run.{Given, facts_at, history_of, run_
 /// Each line of an end that enters an event of a link is in the turn of the anchor of that
 /// event, and its channel is that of the event: both follow from the CONNECT_IND of the link, the
 /// advertisement that it answers and the changes of its parameters in force at that end, by the
-/// lines of the end before this one (Core 5.2, volume 6 part B, sections 4.5.1, 4.5.3, 4.5.8, 5.1.1,
-/// 5.1.2 and 5.5).
+/// lines of the end before this one (Core 5.2, volume 6 part B, sections 4.5.1, 4.5.3, 4.5.8,
+/// 5.1.1, 5.1.2 and 5.5).
 pub fn each_enter_line_is_at_its_anchor()
     ensures { (a b : List ℕ) (script : Script) (front rest : List Entry) (side : Side)
         (number event channel : ℕ)
@@ -85,8 +85,8 @@ pub fn both_ends_enter_an_event_in_one_turn()
     advertise::laws::connections_are_taken();
 }
 
-/// No change of parameters is in force at a line, as long as no line of a run names a procedure. So
-/// two lines that say that an event of one link is entered are in one turn and name one channel
+/// No line of a run names a procedure yet, so no change of parameters is in force at a line. So two
+/// lines that say that an event of one link is entered are in one turn and name one channel
 /// (Core 5.2, volume 6 part B, sections 4.5.1 and 4.5.8).
 pub fn without_procedures_both_ends_enter_an_event_in_one_turn()
     ensures no_changes { (a b : List ℕ) (script : Script) (front rest : List Entry) (number : ℕ)

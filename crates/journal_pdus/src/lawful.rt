@@ -21,11 +21,11 @@ use crate::links::{
 /// before the next turn; each side enters the events of a link one after another, and sends on it
 /// only in the turn of the last one, or in the next turn where MD says that more waits; lines name
 /// links that are open at their side; each link that is shut has its reason, none that is to end
-/// stays open after that turn, and a Reset leaves none; no line is of a control procedure, since
-/// none is built; an answer on a link that passes is heard, and so are requests on the advertising
-/// channels; a side opens a link as its peripheral exactly where it heard the CONNECT_IND and is to
-/// open it (`journal_hearings`); each command is answered once, and complete packets are reported in
-/// their order (`journal_hosts`); and data arrives in order
+/// stays open after that turn, and a Reset leaves none; no line is of a control procedure, since no
+/// host can ask for one yet; an answer on a link that passes is heard, and so are requests on the
+/// advertising channels; a side opens a link as its peripheral exactly where it heard the
+/// CONNECT_IND and is to open it (`journal_hearings`); each command is answered once, and complete
+/// packets are reported in their order (`journal_hosts`); and data arrives in order
 /// (`journal_data::data_arrives_in_order_in_every_journal`). The packet at which damage ends a run
 /// is due as those before it are. Line by line (Core 5.2, volume 6 part B, sections 4.5.6 and
 /// 4.5.9, and volume 4 part E, section 7.7.19):

@@ -93,8 +93,8 @@ served_under : (on : Bool) (slot handle : ℕ) (winner : Option Activity) (facts
 served_under false slot handle winner facts after is = served_none (link_at handle facts.links) after is
 served_under true slot handle winner facts after is = radio_under (is_held_in facts.radio.hold slot) slot handle winner facts after is
 
--- the link was open before and stays; it enters its event where that is due, fixes its PDU where it has an exchange, and
--- sends where it is to
+-- the link was open before and stays; it enters its event where that is due, fixes its PDU where it has an exchange,
+-- and sends where it is to
 pub record HasBegun (facts : Facts) (slot : ℕ) (on : Bool) (handle : ℕ) (doing : Doing) (after : OpenLink) : Type 0 where
   pub link : OpenLink
   pub was : link_at handle facts.links ≡ Some link

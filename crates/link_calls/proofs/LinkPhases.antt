@@ -1,4 +1,4 @@
--- What a controller does with its links, with the phase that it stands in.
+-- What a controller does with its links in each phase of a turn.
 use Rattle.std.proofs.Common.{ℕ, refl}
 use Rattle.run_laws.specs.controller_model.Facts.{Setup, Facts, first_facts}
 use Rattle.run_laws.proofs.LinkPasses.{phase_passes_on}

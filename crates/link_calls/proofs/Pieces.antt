@@ -1,5 +1,5 @@
--- What an end sends whose host asks in range: a PDU that counts as empty is the empty one, and no payload is too long, so
--- that each open end understands each packet.
+-- What an end sends whose host asks only for values in range: a PDU that counts as empty is the empty one, and no
+-- payload is too long, so each open end understands each packet.
 use Rattle.std.proofs.Common.{◌≡◌, ℕ, ◌≤◌, ◌<◌, ◌==◌, ◌&&◌, ◌||◌, not, Bool, true, false, Option, Some, None, List, [], ◌∷◌, ◌++◌, length, refl, sym, subst, ◌∙◌, arith, ap}
 use Rattle.std.specs.Prelude.{Result, Ok, Err, fold, if◌then◌else◌}
 use Rattle.std.specs.List.{AllByRecursion, find}

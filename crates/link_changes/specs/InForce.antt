@@ -33,8 +33,8 @@ pub record HasRanges (setup : Setup) (past : List Step) : Type 0 where
 
 -- ---- an event is entered
 
--- an end with this past, and with these notes before its note of an event: the event is the next one; its anchor and its
--- channel follow from the CONNECT_IND and the indications in force by those notes
+-- an end with this past, and with these notes before its note of an event: the event is the next one; its anchor and
+-- its channel follow from the CONNECT_IND and the indications in force by those notes
 pub record IsEnteredBy (setup : Setup) (past : List Step) (notes : List Note) (event channel : ℕ) : Type 0 where
   pub number : event ≡ (facts_of setup past).control.track.entered
   pub anchor :
@@ -53,8 +53,8 @@ ComesIntoForce event taking =
     (event ≡ taking.change.at.0)
     ⊎ ((event ≡ taking.change.at.0 + 1) × (taking.taken_in ≡ taking.change.at.0))
 
--- after these notes the end notes that an indication comes into force: it is the next one of those noted so far, with the
--- next number, and the note of its event comes next
+-- after these notes the end notes that an indication comes into force: it is the next one of those noted so far, with
+-- the next number, and the note of its event comes next
 pub record IsAppliedInTime (role : Role) (notes : List Note) (handle number : ℕ) (event : EventNo) (later : List Note) :
     Type 0 where
   pub next : number ≡ applied_noted notes + 1

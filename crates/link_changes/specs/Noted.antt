@@ -1,5 +1,5 @@
--- The indications of one end of a link by its notes: those that it sent as the central or took as the peripheral, and how
--- many of them are in force (Core 5.2, volume 6 part B, sections 5.1.1, 5.1.2 and 5.5).
+-- The indications of one end of a link by its notes: those that it sent as the central or took as the peripheral, and
+-- how many of them are in force (Core 5.2, volume 6 part B, sections 5.1.1, 5.1.2 and 5.5).
 use Rattle.std.specs.Prelude.{ℕ, ◌==◌, Bool, true, false, List, [], ◌∷◌, ◌++◌, length, map, take, fold, Option, Some, None, if◌then◌else◌}
 use Rattle.std.specs.List.{filter}
 use Rattle.ble_base.specs.declared.notes.Note.{Note}

@@ -1,5 +1,5 @@
--- Worked notes of the two ends of a link: in event 0 the central sends an update to an interval of 8 slots, whose Instant
--- is event 6, and the peripheral takes it.
+-- Worked notes of the two ends of a link: in event 0 the central sends an update to an interval of 8 slots, whose
+-- Instant is event 6, and the peripheral takes it.
 use Rattle.std.specs.Prelude.{ℕ, List, [], ◌∷◌, ◌++◌}
 use Rattle.ble_base.specs.declared.notes.Note.{Note}
 use Rattle.ble_base.specs.declared.notes.Note.TheVariants.{Applied, Enter, Sent, Took}

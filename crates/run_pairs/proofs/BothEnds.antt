@@ -1,4 +1,4 @@
--- In every run two ends of one link stand to each other so as each call leaves them.
+-- In every run, each call keeps the relation of the two ends of one link.
 use Rattle.std.proofs.Common.{◌≡◌, ◌⊎◌, inl, inr, ℕ, zero, suc, ◌+◌, ◌==◌, Bool, true, false, Option, Some, None, List, [], ◌∷◌, ◌++◌, append-nil, append_assoc, is_none, refl, sym, ap, subst, ◌∙◌, arith}
 use Rattle.std.specs.Prelude.{⊤, if◌then◌else◌}
 use Rattle.std.specs.Option.{option_map}
@@ -52,7 +52,7 @@ use Rattle.run_pairs.proofs.PairSteps.{AreBothBegun, AtPlace, InTurn, IsPacketNo
 use Rattle.run_pairs.proofs.Stages.{new_ends}
 use Rattle.run_pairs.proofs.UnderHandles.{end_under, fixes_under, listens_under, octet_under, sends_under, sent_if}
 
--- ---- the standing of a controller after one more call
+-- ---- the place of a controller after one more call
 
 fed_next : (past : List Step) (octet turns : ℕ) → standing past ≡ Some (at_stage Between turns) → standing (past ++ HostOctet octet ∷ []) ≡ Some (at_stage Between turns)
 fed_next past octet turns is = more_of _ _ past (HostOctet octet) _ is

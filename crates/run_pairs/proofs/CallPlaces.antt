@@ -1,4 +1,4 @@
--- At each call of a run: where the station that is called stands, and where any other one does.
+-- At each call of a run: at which place of its turns the station that is called is, and at which any other one is.
 use Rattle.std.proofs.Common.{◌≡◌, ℕ, suc, ◌+◌, ◌-◌, ◌==◌, Bool, true, false, Option, Some, None, List, [], ◌∷◌, ◌++◌, append-nil, refl, sym, ap, ◌∙◌, arith}
 use Rattle.std.specs.Prelude.{fold, map, take, if◌then◌else◌}
 use Rattle.controller_model.specs.Step.{Step, HostOctet, TurnBegins, PacketHeard, NothingHeard, TurnEnds}
@@ -14,7 +14,7 @@ use Rattle.run_laws.proofs.run_model.Stations.{among, is_in, not_before}
 use Rattle.run_laws.proofs.run_model.Walk.{AtBegins, AtEnds, AtListening, IsKept, IsStopped, IsWhole, Place, ends_whole, ends_with, run_kept}
 use Rattle.run_laws.proofs.TurnPlaces.{AllStand, Between, Standing, Within, at_stage, event_past, standing, stands_first, stands_kept}
 
--- a station stands so, or there if it was called before in the round
+-- the station is at the place `one`; any other is there too, or at `called` if it was called before in the round
 pub record StandSo (given : Given) (before : List Event) (station : ℕ) (one called : Standing) : Type 0 where
   pub is_one : is_in station given.stations ≡ true
   pub own : standing (past_of station before) ≡ Some one
@@ -46,7 +46,7 @@ StandsAt given before station (PacketHeard octets) = StandsInPhase given before 
 StandsAt given before station NothingHeard = StandsInPhase given before station
 StandsAt given before station TurnEnds = StandsAtEnd given before station
 
--- each controller stands between two turns
+-- each controller is between two turns
 abbrev pub AllBetween : Given → List Event → ℕ → Type 0
 AllBetween given before turns = (station : ℕ) → is_in station given.stations ≡ true → standing (past_of station before) ≡ Some (at_stage Between turns)
 

@@ -1,5 +1,6 @@
--- A controller begins an exchange on a link only in a slot of its event: in that of the anchor, or in the slot after that, where it received a good packet
--- in the first (Core 5.2, volume 6 part B, section 4.5.6; for how long a link has the radio is our choice).
+-- A controller begins an exchange on a link only in a slot of its event: in that of the anchor, or in the slot after
+-- that, where it received a good packet in the first (Core 5.2, volume 6 part B, section 4.5.6; for how long a link has
+-- the radio is our choice).
 use Rattle.std.proofs.Common.{◌≡◌, ◌⊎◌, inl, inr, ℕ, ◌+◌, ◌<◌, ◌≤◌, ◌==◌, ◌&&◌, not, Bool, true, false, Option, Some, None, List, [], ◌∷◌, refl, sym, ap, subst, ◌∙◌, arith}
 use Rattle.std.specs.Prelude.{nat_lt, nat_le, if◌then◌else◌}
 use Rattle.std.specs.Option.{option_map}

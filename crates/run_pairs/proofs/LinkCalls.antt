@@ -71,8 +71,8 @@ served_under true slot handle winner facts after is = radio_under (is_held_in fa
 abbrev pub fixed_if : Bool → OpenLink → OpenLink
 fixed_if fixes link = change_if fixes (link_after PduFixed) link
 
--- the link was open before and stays; it enters its event where that is due, fixes its PDU where it has an exchange, and
--- sends where it is to
+-- the link was open before and stays; it enters its event where that is due, fixes its PDU where it has an exchange,
+-- and sends where it is to
 pub record HasBegun (facts : Facts) (slot : ℕ) (on : Bool) (handle : ℕ) (doing : Doing) (after : OpenLink) : Type 0 where
   pub link : OpenLink
   pub was : link_at handle facts.links ≡ Some link

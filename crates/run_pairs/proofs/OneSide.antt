@@ -1,5 +1,5 @@
--- What a controller knows alone of its open links, at any time: with what each was set up, that one opened in a turn is new in all of it, and in which slot
--- it sent last.
+-- What a controller alone knows of its open links, at any time: with what each was set up, that a link that is opened
+-- in a turn is new in all of that turn, and in which slot each sent last.
 use Rattle.std.proofs.Common.{◌≡◌, ℕ, ◌+◌, ◌<◌, ◌≤◌, Bool, true, false, Option, Some, None, List, [], ◌∷◌, ◌++◌, append-nil, append_assoc, length, length-append, refl, sym, ap, subst, ◌∙◌, arith}
 use Rattle.std.specs.Prelude.{⊤, fold, ◌&&◌, if◌then◌else◌}
 use Rattle.std.proofs.lemmas.List.Sums.{fold-append}

@@ -1,4 +1,4 @@
--- How two ends of a link stand to each other at each place of a turn, and what each call on one of them makes of that.
+-- The relation of the two ends of a link at each place of a turn, and what each call on one of them makes of it.
 use Rattle.std.proofs.Common.{◌≡◌, ◌⊎◌, inl, inr, ℕ, zero, suc, ◌+◌, Bool, true, false, Option, None, List, [], ◌∷◌, ◌++◌, is_none, refl, sym, ap, subst, ◌∙◌, arith}
 use Rattle.std.specs.Prelude.{if◌then◌else◌}
 use Rattle.ble_base.specs.declared.verdicts.Verdict.TheVariants.{Good}
@@ -92,7 +92,7 @@ module _ (c_end p_end : EndSetup) (peripheral_handle : ℕ) where
   InTurn zero phases slot doing c p = AreBothBegun slot doing c p
   InTurn (suc others) phases slot doing c p = ByCentral phases slot c p
 
-  -- the link was opened in the turn, or they stand so
+  -- the link was opened in the turn, or this relation holds
   abbrev pub NewOr : ℕ → (ℕ → Type 0) → Type 0
   NewOr turns R = (c_end.opened + 1 ≡ turns) ⊎ ((slot : ℕ) → turns ≡ slot + 1 → R slot)
 
@@ -104,7 +104,7 @@ module _ (c_end p_end : EndSetup) (peripheral_handle : ℕ) where
     pub heard : (slot : ℕ) → turns ≡ slot + 1 → AreHeardEnds c_end p_end slot (facts_in c) (facts_in p)
     pub stays : is_none (ending_of (facts_in p)) ≡ true
 
-  -- ---- by where the controllers of both stand, and how many turns each began; the doing is that of the peripheral
+  -- ---- by the places of both controllers, and how many turns each began; `doing` is that of the peripheral
 
   abbrev pub PeripheralWithin : ℕ → ℕ → ℕ → Doing → OpenLink → OpenLink → Type 0
   PeripheralWithin zero turns others doing c p = IsPeripheralBegun turns doing c p

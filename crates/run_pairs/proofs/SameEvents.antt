@@ -1,4 +1,5 @@
--- Which steps of an end leave the slot of its event, whether it heard a packet in the first exchange of it, and whether payloads are long in it.
+-- Which steps of an end do not change the slot of its event, whether it heard a packet in the first exchange of that,
+-- and whether payloads are long in it.
 use Rattle.std.proofs.Common.{◌≡◌, ℕ, ◌&&◌, Bool, true, false, Option, Some, None, List, [], ◌∷◌, refl, ◌∙◌}
 use Rattle.std.specs.Prelude.{if◌then◌else◌}
 use Rattle.ble_base.specs.declared.roles.Role.{Role}

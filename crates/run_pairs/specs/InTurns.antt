@@ -20,7 +20,7 @@ HearsInTurn given history end far =
     → ReceivesGood (facts_at given end.station before) octets link → HaveOneConnectInd link.setup end.link.setup
     → HasSentNow given before end far (facts_in link).event.channel octets
 
--- and so it is at both ends (our choice)
+-- both ends do so; laws of any number of stations have this premise (our choice)
 pub record HearEachInTurn (given : Given) (history : List Event) (one other : OpenEnd) : Type 0 where
   pub one_hears : HearsInTurn given history one other
   pub other_hears : HearsInTurn given history other one

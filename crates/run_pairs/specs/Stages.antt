@@ -1,5 +1,5 @@
--- Two open ends of a link in a turn, from call to call: as both have begun it, as the peripheral has heard what it
--- hears, and as the central has, too (Core 5.2, volume 6 part B, sections 4.5.1, 4.5.9, 5.1.6 and 5.5.1).
+-- Two open ends of a link in a turn, from call to call: once both have begun it, once the peripheral has heard what it
+-- hears, and once the central has, too (Core 5.2, volume 6 part B, sections 4.5.1, 4.5.9, 5.1.6 and 5.5.1).
 use Rattle.std.specs.Prelude.{◌≡◌, ◌⊎◌, ℕ, ◌+◌, ◌≤◌, Bool, true, false, None, Some, is_none}
 use Rattle.run_laws.specs.link_model.Facts.{Facts}
 use Rattle.run_laws.specs.link_model.OneLink.{AreInAgreement}
@@ -49,7 +49,7 @@ pub record IsOverLink (c p : Facts) : Type 0 where
   pub goes_on : c.control.ends ≡ None
   pub seen : HasSeenTerminate c.acknowledgement p
 
--- how they are then
+-- one of these holds then
 pub data AreAnsweredEnds (central peripheral : Setup) (slot : ℕ) (answers : Bool) (c p : Facts) : Type 0 where
   Lasts : IsAnsweredLink central peripheral slot answers c p → AreAnsweredEnds central peripheral slot answers c p
   PeripheralTook : ArePartingFrom peripheral central p c → AreAnsweredEnds central peripheral slot answers c p

@@ -46,11 +46,12 @@ pub fn open_ends_are_linked()
     advertise::laws::connections_are_taken();
 }
 
-/// Where the link lasts at both ends then, which neither a procedure ended nor LL_TERMINATE_IND of
-/// the peer, they are a joint run that goes on: in events of one number in which the same number of
-/// indications hold they have equal parameters and one anchor, and at most ten control PDUs wait at
-/// each. At any place of a run their counts agree, also where one of them ends the link in this
-/// turn (Core 5.2, volume 6 part B, sections 4.5.9, 4.5.10 and 5.5).
+/// A link lasts at an end where no procedure of the end has ended it, and the end has taken no
+/// LL_TERMINATE_IND. Where it lasts at both ends then, they are a joint run that goes on: in events
+/// of one number in which the same number of indications hold they have equal parameters and one
+/// anchor, and at most ten control PDUs wait at each. At any place of a run their counts agree,
+/// also where one of them ends the link in this turn (Core 5.2, volume 6 part B, sections 4.5.9,
+/// 4.5.10 and 5.5).
 pub fn ends_that_last_are_sound()
     ensures before_a_turn { (given : Given) (before rest : List Event) (slot : ℕ)
         (radios : List Bool) (central peripheral : OpenEnd)

@@ -78,12 +78,12 @@ pub fn ends_of_a_pair_are_linked()
     crate::laws::open_ends_are_linked();
 }
 
-/// Where the link lasts at both ends then, they are a joint run that goes on. At any place of the
-/// run their counts agree, no procedure of the central has ended the link, and one of the
-/// peripheral only with 0x28, where the Instant of the last indication that the central sent has
-/// passed there. So an end that is shut at the end of a turn is shut with 0x16 or with the code of
-/// its peer, or it is a peripheral and shut with 0x28 (Core 5.2, volume 6 part B, sections 4.5.9,
-/// 5.1.6, 5.3 and 5.5).
+/// Where the link lasts at both ends before a turn or at the end, they are a joint run that goes
+/// on. At any place of the run their counts agree, no procedure of the central has ended the link,
+/// and one of the peripheral only with 0x28, where the Instant of the last indication that the
+/// central sent has passed there. So an end that is shut at the end of a turn is shut with 0x16 or
+/// with the code of its peer, or it is a peripheral and shut with 0x28 (Core 5.2, volume 6 part B,
+/// sections 4.5.9, 5.1.6, 5.3 and 5.5).
 pub fn ends_of_a_pair_are_sound()
     ensures before_a_turn { (a b : List ℕ) (script : Script) (before rest : List Event)
         (slot : ℕ) (radios : List Bool) (central peripheral : OpenEnd)
@@ -147,10 +147,10 @@ pub fn ends_of_a_pair_are_sound()
     crate::laws::no_procedure_ends_a_link_but_a_late_one();
 }
 
-/// Where a station of a pair is called with a packet, listens on the link of one of the ends, and
-/// the last that happened to the far end is that it sent this packet on the channel of its event,
-/// the packet is good, and was sent in the same turn (Core 5.2, volume 6 part B, sections 2.1 and
-/// 4.5.10).
+/// A station of a pair is called with a packet while it listens on the link of one of the ends.
+/// Where the last step of the far end was to send this packet on the channel of the listener's
+/// event, the packet is good, and was sent in the same turn (Core 5.2, volume 6 part B, sections
+/// 2.1 and 4.5.10).
 pub fn packets_of_a_pair_are_understood()
     ensures peripheral { (a b : List ℕ) (script : Script) (before rest : List Event)
         (octets : List ℕ) (central peripheral : OpenEnd)
