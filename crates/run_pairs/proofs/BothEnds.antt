@@ -1,20 +1,21 @@
 -- In every run, each call keeps the relation of the two ends of one link.
 use Rattle.std.proofs.Common.{◌≡◌, ◌⊎◌, inl, inr, ℕ, zero, suc, ◌+◌, ◌==◌, Bool, true, false, Option, Some, None, List, [], ◌∷◌, ◌++◌, append-nil, append_assoc, is_none, refl, sym, ap, subst, ◌∙◌, arith}
-use Rattle.std.specs.Prelude.{⊤, if◌then◌else◌}
+use Rattle.std.specs.Prelude.{⊤, nat_lt, if◌then◌else◌}
 use Rattle.std.specs.Option.{option_map}
 use Rattle.std.proofs.lemmas.Bool.{eqb-true}
 use Rattle.ble_base.specs.declared.error_codes.ErrCode.{ErrCode}
 use Rattle.ble_base.specs.declared.roles.Role.TheVariants.{Central, Peripheral}
 use Rattle.ble_base.specs.declared.verdicts.Verdict.TheVariants.{Good}
-use Rattle.run_laws.specs.link_model.End.{facts_after as end_after, facts_of as end_facts}
-use Rattle.run_laws.specs.link_model.Facts.{Facts as EndFacts, first_facts as first_end}
-use Rattle.run_laws.specs.link_model.Packets.{packet_sent, verdict_of}
-use Rattle.run_laws.specs.link_model.Receiving.{replies_of}
-use Rattle.run_laws.specs.link_model.Setup.{Setup as EndSetup}
-use Rattle.run_laws.specs.link_model.Step.{DataReported, PacketSent}
-use Rattle.run_laws.specs.link_model.Times.{due_of, ending_of}
-use Rattle.run_laws.proofs.link_model.Hearing.{IsHeardWhole}
-use Rattle.run_laws.specs.open_links.OpenLinks.{OpenLink, facts_in, link_after, link_at}
+use Rattle.link_calls.specs.link_model.End.{facts_after as end_after, facts_of as end_facts}
+use Rattle.link_calls.specs.link_model.Facts.{Facts as EndFacts, first_facts as first_end}
+use Rattle.link_calls.specs.link_model.Packets.{packet_sent, verdict_of}
+use Rattle.link_calls.specs.link_model.Receiving.{replies_of}
+use Rattle.link_calls.specs.link_model.Setup.{Setup as EndSetup}
+use Rattle.link_calls.specs.link_model.Step.{DataReported, PacketSent}
+use Rattle.link_calls.specs.link_model.Times.{due_of, ending_of}
+use Rattle.link_calls.proofs.link_model.Hearing.{IsHeardWhole}
+use Rattle.link_calls.specs.open_links.Data.{complete_in}
+use Rattle.link_calls.specs.open_links.OpenLinks.{OpenLink, facts_in, link_after, link_at}
 use Rattle.controller_model.specs.declared.doing.Doing.{Doing}
 use Rattle.controller_model.specs.declared.doing.Doing.TheVariants.{Advertises, CentralListens, PeripheralListens}
 use Rattle.controller_model.specs.Facts.{Setup, Facts, first_facts}
@@ -22,35 +23,38 @@ use Rattle.controller_model.specs.Heard.{has_room}
 use Rattle.controller_model.specs.Side.{facts_after, facts_of}
 use Rattle.controller_model.specs.Step.{Step, HostOctet, TurnBegins, PacketHeard, NothingHeard, TurnEnds}
 use Rattle.controller_model.proofs.Pasts.{facts_more}
-use Rattle.controller_model.proofs.Places.{link_receiving, refuses_at}
-use Rattle.run_laws.specs.run_model.Feeding.{AreDistinct}
-use Rattle.run_laws.specs.run_model.History.{Event, Called, TurnBegan, HostFed, Noted, Transmitted, past_of, steps_in}
-use Rattle.run_laws.specs.run_model.Run.{Given, facts_at, history_of, run_of, setup_at, step_of}
-use Rattle.run_laws.proofs.run_model.Calls.{past_other, past_own, same_station}
-use Rattle.run_laws.proofs.run_model.LinkEnds.{AreTaken}
-use Rattle.run_laws.proofs.run_model.Stations.{is_in}
+use Rattle.link_calls.specs.Phases.{HasPassed, IsNew, Stays, Takes, link_receiving, refuses_at}
+use Rattle.link_calls.specs.run_model.Feeding.{AreDistinct}
+use Rattle.link_calls.specs.run_model.History.{Event, Called, TurnBegan, HostFed, Noted, Transmitted, past_of, steps_in}
+use Rattle.link_calls.specs.run_model.Run.{Given, facts_at, history_of, run_of, setup_at, step_of}
+use Rattle.link_calls.proofs.run_model.Calls.{past_other, past_own, same_station}
+use Rattle.link_calls.proofs.run_model.LinkEnds.{AreTaken}
+use Rattle.link_calls.proofs.run_model.Stations.{is_in}
 use Rattle.link_runs.specs.link_pairs.Ends.{AreEnds}
 use Rattle.link_runs.specs.link_pairs.Hearing.{received as received_facts}
 use Rattle.link_runs.specs.link_pairs.Turns.{sent_if as sends_if}
 use Rattle.link_runs.specs.Open.{AreOpenEnds}
 use Rattle.link_runs.specs.Runs.{MayHostAll}
 use Rattle.link_runs.specs.Turn.{facts_hosted}
-use Rattle.run_laws.specs.Ends.{HaveOneConnectInd, OpenEnd, ReceivesGood, link_listened}
-use Rattle.run_laws.proofs.Agreed.{step_facts}
-use Rattle.run_laws.proofs.LinkPhases.{IsInPhase, in_phase}
-use Rattle.run_laws.proofs.OpenSteps.{none_open, open_has}
-use Rattle.run_laws.proofs.OpenedOnce.{opened_once}
-use Rattle.run_laws.proofs.TurnPlaces.{Between, Standing, Within, at_stage, event_past, standing, turned}
-use Rattle.run_laws.proofs.TwoStations.{differs_back}
+use Rattle.link_calls.specs.run_laws.Ends.{HaveOneConnectInd, OpenEnd, ReceivesGood, link_listened}
+use Rattle.link_calls.proofs.run_laws.Agreed.{step_facts}
+use Rattle.link_calls.proofs.run_laws.LinkPhases.{IsInPhase, in_phase}
+use Rattle.link_calls.proofs.run_laws.OpenSteps.{none_open, open_has}
+use Rattle.link_calls.proofs.run_laws.OpenedOnce.{opened_once}
+use Rattle.link_calls.proofs.run_laws.TurnPlaces.{Between, Standing, Within, at_stage, event_past, standing, turned}
+use Rattle.link_calls.proofs.run_laws.TwoStations.{differs_back}
 use Rattle.run_pairs.specs.InTurns.{HasSentNow, HearEachInTurn, HearsInTurn}
 use Rattle.run_pairs.specs.Stages.{AreHeardEnds}
 use Rattle.run_pairs.proofs.CallPlaces.{more_of, StandsAt, StandsInPhase, stands_called}
 use Rattle.run_pairs.proofs.EndCalls.{IsEndBegun, central_sends, central_silent, central_takes_in, end_begun, peripheral_listens, peripheral_takes_in, peripheral_unsent, refused_facts, taking_facts}
-use Rattle.run_pairs.proofs.LinkCalls.{HasPassed, IsNew, Stays, Takes, begins_under, passes_under}
+use Rattle.link_calls.proofs.LinkCalls.{begins_under, passes_under}
 use Rattle.run_pairs.proofs.OneSide.{LastBefore, StationAt, begun_setup, received_last, station_first, station_kept, taken_setup}
 use Rattle.run_pairs.proofs.PairSteps.{AreBothBegun, AtPlace, InTurn, IsPacketNow, IsPeripheralDone, NewOr, central_begins, central_begins_too, central_deaf, central_hosted_all, central_reports, central_takes, peripheral_begins, peripheral_begins_too, peripheral_deaf, peripheral_hosted_all, peripheral_reports, peripheral_takes}
 use Rattle.run_pairs.proofs.Stages.{new_ends}
-use Rattle.run_pairs.proofs.UnderHandles.{end_under, fixes_under, listens_under, octet_under, sends_under, sent_if}
+use Rattle.link_calls.proofs.UnderHandles.{ended_under}
+use Rattle.link_calls.specs.Turns.{sent_if}
+use Rattle.link_calls.specs.Uses.{fixes_under, listens_under, sends_under}
+use Rattle.run_pairs.proofs.LinkSteps.{octet_under, replies_under}
 
 -- ---- the place of a controller after one more call
 
@@ -243,7 +247,7 @@ module _ (whole : IsHeardWhole) (taken : AreTaken) (given : Given) (distinct : A
         let has = begins_under setup_c facts_c slot on central.handle c at in
         let setups : has.link.setup ≡ c_end = sym (begun_setup slot facts_c on central.handle after.turn.doing c has) ∙ setup in
         let begun = subst (λ (s : EndSetup). IsEndBegun s slot (fixes_under central.handle after.turn.doing) (sends_under central.handle after.turn.doing) has.link c) setups
-        (end_begun setup_c slot facts_c on central.handle c station.holds has (station.last central.handle has.link has.was)) in
+        (end_begun setup_c slot facts_c on central.handle c station.holds at (station.last central.handle has.link has.was)) in
         let same = central_sends after.links central.handle c at after.turn.doing (begins_in_phase setup_c pc slot on own) (ap (λ (s : EndSetup). s.link.role) setup ∙ ends.is_central) in
         by called other c p (keeps has.link p has.was setups at_p setup_too) same begun
       where
@@ -274,10 +278,10 @@ module _ (whole : IsHeardWhole) (taken : AreTaken) (given : Given) (distinct : A
         let at = after_call_at setup_c pc (step_of received) central.handle c at_c in
         let station = station_at setup_c pc (at_stage (Within phases) turns) own in
         by_standing c_end p_end p_handle (at_stage (Within (suc phases)) turns) (at_stage (Within j) turns) _ _ facts_p.turn.doing c p (passed_next pc received phases turns own) other
-        (refl, by c p setup at_p setup_too (passes_under setup_c facts_c received central.handle c station.holds.in_turn.listens at))
+        (refl, by c p setup at_p setup_too (passes_under setup_c facts_c received central.handle c station.holds.phased.uses.in_turn.listens at))
       where
         slot_is : facts_c.turn.slot + 1 ≡ turns
-        slot_is = (station_at setup_c pc (at_stage (Within phases) turns) own).holds.in_turn.slot_is
+        slot_is = (station_at setup_c pc (at_stage (Within phases) turns) own).holds.phased.uses.in_turn.slot_is
 
         phase_is : IsInPhase phases facts_c.links facts_c.turn.doing
         phase_is = in_phase setup_c pc phases turns own
@@ -310,7 +314,7 @@ module _ (whole : IsHeardWhole) (taken : AreTaken) (given : Given) (distinct : A
             inl (ap (λ n. n + 1) (sym (ap (λ (s : EndSetup). s.opened) setup) ∙ ap (λ (l : OpenLink). l.setup.opened) made ∙ opened) ∙ slot_is)
         by c p setup at_p setup_too (Stays was none nothing listened) =
             new_or c_end p_end p_handle turns _ _ (λ slot now is. central_stays j phases slot c p is) (prior c p was setup at_p setup_too)
-        by c p setup at_p setup_too (Takes one octets was got on same replies) =
+        by c p setup at_p setup_too (Takes one octets was got on same) =
             new_or c_end p_end p_handle turns _ _ (λ slot now is. heard_in phases j slot c p second where_it
             (subst (λ n. AreHeardEnds c_end p_end n (facts_in c) (facts_in p)) (in_slot facts_c.turn.slot slot turns slot_is now)
             (central_takes whole c_end p_end ends p_handle facts_c.turn.slot octets (has_room setup_c facts_c) (refuses_at central.handle (has_room setup_c facts_c) octets facts_c) one c p
@@ -328,7 +332,7 @@ module _ (whole : IsHeardWhole) (taken : AreTaken) (given : Given) (distinct : A
             second = central_takes_in facts_c.links central.handle one was phases facts_c.turn.doing phase_is on role
 
             silent : (sends_next setup_c facts_c central.handle received) ≡ false
-            silent = replies ∙ central_silent one.setup facts_c.turn.slot octets (room_of setup_c facts_c) (facts_in one) role
+            silent = replies_under setup_c facts_c received octets central.handle one got on was ∙ central_silent one.setup facts_c.turn.slot octets (room_of setup_c facts_c) (facts_in one) role
 
             facts_are : facts_in c ≡ refused_facts (refuses_at central.handle (room_of setup_c facts_c) octets facts_c) c_end (received_facts c_end facts_c.turn.slot octets (room_of
                 setup_c facts_c) (facts_in one))
@@ -358,13 +362,13 @@ module _ (whole : IsHeardWhole) (taken : AreTaken) (given : Given) (distinct : A
     central_ended : (turns : ℕ) → standing pc ≡ Some (at_stage (Within 3) turns) → (called : Bool)
         → standing pp ≡ Some (if called then at_stage Between turns else at_stage (Within 3) turns) → Keeps (pc ++ TurnEnds ∷ []) pp
     central_ended turns own called other = λ c p at_c setup at_p setup_too.
-        let has = end_under setup_c facts_c central.handle c (after_call_at setup_c pc TurnEnds central.handle c at_c) in
-        let setups : has.link.setup ≡ c_end = sym (ap (λ (l : OpenLink). l.setup) has.is ∙ reported_setup has.reports has.link) ∙ setup in
-        let facts_are = ap facts_in has.is ∙ reported_facts has.reports c_end has.link in
-        by called other c p has.link has.reports has.was setups at_p setup_too facts_are (none_code (ending_of (facts_in c)) has.stays) (keeps has.link p has.was setups at_p setup_too)
+        let has = ended_under setup_c facts_c central.handle c (after_call_at setup_c pc TurnEnds central.handle c at_c) in
+        let setups : has.link.setup ≡ c_end = sym (ap (λ (l : OpenLink). l.setup) has.is ∙ reported_setup (nat_lt 0 (complete_in has.link)) has.link) ∙ setup in
+        let facts_are = ap facts_in has.is ∙ reported_facts (nat_lt 0 (complete_in has.link)) c_end has.link in
+        by called other c p has.link (nat_lt 0 (complete_in has.link)) has.was setups at_p setup_too facts_are (none_code (ending_of (facts_in c)) has.stays) (keeps has.link p has.was setups at_p setup_too)
       where
         slot_is : facts_c.turn.slot + 1 ≡ turns
-        slot_is = (station_at setup_c pc (at_stage (Within 3) turns) own).holds.in_turn.slot_is
+        slot_is = (station_at setup_c pc (at_stage (Within 3) turns) own).holds.phased.uses.in_turn.slot_is
 
         by : (b : Bool) → standing pp ≡ Some (if b then at_stage Between turns else at_stage (Within 3) turns) → (c p before : OpenLink) (reports : Bool)
             → link_at central.handle facts_c.links ≡ Some before → before.setup ≡ c_end → link_at p_handle facts_p.links ≡ Some p → p.setup ≡ p_end
@@ -387,7 +391,7 @@ module _ (whole : IsHeardWhole) (taken : AreTaken) (given : Given) (distinct : A
                 let opened : c_end.opened ≡ slot = in_slot c_end.opened slot turns new now in
                 let station = station_at setup_c pc (at_stage (Within 3) turns) own in
                 let far = station_at setup_p pp (at_stage (Within 3) turns) is in
-                let there = in_slot facts_p.turn.slot slot turns far.holds.in_turn.slot_is now in
+                let there = in_slot facts_p.turn.slot slot turns far.holds.phased.uses.in_turn.slot_is now in
                 both_new slot before p setups setup_too
                 (station.new central.handle before was (ap (λ (s : EndSetup). s.opened) setups ∙ opened ∙ sym here))
                 (far.new p_handle p at_p (ap (λ (s : EndSetup). s.opened) setup_too ∙ sym ends.one_link.opened ∙ opened ∙ sym there)) opened
@@ -425,7 +429,7 @@ module _ (whole : IsHeardWhole) (taken : AreTaken) (given : Given) (distinct : A
         let has = begins_under setup_p facts_p slot on p_handle p at in
         let setups : has.link.setup ≡ p_end = sym (begun_setup slot facts_p on p_handle after.turn.doing p has) ∙ setup_too in
         let begun = subst (λ (s : EndSetup). IsEndBegun s slot (fixes_under p_handle after.turn.doing) (sends_under p_handle after.turn.doing) has.link p) setups
-        (end_begun setup_p slot facts_p on p_handle p station.holds has (station.last p_handle has.link has.was)) in
+        (end_begun setup_p slot facts_p on p_handle p station.holds at (station.last p_handle has.link has.was)) in
         let due : due_of p_end (facts_in has.link) slot ≡ None = ap (λ (s : EndSetup). due_of s (facts_in has.link) slot) (sym setups) ∙ has.not_due in
         let role = ap (λ (s : EndSetup). s.link.role) setup_too ∙ ends.is_peripheral in
         let phase = begins_in_phase setup_p pp slot on own in
@@ -477,10 +481,10 @@ module _ (whole : IsHeardWhole) (taken : AreTaken) (given : Given) (distinct : A
         let station = station_at setup_p pp (at_stage (Within phases) turns) own in
         let doing = (facts_of setup_p (pp ++ step_of received ∷ [])).turn.doing in
         by_standing c_end p_end p_handle (at_stage (Within i) turns) (at_stage (Within (suc phases)) turns) _ _ doing c p other (passed_next pp received phases turns own)
-        (refl, by doing c p setup at_c setup_too (passes_under setup_p facts_p received p_handle p station.holds.in_turn.listens at))
+        (refl, by doing c p setup at_c setup_too (passes_under setup_p facts_p received p_handle p station.holds.phased.uses.in_turn.listens at))
       where
         slot_is : facts_p.turn.slot + 1 ≡ turns
-        slot_is = (station_at setup_p pp (at_stage (Within phases) turns) own).holds.in_turn.slot_is
+        slot_is = (station_at setup_p pp (at_stage (Within phases) turns) own).holds.phased.uses.in_turn.slot_is
 
         phase_is : IsInPhase phases facts_p.links facts_p.turn.doing
         phase_is = in_phase setup_p pp phases turns own
@@ -497,7 +501,7 @@ module _ (whole : IsHeardWhole) (taken : AreTaken) (given : Given) (distinct : A
             inl (ap (λ n. n + 1) (ends.one_link.opened ∙ sym (ap (λ (s : EndSetup). s.opened) setup_too) ∙ ap (λ (l : OpenLink). l.setup.opened) made ∙ opened) ∙ slot_is)
         by doing c p setup at_c setup_too (Stays was none nothing listened) =
             new_or c_end p_end p_handle turns _ _ (λ slot now is. peripheral_stays i phases slot doing c p where_it is) (prior c p at_c setup was setup_too)
-        by doing c p setup at_c setup_too (Takes one octets was got on same replies) =
+        by doing c p setup at_c setup_too (Takes one octets was got on same) =
             new_or c_end p_end p_handle turns _ _ (λ slot now is. done_in phases i slot doing c p first where_it
             (subst (λ n. IsPeripheralDone c_end p_end p_handle n c p) (in_slot facts_p.turn.slot slot turns slot_is now)
             (peripheral_takes whole c_end p_end ends p_handle facts_p.turn.slot octets (room_of setup_p facts_p) (refuses_at p_handle (room_of setup_p facts_p) octets facts_p)
@@ -516,7 +520,7 @@ module _ (whole : IsHeardWhole) (taken : AreTaken) (given : Given) (distinct : A
             first = peripheral_takes_in facts_p.links p_handle one was phases facts_p.turn.doing phase_is on role
 
             replies_are : sends_next setup_p facts_p p_handle received ≡ replies_of p_end (facts_in one) facts_p.turn.slot octets (room_of setup_p facts_p)
-            replies_are = replies ∙ ap (λ (s : EndSetup). replies_of s (facts_in one) facts_p.turn.slot octets (room_of setup_p facts_p)) setups
+            replies_are = replies_under setup_p facts_p received octets p_handle one got on was ∙ ap (λ (s : EndSetup). replies_of s (facts_in one) facts_p.turn.slot octets (room_of setup_p facts_p)) setups
 
             facts_are : facts_in p ≡ sends_if (sends_next setup_p facts_p p_handle received) p_end facts_p.turn.slot
                 (refused_facts (refuses_at p_handle (room_of setup_p facts_p) octets facts_p) p_end (received_facts p_end facts_p.turn.slot octets (room_of setup_p facts_p) (facts_in one)))
@@ -549,14 +553,14 @@ module _ (whole : IsHeardWhole) (taken : AreTaken) (given : Given) (distinct : A
     peripheral_ended : (turns : ℕ) → standing pp ≡ Some (at_stage (Within 3) turns) → (called : Bool)
         → standing pc ≡ Some (if called then at_stage Between turns else at_stage (Within 3) turns) → Keeps pc (pp ++ TurnEnds ∷ [])
     peripheral_ended turns own called other = λ c p at_c setup at_p setup_too.
-        let has = end_under setup_p facts_p p_handle p (after_call_at setup_p pp TurnEnds p_handle p at_p) in
-        let setups : has.link.setup ≡ p_end = sym (ap (λ (l : OpenLink). l.setup) has.is ∙ reported_setup has.reports has.link) ∙ setup_too in
-        let facts_are = ap facts_in has.is ∙ reported_facts has.reports p_end has.link in
-        by (facts_of setup_p (pp ++ TurnEnds ∷ [])).turn.doing called other c p has.link has.reports at_c setup has.was setups facts_are (none_code (ending_of (facts_in p))
+        let has = ended_under setup_p facts_p p_handle p (after_call_at setup_p pp TurnEnds p_handle p at_p) in
+        let setups : has.link.setup ≡ p_end = sym (ap (λ (l : OpenLink). l.setup) has.is ∙ reported_setup (nat_lt 0 (complete_in has.link)) has.link) ∙ setup_too in
+        let facts_are = ap facts_in has.is ∙ reported_facts (nat_lt 0 (complete_in has.link)) p_end has.link in
+        by (facts_of setup_p (pp ++ TurnEnds ∷ [])).turn.doing called other c p has.link (nat_lt 0 (complete_in has.link)) at_c setup has.was setups facts_are (none_code (ending_of (facts_in p))
         has.stays) (keeps c has.link at_c setup has.was setups)
       where
         slot_is : facts_p.turn.slot + 1 ≡ turns
-        slot_is = (station_at setup_p pp (at_stage (Within 3) turns) own).holds.in_turn.slot_is
+        slot_is = (station_at setup_p pp (at_stage (Within 3) turns) own).holds.phased.uses.in_turn.slot_is
 
         by : (doing : Doing) (b : Bool) → standing pc ≡ Some (if b then at_stage Between turns else at_stage (Within 3) turns) → (c p before : OpenLink) (reports : Bool)
             → link_at central.handle facts_c.links ≡ Some c → c.setup ≡ c_end → link_at p_handle facts_p.links ≡ Some before → before.setup ≡ p_end
@@ -579,7 +583,7 @@ module _ (whole : IsHeardWhole) (taken : AreTaken) (given : Given) (distinct : A
                 let opened : c_end.opened ≡ slot = in_slot c_end.opened slot turns new now in
                 let station = station_at setup_p pp (at_stage (Within 3) turns) own in
                 let far = station_at setup_c pc (at_stage (Within 3) turns) is in
-                let there = in_slot facts_c.turn.slot slot turns far.holds.in_turn.slot_is now in
+                let there = in_slot facts_c.turn.slot slot turns far.holds.phased.uses.in_turn.slot_is now in
                 both_new slot c before setup setups
                 (far.new central.handle c at_c (ap (λ (s : EndSetup). s.opened) setup ∙ opened ∙ sym there))
                 (station.new p_handle before was (ap (λ (s : EndSetup). s.opened) setups ∙ sym ends.one_link.opened ∙ opened ∙ sym here)) opened

@@ -3,16 +3,16 @@ use Rattle.std.proofs.Common.{◌≡◌, ℕ, suc, ◌+◌, ◌-◌, ◌==◌, B
 use Rattle.std.specs.Prelude.{fold, map, take, if◌then◌else◌}
 use Rattle.controller_model.specs.Step.{Step, HostOctet, TurnBegins, PacketHeard, NothingHeard, TurnEnds}
 use Rattle.controller_model.specs.Side.{notes_after}
-use Rattle.run_laws.specs.run_model.Due.{Each}
-use Rattle.run_laws.specs.run_model.Feeding.{AreDistinct}
-use Rattle.run_laws.specs.run_model.History.{Event, TurnBegan, HostFed, Called, Noted, Transmitted, packet_received, past_of, turns_begun}
-use Rattle.run_laws.specs.run_model.Run.{Given, GoesOn, after_call, after_feed, after_octets, facts_at, hearings_of, history_of, octets_left, run_of, setup_at, step_of}
+use Rattle.link_calls.specs.run_model.Due.{Each}
+use Rattle.link_calls.specs.run_model.Feeding.{AreDistinct}
+use Rattle.link_calls.specs.run_model.History.{Event, TurnBegan, HostFed, Called, Noted, Transmitted, packet_received, past_of, turns_begun}
+use Rattle.link_calls.specs.run_model.Run.{Given, GoesOn, after_call, after_feed, after_octets, facts_at, hearings_of, history_of, octets_left, run_of, setup_at, step_of}
 use Rattle.std.proofs.lemmas.List.Sums.{fold-append}
-use Rattle.run_laws.proofs.run_model.Calls.{past_by, past_other}
-use Rattle.run_laws.proofs.run_model.Places.{each_at, each_called, each_event}
-use Rattle.run_laws.proofs.run_model.Stations.{among, is_in, not_before}
-use Rattle.run_laws.proofs.run_model.Walk.{AtBegins, AtEnds, AtListening, IsKept, IsStopped, IsWhole, Place, ends_whole, ends_with, run_kept}
-use Rattle.run_laws.proofs.TurnPlaces.{AllStand, Between, Standing, Within, at_stage, event_past, standing, stands_first, stands_kept}
+use Rattle.link_calls.proofs.run_model.Calls.{past_by, past_other}
+use Rattle.link_calls.proofs.run_model.Places.{each_at, each_called, each_event}
+use Rattle.link_calls.proofs.run_model.Stations.{among, is_in, not_before}
+use Rattle.link_calls.proofs.run_model.Walk.{AtBegins, AtEnds, AtListening, IsKept, IsStopped, IsWhole, Place, ends_whole, ends_with, run_kept}
+use Rattle.link_calls.proofs.run_laws.TurnPlaces.{AllStand, Between, Standing, Within, at_stage, event_past, standing, stands_first, stands_kept}
 
 -- the station is at the place `one`; any other is there too, or at `called` if it was called before in the round
 pub record StandSo (given : Given) (before : List Event) (station : ℕ) (one called : Standing) : Type 0 where

@@ -3,13 +3,12 @@ use Rattle.std.proofs.Common.{◌≡◌, inl, inr, ℕ, zero, suc, ◌+◌, ◌<
 use Rattle.std.specs.Prelude.{if◌then◌else◌}
 use Rattle.std.proofs.lemmas.Bool.{eq-eqb}
 use Rattle.ble_base.specs.declared.verdicts.Verdict.TheVariants.{Good}
-use Rattle.run_laws.specs.link_model.Packets.{verdict_of}
+use Rattle.link_calls.specs.link_model.Packets.{verdict_of}
 use Rattle.controller_model.specs.declared.doing.Doing.TheVariants.{Advertises, CentralListens, PeripheralListens}
 use Rattle.controller_model.specs.Step.{Step, PacketHeard}
-use Rattle.run_laws.specs.Ends.{AreEnds as AreEndsIn, IsOpen, OpenEnd, link_listened}
-use Rattle.run_laws.proofs.InAgreement.{OpenedBefore}
-use Rattle.run_laws.proofs.LinkPasses.{is_on_link}
-use Rattle.run_laws.proofs.LinkPhases.{in_phase}
+use Rattle.link_calls.specs.run_laws.Ends.{AreEnds as AreEndsIn, IsOpen, OpenEnd, link_listened}
+use Rattle.link_calls.proofs.run_laws.InAgreement.{OpenedBefore}
+use Rattle.link_calls.proofs.run_laws.LinkPhases.{in_phase}
 use Rattle.run_pairs.specs.InTurns.{HasSentNow, HearEachInTurn}
 use Rattle.run_pairs.proofs.CallPlaces.{AllBetween, StandsInPhase, stands_called}
 use Rattle.run_pairs.proofs.EndCalls.{central_takes_in, peripheral_takes_in}
@@ -18,24 +17,24 @@ use Rattle.controller_model.specs.Facts.{Facts}
 use Rattle.run_pairs.specs.Stages.{AreAnsweredEnds, AreBegunEnds, AreHeardEnds}
 use Rattle.run_pairs.proofs.PairSteps.{AreBothBegun, AtPlace, InTurn, IsCentralBegun, IsPeripheralBegun, IsPeripheralDone, NewOr}
 use Rattle.run_pairs.proofs.Stages.{central_judges, central_unheard, linked_agree, peripheral_judges, peripheral_unheard}
-use Rattle.run_pairs.proofs.UnderHandles.{listens_under}
+use Rattle.link_calls.specs.Uses.{is_on_link, listens_under}
 use Rattle.ble_base.specs.declared.error_codes.ErrCode.{ErrCode}
 use Rattle.ack_bit.proofs.Links.{sent}
-use Rattle.run_laws.specs.link_model.Acknowledgement.{Acknowledgement, end_of}
-use Rattle.run_laws.specs.link_model.Controls.{pdu_fixed}
-use Rattle.run_laws.specs.link_model.Facts.{Facts as EndFacts}
-use Rattle.run_laws.specs.link_model.OneLink.{AreInAgreement}
-use Rattle.run_laws.specs.link_model.Setup.{Setup as EndSetup}
-use Rattle.run_laws.proofs.link_model.Acknowledging.{ack_sent}
-use Rattle.run_laws.proofs.link_model.Hearing.{IsHeardWhole}
-use Rattle.run_laws.specs.open_links.OpenLinks.{OpenLink, facts_in}
+use Rattle.link_calls.specs.link_model.Acknowledgement.{Acknowledgement, end_of}
+use Rattle.link_calls.specs.link_model.Controls.{pdu_fixed}
+use Rattle.link_calls.specs.link_model.Facts.{Facts as EndFacts}
+use Rattle.link_calls.specs.link_model.OneLink.{AreInAgreement}
+use Rattle.link_calls.specs.link_model.Setup.{Setup as EndSetup}
+use Rattle.link_calls.proofs.link_model.Acknowledging.{ack_sent}
+use Rattle.link_calls.proofs.link_model.Hearing.{IsHeardWhole}
+use Rattle.link_calls.specs.open_links.OpenLinks.{OpenLink, facts_in}
 use Rattle.controller_model.specs.declared.doing.Doing.{Doing}
-use Rattle.run_laws.specs.run_model.Feeding.{AreDistinct}
-use Rattle.run_laws.specs.run_model.History.{Event, Called, past_of}
-use Rattle.run_laws.specs.run_model.LinkEnds.{HaveAddresses}
-use Rattle.run_laws.specs.run_model.Run.{Given, facts_at, history_of, run_of, setup_at}
-use Rattle.run_laws.proofs.run_model.LinkEnds.{AreTaken, IsUnderstood}
-use Rattle.run_laws.proofs.run_model.Stations.{is_in}
+use Rattle.link_calls.specs.run_model.Feeding.{AreDistinct}
+use Rattle.link_calls.specs.run_model.History.{Event, Called, past_of}
+use Rattle.link_calls.specs.run_model.LinkEnds.{HaveAddresses}
+use Rattle.link_calls.specs.run_model.Run.{Given, facts_at, history_of, run_of, setup_at}
+use Rattle.link_calls.proofs.run_model.LinkEnds.{AreTaken, IsUnderstood}
+use Rattle.link_calls.proofs.run_model.Stations.{is_in}
 use Rattle.link_runs.specs.link_pairs.Ends.{AreEnds, is_lasting}
 use Rattle.link_runs.specs.link_pairs.Sound.{AreSoundEnds}
 use Rattle.link_runs.specs.link_pairs.Turns.{prepared, sent_if}
@@ -45,10 +44,10 @@ use Rattle.link_runs.proofs.link_pairs.Sounding.{are_sound}
 use Rattle.link_runs.specs.Open.{AreOpenEnds, AreTerminated, GoOnUnlessLate, GoesOnUnlessLate}
 use Rattle.link_runs.proofs.GoingOn.{lasting_goes, lasting_took_none}
 use Rattle.link_runs.proofs.Shutting.{are_terminated}
-use Rattle.run_laws.proofs.ChSel.{one_link}
-use Rattle.run_laws.proofs.OpenSteps.{open_has}
-use Rattle.run_laws.proofs.SameEvent.{apart_ends}
-use Rattle.run_laws.proofs.TurnPlaces.{Between, Stage, StandsSomewhere, Within, at_stage, standing, stands_in_run, turned}
+use Rattle.link_calls.proofs.run_laws.ChSel.{one_link}
+use Rattle.link_calls.proofs.run_laws.OpenSteps.{open_has}
+use Rattle.link_calls.proofs.run_laws.SameEvent.{apart_ends}
+use Rattle.link_calls.proofs.run_laws.TurnPlaces.{Between, Stage, StandsSomewhere, Within, at_stage, standing, stands_in_run, turned}
 use Rattle.run_pairs.proofs.OneSide.{IsSetUp, StationAt, station_first, station_kept}
 
 -- no procedure ends the link but at a late peripheral, and the counts agree
@@ -183,18 +182,18 @@ module _ (whole : IsHeardWhole) (understood : IsUnderstood) (taken : AreTaken) (
   place_sound Between (Within zero) turns others side far stand = peripheral_begun_sound whole c_here p_here pair_ends peripheral.handle turns _ central.link peripheral.link stand
   place_sound Between (Within (suc phases)) turns others side far stand =
       let slot = (facts_at given peripheral.station before).turn.slot in
-      heard_sound whole c_here p_here pair_ends peripheral.handle slot (facts_in central.link) (facts_in peripheral.link) (stand.heard slot (sym far.holds.in_turn.slot_is))
+      heard_sound whole c_here p_here pair_ends peripheral.handle slot (facts_in central.link) (facts_in peripheral.link) (stand.heard slot (sym far.holds.phased.uses.in_turn.slot_is))
   place_sound (Within zero) Between turns others side far stand = central_begun_sound whole c_here p_here pair_ends peripheral.handle others central.link peripheral.link stand
   place_sound (Within (suc phases)) Between turns others side far stand =
       let slot = (facts_at given central.station before).turn.slot in
-      heard_sound whole c_here p_here pair_ends peripheral.handle slot (facts_in central.link) (facts_in peripheral.link) (stand.heard slot (sym side.holds.in_turn.slot_is))
+      heard_sound whole c_here p_here pair_ends peripheral.handle slot (facts_in central.link) (facts_in peripheral.link) (stand.heard slot (sym side.holds.phased.uses.in_turn.slot_is))
   place_sound (Within phases) (Within other) turns others side far stand = by stand.1
     where
       slot_here : (facts_at given central.station before).turn.slot + 1 ≡ turns
-      slot_here = side.holds.in_turn.slot_is
+      slot_here = side.holds.phased.uses.in_turn.slot_is
 
       slot_there : (facts_at given peripheral.station before).turn.slot + 1 ≡ turns
-      slot_there = far.holds.in_turn.slot_is ∙ sym stand.0
+      slot_there = far.holds.phased.uses.in_turn.slot_is ∙ sym stand.0
 
       one_slot : (a b n : ℕ) → a + 1 ≡ n → b + 1 ≡ n → a ≡ b
       one_slot a b n is is_too = omega (arith, is, is_too)
@@ -268,11 +267,11 @@ module _ (whole : IsHeardWhole) (understood : IsUnderstood) (taken : AreTaken) (
 
       p_begun : (n i : ℕ) → n ≡ 0 → NewOr c_here p_here peripheral.handle p_stands.turns (λ slot. InTurn c_here p_here peripheral.handle n i slot facts_p.turn.doing central.link peripheral.link)
           → AreBothBegun c_here p_here peripheral.handle facts_p.turn.slot facts_p.turn.doing central.link peripheral.link
-      p_begun zero i is (inr stands) = stands facts_p.turn.slot (sym p_side.holds.in_turn.slot_is)
+      p_begun zero i is (inr stands) = stands facts_p.turn.slot (sym p_side.holds.phased.uses.in_turn.slot_is)
       p_begun zero i is (inl new) =
           let old = open_has (OpenedBefore facts_p.turn.slot) 0 peripheral.handle facts_p.links peripheral.link (p_side.station.old (on_link peripheral.handle facts_p.turn.doing
           listens)) is_open_too in
-          not_new _ p_here.opened facts_p.turn.slot p_stands.turns old p_side.holds.in_turn.slot_is (ap (λ n. n + 1) (sym pair_ends.one_link.opened) ∙ new)
+          not_new _ p_here.opened facts_p.turn.slot p_stands.turns old p_side.holds.phased.uses.in_turn.slot_is (ap (λ n. n + 1) (sym pair_ends.one_link.opened) ∙ new)
       p_begun (suc n) i is stands = absurd (omega (arith, is))
 
       pub peripheral_understands : verdict_of p_here (facts_in peripheral.link) octets ≡ Good
@@ -312,11 +311,11 @@ module _ (whole : IsHeardWhole) (understood : IsUnderstood) (taken : AreTaken) (
           → NewOr c_here p_here peripheral.handle c_stands.turns (λ slot. InTurn c_here p_here peripheral.handle (if b then suc n else n) n slot doing central.link peripheral.link)
           → IsPeripheralDone c_here p_here peripheral.handle facts_c.turn.slot central.link peripheral.link
       c_done zero b doing is stands = absurd (omega (arith, is))
-      c_done (suc zero) true doing is (inr stands) = stands facts_c.turn.slot (sym c_side.holds.in_turn.slot_is)
-      c_done (suc zero) false doing is (inr stands) = stands facts_c.turn.slot (sym c_side.holds.in_turn.slot_is)
+      c_done (suc zero) true doing is (inr stands) = stands facts_c.turn.slot (sym c_side.holds.phased.uses.in_turn.slot_is)
+      c_done (suc zero) false doing is (inr stands) = stands facts_c.turn.slot (sym c_side.holds.phased.uses.in_turn.slot_is)
       c_done (suc zero) b doing is (inl new) =
           let old = open_has (OpenedBefore facts_c.turn.slot) 0 central.handle facts_c.links central.link (c_side.station.old (on_link central.handle facts_c.turn.doing listens)) is_open in
-          not_new _ c_here.opened facts_c.turn.slot c_stands.turns old c_side.holds.in_turn.slot_is new
+          not_new _ c_here.opened facts_c.turn.slot c_stands.turns old c_side.holds.phased.uses.in_turn.slot_is new
       c_done (suc (suc n)) b doing is stands = absurd (omega (arith, is))
 
       pub central_understands : verdict_of c_here (facts_in central.link) octets ≡ Good

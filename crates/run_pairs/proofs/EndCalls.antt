@@ -1,42 +1,48 @@
 -- What a call does to one end of a link, in the words of the laws of two ends.
-use Rattle.std.proofs.Common.{◌≡◌, ◌⊎◌, inl, inr, ℕ, ◌==◌, ◌&&◌, Bool, true, false, Option, Some, None, List, refl, sym, ap, subst, ◌∙◌, arith}
-use Rattle.std.proofs.lemmas.Bool.{eqb-true}
+use Rattle.std.proofs.Common.{◌≡◌, ◌⊎◌, inl, inr, ℕ, ◌+◌, ◌≤◌, ◌==◌, ◌&&◌, Bool, true, false, Option, Some, None, List, refl, sym, ap, subst, ◌∙◌, arith}
+use Rattle.std.proofs.lemmas.Bool.{eqb-true, ltb-true}
 use Rattle.std.specs.Prelude.{if◌then◌else◌}
 use Rattle.ble_base.specs.declared.roles.Role.{Role}
 use Rattle.ble_base.specs.declared.roles.Role.TheVariants.{Central, Peripheral}
 use Rattle.ble_base.specs.declared.verdicts.Verdict.TheVariants.{Broken as BrokenPacket, Good}
 use Rattle.air_frame.specs.declared.Heard.{Heard}
 use Rattle.air_frame.specs.declared.Heard.TheVariants.{NotOurs, Broken, Whole}
-use Rattle.run_laws.specs.link_model.Controls.{goes_on}
-use Rattle.run_laws.specs.link_model.End.{facts_after as end_after, facts_of as end_facts}
-use Rattle.run_laws.specs.link_model.Entering.{facts_entered_if}
-use Rattle.run_laws.specs.link_model.Facts.{Facts as EndFacts}
-use Rattle.run_laws.specs.link_model.Packets.{good_pdu, heard_of, verdict_of}
-use Rattle.run_laws.specs.link_model.Receiving.{facts_received, has_ended, replies_by, replies_of}
-use Rattle.run_laws.specs.link_model.Setup.{Setup as EndSetup}
-use Rattle.run_laws.specs.link_model.Step.{EventEntered, PacketReceived, PacketSent, PduFixed, RequestAnswered}
-use Rattle.run_laws.specs.link_model.Verdicts.{good_in, has_room_for, pdu_by, verdict_by}
-use Rattle.run_laws.specs.open_links.OpenLinks.{Links, OpenLink, facts_in, link_after, link_at}
-use Rattle.run_laws.specs.open_links.Turns.{entered_if, is_anchor, link_entered}
-use Rattle.run_laws.proofs.open_links.Unmoved.{entered_setup}
+use Rattle.link_calls.specs.link_model.Controls.{goes_on}
+use Rattle.link_calls.specs.link_model.End.{facts_after as end_after, facts_of as end_facts}
+use Rattle.link_calls.specs.link_model.Entering.{facts_entered_if}
+use Rattle.link_calls.specs.link_model.Facts.{Facts as EndFacts}
+use Rattle.link_calls.specs.link_model.Data.{is_control}
+use Rattle.link_calls.specs.link_model.Fixing.{fixed_anew}
+use Rattle.link_calls.specs.link_model.Packets.{good_pdu, heard_of, verdict_of}
+use Rattle.link_calls.specs.link_model.Receiving.{facts_received, has_ended, replies_by, replies_of}
+use Rattle.link_calls.specs.link_model.Setup.{Setup as EndSetup}
+use Rattle.link_calls.specs.link_model.Step.{EventEntered, PacketReceived, PacketSent, PduFixed, RequestAnswered}
+use Rattle.link_calls.specs.link_model.Verdicts.{good_in, has_room_for, pdu_by, verdict_by}
+use Rattle.link_calls.specs.open_links.OpenLinks.{Links, OpenLink, facts_in, has_entered, link_after, link_at}
+use Rattle.link_calls.specs.open_links.Turns.{entered_if, is_anchor, link_entered}
+use Rattle.link_calls.proofs.open_links.Unmoved.{entered_setup}
 use Rattle.controller_model.specs.declared.doing.Doing.{Doing}
 use Rattle.controller_model.specs.declared.doing.Doing.TheVariants.{Advertises, CentralListens, CentralSends, PeripheralListens, PeripheralSends}
 use Rattle.controller_model.specs.Facts.{Setup, Facts}
 use Rattle.controller_model.specs.Side.{facts_after}
 use Rattle.controller_model.specs.Step.{TurnBegins}
-use Rattle.controller_model.proofs.Places.{link_receiving, refusal, refused_if, refuses_at}
-use Rattle.link_runs.specs.link_pairs.Ends.{HasExchange}
+use Rattle.link_calls.specs.Phases.{link_receiving, refusal, refused_if, refuses_at}
 use Rattle.link_runs.specs.link_pairs.Hearing.{received}
 use Rattle.link_runs.specs.link_pairs.Turns.{MayExchange, entered_in, prepared}
 use Rattle.link_runs.specs.link_pairs.Turns as turns
-use Rattle.run_laws.proofs.Agreed.{step_facts}
-use Rattle.run_laws.proofs.LinkPhases.{HasRole, IsInPhase}
-use Rattle.run_laws.proofs.TurnPlaces.{Between}
-use Rattle.run_pairs.proofs.Holds.{HoldsAt, begins_exchange}
-use Rattle.run_pairs.proofs.LinkCalls.{HasBegun, fixed_if}
+use Rattle.link_calls.proofs.run_laws.Agreed.{step_facts}
+use Rattle.link_calls.proofs.run_laws.LinkPhases.{HasRole, IsInPhase}
+use Rattle.link_calls.proofs.run_laws.TurnPlaces.{Between}
+use Rattle.link_calls.proofs.Exchanging.{AreExchanging, begun_in_event}
+use Rattle.link_calls.proofs.RadioUses.{Listening, Sending, Uses}
+use Rattle.controller_model.proofs.Exchanges.{exchange_has_entered}
+use Rattle.controller_model.specs.Entering.{HasEntered, IsInEvent}
+use Rattle.controller_model.specs.Radio.{outcome_begun}
+use Rattle.link_calls.proofs.LinkCalls.{begins_under}
 use Rattle.run_pairs.proofs.OneSide.{LastBefore, begun_last}
-use Rattle.run_pairs.proofs.UnderHandles.{fixes_under, listens_under, sends_under, sent_if}
-use Rattle.run_pairs.proofs.Wanting.{used_under}
+use Rattle.link_calls.specs.Turns.{fixed_if, sent_if}
+use Rattle.link_calls.specs.Uses.{fixes_under, listens_under, sends_under}
+use Rattle.run_pairs.proofs.LinkSteps.{base_under}
 
 -- ---- a turn begins
 
@@ -58,33 +64,62 @@ sent_facts : (sends : Bool) (setup : EndSetup) (slot : ℕ) (link : OpenLink) �
 sent_facts true setup slot link = step_facts link (PacketSent slot)
 sent_facts false setup slot link = refl
 
+abbrev IsInExchange : ℕ → EndFacts → Type 0
+IsInExchange slot facts = (slot ≡ facts.event.slot) ⊎ ((slot ≡ facts.event.slot + 1) × (facts.event.heard ≡ true))
+
 -- what becomes of an end as a turn begins
 pub record IsEndBegun (setup : EndSetup) (slot : ℕ) (exchanges sends : Bool) (before now : OpenLink) : Type 0 where
   pub facts : facts_in now ≡ turns.sent_if sends setup slot (prepared setup slot exchanges (facts_in before))
   pub may : MayExchange setup slot exchanges (facts_in before)
   pub unsent : sends ≡ false → LastBefore slot now.past
 
-fixes_used : (handle : ℕ) (doing : Doing) → fixes_under handle doing ≡ true → used_under handle doing ≡ true
-fixes_used handle (CentralSends other) is = is
-fixes_used handle (PeripheralListens other) is = is
-fixes_used handle (Advertises channel) is = absurd cc
-fixes_used handle other is = absurd cc
+fixes_uses : (handle : ℕ) (doing : Doing) → fixes_under handle doing ≡ true → Uses handle doing
+fixes_uses handle (CentralSends other) is = Sending is
+fixes_uses handle (PeripheralListens other) is = Listening is
+fixes_uses handle (Advertises channel) is = absurd cc
+fixes_uses handle other is = absurd cc
 
-pub end_begun : (setup : Setup) (slot : ℕ) (facts : Facts) (on : Bool) (handle : ℕ) (after : OpenLink) → HoldsAt setup Between slot facts
-    → (has : HasBegun facts slot on handle (facts_after setup facts (TurnBegins slot on)).turn.doing after) → LastBefore slot has.link.past
+-- a link on which an exchange begins has entered an event
+fixes_entered : (handle : ℕ) (doing : Doing) (links : Links) (link : OpenLink) → fixes_under handle doing ≡ true → IsInEvent doing links → link_at handle links ≡ Some link
+    → has_entered link ≡ true
+fixes_entered handle (CentralSends other) links link same has is = subst HasEntered (ap (λ n. link_at n links) (eqb-true other handle same) ∙ is) has
+fixes_entered handle (PeripheralListens other) links link same has is = subst HasEntered (ap (λ n. link_at n links) (eqb-true other handle same) ∙ is) has
+fixes_entered handle (Advertises channel) links link same has is = absurd cc
+fixes_entered handle other links link same has is = absurd cc
+
+-- to fix a PDU changes nothing of its procedures
+fixed_control : (fixes : Bool) (setup : EndSetup) (facts : EndFacts) → (turns.fixed_if fixes setup facts).control ≡ facts.control
+fixed_control false setup facts = refl
+fixed_control true setup facts = by (is_control facts.outgoing.fixed)
+  where
+    by : (stays : Bool) → (if stays then facts else fixed_anew facts).control ≡ facts.control
+    by true = refl
+    by false = refl
+
+pub end_begun : (setup : Setup) (slot : ℕ) (facts : Facts) (on : Bool) (handle : ℕ) (after : OpenLink) → AreExchanging setup Between slot facts
+    → (at : link_at handle (facts_after setup facts (TurnBegins slot on)).links ≡ Some after)
+    → let has = begins_under setup facts slot on handle after at in LastBefore slot has.link.past
     → let doing = (facts_after setup facts (TurnBegins slot on)).turn.doing in
     IsEndBegun has.link.setup slot (fixes_under handle doing) (sends_under handle doing) has.link after
-end_begun setup slot facts on handle after holds has last =
+end_begun setup slot facts on handle after exchanging at last =
+    let has = begins_under setup facts slot on handle after at in
     let doing = (facts_after setup facts (TurnBegins slot on)).turn.doing in
     let now = link_entered slot has.link in
     let entered : facts_in has.entered ≡ entered_in has.link.setup slot (facts_in has.link) =
     (λ i. end_facts ((has.setup_is ∙ sym (entered_setup slot has.link)) i) (has.past_is i)) ∙ entered_facts slot has.link in
     let base : facts_in has.base ≡ prepared has.link.setup slot (fixes_under handle doing) (facts_in has.link) =
-    ap facts_in has.base_is ∙ fixed_facts (fixes_under handle doing) has.link.setup has.entered
+    ap facts_in (base_under facts slot on handle doing after has) ∙ fixed_facts (fixes_under handle doing) has.link.setup has.entered
     ∙ ap (λ (f : EndFacts). turns.fixed_if (fixes_under handle doing) has.link.setup f) entered in record {
       facts = ap facts_in has.is ∙ sent_facts (sends_under handle doing) has.link.setup slot has.base
           ∙ ap (λ (f : EndFacts). turns.sent_if (sends_under handle doing) has.link.setup slot f) base;
-      may = λ uses. subst (HasExchange slot) (entered_facts slot has.link) (begins_exchange setup slot facts on handle after holds has (fixes_used handle doing uses));
+      may = λ fixes.
+          let outcome = outcome_begun slot on facts in
+          let some = fixes_entered handle doing outcome.facts.links has.base fixes (exchange_has_entered slot on facts) has.found in
+          let count = ap (λ (f : EndFacts). f.control.track.entered) base
+          ∙ ap (λ c. c.track.entered) (fixed_control (fixes_under handle doing) has.link.setup (entered_in has.link.setup slot (facts_in has.link))) in (
+            subst (λ n. 1 ≤ n) count (ltb-true 0 (facts_in has.base).control.track.entered some),
+            subst (IsInExchange slot) (entered_facts slot has.link) (begun_in_event setup slot on facts exchanging handle after at (fixes_uses handle doing fixes)),
+          );
       unsent = λ none. subst (λ (l : OpenLink). LastBefore slot l.past) (sym (has.is ∙ ap (λ b. sent_if b slot has.base) none)) (begun_last slot facts on handle doing after has last);
     }
 

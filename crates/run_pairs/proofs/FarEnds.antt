@@ -13,12 +13,12 @@ use Rattle.adv_pdu.specs.declared.pdu.ConnectFields.{ConnectFields}
 use Rattle.air_frame.specs.declared.Heard.TheVariants.{NotOurs, Broken, Whole}
 use Rattle.air_frame.specs.Hearing.{heard_in}
 use Rattle.air_frame.specs.Packet.{access_octets, is_packet, pdu_in}
-use Rattle.run_laws.specs.link_model.Facts.{Facts as EndFacts}
-use Rattle.run_laws.specs.link_model.Packets.{verdict_of}
-use Rattle.run_laws.specs.link_model.Verdicts.{verdict_by}
-use Rattle.run_laws.specs.link_model.Setup.{Setup as EndSetup}
-use Rattle.run_laws.specs.link_model.Step.{PacketSent}
-use Rattle.run_laws.specs.open_links.OpenLinks.{Links, OpenLink, facts_in, link_after, link_at}
+use Rattle.link_calls.specs.link_model.Facts.{Facts as EndFacts}
+use Rattle.link_calls.specs.link_model.Packets.{verdict_of}
+use Rattle.link_calls.specs.link_model.Verdicts.{verdict_by}
+use Rattle.link_calls.specs.link_model.Setup.{Setup as EndSetup}
+use Rattle.link_calls.specs.link_model.Step.{PacketSent}
+use Rattle.link_calls.specs.open_links.OpenLinks.{Links, OpenLink, facts_in, link_after, link_at}
 use Rattle.scan_init.specs.Access.{IsNthAccess, access_at, nth_access}
 use Rattle.scan_init.proofs.Numbers.{each_valid}
 use Rattle.controller_model.specs.declared.doing.Doing.{Doing}
@@ -28,24 +28,24 @@ use Rattle.controller_model.specs.Heard.{access_found}
 use Rattle.controller_model.specs.Packets.{listens_on}
 use Rattle.controller_model.specs.Step.{PacketHeard}
 use Rattle.controller_model.proofs.DataChannels.{link_channel}
-use Rattle.run_laws.specs.run_model.Feeding.{AreDistinct}
-use Rattle.run_laws.specs.run_model.History.{Event, Called, Transmitted, turns_begun}
-use Rattle.run_laws.specs.run_model.LinkEnds.{HasConnectInd, HaveAddresses}
-use Rattle.run_laws.specs.run_model.Run.{Given, facts_at, history_of, run_of, setup_at}
-use Rattle.run_laws.proofs.run_model.LinkEnds.{AreTaken, IsUnderstood, has_connect_ind}
-use Rattle.run_laws.proofs.run_model.OfStations.{OfStations, run_of_stations}
-use Rattle.run_laws.proofs.run_model.Places.{each_at}
-use Rattle.run_laws.proofs.run_model.Stations.{is_in}
-use Rattle.run_laws.specs.Access.{IsConnectSent, connects_sent}
-use Rattle.run_laws.specs.Ends.{HasSent, HaveOneConnectInd, IsOpen, OpenEnd, link_listened}
-use Rattle.run_laws.proofs.ChSel.{one_channel}
-use Rattle.run_laws.proofs.DistinctAccess.{AreApart, found_at, sent_distinct, sent_in_order}
-use Rattle.run_laws.proofs.EachCall.{IsPhase, call_at}
-use Rattle.run_laws.proofs.OwnLinks.{at_central, at_peripheral, sent_begins}
-use Rattle.run_laws.proofs.LinkPhases.{HasRole, IsInPhase, SendsAs}
-use Rattle.run_laws.proofs.SameEvent.{one_event}
-use Rattle.run_laws.proofs.TurnSteps.{IsListening}
-use Rattle.run_laws.proofs.TwoStations.{AreTwo, differs_back}
+use Rattle.link_calls.specs.run_model.Feeding.{AreDistinct}
+use Rattle.link_calls.specs.run_model.History.{Event, Called, Transmitted, turns_begun}
+use Rattle.link_calls.specs.run_model.LinkEnds.{HasConnectInd, HaveAddresses}
+use Rattle.link_calls.specs.run_model.Run.{Given, facts_at, history_of, run_of, setup_at}
+use Rattle.link_calls.proofs.run_model.LinkEnds.{AreTaken, IsUnderstood, has_connect_ind}
+use Rattle.link_calls.proofs.run_model.OfStations.{OfStations, run_of_stations}
+use Rattle.link_calls.proofs.run_model.Places.{each_at}
+use Rattle.link_calls.proofs.run_model.Stations.{is_in}
+use Rattle.link_calls.specs.run_laws.Access.{IsConnectSent, connects_sent}
+use Rattle.link_calls.specs.run_laws.Ends.{HasSent, HaveOneConnectInd, IsOpen, OpenEnd, link_listened}
+use Rattle.link_calls.proofs.run_laws.ChSel.{one_channel}
+use Rattle.link_calls.proofs.run_laws.DistinctAccess.{AreApart, found_at, sent_distinct, sent_in_order}
+use Rattle.link_calls.proofs.run_laws.EachCall.{IsPhase, call_at}
+use Rattle.link_calls.proofs.run_laws.OwnLinks.{at_central, at_peripheral, sent_begins}
+use Rattle.link_calls.proofs.run_laws.LinkPhases.{HasRole, IsInPhase, SendsAs}
+use Rattle.link_calls.proofs.run_laws.SameEvent.{one_event}
+use Rattle.link_calls.proofs.run_laws.TurnSteps.{IsListening}
+use Rattle.link_calls.proofs.run_laws.TwoStations.{AreTwo, differs_back}
 use Rattle.run_pairs.specs.InTurns.{HasSentNow, HearEachInTurn, HearsInTurn}
 use Rattle.run_pairs.proofs.OnAirNow.{IsLinkOnAirNow, IsOnAirNow, WasSentNow, sent_now}
 

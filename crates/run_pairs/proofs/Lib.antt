@@ -1,11 +1,7 @@
 -- The lemmas of this crate.
 pub mod Stages
 pub mod Refusing
-pub mod UnderHandles
-pub mod LinkCalls
-pub mod SameEvents
-pub mod Wanting
-pub mod Holds
+pub mod LinkSteps
 pub mod CallPlaces
 pub mod OneSide
 pub mod EndCalls

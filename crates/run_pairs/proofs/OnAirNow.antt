@@ -2,9 +2,9 @@
 use Rattle.std.proofs.Common.{◌≡◌, ℕ, suc, ◌==◌, ◌⊎◌, inl, inr, Bool, true, false, Option, Some, None, List, [], ◌∷◌, ◌++◌, refl, sym, ap, subst, ◌∙◌}
 use Rattle.std.specs.Prelude.{map, take, if◌then◌else◌}
 use Rattle.std.proofs.lemmas.Bool.{eqb-true}
-use Rattle.run_laws.specs.link_model.Packets.{packet_sent}
-use Rattle.run_laws.specs.link_model.Step.{PacketSent}
-use Rattle.run_laws.specs.open_links.OpenLinks.{OpenLink, facts_in, link_after, link_at}
+use Rattle.link_calls.specs.link_model.Packets.{packet_sent}
+use Rattle.link_calls.specs.link_model.Step.{PacketSent}
+use Rattle.link_calls.specs.open_links.OpenLinks.{OpenLink, facts_in, link_after, link_at}
 use Rattle.controller_model.specs.declared.doing.Doing.{Doing}
 use Rattle.controller_model.specs.declared.doing.Doing.TheVariants.{Advertises, CentralSends, PeripheralSends}
 use Rattle.controller_model.specs.Facts.{Setup, Facts, Sends, Listens}
@@ -13,22 +13,22 @@ use Rattle.controller_model.specs.Outcome.{facts_passed}
 use Rattle.controller_model.specs.Sent.{SendsOn}
 use Rattle.controller_model.specs.Side.{facts_after, facts_of, notes_after}
 use Rattle.controller_model.specs.Step.{Step, HostOctet, TurnBegins, PacketHeard, NothingHeard, TurnEnds}
-use Rattle.run_laws.specs.run_model.Due.{Each}
-use Rattle.run_laws.specs.run_model.Feeding.{AreDistinct}
-use Rattle.run_laws.specs.run_model.History.{Event, TurnBegan, HostFed, Called, Transmitted, packet_received, past_of, turns_begun}
-use Rattle.run_laws.specs.run_model.LinkEnds.{HaveAddresses}
-use Rattle.run_laws.specs.run_model.Run.{Given, after_call, after_feed, after_octets, facts_at, hearings_of, history_of, octets_left, run_of, setup_at, step_of, use_at}
-use Rattle.run_laws.proofs.run_model.Calls.{past_other}
-use Rattle.run_laws.proofs.run_model.LinkEnds.{received_by}
-use Rattle.run_laws.proofs.run_model.Places.{each_at, each_called, each_event}
-use Rattle.run_laws.proofs.run_model.Stations.{among, in_more_other, in_more_same, is_in, not_before}
-use Rattle.run_laws.proofs.run_model.Walk.{AtListening, IsKept, IsStopped, IsWhole, Place, ends_with, run_kept}
-use Rattle.run_laws.proofs.ByCalls.{first_hears}
-use Rattle.run_laws.proofs.Hearings.{AreHearing, Hears, IsPduOnAir, IsUseInPhase, hearing_kept, own_facts, own_hears, sends_deaf, use_in_phase, use_same, wanted_is}
-use Rattle.run_laws.proofs.LinkPhases.{IsInPhase, SendsAs, in_phase, sends_as}
-use Rattle.run_laws.proofs.SentPackets.{IsLinkSent, IsUseSent}
-use Rattle.run_laws.proofs.TurnPlaces.{Within, at_stage, stands_first}
-use Rattle.run_laws.proofs.TurnSteps.{phase_turn}
+use Rattle.link_calls.specs.run_model.Due.{Each}
+use Rattle.link_calls.specs.run_model.Feeding.{AreDistinct}
+use Rattle.link_calls.specs.run_model.History.{Event, TurnBegan, HostFed, Called, Transmitted, packet_received, past_of, turns_begun}
+use Rattle.link_calls.specs.run_model.LinkEnds.{HaveAddresses}
+use Rattle.link_calls.specs.run_model.Run.{Given, after_call, after_feed, after_octets, facts_at, hearings_of, history_of, octets_left, run_of, setup_at, step_of, use_at}
+use Rattle.link_calls.proofs.run_model.Calls.{past_other}
+use Rattle.link_calls.proofs.run_model.LinkEnds.{received_by}
+use Rattle.link_calls.proofs.run_model.Places.{each_at, each_called, each_event}
+use Rattle.link_calls.proofs.run_model.Stations.{among, in_more_other, in_more_same, is_in, not_before}
+use Rattle.link_calls.proofs.run_model.Walk.{AtListening, IsKept, IsStopped, IsWhole, Place, ends_with, run_kept}
+use Rattle.link_calls.proofs.run_laws.ByCalls.{first_hears}
+use Rattle.link_calls.proofs.run_laws.Hearings.{AreHearing, Hears, IsPduOnAir, IsUseInPhase, hearing_kept, own_facts, own_hears, sends_deaf, use_in_phase, use_same, wanted_is}
+use Rattle.link_calls.proofs.run_laws.LinkPhases.{IsInPhase, SendsAs, in_phase, sends_as}
+use Rattle.link_calls.proofs.run_laws.SentPackets.{IsLinkSent, IsUseSent}
+use Rattle.link_calls.proofs.run_laws.TurnPlaces.{Within, at_stage, stands_first}
+use Rattle.link_calls.proofs.run_laws.TurnSteps.{phase_turn}
 
 -- the packet of a link that is open at its sender, which sent it in this turn
 pub record IsLinkOnAirNow (phases : ℕ) (facts : Facts) (channel : ℕ) (octets : List ℕ) : Type 0 where

@@ -1,18 +1,19 @@
 -- What a controller alone knows of its open links, at any time: with what each was set up, that a link that is opened
 -- in a turn is new in all of that turn, and in which slot each sent last.
 use Rattle.std.proofs.Common.{◌≡◌, ℕ, ◌+◌, ◌<◌, ◌≤◌, Bool, true, false, Option, Some, None, List, [], ◌∷◌, ◌++◌, append-nil, append_assoc, length, length-append, refl, sym, ap, subst, ◌∙◌, arith}
-use Rattle.std.specs.Prelude.{⊤, fold, ◌&&◌, if◌then◌else◌}
+use Rattle.std.specs.Prelude.{⊤, fold, nat_lt, ◌&&◌, if◌then◌else◌}
 use Rattle.std.proofs.lemmas.List.Sums.{fold-append}
 use Rattle.adv_pdu.specs.declared.pdu.AdvPdu.{AdvPdu}
 use Rattle.adv_pdu.specs.Ranges.{IsInRange}
-use Rattle.run_laws.specs.run_model.procedure_values.Values.{IsPayloadMax}
-use Rattle.run_laws.specs.link_model.Setup.{Setup as EndSetup}
-use Rattle.run_laws.specs.link_model.Step.{Step as EndStep, DataGiven, DataReported, Disconnected, EventEntered, PacketReceived, PacketSent, PduFixed, ProcedureAsked, RequestAnswered}
-use Rattle.run_laws.specs.link_model.Facts.{Facts as EndFacts}
-use Rattle.run_laws.specs.link_model.End.{facts_after as end_after}
-use Rattle.run_laws.specs.open_links.OpenLinks.{OpenLink, facts_in, link_after, link_at}
-use Rattle.run_laws.specs.open_links.Turns.{enters_in, entered_if, link_entered}
-use Rattle.run_laws.proofs.open_links.Unmoved.{entered_setup}
+use Rattle.link_runs.specs.procedure_values.Values.{IsPayloadMax}
+use Rattle.link_calls.specs.link_model.Setup.{Setup as EndSetup}
+use Rattle.link_calls.specs.link_model.Step.{Step as EndStep, DataGiven, DataReported, Disconnected, EventEntered, PacketReceived, PacketSent, PduFixed, ProcedureAsked, RequestAnswered}
+use Rattle.link_calls.specs.link_model.Facts.{Facts as EndFacts}
+use Rattle.link_calls.specs.link_model.End.{facts_after as end_after}
+use Rattle.link_calls.specs.open_links.Data.{complete_in}
+use Rattle.link_calls.specs.open_links.OpenLinks.{OpenLink, facts_in, link_after, link_at}
+use Rattle.link_calls.specs.open_links.Turns.{enters_in, entered_if, link_entered}
+use Rattle.link_calls.proofs.open_links.Unmoved.{entered_setup}
 use Rattle.scan_init.specs.Reports.{does_ask, scan_answer}
 use Rattle.controller_model.specs.declared.doing.Doing.{Doing}
 use Rattle.controller_model.specs.declared.doing.Doing.TheVariants.{Advertises, CentralListens, Connects, PeripheralListens}
@@ -24,20 +25,22 @@ use Rattle.controller_model.specs.Step.{TurnBegins}
 use Rattle.controller_model.proofs.Always.{MayBegin, opening_passes}
 use Rattle.controller_model.proofs.LinkFields.{range_of_test}
 use Rattle.controller_model.proofs.Phases.{EachOutcome, heard_is, unheard_is}
-use Rattle.controller_model.proofs.Places.{link_receiving, refused_if, refuses_at}
-use Rattle.run_laws.specs.run_model.Run.{step_of}
-use Rattle.run_laws.proofs.run_model.LinkEnds.{AreTaken}
+use Rattle.link_calls.specs.Phases.{HasPassed, IsNew, Stays, Takes, link_receiving, refused_if, refuses_at}
+use Rattle.link_calls.specs.run_model.Run.{step_of}
+use Rattle.link_calls.proofs.run_model.LinkEnds.{AreTaken}
 use Rattle.link_runs.specs.link_pairs.Hosts.{MayHost}
 use Rattle.link_runs.specs.Runs.{MayHostAll}
-use Rattle.run_laws.proofs.Entering.{taken_in_range}
-use Rattle.run_laws.proofs.InAgreement.{IsStation, OpenedBefore, first_station, station_begins, station_ends, station_fed, station_passes}
-use Rattle.run_laws.proofs.LinkPasses.{is_on_link}
-use Rattle.run_laws.proofs.OpenSteps.{EachOpen, IsKeptOpen, IsKeptServed, MayOpen, begin_open, end_open, none_open, octet_open, open_has, phase_open}
-use Rattle.run_laws.proofs.TurnPlaces.{Between, IsTurned, Stage, Within}
-use Rattle.run_laws.proofs.TurnSteps.{MakesWell, begins_may, begins_slot, phase_turn}
-use Rattle.run_pairs.proofs.Holds.{HoldsAt, holds_first, holds_kept}
-use Rattle.run_pairs.proofs.LinkCalls.{HasBegun, HasPassed, IsNew, Stays, Takes, begins_under, fixed_if, passes_under}
-use Rattle.run_pairs.proofs.UnderHandles.{end_under, fixes_under, listens_under, octet_under, sends_under, sent_if}
+use Rattle.link_calls.proofs.run_laws.Entering.{taken_in_range}
+use Rattle.link_calls.proofs.run_laws.InAgreement.{IsStation, OpenedBefore, first_station, station_begins, station_ends, station_fed, station_passes}
+use Rattle.link_calls.proofs.run_laws.OpenSteps.{EachOpen, IsKeptOpen, IsKeptServed, MayOpen, begin_open, end_open, none_open, octet_open, open_has, phase_open}
+use Rattle.link_calls.proofs.run_laws.TurnPlaces.{Between, IsTurned, Stage, Within}
+use Rattle.link_calls.proofs.run_laws.TurnSteps.{MakesWell, begins_may, begins_slot, phase_turn}
+use Rattle.link_calls.proofs.Exchanging.{AreExchanging, exchanging_first, exchanging_kept}
+use Rattle.link_calls.proofs.LinkCalls.{HasBegun, begins_under, passes_under, receiving_setup}
+use Rattle.link_calls.proofs.UnderHandles.{ended_under}
+use Rattle.link_calls.specs.Turns.{fixed_if, sent_if}
+use Rattle.link_calls.specs.Uses.{fixes_under, is_on_link, listens_under, sends_under}
+use Rattle.run_pairs.proofs.LinkSteps.{base_under, octet_under}
 
 -- ---- in which slot an end sent last
 
@@ -107,7 +110,7 @@ sent_last false slot now link before is = is
 pub begun_last : (slot : ℕ) (facts : Facts) (on : Bool) (handle : ℕ) (doing : Doing) (after : OpenLink) (has : HasBegun facts slot on handle doing after)
     → LastBefore slot has.link.past → LastBefore slot has.base.past
 begun_last slot facts on handle doing after has is =
-    subst (λ (l : OpenLink). LastBefore slot l.past) (sym has.base_is)
+    subst (λ (l : OpenLink). LastBefore slot l.past) (sym (base_under facts slot on handle doing after has))
     (fixed_last (fixes_under handle doing) slot has.entered
     (subst (LastBefore slot) (sym has.past_is) (entered_last (enters_in slot has.link) slot slot has.link is)))
 
@@ -207,20 +210,16 @@ sent_setup : (sends : Bool) (slot : ℕ) (link : OpenLink) → (sent_if sends sl
 sent_setup true slot link = refl
 sent_setup false slot link = refl
 
-refused_setup : (refuses : Bool) (link : OpenLink) → (refused_if refuses link).setup ≡ link.setup
-refused_setup true link = refl
-refused_setup false link = refl
-
 pub begun_setup : (slot : ℕ) (facts : Facts) (on : Bool) (handle : ℕ) (doing : Doing) (after : OpenLink) (has : HasBegun facts slot on handle doing after)
     → after.setup ≡ has.link.setup
 begun_setup slot facts on handle doing after has =
-    ap (λ (l : OpenLink). l.setup) has.is ∙ sent_setup (sends_under handle doing) slot has.base ∙ ap (λ (l : OpenLink). l.setup) has.base_is
+    ap (λ (l : OpenLink). l.setup) has.is ∙ sent_setup (sends_under handle doing) slot has.base ∙ ap (λ (l : OpenLink). l.setup) (base_under facts slot on handle doing after has)
     ∙ fixed_setup (fixes_under handle doing) has.entered ∙ has.setup_is
 
 pub taken_setup : (sends : Bool) (handle : ℕ) (room : Bool) (octets : List ℕ) (facts : Facts) (link : OpenLink)
     → (sent_if sends facts.turn.slot (link_receiving handle room octets facts link)).setup ≡ link.setup
 taken_setup sends handle room octets facts link =
-    sent_setup sends facts.turn.slot (link_receiving handle room octets facts link) ∙ refused_setup (refuses_at handle room octets facts) _
+    sent_setup sends facts.turn.slot (link_receiving handle room octets facts link) ∙ receiving_setup handle room octets facts link
 
 -- ---- a link that was opened in the turn
 
@@ -239,7 +238,7 @@ listens_on_link handle other is = absurd cc
 -- ---- at any time
 
 pub record StationAt (setup : Setup) (stage : Stage) (begun : ℕ) (facts : Facts) : Type 0 where
-  pub holds : HoldsAt setup stage begun facts
+  pub holds : AreExchanging setup stage begun facts
   pub station : IsStation setup facts
   pub each : EachOpen IsSetUp facts.links
   makes : MakesMost facts.turn.doing
@@ -256,7 +255,7 @@ module _ (setup : Setup) (facts : Facts) (received : Option (List ℕ)) (phases 
   passed_new : (handle : ℕ) (link : OpenLink) → HasPassed facts (has_room setup facts) received handle next.turn.doing link → link.setup.opened ≡ next.turn.slot → link.past ≡ []
   passed_new handle link (IsNew end made opened off) now = ap (λ (l : OpenLink). l.past) made
   passed_new handle link (Stays was none nothing listened) now = is.new handle link was (opened_now link now)
-  passed_new handle link (Takes base octets was got on same replies) now =
+  passed_new handle link (Takes base octets was got on same) now =
       let before = open_has (OpenedBefore facts.turn.slot) 0 handle facts.links base (is.station.old (listens_on_link handle facts.turn.doing on)) was in
       let setups = ap (λ (l : OpenLink). l.setup) same ∙ taken_setup (sends_under handle next.turn.doing) handle (has_room setup facts) octets facts base in
       let slot = sym (ap (λ (s : EndSetup). s.opened) setups) ∙ opened_now link now in
@@ -266,20 +265,20 @@ module _ (setup : Setup) (facts : Facts) (received : Option (List ℕ)) (phases 
   passed_last handle link (IsNew end made opened off) =
       subst (λ (l : OpenLink). LastBefore begun l.past) (sym made) (λ sent front same. absurd (let long = ap length same in omega (arith, long, length-append front (PacketSent sent ∷ []))))
   passed_last handle link (Stays was none nothing listened) = is.last handle link was
-  passed_last handle link (Takes base octets was got on same replies) =
-      let slot = is.holds.in_turn.slot_is in
+  passed_last handle link (Takes base octets was got on same) =
+      let slot = is.holds.phased.uses.in_turn.slot_is in
       subst (λ (l : OpenLink). LastBefore begun l.past) (sym same)
       (sent_last (sends_under handle next.turn.doing) begun facts.turn.slot (link_receiving handle (has_room setup facts) octets facts base) (omega (arith, slot))
       (received_last handle (has_room setup facts) octets facts base begun))
 
 pub station_kept : AreTaken → (setup : Setup) → IsTurned setup (StationAt setup)
-station_kept taken setup = let kept = holds_kept setup in record {
+station_kept taken setup = let kept = exchanging_kept setup in record {
   feeds = λ begun octet facts is.
       let holds = kept.feeds begun octet facts is.holds in record {
         holds = holds;
         station = station_fed setup facts octet is.station;
         each = octet_open IsSetUp set_up_served.hosts setup facts octet is.each;
-        makes = subst MakesMost (sym holds.in_turn.does) tt;
+        makes = subst MakesMost (sym holds.phased.uses.in_turn.does) tt;
         new = tt;
         last = λ handle link at.
             let was = octet_under setup facts octet handle link at in
@@ -287,15 +286,15 @@ station_kept taken setup = let kept = holds_kept setup in record {
       };
   begins = λ begun on facts is. record {
     holds = kept.begins begun on facts is.holds;
-    station = station_begins setup facts begun on is.holds.in_turn.begun_is is.station;
+    station = station_begins setup facts begun on is.holds.phased.uses.in_turn.begun_is is.station;
     each = begin_open IsSetUp IsSetUp set_up_served setup begun on facts (λ link one. set_up_as link (link_entered begun link) (entered_setup begun link) one) is.each;
-    makes = begin_most _ (begins_may setup begun on facts is.holds.in_turn.begun_is);
+    makes = begin_most _ (begins_may setup begun on facts is.holds.phased.uses.in_turn.begun_is);
     new = λ handle link at now.
         let has = begins_under setup facts begun on handle link at in
         let before = open_has (OpenedBefore facts.turn.begun) 0 handle facts.links has.link is.station.earlier has.was in
         let setups = begun_setup begun facts on handle _ link has in
         let slot = sym (ap (λ (s : EndSetup). s.opened) setups) ∙ now ∙ begins_slot setup begun on facts in
-        let count = is.holds.in_turn.begun_is in absurd (omega (arith, before, slot, count));
+        let count = is.holds.phased.uses.in_turn.begun_is in absurd (omega (arith, before, slot, count));
     last = λ handle link at.
         let has = begins_under setup facts begun on handle link at in
         let base = begun_last begun facts on handle _ link has (is.last handle has.link has.was) in
@@ -305,11 +304,11 @@ station_kept taken setup = let kept = holds_kept setup in record {
   };
   passes = λ phases begun received facts is. record {
     holds = kept.passes phases begun received facts is.holds;
-    station = station_passes setup facts phases begun received is.holds.in_turn is.station;
-    each = phase_open IsSetUp set_up_open setup facts received (may_set_up taken setup facts is.holds.in_turn.makes is.makes) is.each;
+    station = station_passes setup facts phases begun received is.holds.phased.uses.in_turn is.station;
+    each = phase_open IsSetUp set_up_open setup facts received (may_set_up taken setup facts is.holds.phased.uses.in_turn.makes is.makes) is.each;
     makes = phase_most setup facts received;
-    new = λ handle link at. passed_new setup facts received phases begun is handle link (passes_under setup facts received handle link is.holds.in_turn.listens at);
-    last = λ handle link at. passed_last setup facts received phases begun is handle link (passes_under setup facts received handle link is.holds.in_turn.listens at);
+    new = λ handle link at. passed_new setup facts received phases begun is handle link (passes_under setup facts received handle link is.holds.phased.uses.in_turn.listens at);
+    last = λ handle link at. passed_last setup facts received phases begun is handle link (passes_under setup facts received handle link is.holds.phased.uses.in_turn.listens at);
   };
   ends = λ begun facts is. record {
     holds = kept.ends begun facts is.holds;
@@ -318,8 +317,8 @@ station_kept taken setup = let kept = holds_kept setup in record {
     makes = tt;
     new = tt;
     last = λ handle link at.
-        let was = end_under setup facts handle link at in
-        subst (λ (l : OpenLink). LastBefore begun l.past) (sym was.is) (reported_last was.reports begun was.link (is.last handle was.link was.was));
+        let was = ended_under setup facts handle link at in
+        subst (λ (l : OpenLink). LastBefore begun l.past) (sym was.is) (reported_last (nat_lt 0 (complete_in was.link)) begun was.link (is.last handle was.link was.was));
   };
 }
   where
@@ -332,7 +331,7 @@ none_at setup handle link X at = absurd (open_has (λ one. ⊥) 0 handle (first_
 
 pub station_first : (setup : Setup) → StationAt setup Between 0 (first_facts setup)
 station_first setup = record {
-  holds = holds_first setup;
+  holds = exchanging_first setup;
   station = first_station setup;
   each = none_open IsSetUp setup.links;
   makes = tt;

@@ -2,15 +2,15 @@
 use Rattle.std.proofs.Common.{◌≡◌, ◌⊎◌, inl, inr, ℕ, zero, suc, ◌+◌, Bool, true, false, Option, None, List, [], ◌∷◌, ◌++◌, is_none, refl, sym, ap, subst, ◌∙◌, arith}
 use Rattle.std.specs.Prelude.{if◌then◌else◌}
 use Rattle.ble_base.specs.declared.verdicts.Verdict.TheVariants.{Good}
-use Rattle.run_laws.specs.link_model.End.{facts_after as end_after}
-use Rattle.run_laws.specs.link_model.Facts.{Facts as EndFacts}
-use Rattle.run_laws.specs.link_model.Packets.{verdict_of}
-use Rattle.run_laws.specs.link_model.Receiving.{replies_of}
-use Rattle.run_laws.specs.link_model.Setup.{Setup as EndSetup}
-use Rattle.run_laws.specs.link_model.Step.{Step as EndStep, DataReported, PacketSent, RequestAnswered}
-use Rattle.run_laws.specs.link_model.Times.{due_of, ending_of}
-use Rattle.run_laws.proofs.link_model.Hearing.{IsHeardWhole}
-use Rattle.run_laws.specs.open_links.OpenLinks.{OpenLink, facts_in}
+use Rattle.link_calls.specs.link_model.End.{facts_after as end_after}
+use Rattle.link_calls.specs.link_model.Facts.{Facts as EndFacts}
+use Rattle.link_calls.specs.link_model.Packets.{verdict_of}
+use Rattle.link_calls.specs.link_model.Receiving.{replies_of}
+use Rattle.link_calls.specs.link_model.Setup.{Setup as EndSetup}
+use Rattle.link_calls.specs.link_model.Step.{Step as EndStep, DataReported, PacketSent, RequestAnswered}
+use Rattle.link_calls.specs.link_model.Times.{due_of, ending_of}
+use Rattle.link_calls.proofs.link_model.Hearing.{IsHeardWhole}
+use Rattle.link_calls.specs.open_links.OpenLinks.{OpenLink, facts_in}
 use Rattle.controller_model.specs.declared.doing.Doing.{Doing}
 use Rattle.controller_model.proofs.Places.{refusal}
 use Rattle.link_runs.specs.link_pairs.Ends.{AreEnds}
@@ -22,12 +22,12 @@ use Rattle.link_runs.specs.Open.{AreOpenEnds}
 use Rattle.link_runs.specs.Runs.{MayHostAll}
 use Rattle.link_runs.specs.Turn.{facts_hosted}
 use Rattle.run_pairs.specs.Stages.{AreAnsweredEnds, AreBegunEnds, AreHeardEnds}
-use Rattle.run_laws.proofs.TurnPlaces.{Between, Stage, Within}
+use Rattle.link_calls.proofs.run_laws.TurnPlaces.{Between, Stage, Within}
 use Rattle.run_pairs.proofs.EndCalls.{IsEndBegun, IsUnheard, good_or_unheard, refused_facts}
 use Rattle.run_pairs.proofs.OneSide.{LastBefore}
 use Rattle.run_pairs.proofs.Refusing.{received_stays, refused_first}
 use Rattle.run_pairs.proofs.Stages.{answer_quiet, answered_more, answered_quiet, both_begin, central_heard, central_hosted_open, central_quiet, central_unheard, peripheral_heard, peripheral_hosted_open, peripheral_quiet, peripheral_unheard, reported_quiet}
-use Rattle.run_pairs.proofs.UnderHandles.{listens_under}
+use Rattle.link_calls.specs.Uses.{listens_under}
 
 -- where the end sent last in this slot, this is so
 abbrev pub SentIf : Bool → ℕ → List EndStep → Type 0

@@ -5,16 +5,16 @@ use Rattle.ble_base.specs.declared.roles.Role.{Role}
 use Rattle.ble_base.specs.declared.roles.Role.TheVariants.{Central, Peripheral}
 use Rattle.data_pdu.specs.declared.header.DataHeader.{DataHeader}
 use Rattle.data_pdu.specs.Header.{header_in}
-use Rattle.run_laws.specs.run_model.procedure_values.declared.asks.Ask.{Ask}
-use Rattle.run_laws.specs.link_model.Acknowledgement.{Pdu, is_acked}
-use Rattle.run_laws.specs.link_model.Facts.{Facts}
-use Rattle.run_laws.specs.link_model.Hosts.{facts_answered}
-use Rattle.run_laws.specs.link_model.Packets.{good_pdu, more_sent}
-use Rattle.run_laws.specs.link_model.Receiving.{accepted_if, accepts, acknowledged_if, facts_before_taking, facts_hearing, facts_received, has_acknowledged, heard_in_slot, procedures_take_if, replies_by, replies_of}
-use Rattle.run_laws.specs.link_model.Sending.{control_gone_if, facts_sent, fixed_sent, takes_leave}
-use Rattle.run_laws.specs.link_model.Setup.{Setup}
-use Rattle.run_laws.specs.link_model.Controls.{is_procedure_pdu}
-use Rattle.run_laws.specs.link_model.Verdicts.{pdu_of}
+use Rattle.link_runs.specs.procedure_values.declared.asks.Ask.{Ask}
+use Rattle.link_calls.specs.link_model.Acknowledgement.{Pdu, is_acked}
+use Rattle.link_calls.specs.link_model.Facts.{Facts}
+use Rattle.link_calls.specs.link_model.Hosts.{facts_answered}
+use Rattle.link_calls.specs.link_model.Packets.{good_pdu, more_sent}
+use Rattle.link_calls.specs.link_model.Receiving.{accepted_if, accepts, acknowledged_if, facts_before_taking, facts_hearing, facts_received, has_acknowledged, heard_in_slot, procedures_take_if, replies_by, replies_of}
+use Rattle.link_calls.specs.link_model.Sending.{control_gone_if, facts_sent, fixed_sent, takes_leave}
+use Rattle.link_calls.specs.link_model.Setup.{Setup}
+use Rattle.link_calls.specs.link_model.Controls.{is_procedure_pdu}
+use Rattle.link_calls.specs.link_model.Verdicts.{pdu_of}
 use Rattle.link_runs.specs.link_pairs.Hearing.{received}
 use Rattle.link_runs.proofs.link_pairs.Items.{never}
 use Rattle.run_pairs.proofs.Stages.{with_more}

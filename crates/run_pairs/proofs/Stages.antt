@@ -3,24 +3,24 @@ use Rattle.std.proofs.Common.{◌≡◌, ◌&&◌, ◌⊎◌, Result, inl, inr, 
 use Rattle.ble_base.specs.declared.error_codes.ErrCode.{ErrCode}
 use Rattle.ble_base.specs.ErrorCodes.{terminated_by_local_host}
 use Rattle.ble_base.specs.declared.verdicts.Verdict.TheVariants.{Good}
-use Rattle.run_laws.specs.run_model.procedure_values.declared.asks.Ask.{Ask}
-use Rattle.run_laws.specs.run_model.procedure_stages.InProgress.{is_host_asked}
+use Rattle.link_runs.specs.procedure_values.declared.asks.Ask.{Ask}
+use Rattle.link_runs.specs.procedure_stages.InProgress.{is_host_asked}
 use Rattle.link_runs.specs.procedures.Going.{host_answer_step, is_answer}
 use Rattle.link_runs.specs.procedures.Table.{TableFacts}
 use Rattle.link_runs.specs.control_model.Control.{Control, table_if}
 use Rattle.link_runs.specs.joint_controls.Joint.{has_passed, last_change}
-use Rattle.run_laws.specs.link_model.declared.events.Reception.{Reception}
-use Rattle.run_laws.specs.link_model.Acknowledgement.{Acknowledgement}
-use Rattle.run_laws.specs.link_model.End.{facts_after}
-use Rattle.run_laws.specs.link_model.Facts.{Facts, first_facts}
-use Rattle.run_laws.specs.link_model.OneLink.{AreInAgreement}
-use Rattle.run_laws.specs.link_model.Receiving.{replies_of}
-use Rattle.run_laws.specs.link_model.Setup.{Setup}
-use Rattle.run_laws.specs.link_model.Step.{Step, DataReported, RequestAnswered}
-use Rattle.run_laws.specs.link_model.Packets.{verdict_of}
-use Rattle.run_laws.specs.link_model.declared.state.Leaving.{Leaving}
-use Rattle.run_laws.specs.link_model.Times.{due_of, ended_by_procedures, ending_of}
-use Rattle.run_laws.proofs.link_model.Hearing.{IsHeardWhole}
+use Rattle.link_calls.specs.link_model.declared.events.Reception.{Reception}
+use Rattle.link_calls.specs.link_model.Acknowledgement.{Acknowledgement}
+use Rattle.link_calls.specs.link_model.End.{facts_after}
+use Rattle.link_calls.specs.link_model.Facts.{Facts, first_facts}
+use Rattle.link_calls.specs.link_model.OneLink.{AreInAgreement}
+use Rattle.link_calls.specs.link_model.Receiving.{replies_of}
+use Rattle.link_calls.specs.link_model.Setup.{Setup}
+use Rattle.link_calls.specs.link_model.Step.{Step, DataReported, RequestAnswered}
+use Rattle.link_calls.specs.link_model.Packets.{verdict_of}
+use Rattle.link_calls.specs.link_model.declared.state.Leaving.{Leaving}
+use Rattle.link_calls.specs.link_model.Times.{due_of, ended_by_procedures, ending_of}
+use Rattle.link_calls.proofs.link_model.Hearing.{IsHeardWhole}
 use Rattle.link_runs.specs.link_pairs.Ends.{AreEnds, IsAtRest, is_lasting, turns_at}
 use Rattle.link_runs.specs.link_pairs.Hearing.{IsPacketOf, answered, received}
 use Rattle.link_runs.specs.link_pairs.Hosts.{MayHost}

@@ -1,10 +1,10 @@
 -- What the two ends of a link hear of each other, turn by turn (Core 5.2, volume 6 part B, section 4.5.1).
 use Rattle.std.specs.Prelude.{◌≡◌, ℕ, List, ◌∷◌, ◌++◌}
-use Rattle.run_laws.specs.open_links.OpenLinks.{OpenLink, facts_in}
+use Rattle.link_calls.specs.open_links.OpenLinks.{OpenLink, facts_in}
 use Rattle.controller_model.specs.Step.{PacketHeard}
-use Rattle.run_laws.specs.run_model.History.{Event, Called}
-use Rattle.run_laws.specs.run_model.Run.{Given, facts_at}
-use Rattle.run_laws.specs.Ends.{HasSent, HaveOneConnectInd, OpenEnd, ReceivesGood}
+use Rattle.link_calls.specs.run_model.History.{Event, Called}
+use Rattle.link_calls.specs.run_model.Run.{Given, facts_at}
+use Rattle.link_calls.specs.run_laws.Ends.{HasSent, HaveOneConnectInd, OpenEnd, ReceivesGood}
 
 -- the far end has sent this packet on this channel, in the turn in which the end is called
 pub record HasSentNow (given : Given) (before : List Event) (end far : OpenEnd) (channel : ℕ) (octets : List ℕ)

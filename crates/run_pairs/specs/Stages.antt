@@ -1,10 +1,10 @@
 -- Two open ends of a link in a turn, from call to call: once both have begun it, once the peripheral has heard what it
 -- hears, and once the central has, too (Core 5.2, volume 6 part B, sections 4.5.1, 4.5.9, 5.1.6 and 5.5.1).
 use Rattle.std.specs.Prelude.{◌≡◌, ◌⊎◌, ℕ, ◌+◌, ◌≤◌, Bool, true, false, None, Some, is_none}
-use Rattle.run_laws.specs.link_model.Facts.{Facts}
-use Rattle.run_laws.specs.link_model.OneLink.{AreInAgreement}
-use Rattle.run_laws.specs.link_model.Setup.{Setup}
-use Rattle.run_laws.specs.link_model.Times.{ending_of}
+use Rattle.link_calls.specs.link_model.Facts.{Facts}
+use Rattle.link_calls.specs.link_model.OneLink.{AreInAgreement}
+use Rattle.link_calls.specs.link_model.Setup.{Setup}
+use Rattle.link_calls.specs.link_model.Times.{ending_of}
 use Rattle.link_runs.specs.link_pairs.Ends.{heard_turns, is_lasting}
 use Rattle.link_runs.specs.link_pairs.Parting.{ArePartingFrom, HasSeenTerminate}
 use Rattle.link_runs.specs.link_pairs.Shown.{AreLinked}

@@ -3,18 +3,18 @@
 ghost use Rattle.std.specs.Prelude.{◌≡◌, ◌++◌, ◌∷◌, ℕ, Bool, true, List, Some};
 ghost use Rattle.std.specs.List.{Contains};
 ghost use Rattle.ble_base.specs.declared.verdicts.Verdict.TheVariants.{Good};
-ghost use Rattle.run_laws.specs.link_model.OneLink.{AreInAgreement};
-ghost use Rattle.run_laws.specs.link_model.Packets.{verdict_of};
-ghost use Rattle.run_laws.specs.open_links.OpenLinks.{facts_in};
+ghost use Rattle.link_calls.specs.link_model.OneLink.{AreInAgreement};
+ghost use Rattle.link_calls.specs.link_model.Packets.{verdict_of};
+ghost use Rattle.link_calls.specs.open_links.OpenLinks.{facts_in};
 ghost use Rattle.controller_model.specs.Step.{PacketHeard};
-ghost use Rattle.run_laws.specs.run_model.Feeding.{AreDistinct};
-ghost use Rattle.run_laws.specs.run_model.History.{Called, Event, TurnBegan, turns_begun};
-ghost use Rattle.run_laws.specs.run_model.LinkEnds.{HaveAddresses};
-ghost use Rattle.run_laws.specs.run_model.Run.{Given, GoesOn, facts_at, history_of, run_of};
+ghost use Rattle.link_calls.specs.run_model.Feeding.{AreDistinct};
+ghost use Rattle.link_calls.specs.run_model.History.{Called, Event, TurnBegan, turns_begun};
+ghost use Rattle.link_calls.specs.run_model.LinkEnds.{HaveAddresses};
+ghost use Rattle.link_calls.specs.run_model.Run.{Given, GoesOn, facts_at, history_of, run_of};
 ghost use Rattle.link_runs.specs.link_pairs.Ends.{is_lasting};
 ghost use Rattle.link_runs.specs.link_pairs.Sound.{AreSoundEnds};
 ghost use Rattle.link_runs.specs.Open.{AreOpenEnds, AreTerminated, GoOnUnlessLate};
-ghost use Rattle.run_laws.specs.Ends.{AreEnds, IsOpen, OpenEnd, link_listened};
+ghost use Rattle.link_calls.specs.run_laws.Ends.{AreEnds, IsOpen, OpenEnd, link_listened};
 ghost use Rattle.run_pairs.specs.InTurns.{HasSentNow, HearEachInTurn};
 
 /// Before each turn of a run, and at its end, both open ends of a link that hear each other in

@@ -3,21 +3,21 @@
 ghost use Rattle.std.specs.Prelude.{◌≡◌, ◌≢◌, ◌++◌, ◌∷◌, [], ℕ, Bool, true, List, Some, length};
 ghost use Rattle.std.specs.List.{Contains};
 ghost use Rattle.ble_base.specs.declared.verdicts.Verdict.TheVariants.{Good};
-ghost use Rattle.run_laws.specs.link_model.OneLink.{AreInAgreement};
-ghost use Rattle.run_laws.specs.link_model.Packets.{verdict_of};
-ghost use Rattle.run_laws.specs.open_links.OpenLinks.{facts_in};
+ghost use Rattle.link_calls.specs.link_model.OneLink.{AreInAgreement};
+ghost use Rattle.link_calls.specs.link_model.Packets.{verdict_of};
+ghost use Rattle.link_calls.specs.open_links.OpenLinks.{facts_in};
 ghost use Rattle.controller_model.specs.Step.{PacketHeard};
 ghost use Rattle.radio_replay.specs.Script.{Script};
-ghost use Rattle.run_laws.specs.run_model.Feeding.{AreDistinct};
-ghost use Rattle.run_laws.specs.run_model.History.{Called, Event, TurnBegan, turns_begun};
-ghost use Rattle.run_laws.specs.run_model.LinkEnds.{HaveAddresses};
-ghost use Rattle.run_laws.specs.run_model.Pair.{given_of};
-ghost use Rattle.run_laws.specs.run_model.Run.{Given, GoesOn, facts_at, history_of, run_of};
+ghost use Rattle.link_calls.specs.run_model.Feeding.{AreDistinct};
+ghost use Rattle.link_calls.specs.run_model.History.{Called, Event, TurnBegan, turns_begun};
+ghost use Rattle.link_calls.specs.run_model.LinkEnds.{HaveAddresses};
+ghost use Rattle.link_calls.specs.run_model.Pair.{given_of};
+ghost use Rattle.link_calls.specs.run_model.Run.{Given, GoesOn, facts_at, history_of, run_of};
 ghost use Rattle.link_runs.specs.link_pairs.Ends.{is_lasting};
 ghost use Rattle.link_runs.specs.link_pairs.Sound.{AreSoundEnds};
 ghost use Rattle.link_runs.specs.Open.{AreOpenEnds, AreTerminated, GoOnUnlessLate};
-ghost use Rattle.run_laws.specs.Ends.{AreEnds, HasSent, HaveOneConnectInd, IsOpen, OpenEnd};
-ghost use Rattle.run_laws.specs.Ends.{link_listened};
+ghost use Rattle.link_calls.specs.run_laws.Ends.{AreEnds, HasSent, HaveOneConnectInd, IsOpen};
+ghost use Rattle.link_calls.specs.run_laws.Ends.{OpenEnd, link_listened};
 ghost use Rattle.run_pairs.specs.InTurns.{HasSentNow, HearEachInTurn};
 
 /// In a run of two stations, with any number of links each, each good packet that an end of a link

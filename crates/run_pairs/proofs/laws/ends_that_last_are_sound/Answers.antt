@@ -1,7 +1,7 @@
 -- The proof of the law `ends_that_last_are_sound`.
 use Rattle.std.proofs.Common.{[], ◌∷◌}
-use Rattle.run_laws.specs.run_model.History.{TurnBegan, turns_begun}
-use Rattle.run_laws.proofs.run_model.Stations.{contains_in}
+use Rattle.link_calls.specs.run_model.History.{TurnBegan, turns_begun}
+use Rattle.link_calls.proofs.run_model.Stations.{contains_in}
 use Rattle.run_pairs.proofs.CallPlaces.{stands_before_turn, stands_last, whole_history}
 use Rattle.run_pairs.proofs.Conclusions.{lasting_sound, sound_here}
 use Rattle.run_pairs.proofs.laws.ends_that_last_are_sound.Goals as goal

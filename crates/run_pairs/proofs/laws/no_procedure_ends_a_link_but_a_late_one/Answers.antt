@@ -1,5 +1,5 @@
 -- The proof of the law `no_procedure_ends_a_link_but_a_late_one`.
-use Rattle.run_laws.proofs.run_model.Stations.{contains_in}
+use Rattle.link_calls.proofs.run_model.Stations.{contains_in}
 use Rattle.run_pairs.proofs.Conclusions.{goes_on_here, terminated_here}
 use Rattle.run_pairs.proofs.laws.no_procedure_ends_a_link_but_a_late_one.Goals as goal
 

@@ -1,7 +1,7 @@
 -- The proof of the law `open_ends_are_linked`.
 use Rattle.std.proofs.Common.{[], ◌∷◌}
-use Rattle.run_laws.specs.run_model.History.{TurnBegan, turns_begun}
-use Rattle.run_laws.proofs.run_model.Stations.{contains_in}
+use Rattle.link_calls.specs.run_model.History.{TurnBegan, turns_begun}
+use Rattle.link_calls.proofs.run_model.Stations.{contains_in}
 use Rattle.run_pairs.proofs.CallPlaces.{stands_before_turn, stands_last, whole_history}
 use Rattle.run_pairs.proofs.Conclusions.{open_linked}
 use Rattle.run_pairs.proofs.laws.open_ends_are_linked.Goals as goal

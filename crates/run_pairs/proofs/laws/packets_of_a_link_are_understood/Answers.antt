@@ -1,8 +1,8 @@
 -- The proof of the law `packets_of_a_link_are_understood`.
 use Rattle.std.proofs.Common.{◌∷◌}
 use Rattle.controller_model.specs.Step.{PacketHeard}
-use Rattle.run_laws.specs.run_model.History.{Called}
-use Rattle.run_laws.proofs.run_model.Stations.{contains_in}
+use Rattle.link_calls.specs.run_model.History.{Called}
+use Rattle.link_calls.proofs.run_model.Stations.{contains_in}
 use Rattle.run_pairs.proofs.Conclusions.{central_understands, peripheral_understands}
 use Rattle.run_pairs.proofs.laws.packets_of_a_link_are_understood.Goals as goal
 

@@ -1,9 +1,9 @@
 -- The proof of the law `both_ends_hear_each_other_in_turns`.
 use Rattle.std.proofs.Common.{◌==◌}
 use Rattle.std.proofs.lemmas.Bool.{eqb-true, false_from_ne_true}
-use Rattle.run_laws.proofs.run_model.Stations.{contains_in}
-use Rattle.run_laws.proofs.SameEvent.{apart_ends, one_connect_ind}
-use Rattle.run_laws.proofs.TwoStations.{are_two}
+use Rattle.link_calls.proofs.run_model.Stations.{contains_in}
+use Rattle.link_calls.proofs.run_laws.SameEvent.{apart_ends, one_connect_ind}
+use Rattle.link_calls.proofs.run_laws.TwoStations.{are_two}
 use Rattle.run_pairs.proofs.FarEnds.{hear_in_turn, sent_in_turn}
 use Rattle.run_pairs.proofs.pairs.both_ends_hear_each_other_in_turns.Goals as goal
 

@@ -1,9 +1,9 @@
 -- The proof of the law `ends_of_a_pair_are_linked`.
 use Rattle.std.proofs.Common.{[], ◌∷◌, refl}
-use Rattle.run_laws.specs.run_model.Pair.{given_of}
-use Rattle.run_laws.proofs.run_model.LinkEnds.{pair_addresses}
-use Rattle.run_laws.proofs.run_model.Ordered.{pair_distinct}
-use Rattle.run_laws.specs.run_model.History.{TurnBegan}
+use Rattle.link_calls.specs.run_model.Pair.{given_of}
+use Rattle.link_calls.proofs.run_model.LinkEnds.{pair_addresses}
+use Rattle.link_calls.proofs.run_model.Ordered.{pair_distinct}
+use Rattle.link_calls.specs.run_model.History.{TurnBegan}
 use Rattle.run_pairs.proofs.CallPlaces.{whole_history}
 use Rattle.run_pairs.proofs.pairs.ends_of_a_pair_are_linked.Goals as goal
 

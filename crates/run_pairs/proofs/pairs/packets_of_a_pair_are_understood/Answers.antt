@@ -1,11 +1,11 @@
 -- The proof of the law `packets_of_a_pair_are_understood`.
 use Rattle.std.proofs.Common.{◌∷◌, refl, sym}
 use Rattle.controller_model.specs.Step.{PacketHeard}
-use Rattle.run_laws.specs.run_model.History.{Called}
-use Rattle.run_laws.specs.run_model.Pair.{given_of}
-use Rattle.run_laws.proofs.run_model.LinkEnds.{pair_addresses}
-use Rattle.run_laws.proofs.run_model.Ordered.{pair_distinct}
-use Rattle.run_laws.proofs.SameEvent.{one_connect_ind, two_stations}
+use Rattle.link_calls.specs.run_model.History.{Called}
+use Rattle.link_calls.specs.run_model.Pair.{given_of}
+use Rattle.link_calls.proofs.run_model.LinkEnds.{pair_addresses}
+use Rattle.link_calls.proofs.run_model.Ordered.{pair_distinct}
+use Rattle.link_calls.proofs.run_laws.SameEvent.{one_connect_ind, two_stations}
 use Rattle.run_pairs.proofs.pairs.packets_of_a_pair_are_understood.Goals as goal
 
 pub returns-clause-peripheral : goal.returns-clause-peripheral
