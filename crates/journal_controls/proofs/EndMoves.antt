@@ -1,0 +1,162 @@
+-- The control part of one end after several steps, by the lines of its notes.
+use Rattle.std.proofs.Common.{◌≡◌, ℕ, ◌&&◌, not, Bool, true, false, Option, Some, None, List, [], ◌∷◌, ◌++◌, fold, map, refl, sym, ap, ◌∙◌, if◌then◌else◌}
+use Rattle.ble_base.specs.declared.error_codes.ErrCode.{ErrCode}
+use Rattle.ble_base.specs.declared.notes.Note.{Note}
+use Rattle.ble_base.specs.declared.notes.Note.TheVariants.{Enter}
+use Rattle.ble_base.specs.declared.procedure_kinds.Kind.{Kind}
+use Rattle.ble_base.specs.declared.roles.Role.{Role}
+use Rattle.ble_base.specs.declared.roles.Side.{Side}
+use Rattle.data_pdu.specs.Header.{header_in}
+use Rattle.journal_ends.specs.journal_links.LinkLines.{line_of}
+use Rattle.journal_ends.specs.link_model.Acknowledgement.{Pdu, is_acked}
+use Rattle.journal_ends.specs.link_model.Controls.{goes_on, is_procedure_pdu, pdu_fixed}
+use Rattle.journal_ends.specs.link_model.Data.{is_empty, numbered}
+use Rattle.journal_ends.specs.link_model.End.{facts_after, facts_of, notes_after, notes_from}
+use Rattle.journal_ends.specs.link_model.Entering.{began_notes, done_notes, event_notes, facts_entered}
+use Rattle.journal_ends.specs.link_model.Events.{applied_notes}
+use Rattle.journal_ends.specs.link_model.Facts.{Facts}
+use Rattle.journal_ends.specs.link_model.Packets.{good_pdu}
+use Rattle.journal_ends.specs.link_model.Receiving.{accepts, acked_kind, acks_control, facts_before_taking, given_if, has_acknowledged, given_notes, received_notes, refused_notes, taken_notes, took_notes_if}
+use Rattle.journal_ends.specs.link_model.Sending.{sent_notes_if}
+use Rattle.journal_ends.specs.link_model.Setup.{Setup, first_anchor, first_params}
+use Rattle.journal_ends.specs.link_model.Step.{Step, EventEntered, PacketReceived, PacketSent}
+use Rattle.journal_ends.specs.link_model.ControlSteps.{control_steps_of}
+use Rattle.journal_ends.specs.link_model.Verdicts.{pdu_of}
+use Rattle.journal_ends.specs.link_model.control_end.Answers.{entry_of}
+use Rattle.journal_ends.specs.link_model.control_end.Held.{held_of}
+use Rattle.journal_ends.specs.link_model.control_end.declared.answers.Entry.{Entry}
+use Rattle.journal_ends.specs.link_model.control_end.declared.answers.Taken.{Taken}
+use Rattle.journal_ends.specs.link_model.control_model.Control.{Control, Step as ControlStep, after_all, first_control}
+use Rattle.journal_ends.specs.link_model.declared.events.ConnectionEvent.{ConnectionEvent}
+use Rattle.journal_ends.specs.link_model.procedure_stages.Kinds.{role_of}
+use Rattle.journal_ends.proofs.link_model.ControlSteps.{past_goes}
+use Rattle.journal_ends.proofs.link_model.control_model.Moving.{role_after}
+use Rattle.journal_controls.specs.LineSteps.{steps_saying}
+use Rattle.journal_controls.specs.OneEnd.{steps_noted}
+use Rattle.journal_controls.specs.SaidLines.{NoneOpens, moved_by}
+use Rattle.journal_controls.proofs.NotedSteps.{joined, noted_both}
+
+-- ---- no step changes the role
+
+abbrev pub KeepsRole : Role → Control → Type 0
+KeepsRole role c = (steps : List ControlStep) → role_of (after_all steps c).table.progress ≡ role
+
+pub role_stays : (role : Role) (c : Control) (steps : List ControlStep) → KeepsRole role c → KeepsRole role (after_all steps c)
+role_stays role c steps keeps = λ more. ap (λ (d : Control). role_of d.table.progress) (sym (joined steps more c)) ∙ keeps (steps ++ more)
+
+pub past_keeps : (setup : Setup) (past : List Step) → KeepsRole setup.link.role (facts_of setup past).control
+past_keeps setup past =
+    let first = first_control setup.link.role setup.link.max_rx (first_params setup.link.fields) (first_anchor setup) in λ steps.
+    ap (λ (c : Control). role_of (after_all steps c).table.progress) (past_goes setup past)
+    ∙ ap (λ (d : Control). role_of d.table.progress) (sym (joined (control_steps_of setup past) steps first))
+    ∙ role_after setup.link.role setup.link.max_rx (first_params setup.link.fields) (first_anchor setup) (control_steps_of setup past ++ steps)
+
+-- so the lines of notes move it by the steps of these notes
+pub moved_noted : (side : Side) (number slot : ℕ) (role : Role) (notes : List Note) (c : Control) → KeepsRole role c
+    → moved_by slot (map (line_of side number) notes) c ≡ after_all (steps_noted side number role slot notes) c
+moved_noted side number slot role [] c keeps = refl
+moved_noted side number slot role (note ∷ notes) c keeps =
+    let line = line_of side number note in
+    let steps = steps_saying role slot line in
+    ap (λ r. moved_by slot (map (line_of side number) notes) (after_all (steps_saying r slot line) c)) (keeps [])
+    ∙ moved_noted side number slot role notes (after_all steps c) (role_stays role c steps keeps)
+    ∙ sym (joined steps (steps_noted side number role slot notes) c)
+
+-- ---- no note of an end opens a link or shuts it
+
+abbrev AreLater : Side → ℕ → List Note → Type 0
+AreLater side number notes = NoneOpens (map (line_of side number) notes)
+
+module _ (side : Side) (number : ℕ) where
+  later_both : (notes more : List Note) → AreLater side number notes → AreLater side number more → AreLater side number (notes ++ more)
+  later_both [] more here there = there
+  later_both (note ∷ notes) more here there = (here.0, later_both notes more here.1 there)
+
+  done_later : (handle : ℕ) (kind : Option Kind) → AreLater side number (done_notes handle kind)
+  done_later handle None = tt
+  done_later handle (Some kind) = (refl, tt)
+
+  began_later : (handle : ℕ) (kind : Option Kind) → AreLater side number (began_notes handle kind)
+  began_later handle None = tt
+  began_later handle (Some kind) = (refl, tt)
+
+  applied_later : (handle event : ℕ) (applied : Option ℕ) → AreLater side number (applied_notes handle event applied)
+  applied_later handle event None = tt
+  applied_later handle event (Some change) = (refl, tt)
+
+  refused_later : (handle : ℕ) (refused : Option (Kind × ErrCode)) → AreLater side number (refused_notes handle refused)
+  refused_later handle None = tt
+  refused_later handle (Some (kind, code)) = (refl, tt)
+
+  event_later : (goes : Bool) (handle : ℕ) (event : ConnectionEvent) (entry : Entry) → AreLater side number (if goes then event_notes handle event entry else [])
+  event_later false handle event entry = tt
+  event_later true handle event entry =
+      let applied = applied_notes handle event.number entry.applied in
+      let enter = Enter handle (record { 0 = event.number }) event.channel ∷ [] in
+      let done = done_notes handle entry.done in
+      later_both ((applied ++ enter) ++ done) (began_notes handle entry.began)
+      (later_both (applied ++ enter) done (later_both applied enter (applied_later handle event.number entry.applied) (refl, tt)) (done_later handle entry.done))
+      (began_later handle entry.began)
+
+  took_later : (noted : Bool) (handle : ℕ) (pdu : Pdu) (facts : Facts) → AreLater side number (took_notes_if noted handle pdu facts)
+  took_later true handle pdu facts = (refl, tt)
+  took_later false handle pdu facts = tt
+
+  sent_later : (noted : Bool) (handle count : ℕ) (pdu : Pdu) → AreLater side number (sent_notes_if noted handle count pdu)
+  sent_later true handle count pdu = (refl, tt)
+  sent_later false handle count pdu = tt
+
+  given_later : (handle : ℕ) (given : Taken) → AreLater side number (given_notes handle given)
+  given_later handle given =
+      later_both (refused_notes handle given.refused) (done_notes handle given.done) (refused_later handle given.refused) (done_later handle given.done)
+
+  taken_later : (handle : ℕ) (accepted : Bool) (pdu : Pdu) (slot : ℕ) (facts : Facts) → AreLater side number (taken_notes handle accepted pdu slot facts)
+  taken_later handle accepted pdu slot facts =
+      let given = given_if (accepted && is_procedure_pdu pdu) pdu slot facts in
+      later_both (took_notes_if (accepted && not (is_empty pdu)) handle pdu facts) (given_notes handle given)
+      (took_later (accepted && not (is_empty pdu)) handle pdu facts) (given_later handle given)
+
+  received_later : (setup : Setup) (slot : ℕ) (room : Bool) (pdu : Option (List ℕ)) (facts : Facts) → AreLater side number (received_notes setup slot room pdu facts)
+  received_later setup slot room None facts = tt
+  received_later setup slot room (Some octets) facts =
+      let header = header_in octets in
+      let pdu = pdu_of octets in
+      let now = facts_before_taking setup.link.role slot header facts in
+      let done = acked_kind (acks_control (has_acknowledged facts header) facts) facts in
+      later_both (done_notes setup.link.handle done) (taken_notes setup.link.handle (accepts room header pdu now) pdu slot now)
+      (done_later setup.link.handle done) (taken_later setup.link.handle (accepts room header pdu now) pdu slot now)
+
+  step_later : (setup : Setup) (facts : Facts) (step : Step) → AreLater side number (notes_after setup facts step)
+  step_later setup facts (EventEntered slot) =
+      event_later (goes_on facts) setup.link.handle (facts_entered setup slot facts).event (entry_of slot true (held_of facts.control))
+  step_later setup facts (PacketSent slot) =
+      sent_later (is_acked facts.acknowledgement && not (is_empty (pdu_fixed facts))) setup.link.handle (numbered facts.acknowledgement.sent) (pdu_fixed facts)
+  step_later setup facts (PacketReceived slot octets room) = received_later setup slot room (good_pdu setup facts octets) facts
+  step_later setup facts other = tt
+
+  pub steps_later : (setup : Setup) (facts : Facts) (steps : List Step) → AreLater side number (notes_from setup facts steps)
+  steps_later setup facts [] = tt
+  steps_later setup facts (step ∷ steps) = later_both (notes_after setup facts step) _ (step_later setup facts step) (steps_later setup (facts_after setup facts step) steps)
+
+-- ---- several steps
+
+-- the control part goes by the lines that the end says in these steps
+abbrev pub AreByLines : Side → ℕ → ℕ → Setup → Facts → List Step → Type 0
+AreByLines side number slot setup facts steps =
+    (fold (facts_after setup) facts steps).control ≡ after_all (steps_noted side number setup.link.role slot (notes_from setup facts steps)) facts.control
+
+module _ (side : Side) (number slot : ℕ) (setup : Setup) where
+  pub by_none : (facts : Facts) → AreByLines side number slot setup facts []
+  by_none facts = refl
+
+  -- one step, and then others
+  pub by_then : (facts : Facts) (step : Step) (steps : List Step)
+      → (facts_after setup facts step).control ≡ after_all (steps_noted side number setup.link.role slot (notes_after setup facts step)) facts.control
+      → AreByLines side number slot setup (facts_after setup facts step) steps → AreByLines side number slot setup facts (step ∷ steps)
+  by_then facts step steps one others =
+      let next = facts_after setup facts step in
+      let here = notes_after setup facts step in
+      let later = notes_from setup next steps in
+      others ∙ ap (after_all (steps_noted side number setup.link.role slot later)) one
+      ∙ sym (joined (steps_noted side number setup.link.role slot here) (steps_noted side number setup.link.role slot later) facts.control)
+      ∙ sym (ap (λ all. after_all all facts.control) (noted_both side number setup.link.role slot here later))

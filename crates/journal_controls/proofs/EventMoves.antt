@@ -1,0 +1,185 @@
+-- What an event or a call does to the control part of an end by a journal.
+use Rattle.std.proofs.Common.{◌≡◌, ℕ, ◌-◌, Bool, Option, Some, List, [], ◌∷◌, ◌++◌, length, map, refl, sym, ap, subst, ◌∙◌, append-nil, append_assoc}
+use Rattle.std.proofs.lemmas.Grind.{flat_map-append}
+use Rattle.std.proofs.lemmas.List.{append_cancel_left}
+use Rattle.ble_base.specs.declared.notes.Note.{Note}
+use Rattle.ble_base.specs.declared.notes.Note.TheVariants.{Up}
+use Rattle.ble_base.specs.declared.roles.Side.{Side}
+use Rattle.controller_model.specs.Side.{notes_after}
+use Rattle.controller_model.specs.Step.{Step as Call}
+use Rattle.journal.specs.declared.entries.Entry.{Entry}
+use Rattle.journal.specs.declared.entries.Entry.TheVariants.{Air, Fed, Turn}
+use Rattle.journal_ends.specs.Seen.{Hears, heard_in_line}
+use Rattle.journal_ends.specs.journal_acks.Carried.{carried_of}
+use Rattle.journal_ends.specs.journal_acks.Exchange.{exchange_of}
+use Rattle.journal_ends.specs.journal_links.LinkLines.{lines_of, link_named, where_named}
+use Rattle.journal_ends.specs.link_model.control_model.Control.{Control, after_all}
+use Rattle.journal_ends.specs.link_model.procedure_stages.Kinds.{role_of}
+use Rattle.journal_ends.specs.run_model.History.{Event, TurnBegan, HostFed, Called, Hearing, Noted, Transmitted}
+use Rattle.journal_ends.specs.run_model.Journal.{entries_of, entry_of, journal_of, mark_of, radio_in, side_of}
+use Rattle.journal_ends.specs.run_model.Links.{links_of}
+use Rattle.journal_ends.specs.run_model.Readers.{PairOpening, pair_openings_in, turns_of}
+use Rattle.journal_ends.specs.run_model.Run.{Given, after_call, facts_at, setup_at}
+use Rattle.journal_ends.proofs.SeenEvents.{lines_at}
+use Rattle.journal_ends.proofs.journal_links.LinkLines.{line_more}
+use Rattle.journal_ends.proofs.run_model.Parts.{journal_event}
+use Rattle.journal_controls.specs.LineSteps.{control_after, control_on, has_next, steps_heard, turn_now}
+use Rattle.journal_controls.specs.SaidLines.{NoneOpens, moved_by}
+use Rattle.journal_controls.proofs.LineFolds.{control_more, heard_line, line_moves, moved_both, quiet_line}
+
+-- the control part of an end, by the journal of a history
+abbrev pub control_at : ℕ → Side → List Event → Option Control
+control_at number side history = control_on side number (journal_of history)
+
+abbrev pub turn_at : List Event → ℕ
+turn_at history = turn_now (journal_of history)
+
+-- lines of this turn, and nothing that is heard
+pub record IsMoving (number : ℕ) (side : Side) (history after : List Event) : Type 0 where
+  pub more : List Entry
+  pub lines : lines_at number side after ≡ lines_at number side history ++ more
+  pub turns : turn_at after ≡ turn_at history
+  pub control : (c : Control) → NoneOpens more → control_at number side history ≡ Some c → control_at number side after ≡ Some (moved_by (turn_at history) more c)
+
+first_none : (lines more : List Entry) → NoneOpens (lines ++ more) → NoneOpens lines
+first_none [] more none = tt
+first_none (line ∷ lines) more none = (none.0, first_none lines more none.1)
+
+last_none : (lines more : List Entry) → NoneOpens (lines ++ more) → NoneOpens more
+last_none [] more none = none
+last_none (line ∷ lines) more none = last_none lines more none.1
+
+moving_then : (number : ℕ) (side : Side) (first second third : List Event) → IsMoving number side first second → IsMoving number side second third
+    → IsMoving number side first third
+moving_then number side first second third one next = record {
+  more = one.more ++ next.more;
+  lines = next.lines ∙ ap (λ xs. xs ++ next.more) one.lines ∙ append_assoc (lines_at number side first) one.more next.more;
+  turns = next.turns ∙ one.turns;
+  control = λ c none is.
+      next.control (moved_by (turn_at first) one.more c) (last_none one.more next.more none) (one.control c (first_none one.more next.more none) is)
+      ∙ ap (λ slot. Some (moved_by slot next.more (moved_by (turn_at first) one.more c))) one.turns
+      ∙ ap Some (sym (moved_both (turn_at first) one.more next.more c));
+}
+
+-- an event with one line that begins no turn
+line_moving : (number : ℕ) (side : Side) (history : List Event) (event : Event) (line : Entry) → entries_of (links_of history) event ≡ line ∷ []
+    → heard_in_line side number (journal_of history) line ≡ [] → pair_openings_in line ≡ [] → IsMoving number side history (history ++ event ∷ [])
+line_moving number side history event line is deaf begins =
+    let front = journal_of history in
+    let named = where_named side number (link_named line) line in
+    let journal = journal_event history event ∙ ap (λ xs. front ++ xs) is in record {
+      more = named;
+      lines = ap (λ xs. lines_of side number xs) journal ∙ line_more side number front line named (append-nil named);
+      turns = ap turn_now journal
+          ∙ ap (λ (turns : List PairOpening). length turns - 1) (flat_map-append pair_openings_in front (line ∷ []) ∙ (λ i. turns_of front ++ (begins i ++ [])) ∙ append-nil (turns_of front));
+      control = λ c none was.
+          ap (control_on side number) journal ∙ control_more side number front line ∙ ap (λ before. control_after side number front before line) was
+          ∙ line_moves side number front line c deaf none;
+    }
+
+pub feed_moving : (number : ℕ) (side : Side) (history : List Event) (station : ℕ) (octets : List ℕ) → IsMoving number side history (history ++ HostFed station octets ∷ [])
+feed_moving number side history station octets = line_moving number side history (HostFed station octets) _ refl refl refl
+
+note_hears : (number : ℕ) (side other : Side) (front : List Entry) (link_of : ℕ → ℕ) (last : ℕ) (note : Note) → heard_in_line side number front (entry_of other link_of last note) ≡ []
+note_hears number side other front link_of last (Up packet) = refl
+note_hears number side other front link_of last note = refl
+
+note_begins : (other : Side) (link_of : ℕ → ℕ) (last : ℕ) (note : Note) → pair_openings_in (entry_of other link_of last note) ≡ []
+note_begins other link_of last (Up packet) = refl
+note_begins other link_of last note = refl
+
+note_moving : (number : ℕ) (side : Side) (history : List Event) (station : ℕ) (note : Note) → IsMoving number side history (history ++ Noted station note ∷ [])
+note_moving number side history station note =
+    let links = links_of history in
+    line_moving number side history (Noted station note) _ refl
+    (note_hears number side (side_of station) (journal_of history) (links.link_of station) (links.last_of station) note)
+    (note_begins (side_of station) (links.link_of station) (links.last_of station) note)
+
+none_moving : (number : ℕ) (side : Side) (history after : List Event) → journal_of after ≡ journal_of history → IsMoving number side history after
+none_moving number side history after same = record {
+  more = [];
+  lines = ap (λ xs. lines_of side number xs) same ∙ sym (append-nil (lines_at number side history));
+  turns = ap turn_now same;
+  control = λ c none was. ap (control_on side number) same ∙ was;
+}
+
+notes_moving : (number : ℕ) (side : Side) (station : ℕ) (notes : List Note) (history after : List Event) → after ≡ history ++ map (Noted station) notes
+    → IsMoving number side history after
+notes_moving number side station [] history after is = none_moving number side history after (ap journal_of (is ∙ append-nil history))
+notes_moving number side station (note ∷ notes) history after is =
+    let next = history ++ Noted station note ∷ [] in
+    moving_then number side history next after (note_moving number side history station note)
+    (notes_moving number side station notes next after (is ∙ sym (append_assoc history (Noted station note ∷ []) (map (Noted station) notes))))
+
+-- a call, with all of its notes
+pub call_moving : (given : Given) (number : ℕ) (side : Side) (station : ℕ) (step : Call) (history : List Event)
+    → IsMoving number side history (after_call given station step history)
+call_moving given number side station step history =
+    let notes = notes_after (setup_at given station) (facts_at given station history) step in
+    let called = history ++ Called station step ∷ [] in
+    let after = history ++ Called station step ∷ map (Noted station) notes in
+    moving_then number side history called after
+    (none_moving number side history called (journal_event history (Called station step) ∙ append-nil (journal_of history)))
+    (notes_moving number side station notes called after (sym (append_assoc history (Called station step ∷ []) (map (Noted station) notes))))
+
+-- a turn begins
+pub turn_still : (number : ℕ) (side : Side) (history : List Event) (slot : ℕ) (radios : List Bool)
+    → control_at number side (history ++ TurnBegan slot radios ∷ []) ≡ control_at number side history
+turn_still number side history slot radios =
+    let front = journal_of history in
+    let line = Turn slot (radio_in 0 radios) (Some (radio_in 1 radios)) in
+    ap (control_on side number) (journal_event history (TurnBegan slot radios)) ∙ control_more side number front line
+    ∙ quiet_line side number front (control_on side number front) line refl
+
+-- by the lines that it adds
+pub call_moves : (given : Given) (side : Side) (number station : ℕ) (step : Call) (history : List Event) (more : List Entry) (c : Control)
+    → lines_at number side (after_call given station step history) ≡ lines_at number side history ++ more → NoneOpens more
+    → control_at number side history ≡ Some c → control_at number side (after_call given station step history) ≡ Some (moved_by (turn_at history) more c)
+call_moves given side number station step history more c lines none was =
+    let moving = call_moving given number side station step history in
+    let same = append_cancel_left (lines_at number side history) moving.more more (sym moving.lines ∙ lines) in
+    moving.control c (subst NoneOpens (sym same) none) was ∙ ap (λ xs. Some (moved_by (turn_at history) xs c)) same
+
+-- a host sends
+pub feed_still : (number : ℕ) (side : Side) (history : List Event) (station : ℕ) (octets : List ℕ)
+    → control_at number side (history ++ HostFed station octets ∷ []) ≡ control_at number side history
+feed_still number side history station octets =
+    let front = journal_of history in
+    let line = Fed (side_of station) octets in
+    ap (control_on side number) (journal_event history (HostFed station octets)) ∙ control_more side number front line
+    ∙ quiet_line side number front (control_on side number front) line refl
+
+-- ---- a packet is on the air
+
+abbrev pub air_line : ℕ → ℕ → List ℕ → Hearing → Entry
+air_line station channel octets hearing = Air (side_of station) channel octets (mark_of hearing.fate) hearing.verdict
+
+module _ (number : ℕ) (side : Side) (history : List Event) (station channel : ℕ) (octets : List ℕ) (hearing : Hearing) where
+  abbrev aired : List Event
+  aired = history ++ Transmitted station channel octets (hearing ∷ []) ∷ []
+
+  journal_aired : journal_of aired ≡ journal_of history ++ air_line station channel octets hearing ∷ []
+  journal_aired = journal_event history (Transmitted station channel octets (hearing ∷ []))
+
+  -- it is not heard
+  pub unheard_still : heard_in_line side number (journal_of history) (air_line station channel octets hearing) ≡ [] → control_at number side aired ≡ control_at number side history
+  unheard_still none =
+      let front = journal_of history in
+      let line = air_line station channel octets hearing in
+      ap (control_on side number) journal_aired ∙ control_more side number front line
+      ∙ quiet_line side number front (control_on side number front) line (ap (λ xs. xs ++ []) none)
+
+  -- it is heard
+  pub heard_moves : (slot : ℕ) (heard : List ℕ) (c : Control) → heard_in_line side number (journal_of history) (air_line station channel octets hearing) ≡ Hears slot heard ∷ []
+      → control_at number side history ≡ Some c
+      → control_at number side aired
+      ≡ Some (after_all (steps_heard (role_of c.table.progress) slot (exchange_of number (journal_of history) side) (exchange_of number (journal_of aired) side)
+      (carried_of number (journal_of history) side) (has_next c)) c)
+  heard_moves slot heard c is was =
+      let front = journal_of history in
+      let line = air_line station channel octets hearing in
+      ap (control_on side number) journal_aired ∙ control_more side number front line
+      ∙ ap (λ before. control_after side number front before line) was
+      ∙ heard_line side number front line c slot heard refl (ap (λ xs. xs ++ []) is)
+      ∙ ap (λ after. Some (after_all (steps_heard (role_of c.table.progress) slot (exchange_of number front side) (exchange_of number after side) (carried_of number front side) (has_next c)) c))
+      (sym journal_aired)

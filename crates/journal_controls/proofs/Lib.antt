@@ -1,0 +1,17 @@
+-- The lemmas of this crate.
+pub mod NotedSteps
+pub mod CentralFixed
+pub mod EndSteps
+pub mod LineFolds
+pub mod EventMoves
+pub mod EndMoves
+pub mod PeripheralFixed
+pub mod TurnMoves
+pub mod Counted
+-- what the crates above use of those below
+pub use Rattle.journal_ends.proofs as journal_ends
+pub use Rattle.journal_ends.proofs.journal_acks as journal_acks
+pub use Rattle.journal_ends.proofs.journal_links as journal_links
+pub use Rattle.journal_ends.proofs.journal_packets as journal_packets
+pub use Rattle.journal_ends.proofs.link_model as link_model
+pub use Rattle.journal_ends.proofs.run_model as run_model

@@ -1,0 +1,134 @@
+-- The control part by a journal with one line more.
+use Rattle.std.proofs.Common.{◌≡◌, ℕ, ◌==◌, ◌&&◌, Bool, true, false, Option, Some, None, List, [], ◌∷◌, ◌++◌, map, refl, sym, ap, subst, ◌∙◌, append-nil, append_assoc, if◌then◌else◌}
+use Rattle.std.specs.List.{flat_map}
+use Rattle.std.specs.Option.{option_map}
+use Rattle.ble_base.specs.declared.roles.Role.{Role}
+use Rattle.ble_base.specs.declared.roles.Side.{Side}
+use Rattle.ble_base.specs.declared.roles.Side.TheVariants.{A, B}
+use Rattle.journal.specs.declared.entries.Entry.{Entry}
+use Rattle.journal.specs.declared.entries.Entry.TheVariants.{Opened, Shut}
+use Rattle.journal_ends.specs.Seen.{Hears, Says, heard_in_line, seen_in_line}
+use Rattle.journal_ends.specs.journal_acks.Carried.{carried_of}
+use Rattle.journal_ends.specs.journal_acks.Exchange.{exchange_of}
+use Rattle.journal_ends.specs.journal_links.Begun.{LinkBegun, link_numbered}
+use Rattle.journal_ends.specs.journal_links.LinkLines.{link_named, where_named}
+use Rattle.journal_ends.specs.journal_packets.Belonging.{is_side}
+use Rattle.journal_ends.specs.link_model.control_model.Control.{Control, after_all}
+use Rattle.journal_ends.specs.link_model.procedure_stages.Kinds.{role_of}
+use Rattle.journal_ends.specs.run_model.Readers.{of_side}
+use Rattle.journal_ends.proofs.journal_acks.TwoStations.{same_number}
+use Rattle.journal_controls.specs.SaidLines.{NoneOpens, is_opening, moved_by}
+use Rattle.journal_controls.specs.LineSteps.{control_after, control_begun, control_from, control_moved, control_on, has_next, steps_heard, steps_saying, steps_seen, turn_now}
+
+-- ---- a line more
+
+from_more : (side : Side) (number : ℕ) (front : List Entry) (before : Option Control) (lines : List Entry) (line : Entry)
+    → control_from side number front before (lines ++ line ∷ []) ≡ control_after side number (front ++ lines) (control_from side number front before lines) line
+from_more side number front before [] line = ap (λ xs. control_after side number xs before line) (sym (append-nil front))
+from_more side number front before (first ∷ lines) line =
+    from_more side number (front ++ first ∷ []) (control_after side number front before first) lines line
+    ∙ ap (λ xs. control_after side number xs (control_from side number (front ++ first ∷ []) (control_after side number front before first) lines) line)
+    (append_assoc front (first ∷ []) lines)
+
+pub control_more : (side : Side) (number : ℕ) (journal : List Entry) (line : Entry)
+    → control_on side number (journal ++ line ∷ []) ≡ control_after side number journal (control_on side number journal) line
+unfolding control_on
+control_more side number journal line = from_more side number [] None journal line
+
+-- ---- a line that neither opens the link at this side nor shuts it
+
+moves : (side : Side) (number : ℕ) (front : List Entry) (before : Option Control) (line : Entry) → is_opening line ≡ false
+    → control_after side number front before line ≡ option_map (control_moved side number front line) before
+moves side number front before (Opened other link handle role) is = absurd cc
+moves side number front before (Shut other link reason) is = absurd cc
+moves side number front before line is = refl
+
+-- of another side, or of another link
+opening_apart : (side other : Side) (same : Bool) (line : Entry) (now before : Option Control) → map Says (of_side side other (if same then line ∷ [] else [])) ≡ []
+    → (if is_side other side && same then now else before) ≡ before
+opening_apart A A true line now before none = absurd cc
+opening_apart A A false line now before none = refl
+opening_apart A B same line now before none = refl
+opening_apart B A same line now before none = refl
+opening_apart B B true line now before none = absurd cc
+opening_apart B B false line now before none = refl
+
+same_moved : (before : Option Control) (move : Control → Control) → ((c : Control) → move c ≡ c) → option_map move before ≡ before
+same_moved None move same = refl
+same_moved (Some c) move same = ap Some (same c)
+
+-- a line in which the end says and hears nothing
+pub quiet_line : (side : Side) (number : ℕ) (front : List Entry) (before : Option Control) (line : Entry) → seen_in_line side number front line ≡ []
+    → control_after side number front before line ≡ before
+quiet_line side number front before (Opened other link handle role) none =
+    opening_apart side other (link == number) (Opened other link handle role) (control_begun side (link_numbered number front)) before none
+quiet_line side number front before (Shut other link reason) none = opening_apart side other (link == number) (Shut other link reason) None before none
+quiet_line side number front before line none =
+    same_moved before (control_moved side number front line) (λ c. ap (λ seen. after_all (flat_map (steps_seen side number front line c) seen) c) none)
+
+-- ---- lines that an end says
+
+pub moved_both : (slot : ℕ) (lines more : List Entry) (c : Control) → moved_by slot (lines ++ more) c ≡ moved_by slot more (moved_by slot lines c)
+moved_both slot [] more c = refl
+moved_both slot (line ∷ lines) more c = moved_both slot lines more (after_all (steps_saying (role_of c.table.progress) slot line) c)
+
+-- a line of its own
+said_line : (side : Side) (number : ℕ) (front : List Entry) (line : Entry) (c : Control) → is_opening line ≡ false → seen_in_line side number front line ≡ Says line ∷ []
+    → control_after side number front (Some c) line ≡ Some (moved_by (turn_now front) (line ∷ []) c)
+said_line side number front line c opens is =
+    moves side number front (Some c) line opens
+    ∙ ap (λ seen. Some (after_all (flat_map (steps_seen side number front line c) seen) c)) is
+    ∙ ap (λ steps. Some (after_all steps c)) (append-nil (steps_saying (role_of c.table.progress) (turn_now front) line))
+
+-- the line is of this side and of this link, or it is not
+data IsNamed (line : Entry) (named : List Entry) : Type 0 where
+  Own : named ≡ line ∷ [] → IsNamed line named
+  Others : named ≡ [] → IsNamed line named
+
+named_if : (side other : Side) (same : Bool) (line : Entry) → IsNamed line (of_side side other (if same then line ∷ [] else []))
+named_if A A true line = Own refl
+named_if A A false line = Others refl
+named_if A B same line = Others refl
+named_if B A same line = Others refl
+named_if B B true line = Own refl
+named_if B B false line = Others refl
+
+named_by : (side : Side) (number : ℕ) (names : Option (Side × ℕ)) (line : Entry) → IsNamed line (where_named side number names line)
+named_by side number None line = Others refl
+named_by side number (Some named) line = named_if side named.0 (named.1 == number) line
+
+-- a line in which the end hears nothing
+pub line_moves : (side : Side) (number : ℕ) (front : List Entry) (line : Entry) (c : Control) → heard_in_line side number front line ≡ []
+    → let named = where_named side number (link_named line) line in NoneOpens named
+    → control_after side number front (Some c) line ≡ Some (moved_by (turn_now front) named c)
+line_moves side number front line c deaf opens = by (named_by side number (link_named line) line)
+  where
+    by : IsNamed line (where_named side number (link_named line) line)
+        → control_after side number front (Some c) line ≡ Some (moved_by (turn_now front) (where_named side number (link_named line) line) c)
+    by (Own is) =
+        said_line side number front line c (subst NoneOpens is opens).0 (λ i. deaf i ++ map Says (is i)) ∙ ap (λ lines. Some (moved_by (turn_now front) lines c)) (sym is)
+    by (Others none) =
+        quiet_line side number front (Some c) line (λ i. deaf i ++ map Says (none i)) ∙ ap (λ lines. Some (moved_by (turn_now front) lines c)) (sym none)
+
+-- ---- a good packet that the end hears
+
+pub heard_line : (side : Side) (number : ℕ) (front : List Entry) (line : Entry) (c : Control) (slot : ℕ) (octets : List ℕ) → is_opening line ≡ false
+    → seen_in_line side number front line ≡ Hears slot octets ∷ []
+    → control_after side number front (Some c) line
+    ≡ Some (after_all (steps_heard (role_of c.table.progress) slot (exchange_of number front side) (exchange_of number (front ++ line ∷ []) side) (carried_of number front side) (has_next c)) c)
+heard_line side number front line c slot octets opens is =
+    moves side number front (Some c) line opens
+    ∙ ap (λ seen. Some (after_all (flat_map (steps_seen side number front line c) seen) c)) is
+    ∙ ap (λ steps. Some (after_all steps c))
+    (append-nil (steps_heard (role_of c.table.progress) slot (exchange_of number front side) (exchange_of number (front ++ line ∷ []) side) (carried_of number front side) (has_next c)))
+
+-- ---- the line that opens the link
+
+pub opened_line : (side : Side) (number handle : ℕ) (role : Role) (front : List Entry) (before : Option Control) (link : LinkBegun) → link_numbered number front ≡ Some link
+    → control_after side number front before (Opened side number handle role) ≡ control_begun side (Some link)
+opened_line side number handle role front before link is =
+    ap (λ b. if b then control_begun side (link_numbered number front) else before) (λ i. own_side side i && same_number number i) ∙ ap (control_begun side) is
+  where
+    own_side : (one : Side) → is_side one one ≡ true
+    own_side A = refl
+    own_side B = refl

@@ -1,0 +1,6 @@
+-- Proof of `ends::an_entry_moves_the_control_part_by_its_lines`.
+use Rattle.journal_controls.proofs.EndSteps.{entry_moves}
+use Rattle.journal_controls.proofs.ends.an_entry_moves_the_control_part_by_its_lines.Goals as goal
+
+pub returns : goal.returns
+returns c = entry_moves

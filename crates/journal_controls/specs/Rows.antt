@@ -1,0 +1,33 @@
+-- The journals of worked examples, and the first control part of their link.
+use Rattle.std.specs.Prelude.{List, [], ◌∷◌, ◌++◌}
+use Rattle.ble_base.specs.declared.roles.Role.{Role}
+use Rattle.ble_base.specs.declared.roles.Role.TheVariants.{Central}
+use Rattle.ble_base.specs.declared.roles.Side.TheVariants.{A, B}
+use Rattle.journal.specs.declared.entries.Entry.{Entry}
+use Rattle.journal.specs.declared.entries.Entry.TheVariants.{Sent, Took}
+use Rattle.journal_ends.specs.journal_acks.Rows.{second_slot}
+use Rattle.journal_ends.specs.link_model.Acknowledgement.{Pdu}
+use Rattle.journal_ends.specs.link_model.control_model.Control.{Asks, Control, after, first_control}
+use Rattle.journal_ends.specs.link_model.procedure_values.declared.asks.Ask.TheVariants.{Version}
+
+-- an end of the link in one_connection_journal, as it begins: an interval of 24 slots, no latency, a timeout of 720 ms
+-- and all channels; event 0 is in turn 2
+abbrev pub first_on : Role → Control
+first_on role =
+    first_control role 251 (record { interval = 24; latency = 0; timeout = 72; map = 0x1FFFFFFFFF }) 2
+
+-- LL_VERSION_IND of version 5.2, with the company identifier FFFF (Core 5.2, volume 6 part B, section 2.4.2.13)
+abbrev pub version_pdu : Pdu
+version_pdu = record { llid = 3; body = 0x0C ∷ 0x0B ∷ 0xFF ∷ 0xFF ∷ 0x00 ∷ 0x00 ∷ [] }
+
+-- the central sends it in turn 3
+abbrev pub version_sent : List Entry
+version_sent = second_slot ++ Sent B 1 1 version_pdu.llid version_pdu.body ∷ []
+
+-- the peripheral takes it
+abbrev pub version_taken : List Entry
+version_taken = version_sent ++ Took A 1 1 version_pdu.llid version_pdu.body ∷ []
+
+-- the control part of the central, of which the host has asked for an exchange of versions
+abbrev pub version_wanted : Control
+version_wanted = after (Asks Version) (first_on Central)

@@ -1,0 +1,32 @@
+//! The control part of each end of a link, by the lines of a journal, and what moves it at one end.
+//! Definitions and laws; no code.
+#![tactic(auto)]
+
+mod calls;
+mod ends;
+mod events;
+mod fixing;
+mod journals;
+mod rows;
+mod turns;
+
+pub use crate::calls::{
+    a_call_moves_the_control_part_by_its_lines,
+    the_lines_of_an_end_move_the_control_part_by_its_notes,
+};
+pub use crate::ends::{
+    a_good_packet_moves_the_control_part_by_its_lines,
+    a_sending_moves_the_control_part_by_its_lines, an_end_begins_with_the_control_part_of_its_link,
+    an_entry_moves_the_control_part_by_its_lines, counts_tell_of_an_end_that_hears,
+};
+pub use crate::events::{
+    a_packet_moves_the_control_part_of_the_end_that_hears_it,
+    turns_and_hosts_leave_the_control_part,
+};
+pub use crate::fixing::a_control_pdu_is_fixed_where_one_waits;
+pub use crate::journals::only_what_an_end_says_and_hears_moves_its_control_part;
+pub use crate::rows::{worked_controls, worked_lines_due, worked_versions};
+pub use crate::turns::{
+    a_packet_that_is_taken_moves_the_control_part_by_its_lines,
+    a_turn_that_begins_moves_the_control_part_by_its_lines,
+};

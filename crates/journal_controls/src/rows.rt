@@ -1,0 +1,56 @@
+//! Worked examples, which the definitions compute.
+ghost use Rattle.std.specs.Prelude.{◌≡◌, ◌++◌, ◌∷◌, [], None, Some, true};
+ghost use Rattle.ble_base.specs.ErrorCodes.{connection_timeout};
+ghost use Rattle.ble_base.specs.declared.procedure_kinds.Kind.{Kind};
+ghost use Rattle.ble_base.specs.declared.roles.Role.TheVariants.{Central, Peripheral};
+ghost use Rattle.ble_base.specs.declared.roles.Side.TheVariants.{A, B};
+ghost use Rattle.journal.specs.declared.entries.Entry.TheVariants.{Began, Enter, Shut};
+ghost use Rattle.journal_ends.specs.journal_acks.Rows.{data_acknowledged};
+ghost use Rattle.journal_ends.specs.link_model.Controls.{read_of};
+ghost use Rattle.journal_ends.specs.link_model.control_model.Control.{Enters, Sends, Takes};
+ghost use Rattle.journal_ends.specs.link_model.control_model.Control.{after_all};
+ghost use Rattle.journal_ends.specs.run_model.Rows.{one_connection_journal, one_event_journal};
+ghost use Rattle.journal_controls.specs.LineSteps.{control_on};
+ghost use Rattle.journal_controls.specs.LinesDue.{applied_due, due_saying, lines_due};
+ghost use Rattle.journal_controls.specs.Rows.{first_on, version_pdu, version_sent, version_taken};
+ghost use Rattle.journal_controls.specs.Rows.{version_wanted};
+
+/// As a link is opened, each end has the first control part of its role; and then that part enters
+/// an event with the end. An empty PDU and a PDU of data do not move it. A side has none on another
+/// link, nor on one that it shut.
+pub fn worked_controls()
+    ensures opened { control_on A 1 one_connection_journal ≡ Some (first_on Peripheral) }
+    ensures central { control_on B 1 one_event_journal
+        ≡ Some (after_all (Enters 2 true ∷ []) (first_on Central)) }
+    ensures peripheral { control_on A 1 data_acknowledged
+        ≡ Some (after_all (Enters 2 true ∷ []) (first_on Peripheral)) }
+    ensures other { control_on A 2 one_event_journal ≡ None }
+    ensures shut { control_on A 1 (one_event_journal
+        ++ Shut A 1 (record { 0 = connection_timeout }) ∷ []) ≡ None }
+{}
+
+/// The control PDU of a central is first sent in its line, in turn 3. As the peripheral takes it,
+/// only the control part of the peripheral moves.
+pub fn worked_versions()
+    ensures sent { control_on B 1 version_taken
+        ≡ Some (after_all (Enters 2 true ∷ Sends 3 true ∷ []) (first_on Central)) }
+    ensures waits { control_on A 1 version_sent
+        ≡ Some (after_all (Enters 2 true ∷ []) (first_on Peripheral)) }
+    ensures taken { control_on A 1 version_taken
+        ≡ Some (after_all (Enters 2 true ∷ Takes (read_of version_pdu) 3 true ∷ [])
+        (first_on Peripheral)) }
+{}
+
+/// The host of a central that asks for an exchange of versions is told that it began just after the
+/// line of the next event, and not that another procedure did. After that line no other one is due.
+/// In a run in which no host asks for anything no such line is due, and no indication.
+pub fn worked_lines_due()
+    ensures begins { due_saying B 1 2 version_wanted [] (Enter B 1 0 25)
+        ≡ Began B 1 Kind.Version ∷ [] }
+    ensures other { due_saying B 1 2 version_wanted [] (Enter B 1 0 25)
+        ≡ Began B 1 Kind.Features ∷ [] → ⊥ }
+    ensures begun { due_saying B 1 2 version_wanted (Began B 1 Kind.Version ∷ [])
+        (Began B 1 Kind.Version) ≡ [] }
+    ensures none { lines_due B 1 one_event_journal ≡ [] }
+    ensures no_indication { applied_due A 1 one_connection_journal ≡ None }
+{}
