@@ -1,4 +1,4 @@
--- Notes that say the same of indications and events.
+-- Lists of notes with the same indications and the same events.
 use Rattle.std.proofs.Common.{◌≡◌, ℕ, ◌+◌, arith, List, ◌++◌, fold, map, take, refl, sym, ap, ◌∙◌}
 use Rattle.std.proofs.lemmas.List.{append-nil}
 use Rattle.ble_base.specs.declared.notes.Note.{Note}
