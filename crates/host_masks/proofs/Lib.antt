@@ -1,0 +1,4 @@
+-- The lemmas of this crate.
+pub mod MasksHeld
+pub mod OctetsHeld
+pub mod LineMasks
