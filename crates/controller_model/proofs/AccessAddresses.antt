@@ -40,6 +40,7 @@ use Rattle.controller_model.proofs.FreeHandles.{IsOfCentral}
 use Rattle.controller_model.proofs.ViewRoom.{Makes, asks_makes, begin_makes, reply_makes}
 use Rattle.controller_model.proofs.NoLinks.{MakesNone}
 use Rattle.controller_model.proofs.Phases.{EachOutcome, heard_is, unheard_is}
+use Rattle.controller_model.proofs.Unasked.{of_unasked}
 
 -- ---- the view knows whether there is one
 
@@ -150,7 +151,8 @@ known_makes true setup facts command is may = accepted_makes setup facts command
 known_makes false setup facts command is may = may
 
 read_makes : (setup : Setup) (facts : Facts) (read : CmdRead) → MayMake facts → MayMake (facts_commanded setup facts read)
-read_makes setup facts (Known command) may = known_makes (status_of facts.view command == 0) setup facts command refl may
+read_makes setup facts (Known command) may =
+    of_unasked setup facts command MayMake (known_makes (status_of facts.view command == 0) setup facts command refl may)
 read_makes setup facts UnknownOpcode may = may
 read_makes setup facts BadLength may = may
 

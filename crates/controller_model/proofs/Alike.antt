@@ -24,6 +24,7 @@ use Rattle.open_links.specs.Data.{offer_by}
 use Rattle.controller_model.specs.Data.{facts_offered, offer_of}
 use Rattle.controller_model.specs.Events.{notes_of_events}
 use Rattle.controller_model.specs.Side.{facts_fed, notes_fed}
+use Rattle.controller_model.proofs.Unasked.{notes_unasked, of_unasked}
 
 pub record Alike (one other : Facts) : Type 0 where
   pub view_is : one.view ≡ other.view
@@ -75,7 +76,9 @@ known_plain true setup facts opcode command =
 
 read_plain : (setup : Setup) (facts : Facts) (opcode : ℕ) (read : CmdRead)
     → notes_commanded setup facts opcode read ≡ notes_commanded setup (plain_of setup facts) opcode read
-read_plain setup facts opcode (Known command) = known_plain (status_of facts.view command == 0) setup facts opcode command
+read_plain setup facts opcode (Known command) =
+    notes_unasked setup facts opcode command ∙ known_plain (status_of facts.view command == 0) setup facts opcode command
+    ∙ sym (notes_unasked setup (plain_of setup facts) opcode command)
 read_plain setup facts opcode UnknownOpcode = refl
 read_plain setup facts opcode BadLength = refl
 
@@ -105,8 +108,10 @@ known_alike false setup one other command alike = alike
 read_alike : (setup : Setup) (one other : Facts) (read : CmdRead) → Alike one other
     → Alike (facts_commanded setup one read) (facts_commanded setup other read)
 read_alike setup one other (Known command) alike =
-    subst (λ (view : View). Alike (facts_commanded setup one (Known command)) (facts_known (status_of view command == 0) setup other command))
-    alike.view_is (known_alike (status_of one.view command == 0) setup one other command alike)
+    of_unasked setup one command (λ (after : Facts). Alike after (facts_commanded setup other (Known command)))
+    (of_unasked setup other command (Alike (facts_known (status_of one.view command == 0) setup one command))
+    (subst (λ (view : View). Alike (facts_known (status_of one.view command == 0) setup one command) (facts_known (status_of view command == 0) setup other command))
+    alike.view_is (known_alike (status_of one.view command == 0) setup one other command alike)))
 read_alike setup one other UnknownOpcode alike = alike
 read_alike setup one other BadLength alike = alike
 

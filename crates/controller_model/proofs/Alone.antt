@@ -46,6 +46,7 @@ use Rattle.controller_model.proofs.Feds.{more_octets}
 use Rattle.controller_model.proofs.NoLinks.{AreNone, HasNone, IsLike, MakesNone, command_none, doing_like, ended_like, first_none, none_at, none_changed, none_end, none_enter, none_kept, none_noted, none_stay, nothing_reported, start_like}
 use Rattle.controller_model.proofs.Phases.{EachOutcome, heard_is, unheard_is}
 use Rattle.controller_model.proofs.Places.{link_receiving, receiving_is}
+use Rattle.controller_model.proofs.Unasked.{of_unasked}
 
 abbrev host_alone : List Step → List Step
 host_alone past = map HostOctet (host_octets past)
@@ -75,7 +76,8 @@ known_quiet true setup facts command quiet =
 known_quiet false setup facts command quiet = quiet
 
 read_quiet : (setup : Setup) (facts : Facts) (read : CmdRead) → IsQuiet facts → IsQuiet (facts_commanded setup facts read)
-read_quiet setup facts (Known command) quiet = known_quiet (status_of facts.view command == 0) setup facts command quiet
+read_quiet setup facts (Known command) quiet =
+    of_unasked setup facts command IsQuiet (known_quiet (status_of facts.view command == 0) setup facts command quiet)
 read_quiet setup facts UnknownOpcode quiet = quiet
 read_quiet setup facts BadLength quiet = quiet
 

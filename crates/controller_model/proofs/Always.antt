@@ -47,6 +47,7 @@ use Rattle.controller_model.specs.Radio.{advertises_at, advertises_on, doing_hel
 use Rattle.controller_model.specs.Side.{facts_after, facts_fed, facts_of, result_of, with_octet}
 use Rattle.controller_model.proofs.Phases.{EachOutcome, heard_is, unheard_is}
 use Rattle.open_links.specs.Turns.{due_in, ending_in, links_without}
+use Rattle.controller_model.proofs.Unasked.{of_unasked}
 
 -- ---- links that end
 
@@ -423,8 +424,8 @@ module _ (setup : Setup) (fact : Facts → Type 0)
       → fact (facts_commanded setup facts read)
   holds_read facts opcode octets (Known command) is holds =
       let status = status_of facts.view command in
-      holds_by setup fact (status == 0) facts command
-      (λ took. accepted facts opcode octets command is (is_zero status took) holds) holds
+      of_unasked setup facts command fact
+      (holds_by setup fact (status == 0) facts command (λ took. accepted facts opcode octets command is (is_zero status took) holds) holds)
   holds_read facts opcode octets UnknownOpcode is holds = holds
   holds_read facts opcode octets BadLength is holds = holds
 

@@ -32,6 +32,7 @@ use Rattle.controller_model.specs.Links.{ends_for, facts_leaving}
 use Rattle.controller_model.specs.Side.{facts_after, facts_fed, facts_of, result_of}
 use Rattle.controller_model.specs.Between.{between_after, is_between_turns}
 use Rattle.controller_model.proofs.Always.{leaving_is, received_shut}
+use Rattle.controller_model.proofs.Unasked.{of_unasked}
 
 -- no complete packet of the link in a place waits to be reported
 abbrev IsReported : Option OpenLink → Type 0
@@ -125,7 +126,8 @@ known_settled true setup facts command settled =
 known_settled false setup facts command settled = settled
 
 read_settled : (setup : Setup) (facts : Facts) (read : CmdRead) → IsSettled facts → IsSettled (facts_commanded setup facts read)
-read_settled setup facts (Known command) settled = known_settled (status_of facts.view command == 0) setup facts command settled
+read_settled setup facts (Known command) settled =
+    of_unasked setup facts command IsSettled (known_settled (status_of facts.view command == 0) setup facts command settled)
 read_settled setup facts UnknownOpcode settled = settled
 read_settled setup facts BadLength settled = settled
 

@@ -51,6 +51,7 @@ use Rattle.controller_model.proofs.Phases.{EachOutcome, heard_is, unheard_is}
 use Rattle.controller_model.proofs.Places.{refuses_at}
 use Rattle.controller_model.proofs.ProcedureEvents.{reception_events}
 use Rattle.controller_model.proofs.PiecesBelow.{AreBelow, ArePieces, first_pieces, pieces_kept}
+use Rattle.controller_model.proofs.Unasked.{of_unasked}
 
 -- a link that is open is in one of the places
 pub within : (first : ℕ) (links : Links) (other : ℕ) (link : OpenLink) → link_from first other links ≡ Some link → other < first + length links
@@ -278,7 +279,9 @@ module _ (handle : ℕ) (fact : Fact) (setup : Setup) (kept : IsKeptInBook setup
 
   commanded_book : (read : CmdRead) (facts : Facts) (since : List Note) (count : ℕ) → IsBookOf most handle fact facts since count
       → IsBookOf most handle fact (facts_commanded setup facts read) since count
-  commanded_book (Known command) facts since count book = known_book (status_of facts.view command == 0) facts command since count book
+  commanded_book (Known command) facts since count book =
+      of_unasked setup facts command (λ (after : Facts). IsBookOf most handle fact after since count)
+      (known_book (status_of facts.view command == 0) facts command since count book)
   commanded_book UnknownOpcode facts since count book = book
   commanded_book BadLength facts since count book = book
 

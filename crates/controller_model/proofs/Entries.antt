@@ -51,6 +51,7 @@ use Rattle.controller_model.proofs.EndNotes.{entered_each}
 use Rattle.controller_model.proofs.Handles.{own_handles}
 use Rattle.controller_model.proofs.LinkNotes.{IsOfOthers, all_in, doing_too, ended_turn_too, ends_too, entering_too, events_too, offered_too, phase_too}
 use Rattle.controller_model.proofs.Phases.{heard_is, unheard_is}
+use Rattle.controller_model.proofs.Unasked.{noted_unasked}
 
 -- ---- a link that enters an event
 
@@ -134,7 +135,8 @@ module _ (P : Note → Type 0) (of : IsOfOthers P) (shut : (handle reason : ℕ)
       (events_too P of facts.view (events_caused facts command))
 
   read_too : (setup : Setup) (facts : Facts) (opcode : ℕ) (read : CmdRead) → All P (notes_commanded setup facts opcode read)
-  read_too setup facts opcode (Known command) = known_too (status_of facts.view command == 0) setup facts opcode command
+  read_too setup facts opcode (Known command) =
+      noted_unasked setup facts command opcode (All P) (known_too (status_of facts.view command == 0) setup facts opcode command)
   read_too setup facts opcode UnknownOpcode = events_too P of facts.view (answer_to setup facts opcode UnknownOpcode)
   read_too setup facts opcode BadLength = events_too P of facts.view (answer_to setup facts opcode BadLength)
 

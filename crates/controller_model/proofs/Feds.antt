@@ -23,6 +23,7 @@ use Rattle.controller_model.specs.Heard.{link_taken}
 use Rattle.controller_model.specs.Side.{facts_after, facts_fed, first_result, result_of}
 use Rattle.controller_model.proofs.Always.{IsInTurn, IsKeptInTurns, opening_passes, turn_keeps}
 use Rattle.controller_model.specs.Host.{commands_from, commands_in, commands_of, host_octets, opcode_in, opcodes_in, opcodes_of}
+use Rattle.controller_model.proofs.Unasked.{of_unasked}
 
 first_entry : (place : ℕ) (fed : Fed) → first_result (frame_entry place fed) ≡ fed
 first_entry place More = refl
@@ -56,7 +57,8 @@ known_octets true setup facts command = refl
 known_octets false setup facts command = refl
 
 commanded_octets : (setup : Setup) (facts : Facts) (read : CmdRead) → (facts_commanded setup facts read).octets ≡ facts.octets
-commanded_octets setup facts (Known command) = known_octets (status_of facts.view command == 0) setup facts command
+commanded_octets setup facts (Known command) =
+    of_unasked setup facts command (λ (after : Facts). after.octets ≡ facts.octets) (known_octets (status_of facts.view command == 0) setup facts command)
 commanded_octets setup facts UnknownOpcode = refl
 commanded_octets setup facts BadLength = refl
 

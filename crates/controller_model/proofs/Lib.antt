@@ -28,6 +28,7 @@ pub mod SixOctets
 pub mod DataChannels
 pub mod LinkFields
 pub mod Accepted
+pub mod Unasked
 pub mod Sent
 pub mod LeftOn
 pub mod Lengths
@@ -60,3 +61,4 @@ pub use Rattle.link_model.proofs.control_model as control_model
 pub use Rattle.link_model.proofs as link_model
 pub use Rattle.open_links.proofs as open_links
 pub use Rattle.open_links.proofs.link_end as link_end
+pub use Rattle.link_commands.proofs as link_commands

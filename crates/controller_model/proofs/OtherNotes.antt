@@ -39,6 +39,7 @@ use Rattle.controller_model.specs.Since.{is_completed_on, is_handed_up_on, is_se
 use Rattle.controller_model.proofs.AnsweredOnce.{answered_once}
 use Rattle.controller_model.proofs.EndNotes.{entered_each}
 use Rattle.controller_model.proofs.ProcedureEvents.{AreOfProcedures, IsOfProcedure, entering_events}
+use Rattle.controller_model.proofs.Unasked.{noted_unasked}
 
 pub record IsOther (most handle : ℕ) (note : Note) : Type 0 where
   pub opens_none : opens_under handle note ≡ false
@@ -283,6 +284,7 @@ module _ (most handle : ℕ) where
 
   pub command_other : (setup : Setup) (facts : Facts) (opcode : ℕ) (read : CmdRead)
       → AreOther most handle (notes_commanded setup facts opcode read)
-  command_other setup facts opcode (Known command) = known_other (status_of facts.view command == 0) setup facts opcode command
+  command_other setup facts opcode (Known command) =
+      noted_unasked setup facts command opcode (AreOther most handle) (known_other (status_of facts.view command == 0) setup facts opcode command)
   command_other setup facts opcode UnknownOpcode = answer_other setup facts opcode UnknownOpcode
   command_other setup facts opcode BadLength = answer_other setup facts opcode BadLength

@@ -50,6 +50,7 @@ use Rattle.controller_model.proofs.EndNotes.{entered_each}
 use Rattle.controller_model.proofs.Handles.{own_handles}
 use Rattle.controller_model.proofs.LinkNotes.{AreIn, IsOfOthers, all_in, doing_too, ended_turn_too, ends_too, entering_too, events_too, first_in, offered_too, phase_too, rest_in}
 use Rattle.controller_model.proofs.Phases.{heard_is, unheard_is}
+use Rattle.controller_model.proofs.Unasked.{noted_unasked}
 
 -- ---- the reason for which a link ends as a turn begins
 
@@ -291,7 +292,9 @@ known_too true setup facts opcode command =
 
 read_too : (setup : Setup) (facts : Facts) (opcode : ℕ) (read : CmdRead)
     → All (IsOfReset (commands_accepted_by facts read) facts.links) (notes_commanded setup facts opcode read)
-read_too setup facts opcode (Known command) = known_too (status_of facts.view command == 0) setup facts opcode command
+read_too setup facts opcode (Known command) =
+    noted_unasked setup facts command opcode (All (IsOfReset (commands_accepted_by facts (Known command)) facts.links))
+    (known_too (status_of facts.view command == 0) setup facts opcode command)
 read_too setup facts opcode UnknownOpcode =
     events_too (IsOfReset [] facts.links) (others_too [] facts.links) facts.view (answer_to setup facts opcode UnknownOpcode)
 read_too setup facts opcode BadLength =
@@ -410,7 +413,9 @@ module _ (setup : Setup) (facts : Facts) (handle : ℕ) (link : OpenLink) (is_op
 
   read_noted : (opcode : ℕ) (read : CmdRead)
       → NotesIfReset (commands_accepted_by facts read) (notes_commanded setup facts opcode read) handle
-  read_noted opcode (Known command) is = known_noted (status_of facts.view command == 0) opcode command is
+  read_noted opcode (Known command) is =
+      noted_unasked setup facts command opcode (λ (notes : List Note). Contains notes (note_shut handle 0))
+      (known_noted (status_of facts.view command == 0) opcode command is)
   read_noted opcode UnknownOpcode is = absurd cc
   read_noted opcode BadLength is = absurd cc
 

@@ -28,6 +28,7 @@ use Rattle.controller_model.specs.Events.{notes_of_events, passes}
 use Rattle.controller_model.specs.Side.{notes_after, notes_fed, result_of}
 use Rattle.controller_model.proofs.Handles.{HaveOwnHandles}
 use Rattle.controller_model.proofs.TurnNotes.{EachNote, shut_noted, turn_noted}
+use Rattle.controller_model.proofs.Unasked.{noted_unasked}
 
 module _ (setup : Setup) (P : Note → Type 0) (each : EachNote setup.links P) (any : (event : Event) → P (Up (record { items = written event }))) where
   -- ---- a packet of the host
@@ -58,7 +59,7 @@ module _ (setup : Setup) (P : Note → Type 0) (each : EachNote setup.links P) (
   command_noted : (facts : Facts) (opcode : ℕ) (read : CmdRead) → length facts.links ≡ setup.links
       → All P (notes_commanded setup facts opcode read)
   command_noted facts opcode (Known command) many =
-      known_noted (status_of facts.view command == 0) facts opcode command many
+      noted_unasked setup facts command opcode (All P) (known_noted (status_of facts.view command == 0) facts opcode command many)
   command_noted facts opcode UnknownOpcode many = events_noted facts.view (answer_to setup facts opcode UnknownOpcode)
   command_noted facts opcode BadLength many = events_noted facts.view (answer_to setup facts opcode BadLength)
 

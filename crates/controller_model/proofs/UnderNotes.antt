@@ -66,6 +66,7 @@ use Rattle.controller_model.proofs.Handles.{HaveOwnHandles, IsNew, free_is_new, 
 use Rattle.controller_model.proofs.Phases.{EachOutcome, heard_is, unheard_is}
 use Rattle.controller_model.proofs.Places.{at_changed, refusal, refuses_at}
 use Rattle.controller_model.specs.Entering.{all_entered, events_entering, notes_all_entering}
+use Rattle.controller_model.proofs.Unasked.{both_unasked}
 
 -- ---- lists of notes
 
@@ -652,7 +653,9 @@ module _ (handle : ℕ) where
 
     read_noted : (read : CmdRead) (facts : Facts) (opcode : ℕ) (notes : List Note) → HaveOwnHandles setup facts → IsNoted (link_at handle facts.links) notes
         → IsNotedAfter (link_at handle (facts_commanded setup facts read).links) notes (notes_commanded setup facts opcode read)
-    read_noted (Known command) facts opcode notes own is = known_noted (status_of facts.view command == 0) facts opcode command notes own is
+    read_noted (Known command) facts opcode notes own is =
+        both_unasked setup facts command opcode (λ (after : Facts) (noted : List Note). IsNotedAfter (link_at handle after.links) notes noted)
+        (known_noted (status_of facts.view command == 0) facts opcode command notes own is)
     read_noted UnknownOpcode facts opcode notes own is = packets_noted (link_at handle facts.links) notes facts.view (answer_to setup facts opcode UnknownOpcode) is
     read_noted BadLength facts opcode notes own is = packets_noted (link_at handle facts.links) notes facts.view (answer_to setup facts opcode BadLength) is
 

@@ -1,6 +1,6 @@
 -- What an accepted command changes of advertising, scanning, initiating, links and random words (Core 5.2, volume 4
 -- part E, sections 7.3.2 and 7.8).
-use Rattle.std.specs.Prelude.{ℕ, ◌+◌, ◌==◌, Bool, true, false, List, [], ◌∷◌, ◌++◌, take, Option, Some, None, if◌then◌else◌}
+use Rattle.std.specs.Prelude.{ℕ, ◌+◌, ◌==◌, ◌&&◌, Bool, true, false, List, [], ◌∷◌, ◌++◌, take, Option, Some, None, if◌then◌else◌}
 use Rattle.ble_base.specs.declared.addresses.Address.{Address}
 use Rattle.ble_base.specs.declared.notes.Note.{Note}
 use Rattle.acl_banks.specs.declared.pieces.Piece.{Piece}
@@ -12,6 +12,7 @@ use Rattle.hci_evt.specs.declared.event.Event.{Event}
 use Rattle.adv_pdu.specs.declared.pdu.ConnectFields.{ConnectFields}
 use Rattle.host_view.specs.Changes.{view_after}
 use Rattle.host_view.specs.View.{View}
+use Rattle.host_view.specs.OnLinks.{asks_links}
 use Rattle.host_view.specs.Status.{named_address}
 use Rattle.host_view.specs.Unbuilt.{status_of}
 use Rattle.advertise.specs.declared.params.AdvParams.{AdvParams}
@@ -22,6 +23,7 @@ use Rattle.host_view.specs.scan_init.Reports.{ScannerFacts}
 use Rattle.slot_plan.specs.declared.Activity.{Activity}
 use Rattle.slot_plan.specs.declared.Activity.TheVariants.{Link, Advertise, Scan, Initiate}
 use Rattle.open_links.specs.OpenLinks.{Links, without_links}
+use Rattle.link_commands.specs.LinksCommanded.{events_commanded_on, links_commanded, view_commanded_on}
 use Rattle.controller_model.specs.Answers.{answer_to}
 use Rattle.controller_model.specs.Events.{notes_of_events}
 use Rattle.controller_model.specs.Facts.{Setup, Facts, Radio, Advertising, Scanning, free_radio, first_advertising, first_scanning}
@@ -157,7 +159,7 @@ initiator_after setup view slot
 initiator_after setup view slot LeCreateCancel initiator = None
 initiator_after setup view slot other initiator = initiator
 
--- ---- all commands
+-- ---- all commands, but for what they ask of links
 
 abbrev pub links_after : Command → Links → Links
 links_after Reset links = without_links links
@@ -189,9 +191,25 @@ abbrev pub facts_known : Bool → Setup → Facts → Command → Facts
 facts_known false setup facts command = facts
 facts_known true setup facts command = facts_accepted setup facts command
 
+-- ---- what a command asks of links
+
+-- it is accepted, and asks something of the ends of links
+abbrev pub is_asking : View → Command → Bool
+is_asking view command = (status_of view command == 0) && asks_links view command
+
+-- with the steps that it makes on the links, and what is answered at once; `before` is what was held before it. A
+-- Disconnect is accepted in the next slot (our choice)
+abbrev pub facts_asking : Bool → Facts → Command → Facts → Facts
+facts_asking false before command facts = facts
+facts_asking true before command facts = record facts {
+  view = view_commanded_on before.view command before.links;
+  links = links_commanded command before.turn.begun before.links;
+}
+
 abbrev pub facts_commanded : Setup → Facts → CmdRead → Facts
 facts_commanded setup facts (Known command) =
-    facts_known (status_of facts.view command == 0) setup facts command
+    facts_asking (is_asking facts.view command) facts command
+    (facts_known (status_of facts.view command == 0) setup facts command)
 facts_commanded setup facts other = facts
 
 -- ---- what is noted
@@ -217,7 +235,14 @@ notes_known true setup facts opcode command =
     ++ notes_of_events facts.view (answer_to setup facts opcode (Known command))
     ++ notes_of_events facts.view (events_caused facts command)
 
+-- and then the events that answer at once what the ends of links know already (sections 7.1.23 and 7.8.21)
+abbrev pub notes_asking : Bool → Facts → Command → List Note → List Note
+notes_asking false facts command notes = notes
+notes_asking true facts command notes =
+    notes ++ notes_of_events facts.view (events_commanded_on command facts.links)
+
 abbrev pub notes_commanded : Setup → Facts → ℕ → CmdRead → List Note
 notes_commanded setup facts opcode (Known command) =
-    notes_known (status_of facts.view command == 0) setup facts opcode command
+    notes_asking (is_asking facts.view command) facts command
+    (notes_known (status_of facts.view command == 0) setup facts opcode command)
 notes_commanded setup facts opcode other = notes_of_events facts.view (answer_to setup facts opcode other)

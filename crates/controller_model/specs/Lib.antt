@@ -31,3 +31,4 @@ pub use Rattle.link_model.specs.procedure_stages as procedure_stages
 pub use Rattle.link_model.specs.procedure_values as procedure_values
 pub use Rattle.open_links.specs.control_model as control_model
 pub use Rattle.host_view.specs as host_view
+pub use Rattle.link_commands.specs as link_commands

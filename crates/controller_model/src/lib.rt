@@ -2,11 +2,13 @@
 //! the calls on it. They are facts of the standard's words, and none of them names code.
 #![tactic(auto)]
 
+mod commands;
 mod delivery;
 mod doing;
 mod laws;
 mod rows;
 
+pub use crate::commands::{accepted_commands_ask_in_range, accepted_commands_ask_nothing_of_links};
 pub use crate::delivery::{
     a_link_notes_its_pdus, a_link_notes_what_its_end_notes, complete_packets_are_reported,
     data_is_handed_up_in_order, no_more_than_its_buffers, nothing_waits_between_turns,

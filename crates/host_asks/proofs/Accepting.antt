@@ -1,5 +1,5 @@
 -- An accepted command may come on its link, and the view knows the end after it.
-use Rattle.std.proofs.Common.{◌≡◌, ℕ, suc, ◌<◌, ◌^◌, ◌+◌, ◌==◌, Bool, true, false, ◌&&◌, ◌||◌, not, cond, if◌then◌else◌, [], ◌∷◌, length, nat_le, nat_lt, Option, Some, None, Result, Ok, Err, is_some, refl, ap, sym, ◌∙◌, subst, arith, eqb-true}
+use Rattle.std.proofs.Common.{◌≡◌, ℕ, ◌<◌, ◌^◌, ◌+◌, ◌==◌, Bool, true, false, ◌&&◌, ◌||◌, not, if◌then◌else◌, [], ◌∷◌, length, nat_le, nat_lt, Option, Some, None, Result, Ok, Err, is_some, refl, ap, sym, ◌∙◌, subst, arith, eqb-true}
 use Rattle.std.proofs.lemmas.Bool.Decides.{nat_tests}
 use Rattle.ble_base.specs.ChannelMap.{IsMap, used_channels}
 use Rattle.ble_base.specs.declared.error_codes.ErrCode.{ErrCode}
@@ -15,7 +15,6 @@ use Rattle.open_links.specs.procedure_values.declared.asks.Ask.{Ask}
 use Rattle.open_links.specs.procedure_values.declared.asks.Ask.TheVariants.{Features, Length, Map, Request, Update, Version}
 use Rattle.open_links.specs.procedure_values.Asks.{is_same_kind, kind_of_ask}
 use Rattle.open_links.specs.procedure_values.Wants.{count_of}
-use Rattle.open_links.specs.procedure_values.Values.{IsParams, IsPayloadMax}
 use Rattle.procedure_events.specs.procedure_stages.declared.closing.Closing.{Closing}
 use Rattle.procedure_events.specs.procedure_stages.declared.closing.Closing.TheVariants.{Open}
 use Rattle.procedure_events.specs.procedure_stages.declared.stages.Progress.{Progress}
@@ -46,7 +45,9 @@ use Rattle.host_view.specs.Changes.{answered, asking, with_asked}
 use Rattle.host_view.specs.Links.{is_asked, link_in, update_kind}
 use Rattle.host_view.specs.Refusals.{are_parameters, asked_row, count_if, first_refusal, link_rows, parameters_row}
 use Rattle.host_view.specs.Status.{connection_update_rows, data_length_rows, disconnect_rows, is_data_length, is_reason, parameter_request_row, rows_of}
-use Rattle.host_asks.specs.Commands.{FitsReason, MayComeIf, answered_if, ask_unless, facts_commanded, host_step_of, is_about, link_commanded, map_by, update_by}
+use Rattle.link_commands.proofs.Ranges.{length_fits, map_fits, not_not, params_fit, passes}
+use Rattle.link_commands.specs.Commands.{FitsReason, answered_if, ask_unless, facts_commanded, host_step_of, is_about, link_commanded, map_by, update_by}
+use Rattle.host_asks.specs.Commands.{MayComeIf}
 use Rattle.host_asks.specs.Knowing.{KnowsAsks, KnowsTable}
 use Rattle.host_asks.specs.Noting.{effect_after, is_of_host, link_after_step, link_after_notes, link_with_request}
 use Rattle.host_asks.proofs.Controls.{ends_before}
@@ -166,35 +167,10 @@ answer_knows link facts answer waits answers knows lasts =
       disconnecting = knows.disconnecting;
     }
 
--- ---- rows that do not hold
-
--- a row with a code that is not 00 does not hold, nor does one of the next
-passes : (condition : Bool) (code rest : ℕ) → cond condition (suc code) rest ≡ 0 → (condition ≡ false) × (rest ≡ 0)
-passes true code rest is = absurd (omega (arith, is))
-passes false code rest is = (refl, is)
-
-not_not : (b : Bool) → not b ≡ false → b ≡ true
-not_not true is = refl
-not_not false is = sym is
-
 -- ---- values
 
 reason_fits : (reason : ℕ) → is_reason reason ≡ true → reason < 256
 reason_fits reason is = grind (arith, nat_tests)
-
-params_fit : (min max latency timeout : ℕ) → are_parameters min max latency timeout ≡ true
-    → IsParams (record { interval = max; latency = latency; timeout = timeout })
-params_fit min max latency timeout are =
-    record {
-      win_size_one = refl;
-      win_offset_within = omega arith;
-      interval_from = grind (arith, nat_tests);
-      interval_to = grind (arith, nat_tests);
-      latency_to = grind (arith, nat_tests);
-      timeout_from = grind (arith, nat_tests);
-      timeout_to = grind (arith, nat_tests);
-      timeout_outlasts = grind (arith, nat_tests);
-    }
 
 request_fits : (min max latency timeout : ℕ) → are_parameters min max latency timeout ≡ true → RequestFits min max latency timeout
 request_fits min max latency timeout are =
@@ -204,12 +180,6 @@ request_fits min max latency timeout are =
       latency_fits = grind (arith, nat_tests);
       timeout_fits = grind (arith, nat_tests);
     }
-
-length_fits : (most time : ℕ) → is_data_length most time ≡ true → IsPayloadMax most
-length_fits most time is = record { from = grind (arith, nat_tests); to = grind (arith, nat_tests) }
-
-map_fits : (map : ℕ) → (nat_lt (length (used_channels map)) 2 || nat_le (2 ^ 37) map) ≡ false → IsMap map
-map_fits map ok = record { data_channels_only = grind (arith, nat_tests); two_or_more = grind (arith, nat_tests) }
 
 -- ---- what a command does on its link
 

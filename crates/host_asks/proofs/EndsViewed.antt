@@ -31,10 +31,12 @@ use Rattle.host_view.specs.View.{View}
 use Rattle.host_view.specs.Changes.{on_link}
 use Rattle.host_view.specs.Links.{link_in}
 use Rattle.host_view.specs.Noted.{after_packet, event_handle, acl_handle, is_acl_data, is_le_event, view_noted}
-use Rattle.host_asks.specs.Commands.{FitsReason, MayComeIf, answered_if, ask_unless, facts_commanded, host_step_of, is_about, is_read_of_peer, link_accepted, link_answered, link_commanded}
+use Rattle.link_commands.specs.Commands.{FitsReason, answered_if, ask_unless, facts_commanded, host_step_of, is_about, is_read_of_peer, link_accepted, link_answered, link_commanded}
+use Rattle.host_asks.specs.Commands.{MayComeIf}
 use Rattle.host_asks.specs.Knowing.{KnowsAsks}
 use Rattle.host_asks.specs.Noting.{effect_after, is_of_host, link_after_notes, link_after_note, link_with_request}
-use Rattle.host_asks.specs.Views.{KnowsAt, KnowsOnceReported, events_at_once, events_if, kind_if, kind_known, leaves_other_links, view_answered, view_commanded}
+use Rattle.link_commands.specs.Views.{events_at_once, events_if, kind_if, kind_known, view_answered, view_commanded}
+use Rattle.host_asks.specs.Views.{KnowsAt, KnowsOnceReported, leaves_other_links}
 use Rattle.host_asks.proofs.Accepting.{command_keeps, command_may_come, refused_knows, request_withdrawn}
 use Rattle.host_asks.proofs.Ends.{step_knows}
 use Rattle.host_asks.proofs.LinksViewed.{about_other, about_own, command_other, command_own, notes_of_step, notes_own}

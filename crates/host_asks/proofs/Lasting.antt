@@ -8,7 +8,7 @@ use Rattle.open_links.specs.link_model.Step.{Step}
 use Rattle.open_links.specs.link_model.End.{facts_after}
 use Rattle.open_links.specs.link_model.ControlSteps.{control_steps_in}
 use Rattle.open_links.proofs.link_model.ControlSteps.{one_step}
-use Rattle.host_asks.specs.Commands.{facts_commanded, host_step_of}
+use Rattle.link_commands.specs.Commands.{facts_commanded, host_step_of}
 use Rattle.host_asks.specs.Knowing.{KnowsAsks}
 use Rattle.host_asks.specs.Lasting.{AllMayHappen, IsCommanded, LinkEvent, Makes, MakesUnreported, MayHappen, ViewedEnd, first_viewed, viewed_after, viewed_after_all}
 use Rattle.host_asks.proofs.Accepting.{command_keeps, withheld_knows}

@@ -10,7 +10,6 @@ pub mod LinksViewed
 pub mod EndsViewed
 pub mod StepsListed
 pub mod OpenLinksKnown
-pub mod OpenLinkCalls
 pub mod OpenLinksGoing
 pub mod PairsCommanded
 pub mod ReasonsRead

@@ -35,7 +35,7 @@ use Rattle.host_view.specs.View.{View}
 use Rattle.host_view.specs.Changes.{changed_at, on_link, view_after}
 use Rattle.host_view.specs.Links.{link_in}
 use Rattle.host_view.specs.Noted.{opened_link, view_noted}
-use Rattle.host_asks.specs.Commands.{is_about, link_accepted}
+use Rattle.link_commands.specs.Commands.{is_about, link_accepted}
 use Rattle.host_asks.specs.Noting.{link_after_note}
 use Rattle.host_asks.specs.Views.{IsNoteOf, KnowsAt, leaves_other_links}
 use Rattle.host_asks.proofs.Ends.{first_knows}

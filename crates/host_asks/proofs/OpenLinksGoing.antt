@@ -22,7 +22,7 @@ use Rattle.open_links.proofs.Handles.{changed_have, changed_is, opened_at, opene
 use Rattle.host_view.specs.View.{View}
 use Rattle.host_view.specs.Links.{link_in}
 use Rattle.host_view.specs.Noted.{opened_link, view_noted}
-use Rattle.host_asks.specs.LinksCommanded.{KnowsOpenEnds, KnowsOpenEndsOnceReported}
+use Rattle.host_asks.specs.OpenEnds.{KnowsOpenEnds, KnowsOpenEndsOnceReported}
 use Rattle.host_asks.specs.Noting.{effect_after, is_of_host}
 use Rattle.host_asks.specs.Views.{KnowsAt, KnowsOnceReported}
 use Rattle.host_asks.proofs.EndsViewed.{none_reported, packet_known, request_refused_at_once, request_reported, step_known}

@@ -17,9 +17,12 @@ use Rattle.host_view.specs.View.{View}
 use Rattle.host_view.specs.Changes.{view_after}
 use Rattle.host_view.specs.Refusals.{first_refusal}
 use Rattle.host_view.specs.Status.{rows_of}
-use Rattle.host_asks.specs.Commands.{FitsReason, MayComeIf, facts_commanded, host_step_of, is_about}
-use Rattle.host_asks.specs.LinksCommanded.{KnowsOpenEnds, known_in, link_after_if, links_commanded, links_commanded_from, open_link_commanded, place_commanded, view_commanded_on}
-use Rattle.host_asks.specs.Views.{KnowsAt, leaves_other_links, view_answered, view_commanded}
+use Rattle.link_commands.specs.Commands.{FitsReason, facts_commanded, host_step_of, is_about}
+use Rattle.host_asks.specs.Commands.{MayComeIf}
+use Rattle.link_commands.specs.LinksCommanded.{known_in, link_after_if, links_commanded, links_commanded_from, open_link_commanded, place_commanded, view_commanded_on}
+use Rattle.host_asks.specs.OpenEnds.{KnowsOpenEnds}
+use Rattle.link_commands.specs.Views.{view_answered, view_commanded}
+use Rattle.host_asks.specs.Views.{KnowsAt, leaves_other_links}
 use Rattle.host_asks.proofs.EndsViewed.{command_known, command_may, other_known}
 use Rattle.host_asks.proofs.Lasting.{lasted_if}
 use Rattle.host_asks.proofs.LinksViewed.{differs, notes_other}

@@ -10,7 +10,8 @@ use Rattle.link_pairs.specs.Hosts.{MayHost}
 use Rattle.host_view.specs.View.{View}
 use Rattle.host_view.specs.Refusals.{first_refusal}
 use Rattle.host_view.specs.Status.{rows_of}
-use Rattle.host_asks.specs.Commands.{FitsReason, MayComeIf, facts_commanded, host_step_of, is_about}
+use Rattle.link_commands.specs.Commands.{FitsReason, facts_commanded, host_step_of, is_about}
+use Rattle.host_asks.specs.Commands.{MayComeIf}
 use Rattle.host_asks.specs.Views.{KnowsAt}
 use Rattle.host_asks.proofs.EndsViewed.{command_may}
 

@@ -10,7 +10,7 @@ use Rattle.hci_cmd.specs.declared.command.Command.{Command}
 use Rattle.hci_cmd.specs.declared.command.CmdRead.{CmdRead}
 use Rattle.hci_cmd.specs.declared.command.CmdRead.TheVariants.{Known, BadLength}
 use Rattle.hci_cmd.specs.Command.{command_of, counts_layout, layout_of, layouts, read_with}
-use Rattle.host_asks.specs.Commands.{FitsReason}
+use Rattle.link_commands.specs.Commands.{FitsReason}
 
 abbrev AreOctets : List ℕ → Type 0
 AreOctets octets = AllByRecursion (λ (octet : ℕ). octet < 256) octets

@@ -12,7 +12,8 @@ use Rattle.host_view.specs.Changes.{asking}
 use Rattle.host_view.specs.Links.{is_asked, link_in}
 use Rattle.host_view.specs.Refusals.{count_if, first_refusal}
 use Rattle.host_view.specs.Status.{rows_of}
-use Rattle.host_asks.specs.Commands.{FitsReason, MayComeIf, host_step_of, host_steps, host_steps_from, is_about, step_if_about, with_host_step}
+use Rattle.link_commands.specs.Commands.{FitsReason, host_step_of, host_steps, host_steps_from, is_about, step_if_about, with_host_step}
+use Rattle.host_asks.specs.Commands.{MayComeIf}
 use Rattle.host_asks.specs.Knowing.{KnowsAsks}
 use Rattle.host_asks.proofs.Accepting.{command_may_come}
 

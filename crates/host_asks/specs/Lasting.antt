@@ -14,7 +14,7 @@ use Rattle.host_view.specs.Links.{link_in}
 use Rattle.host_view.specs.Noted.{opened_link}
 use Rattle.host_view.specs.Refusals.{first_refusal}
 use Rattle.host_view.specs.Status.{rows_of}
-use Rattle.host_asks.specs.Commands.{facts_commanded, host_step_of, is_about, link_commanded}
+use Rattle.link_commands.specs.Commands.{facts_commanded, host_step_of, is_about, link_commanded}
 use Rattle.host_asks.specs.Noting.{is_of_host, link_after_step, link_after_notes}
 
 pub record ViewedEnd : Type 0 where

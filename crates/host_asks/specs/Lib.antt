@@ -4,5 +4,5 @@ pub mod Noting
 pub mod Commands
 pub mod Lasting
 pub mod Views
-pub mod LinksCommanded
+pub mod OpenEnds
 pub mod Rows

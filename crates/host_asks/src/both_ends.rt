@@ -11,7 +11,7 @@ ghost use Rattle.link_pairs.specs.Shown.{AreLinked};
 ghost use Rattle.host_view.specs.View.{View};
 ghost use Rattle.host_view.specs.Refusals.{first_refusal};
 ghost use Rattle.host_view.specs.Status.{rows_of};
-ghost use Rattle.host_asks.specs.Commands.{FitsReason, facts_commanded, host_step_of, is_about};
+ghost use Rattle.link_commands.specs.Commands.{FitsReason, facts_commanded, host_step_of, is_about};
 ghost use Rattle.host_asks.specs.Views.{KnowsAt};
 
 /// Where a command on a link is accepted, and the view of that host knows its end of the link, the

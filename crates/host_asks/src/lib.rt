@@ -1,6 +1,5 @@
-//! What the host of a controller asks of its links: which step of a link an accepted command makes,
-//! and that the step may come there, since the view of the host knows each end. Definitions and
-//! laws; no code.
+//! What the host of a controller asks of its links may come there: the step of an accepted command
+//! on a link, since the view of the host knows each end. Definitions and laws; no code.
 #![tactic(auto)]
 
 mod both_ends;
@@ -17,7 +16,7 @@ pub use crate::laws::{
     reasons_that_are_read_fit,
 };
 pub use crate::links_going::{links_that_go_on_stay_known, opened_and_shut_links_are_known};
-pub use crate::open_ends::{all_links_stay_known, each_command_is_one_call};
+pub use crate::open_ends::all_links_stay_known;
 pub use crate::rows::{a_peer_may_withdraw_its_request, an_answer_at_once_is_taken};
 pub use crate::views::{
     all_steps_of_a_command_may_come, an_opened_link_is_known, commands_change_their_link,

@@ -17,7 +17,7 @@ ghost use Rattle.open_links.specs.OpenLinks.{Links, OpenLink, facts_in, link_aft
 ghost use Rattle.open_links.specs.OpenLinks.{with_change, with_link, without_link};
 ghost use Rattle.host_view.specs.View.{View};
 ghost use Rattle.host_view.specs.Noted.{view_noted};
-ghost use Rattle.host_asks.specs.LinksCommanded.{KnowsOpenEnds, KnowsOpenEndsOnceReported};
+ghost use Rattle.host_asks.specs.OpenEnds.{KnowsOpenEnds, KnowsOpenEndsOnceReported};
 ghost use Rattle.host_asks.specs.Noting.{effect_after, is_of_host};
 
 /// Where the view knows the ends of all open links, it knows them as a link is opened, and as one

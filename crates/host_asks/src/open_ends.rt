@@ -1,18 +1,15 @@
 //! The view of a host and the open links of its controller. The bodies do nothing: the contracts
 //! are the laws.
-ghost use Rattle.std.specs.Prelude.{◌≡◌, ℕ, true, List, Some, None, Ok, Err, is_some};
-ghost use Rattle.std.specs.Prelude.{if◌then◌else◌};
+ghost use Rattle.std.specs.Prelude.{◌≡◌, ℕ, true, Some, None};
 ghost use Rattle.hci_cmd.specs.declared.command.Command.{Command};
-ghost use Rattle.open_links.specs.procedure_values.declared.asks.Ask.{Ask};
-ghost use Rattle.open_links.specs.Hosts.{links_answered, links_asked, links_asked_map};
-ghost use Rattle.open_links.specs.Hosts.{links_disconnected};
 ghost use Rattle.open_links.specs.OpenLinks.{Links, OpenLink, facts_in, link_at};
 ghost use Rattle.host_view.specs.View.{View};
 ghost use Rattle.host_view.specs.Refusals.{first_refusal};
 ghost use Rattle.host_view.specs.Status.{rows_of};
-ghost use Rattle.host_asks.specs.Commands.{FitsReason, MayComeIf, host_step_of, is_about};
-ghost use Rattle.host_asks.specs.Commands.{update_by};
-ghost use Rattle.host_asks.specs.LinksCommanded.{KnowsOpenEnds, links_commanded, view_commanded_on};
+ghost use Rattle.link_commands.specs.Commands.{FitsReason, host_step_of, is_about};
+ghost use Rattle.host_asks.specs.Commands.{MayComeIf};
+ghost use Rattle.link_commands.specs.LinksCommanded.{links_commanded, view_commanded_on};
+ghost use Rattle.host_asks.specs.OpenEnds.{KnowsOpenEnds};
 ghost use Rattle.host_asks.specs.Views.{leaves_other_links};
 
 /// Where the view knows the ends of all open links, each step that an accepted command makes on
@@ -30,39 +27,4 @@ pub fn all_links_stay_known()
         → KnowsOpenEnds view links
         → KnowsOpenEnds (view_commanded_on view command links)
         (links_commanded command slot links) }
-{}
-
-/// The links after a command are those after one call on them: the host ends the link, asks for a
-/// procedure there, answers a request, or asks for a map on all links. For features and a version
-/// that are known there is no call.
-pub fn each_command_is_one_call()
-    ensures disconnect { (handle reason slot : ℕ) (links : Links)
-        → links_commanded (Command.Disconnect handle reason) slot links
-        ≡ links_disconnected handle (record { 0 = reason }) slot links }
-    ensures version { (handle slot : ℕ) (links : Links) (link : OpenLink)
-        → link_at handle links ≡ Some link
-        → links_commanded (Command.ReadRemoteVersion handle) slot links
-        ≡ (if is_some (facts_in link).peer.version then links
-        else links_asked handle Ask.Version links) }
-    ensures features { (handle slot : ℕ) (links : Links) (link : OpenLink)
-        → link_at handle links ≡ Some link
-        → links_commanded (Command.LeReadRemoteFeatures handle) slot links
-        ≡ (if is_some (facts_in link).peer.features then links
-        else links_asked handle Ask.Features links) }
-    ensures length { (handle most time slot : ℕ) (links : Links)
-        → links_commanded (Command.LeSetDataLength handle most time) slot links
-        ≡ links_asked handle (Ask.Length most) links }
-    ensures update { (handle slot min max latency timeout : ℕ) (lengths : List ℕ)
-        (links : Links) (link : OpenLink) → link_at handle links ≡ Some link
-        → links_commanded (Command.LeConnectionUpdate handle min max latency timeout lengths) slot
-        links ≡ links_asked handle (update_by link.setup.link.role min max latency timeout) links }
-    ensures map { (map slot : ℕ) (links : Links)
-        → links_commanded (Command.LeSetChannels map) slot links ≡ links_asked_map map links }
-    ensures granted { (handle min max latency timeout slot : ℕ) (lengths : List ℕ)
-        (links : Links)
-        → links_commanded (Command.LeParamReply handle min max latency timeout lengths) slot links
-        ≡ links_answered handle (Ok (Ask.Update max latency timeout)) links }
-    ensures refused { (handle reason slot : ℕ) (links : Links)
-        → links_commanded (Command.LeParamNegative handle reason) slot links
-        ≡ links_answered handle (Err (record { 0 = reason })) links }
 {}

@@ -6,7 +6,7 @@ ghost use Rattle.procedure_events.specs.procedure_stages.InProgress.{is_host_ask
 ghost use Rattle.open_links.specs.link_model.Facts.{Facts};
 ghost use Rattle.host_view.specs.declared.links.Link.{Link};
 ghost use Rattle.host_view.specs.Links.{is_asked};
-ghost use Rattle.host_asks.specs.Commands.{link_accepted};
+ghost use Rattle.link_commands.specs.Commands.{link_accepted};
 ghost use Rattle.host_asks.specs.Knowing.{KnowsAsks};
 ghost use Rattle.host_asks.specs.Rows.{asked_once, asked_wrongly};
 

@@ -29,13 +29,16 @@ ghost use Rattle.host_view.specs.Changes.{view_after};
 ghost use Rattle.host_view.specs.Links.{link_in};
 ghost use Rattle.host_view.specs.Noted.{view_noted};
 ghost use Rattle.host_view.specs.declared.links.Link.{Link};
-ghost use Rattle.host_asks.specs.Commands.{FitsReason, MayComeIf, facts_commanded};
-ghost use Rattle.host_asks.specs.Commands.{host_step_of, host_steps, is_about};
+ghost use Rattle.link_commands.specs.Commands.{FitsReason, facts_commanded};
+ghost use Rattle.host_asks.specs.Commands.{MayComeIf};
+ghost use Rattle.link_commands.specs.Commands.{host_step_of, host_steps, is_about};
 ghost use Rattle.host_asks.specs.Knowing.{KnowsAsks};
-ghost use Rattle.host_asks.specs.Commands.{is_read_of_peer, link_accepted};
+ghost use Rattle.link_commands.specs.Commands.{is_read_of_peer, link_accepted};
 ghost use Rattle.host_asks.specs.Noting.{effect_after, is_of_host, link_after_note};
-ghost use Rattle.host_asks.specs.Views.{IsNoteOf, KnowsAt, KnowsOnceReported, events_at_once};
-ghost use Rattle.host_asks.specs.Views.{leaves_other_links, view_commanded};
+ghost use Rattle.link_commands.specs.Views.{events_at_once};
+ghost use Rattle.host_asks.specs.Views.{IsNoteOf, KnowsAt, KnowsOnceReported};
+ghost use Rattle.link_commands.specs.Views.{view_commanded};
+ghost use Rattle.host_asks.specs.Views.{leaves_other_links};
 
 /// A link that is opened is known, where the view has a place for it.
 pub fn an_opened_link_is_known()

@@ -3,6 +3,7 @@ pub mod View
 pub mod Links
 pub mod Refusals
 pub mod Status
+pub mod OnLinks
 pub mod Unbuilt
 pub mod Changes
 pub mod Noted

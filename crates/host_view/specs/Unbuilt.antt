@@ -1,23 +1,12 @@
 -- What a command that the table accepts is answered as long as this controller does not carry it out (our choice).
-use Rattle.std.specs.Prelude.{ℕ, ◌==◌, ◌&&◌, not, Bool, Option, if◌then◌else◌}
-use Rattle.std.specs.List.{list_any}
+use Rattle.std.specs.Prelude.{ℕ, ◌==◌, if◌then◌else◌}
 use Rattle.ble_base.specs.ErrorCodes.{command_disallowed, success, unknown_hci_command}
 use Rattle.hci_cmd.specs.declared.command.Command.{Command}
-use Rattle.hci_cmd.specs.declared.command.Command.TheVariants.{Disconnect, ReadRemoteVersion, SetHostFlow, HostBufferSize, HostCompleted, LeConnectionUpdate, LeSetChannels, LeReadRemoteFeatures, LeEncrypt, LeEnableEncryption, LeSetDataLength, LeSetPhy}
-use Rattle.host_view.specs.declared.links.Link.{Link}
+use Rattle.hci_cmd.specs.declared.command.Command.TheVariants.{Disconnect, ReadRemoteVersion, SetHostFlow, HostBufferSize, HostCompleted, LeConnectionUpdate, LeSetChannels, LeReadRemoteFeatures, LeEncrypt, LeEnableEncryption, LeParamReply, LeParamNegative, LeSetDataLength, LeSetPhy}
 use Rattle.host_view.specs.View.{View}
-use Rattle.host_view.specs.Links.{is_central_role, link_has}
+use Rattle.host_view.specs.OnLinks.{changes_channels}
 use Rattle.host_view.specs.Refusals.{first_refusal}
 use Rattle.host_view.specs.Status.{rows_of}
-
--- this device is the central of an open link
-abbrev pub is_central_link : Option Link → Bool
-is_central_link link = link_has link (λ l. is_central_role l.role)
-
--- a map that is not the one that the links of a central use (each uses that of the view, since it cannot change while
--- one is open)
-abbrev pub changes_channels : View → ℕ → Bool
-changes_channels view map = list_any is_central_link view.links && not (map == view.map)
 
 -- 01 as an unknown command, 0C as one that is not allowed now; 00 where it is carried out
 abbrev pub unbuilt_status_of : View → Command → ℕ
@@ -27,6 +16,8 @@ unbuilt_status_of view (LeReadRemoteFeatures handle) = command_disallowed
 unbuilt_status_of view (LeSetDataLength handle most time) = command_disallowed
 unbuilt_status_of view (LeConnectionUpdate handle min max latency timeout lengths) = command_disallowed
 unbuilt_status_of view (LeSetChannels map) = if changes_channels view map then command_disallowed else success
+unbuilt_status_of view (LeParamReply handle min max latency timeout lengths) = command_disallowed
+unbuilt_status_of view (LeParamNegative handle reason) = command_disallowed
 unbuilt_status_of view (LeSetPhy handle all tx rx options) = command_disallowed
 unbuilt_status_of view (LeEnableEncryption handle rand ediv key) = command_disallowed
 unbuilt_status_of view (LeEncrypt key text) = unknown_hci_command

@@ -12,6 +12,7 @@ pub mod laws;
 mod link_commands;
 mod links;
 mod noted;
+mod on_links;
 mod refusals;
 mod scanning;
 mod statuses;

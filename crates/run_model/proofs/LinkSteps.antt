@@ -51,6 +51,7 @@ use Rattle.controller_model.proofs.Phases.{EachOutcome, heard_is, unheard_is}
 use Rattle.run_model.specs.OnAir.{ends_phase}
 use Rattle.run_model.specs.Run.{step_of}
 use Rattle.controller_model.specs.Entering.{all_entered}
+use Rattle.controller_model.proofs.Unasked.{of_unasked}
 
 -- ---- a fact of what each link was set up with
 
@@ -175,7 +176,8 @@ module _ (P : EndSetup → Type 0) where
   known_linked false setup facts command each = each
 
   read_linked : (setup : Setup) (facts : Facts) (read : CmdRead) → EachLink P facts.links → EachLink P (facts_commanded setup facts read).links
-  read_linked setup facts (Known command) each = known_linked (status_of facts.view command == 0) setup facts command each
+  read_linked setup facts (Known command) each =
+      of_unasked setup facts command (λ (after : Facts). EachLink P after.links) (known_linked (status_of facts.view command == 0) setup facts command each)
   read_linked setup facts UnknownOpcode each = each
   read_linked setup facts BadLength each = each
 

@@ -71,6 +71,7 @@ use Rattle.controller_model.proofs.Handles.{HaveOwnHandles, IsNew, free_is_new}
 use Rattle.controller_model.proofs.Phases.{EachOutcome, heard_is, unheard_is}
 use Rattle.run_model.specs.OnAir.{ends_phase}
 use Rattle.run_model.proofs.Calls.{same_station}
+use Rattle.controller_model.proofs.Unasked.{noted_unasked}
 
 -- a note that a link is opened under this handle
 abbrev pub opens_under : ℕ → Note → Bool
@@ -116,7 +117,9 @@ module _ (handle : ℕ) where
       (events_open facts.view (events_caused facts command))
 
   read_open : (setup : Setup) (facts : Facts) (opcode : ℕ) (read : CmdRead) → is_opened handle (notes_commanded setup facts opcode read) ≡ false
-  read_open setup facts opcode (Known command) = known_open (status_of facts.view command == 0) setup facts opcode command
+  read_open setup facts opcode (Known command) =
+      noted_unasked setup facts command opcode (λ (notes : List Note). is_opened handle notes ≡ false)
+      (known_open (status_of facts.view command == 0) setup facts opcode command)
   read_open setup facts opcode UnknownOpcode = events_open facts.view (answer_to setup facts opcode UnknownOpcode)
   read_open setup facts opcode BadLength = events_open facts.view (answer_to setup facts opcode BadLength)
 

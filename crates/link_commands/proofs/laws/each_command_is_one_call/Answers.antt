@@ -1,8 +1,8 @@
--- Proof of `open_ends::each_command_is_one_call`.
+-- Proof of `laws::each_command_is_one_call`.
 use Rattle.std.proofs.Common.{refl}
 use Rattle.hci_cmd.specs.declared.command.Command.TheVariants.{Disconnect, LeParamNegative, LeParamReply, LeSetDataLength}
-use Rattle.host_asks.proofs.OpenLinkCalls.{features_asked, map_asked, one_change, update_asked, version_asked}
-use Rattle.host_asks.proofs.open_ends.each_command_is_one_call.Goals as goal
+use Rattle.link_commands.proofs.OpenLinkCalls.{features_asked, map_asked, one_change, update_asked, version_asked}
+use Rattle.link_commands.proofs.laws.each_command_is_one_call.Goals as goal
 
 pub returns-clause-disconnect : goal.returns-clause-disconnect
 returns-clause-disconnect c = λ handle reason slot links. one_change (Disconnect handle reason) slot handle (λ h. refl) links

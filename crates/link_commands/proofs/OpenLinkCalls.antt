@@ -10,8 +10,8 @@ use Rattle.open_links.specs.procedure_values.declared.asks.Ask.TheVariants.{Feat
 use Rattle.open_links.specs.link_model.Step.{ProcedureAsked}
 use Rattle.open_links.specs.Hosts.{asked_map_by, link_asked_map, links_asked, links_asked_map}
 use Rattle.open_links.specs.OpenLinks.{Links, OpenLink, facts_in, link_after, link_at, link_from, with_change, with_change_from}
-use Rattle.host_asks.specs.Commands.{ask_unless, is_about, map_by, update_by}
-use Rattle.host_asks.specs.LinksCommanded.{link_after_if, links_commanded, links_commanded_from, open_link_commanded, place_commanded}
+use Rattle.link_commands.specs.Commands.{ask_unless, is_about, map_by, update_by}
+use Rattle.link_commands.specs.LinksCommanded.{link_after_if, links_commanded, links_commanded_from, open_link_commanded, place_commanded}
 
 -- ---- a command on one link
 
@@ -85,6 +85,24 @@ changed_none first given (place ∷ links) = by (first == given) (changed_none (
         → (if here then option_map (λ link. link) place ∷ links else place ∷ with_change_from (first + 1) given (option_map (λ link. link)) links) ≡ place ∷ links
     by true rest = λ i. same place i ∷ links
     by false rest = λ i. place ∷ rest i
+
+-- ---- where no link is
+
+pub none_changed : (f : OpenLink → OpenLink) (first given : ℕ) (links : Links) → link_from first given links ≡ None
+    → with_change_from first given (option_map f) links ≡ links
+none_changed f first given [] is = refl
+none_changed f first given (place ∷ links) is = by (first == given) is (none_changed f (first + 1) given links)
+  where
+    by : (here : Bool) → (if here then place else link_from (first + 1) given links) ≡ None
+        → (link_from (first + 1) given links ≡ None → with_change_from (first + 1) given (option_map f) links ≡ links)
+        → (if here then option_map f place ∷ links else place ∷ with_change_from (first + 1) given (option_map f) links) ≡ place ∷ links
+    by true is rest = λ i. (ap (option_map f) is ∙ sym is) i ∷ links
+    by false is rest = λ i. place ∷ rest is i
+
+pub none_commanded : (command : Command) (slot given : ℕ) (links : Links) → ((handle : ℕ) → is_about handle command ≡ (given == handle))
+    → link_at given links ≡ None → links_commanded command slot links ≡ links
+none_commanded command slot given links about is =
+    one_change command slot given about links ∙ none_changed (open_link_commanded command slot) 0 given links is
 
 -- ---- what may be known
 

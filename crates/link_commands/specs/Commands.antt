@@ -1,0 +1,142 @@
+-- Which step of a link an accepted command makes (Core 5.2, volume 4 part E, sections 7.1 and 7.8; volume 6 part B,
+-- section 5.1).
+use Rattle.std.specs.Prelude.{ℕ, ◌+◌, ◌==◌, ◌<◌, Bool, true, false, List, [], ◌∷◌, Option, Some, None, Ok, Err, is_some, if◌then◌else◌, ⊤}
+use Rattle.ble_base.specs.ChannelMap.{IsMap}
+use Rattle.ble_base.specs.declared.procedure_kinds.Kind.{Kind}
+use Rattle.ble_base.specs.declared.procedure_kinds.Kind.TheVariants.{Features as features_kind, Length as length_kind, Version as version_kind}
+use Rattle.ble_base.specs.declared.roles.Role.{Role}
+use Rattle.ble_base.specs.declared.roles.Role.TheVariants.{Central, Peripheral}
+use Rattle.hci_cmd.specs.declared.command.Command.{Command}
+use Rattle.hci_cmd.specs.declared.command.Command.TheVariants.{Disconnect, LeConnectionUpdate, LeParamNegative, LeParamReply, LeReadRemoteFeatures, LeSetChannels, LeSetDataLength, ReadRemoteVersion}
+use Rattle.open_links.specs.procedure_values.declared.asks.Ask.{Ask}
+use Rattle.open_links.specs.procedure_values.declared.asks.Ask.TheVariants.{Features, Length, Map, Request, Update, Version}
+use Rattle.open_links.specs.procedure_values.Wants.{IsAsk}
+use Rattle.open_links.specs.link_model.declared.state.PeerFacts.{PeerFacts}
+use Rattle.open_links.specs.link_model.End.{facts_after}
+use Rattle.open_links.specs.link_model.Facts.{Facts}
+use Rattle.open_links.specs.link_model.Setup.{Setup}
+use Rattle.open_links.specs.link_model.Step.{Step, Disconnected, ProcedureAsked, RequestAnswered}
+use Rattle.host_view.specs.declared.links.Link.{Link}
+use Rattle.host_view.specs.Links.{update_kind}
+use Rattle.host_view.specs.Changes.{answered, asking}
+
+-- ---- which step it is, by the role of the end and by what it knows of its peer
+
+-- what the end knows already is answered at once
+abbrev pub ask_unless : Bool → Ask → Option Step
+ask_unless known ask = if known then None else Some (ProcedureAsked ask)
+
+-- a central changes the parameters, with the longest of the intervals; a peripheral requests them (both are our choice)
+abbrev pub update_by : Role → ℕ → ℕ → ℕ → ℕ → Ask
+update_by Central min max latency timeout = Update max latency timeout
+update_by Peripheral min max latency timeout = Request min max latency timeout
+
+-- only a central gives a channel map (section 5.1.2)
+abbrev pub map_by : Role → ℕ → Option Step
+map_by Central map = Some (ProcedureAsked (Map map))
+map_by Peripheral map = None
+
+-- the step, if there is one: a Disconnect is accepted in this slot
+abbrev pub host_step_of : Command → ℕ → Role → PeerFacts → Option Step
+host_step_of (Disconnect handle reason) slot role peer = Some (Disconnected (record { 0 = reason }) slot)
+host_step_of (ReadRemoteVersion handle) slot role peer = ask_unless (is_some peer.version) Version
+host_step_of (LeReadRemoteFeatures handle) slot role peer = ask_unless (is_some peer.features) Features
+host_step_of (LeSetDataLength handle most time) slot role peer = Some (ProcedureAsked (Length most))
+host_step_of (LeConnectionUpdate handle min max latency timeout lengths) slot role peer =
+    Some (ProcedureAsked (update_by role min max latency timeout))
+host_step_of (LeSetChannels map) slot role peer = map_by role map
+host_step_of (LeParamReply handle min max latency timeout lengths) slot role peer =
+    Some (RequestAnswered (Ok (Update max latency timeout)))
+host_step_of (LeParamNegative handle reason) slot role peer = Some (RequestAnswered (Err (record { 0 = reason })))
+host_step_of other slot role peer = None
+
+-- the host asks for what the end may know already (volume 4 part E, sections 7.1.23 and 7.8.21)
+abbrev pub is_read_of_peer : Command → Bool
+is_read_of_peer (ReadRemoteVersion handle) = true
+is_read_of_peer (LeReadRemoteFeatures handle) = true
+is_read_of_peer other = false
+
+-- ---- on which links
+
+-- the command is about the link with this handle
+abbrev pub is_about : ℕ → Command → Bool
+is_about handle (Disconnect given reason) = given == handle
+is_about handle (ReadRemoteVersion given) = given == handle
+is_about handle (LeReadRemoteFeatures given) = given == handle
+is_about handle (LeSetDataLength given most time) = given == handle
+is_about handle (LeConnectionUpdate given min max latency timeout lengths) = given == handle
+is_about handle (LeSetChannels map) = true
+is_about handle (LeParamReply given min max latency timeout lengths) = given == handle
+is_about handle (LeParamNegative given reason) = given == handle
+is_about handle other = false
+
+abbrev pub step_if_about : Bool → Option Step → Option Step
+step_if_about about step = if about then step else None
+
+abbrev pub step_on : ℕ → Command → ℕ → Role → PeerFacts → Option Step
+step_on handle command slot role peer = step_if_about (is_about handle command) (host_step_of command slot role peer)
+
+-- the steps on all links, each with its handle; `peer_of` is what the end under a handle knows of its peer
+abbrev pub with_host_step : ℕ → Option Step → List (ℕ × Step) → List (ℕ × Step)
+with_host_step handle None steps = steps
+with_host_step handle (Some step) steps = (handle, step) ∷ steps
+
+abbrev pub step_on_open : ℕ → Command → ℕ → Option Link → (ℕ → PeerFacts) → Option Step
+step_on_open handle command slot None peer_of = None
+step_on_open handle command slot (Some link) peer_of = step_on handle command slot link.role (peer_of handle)
+
+abbrev pub host_steps_from : ℕ → Command → ℕ → List (Option Link) → (ℕ → PeerFacts) → List (ℕ × Step)
+host_steps_from handle command slot [] peer_of = []
+host_steps_from handle command slot (link ∷ links) peer_of =
+    with_host_step handle (step_on_open handle command slot link peer_of)
+    (host_steps_from (handle + 1) command slot links peer_of)
+
+abbrev pub host_steps : Command → ℕ → List (Option Link) → (ℕ → PeerFacts) → List (ℕ × Step)
+host_steps command slot links peer_of = host_steps_from 0 command slot links peer_of
+
+-- ---- how the view of its link changes
+
+-- as the command is accepted
+abbrev pub link_accepted : Command → Link → Link
+link_accepted (Disconnect handle reason) link = record link { disconnecting = true }
+link_accepted (ReadRemoteVersion handle) link = asking version_kind link
+link_accepted (LeReadRemoteFeatures handle) link = asking features_kind link
+link_accepted (LeSetDataLength handle most time) link = asking length_kind link
+link_accepted (LeConnectionUpdate handle min max latency timeout lengths) link = asking (update_kind link.role) link
+link_accepted (LeParamReply handle min max latency timeout lengths) link = record link { waits_for_parameters = false }
+link_accepted (LeParamNegative handle reason) link = record link { waits_for_parameters = false }
+link_accepted other link = link
+
+-- what is answered at once is no longer asked for
+abbrev pub answered_if : Bool → Kind → Link → Link
+answered_if known kind link = if known then answered kind link else link
+
+abbrev pub link_answered : Command → PeerFacts → Link → Link
+link_answered (ReadRemoteVersion handle) peer link = answered_if (is_some peer.version) version_kind link
+link_answered (LeReadRemoteFeatures handle) peer link = answered_if (is_some peer.features) features_kind link
+link_answered other peer link = link
+
+abbrev pub link_commanded : Command → PeerFacts → Link → Link
+link_commanded command peer link = link_answered command peer (link_accepted command link)
+
+-- ---- the end after it
+
+abbrev pub facts_commanded : Setup → Option Step → Facts → Facts
+facts_commanded setup None facts = facts
+facts_commanded setup (Some step) facts = facts_after setup facts step
+
+-- ---- the ranges of its values
+
+-- the reason for which a host refuses a request has one octet (volume 4 part E, section 7.8.32)
+abbrev pub FitsReason : Command → Type 0
+FitsReason (LeParamNegative handle reason) = reason < 256
+FitsReason other = ⊤
+
+-- what it asks for is in its range, whichever the role of the end
+abbrev pub AsksInRange : Command → Type 0
+AsksInRange (LeSetDataLength handle most time) = IsAsk (Length most)
+AsksInRange (LeConnectionUpdate handle min max latency timeout lengths) =
+    (role : Role) → IsAsk (update_by role min max latency timeout)
+AsksInRange (LeSetChannels map) = IsMap map
+AsksInRange (LeParamReply handle min max latency timeout lengths) = IsAsk (Update max latency timeout)
+AsksInRange other = ⊤

@@ -1,0 +1,57 @@
+//! That each command is one call on the open links, and what it may ask for. The bodies do nothing:
+//! the contracts are the laws.
+ghost use Rattle.std.specs.Prelude.{◌≡◌, ℕ, List, Some, Ok, Err, is_some};
+ghost use Rattle.std.specs.Prelude.{if◌then◌else◌};
+ghost use Rattle.hci_cmd.specs.declared.command.Command.{Command};
+ghost use Rattle.open_links.specs.procedure_values.declared.asks.Ask.{Ask};
+ghost use Rattle.open_links.specs.Hosts.{links_answered, links_asked, links_asked_map};
+ghost use Rattle.open_links.specs.Hosts.{links_disconnected};
+ghost use Rattle.open_links.specs.OpenLinks.{Links, OpenLink, facts_in, link_at};
+ghost use Rattle.host_view.specs.Refusals.{first_refusal};
+ghost use Rattle.host_view.specs.Status.{rows_of};
+ghost use Rattle.host_view.specs.View.{View};
+ghost use Rattle.link_commands.specs.Commands.{AsksInRange, update_by};
+ghost use Rattle.link_commands.specs.LinksCommanded.{links_commanded};
+
+/// The links after a command are those after one call on them: the host ends the link, asks for a
+/// procedure there, answers a request, or asks for a map on all links. For features and a version
+/// that are known there is no call.
+pub fn each_command_is_one_call()
+    ensures disconnect { (handle reason slot : ℕ) (links : Links)
+        → links_commanded (Command.Disconnect handle reason) slot links
+        ≡ links_disconnected handle (record { 0 = reason }) slot links }
+    ensures version { (handle slot : ℕ) (links : Links) (link : OpenLink)
+        → link_at handle links ≡ Some link
+        → links_commanded (Command.ReadRemoteVersion handle) slot links
+        ≡ (if is_some (facts_in link).peer.version then links
+        else links_asked handle Ask.Version links) }
+    ensures features { (handle slot : ℕ) (links : Links) (link : OpenLink)
+        → link_at handle links ≡ Some link
+        → links_commanded (Command.LeReadRemoteFeatures handle) slot links
+        ≡ (if is_some (facts_in link).peer.features then links
+        else links_asked handle Ask.Features links) }
+    ensures length { (handle most time slot : ℕ) (links : Links)
+        → links_commanded (Command.LeSetDataLength handle most time) slot links
+        ≡ links_asked handle (Ask.Length most) links }
+    ensures update { (handle slot min max latency timeout : ℕ) (lengths : List ℕ)
+        (links : Links) (link : OpenLink) → link_at handle links ≡ Some link
+        → links_commanded (Command.LeConnectionUpdate handle min max latency timeout lengths) slot
+        links ≡ links_asked handle (update_by link.setup.link.role min max latency timeout) links }
+    ensures map { (map slot : ℕ) (links : Links)
+        → links_commanded (Command.LeSetChannels map) slot links ≡ links_asked_map map links }
+    ensures granted { (handle min max latency timeout slot : ℕ) (lengths : List ℕ)
+        (links : Links)
+        → links_commanded (Command.LeParamReply handle min max latency timeout lengths) slot links
+        ≡ links_answered handle (Ok (Ask.Update max latency timeout)) links }
+    ensures refused { (handle reason slot : ℕ) (links : Links)
+        → links_commanded (Command.LeParamNegative handle reason) slot links
+        ≡ links_answered handle (Err (record { 0 = reason })) links }
+{}
+
+/// What a command that the table of conditions accepts asks for is in its range: the parameters of
+/// an update, the longest payload, a channel map, and the parameters with which a request of the
+/// peer is granted.
+pub fn accepted_commands_ask_in_range()
+    ensures { (view : View) (command : Command)
+        → first_refusal (rows_of view command) ≡ 0 → AsksInRange command }
+{}

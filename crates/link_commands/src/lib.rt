@@ -1,0 +1,8 @@
+//! What an accepted command of the host asks of the links of a controller: which step it makes on
+//! which link, how the view of the links changes, and what is answered at once. Definitions and
+//! laws; no code.
+#![tactic(auto)]
+
+mod laws;
+
+pub use crate::laws::{accepted_commands_ask_in_range, each_command_is_one_call};
