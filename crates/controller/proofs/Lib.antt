@@ -1,5 +1,6 @@
 -- The lemmas of this crate.
 pub mod Accepting
+pub mod Asking
 pub mod Beginning
 pub mod Connecting
 pub mod FrameOctets

@@ -1,14 +1,17 @@
 //! Commands of the host: their answers, and what they change.
-ghost use Rattle.std.specs.Prelude.{◌≡◌, ◌≤◌, ◌<◌, ◌+◌, ◌%◌, ◌++◌, ℕ, List, [], ◌∷◌};
+ghost use Rattle.std.specs.Prelude.{◌≡◌, ◌≤◌, ◌<◌, ◌+◌, ◌%◌, ◌++◌, ℕ, true, List, [], ◌∷◌};
 ghost use Rattle.arrayvec.specs.ArrayVec.{array_vec_len};
 ghost use Rattle.acl_banks.specs.declared.pieces.Piece.{Piece};
 ghost use Rattle.hci_cmd.specs.Command.{command_of};
 ghost use Rattle.hci_cmd.specs.declared.command.CmdRead.TheVariants.{Known};
+ghost use Rattle.host_view.specs.OnLinks.{asks_links};
 ghost use Rattle.host_view.specs.Unbuilt.{status_of};
+ghost use Rattle.controller_model.specs.link_commands.LinksCommanded.{events_commanded_on};
 ghost use Rattle.open_links.specs.Knowing.{Knows as KnowsLinks};
 ghost use Rattle.open_links.specs.OpenLinks.{Links};
 ghost use Rattle.controller_model.specs.Answers.{answer_with};
-ghost use Rattle.controller_model.specs.Commands.{events_caused, facts_accepted, facts_commanded};
+ghost use Rattle.controller_model.specs.Commands.{events_caused, facts_accepted, facts_asking};
+ghost use Rattle.controller_model.specs.Commands.{facts_commanded};
 ghost use Rattle.controller_model.specs.Commands.{links_after, notes_before, notes_commanded};
 ghost use Rattle.controller_model.specs.Commands.{received_after};
 ghost use Rattle.controller_model.specs.Events.{notes_of_events};
@@ -21,12 +24,13 @@ ghost use Rattle.controller.specs.Steps.{held_accepted, links_notes, place_after
 
 use crate::controllers::Controller;
 use ble_base::{ErrCode, Outbox, SlotNo};
+use controller_model::accepted_commands_ask_in_range;
 use h4_frames::{Fed, HostPacket};
 use hci_cmd::{CmdRead, Command, read};
 use hci_evt::Event;
 use host_notes::{
-    fields_with, note_shuts, refused_answer, short_answer, status_answer, tell, tell_accepted,
-    tell_caused,
+    ask_links, fields_with, note_at_once, note_shuts, refused_answer, short_answer, status_answer,
+    tell, tell_accepted, tell_at_once, tell_caused,
 };
 use host_view::status;
 
@@ -101,6 +105,7 @@ impl<const L: usize, const T: usize, const R: usize> Controller<L, T, R> {
             ++ notes_of_events facts.view (answer_with has facts opcode command.now 0)
             ++ notes_of_events facts.view (events_caused facts command.now) }
         ensures stays { Stays self.old self.new }
+        ensures few { array_vec_len out.new ≤ array_vec_len out.old + 8 }
     {
         let mut fields = fields_with(ErrCode::SUCCESS);
         self.put_returned(command, &mut fields);
@@ -108,6 +113,47 @@ impl<const L: usize, const T: usize, const R: usize> Controller<L, T, R> {
         tell_accepted(&self.view, opcode, command, fields, out);
         tell_caused(&self.view, command, out);
         self.accept(command);
+    }
+
+    /// Carries out an accepted command that asks something of links, and notes its answer and what
+    /// is answered at once.
+    fn take_asking(&mut self, opcode: u16, command: &Command, out: &mut Outbox)
+        requires status { status_of self.old.view command.now ≡ 0 }
+        requires asks { asks_links self.old.view command.now ≡ true }
+        requires room { array_vec_len out.old ≤ 50 }
+        ensures at { (has : Setup) (facts : Facts) → IsAt has self.old facts → IsAt has self.new
+            (facts_asking true facts command.now (facts_accepted has facts command.now)) }
+        ensures notes { (has : Setup) (facts : Facts) → IsAt has self.old facts
+            → out.new.items ≡ out.old.items ++ notes_before facts command.now
+            ++ notes_of_events facts.view (answer_with has facts opcode command.now 0)
+            ++ notes_of_events facts.view (events_caused facts command.now)
+            ++ notes_of_events facts.view (events_commanded_on command.now facts.links) }
+        ensures stays { Stays self.old self.new }
+    {
+        accepted_commands_ask_in_range();
+        let slot = SlotNo(self.turn.begun);
+        self.take_accepted(opcode, command, out);
+        tell_at_once(&self.view, &self.links, command, out);
+        note_at_once(&mut self.view, &self.links, command);
+        ask_links(&mut self.links, command, slot);
+    }
+
+    /// Takes an accepted command, which may ask something of links.
+    fn take_answered(&mut self, opcode: u16, command: &Command, out: &mut Outbox)
+        requires status { status_of self.old.view command.now ≡ 0 }
+        requires room { array_vec_len out.old ≤ 50 }
+        ensures at { (has : Setup) (facts : Facts) → IsAt has self.old facts
+            → IsAt has self.new (facts_commanded has facts (Known command.now)) }
+        ensures notes { (has : Setup) (facts : Facts) → IsAt has self.old facts
+            → out.new.items
+            ≡ out.old.items ++ notes_commanded has facts opcode (Known command.now) }
+        ensures stays { Stays self.old self.new }
+    {
+        if self.view.asks_links(command) {
+            self.take_asking(opcode, command, out);
+        } else {
+            self.take_accepted(opcode, command, out);
+        }
     }
 
     /// Takes a command: answers it, and carries it out where it is accepted.
@@ -122,7 +168,7 @@ impl<const L: usize, const T: usize, const R: usize> Controller<L, T, R> {
     {
         let status = status(&self.view, command);
         if status == ErrCode::SUCCESS {
-            self.take_accepted(opcode, command, out);
+            self.take_answered(opcode, command, out);
         } else {
             tell(&self.view, &refused_answer(opcode, command, status), out);
         }

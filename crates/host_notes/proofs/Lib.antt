@@ -3,3 +3,4 @@ pub mod Words
 pub mod Entered
 pub mod InEvent
 pub mod Received
+pub mod AskedLinks

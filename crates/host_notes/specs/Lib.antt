@@ -1,3 +1,4 @@
 -- The definitions of this crate.
 pub mod Entering
 pub mod Hearing
+pub mod Asking

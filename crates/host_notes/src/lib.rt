@@ -1,9 +1,10 @@
 //! What a controller notes for its host: answers to its commands, the events that its masks let
-//! through, links that are opened and shut, what their control procedures do, and data (Core 5.2,
-//! volume 4 part E, sections 5.4 and 7.7).
+//! through, links that are opened and shut, what their control procedures do, and data; and what its
+//! commands ask of links (Core 5.2, volume 4 part E, sections 5.4, 7.1, 7.7 and 7.8).
 #![tactic(auto)]
 
 mod answers;
+mod asking;
 mod data;
 mod entering;
 mod hearing;
@@ -14,6 +15,7 @@ mod reports;
 pub use answers::{
     Fields, fields_with, put_longest, refused_answer, short_answer, status_answer, tell_accepted,
 };
+pub use asking::{ask_links, note_at_once, tell_at_once};
 pub use data::{hand_up, tell_completed, tell_offer};
 pub use entering::enter_links;
 pub use hearing::hear_on_link;

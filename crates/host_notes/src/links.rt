@@ -186,8 +186,9 @@ pub fn tell_ends(view: &HostView, ended: &[LinkEnded], out: &mut Outbox)
 #[inline(never)]
 fn tell_cancelled(view: &HostView, out: &mut Outbox)
     requires { array_vec_len out.old < 64 }
-    ensures { (facts : Facts) → view.now ≡ facts.view → out.new.items
+    ensures notes { (facts : Facts) → view.now ≡ facts.view → out.new.items
         ≡ out.old.items ++ notes_of_events facts.view (events_caused facts LeCreateCancel) }
+    ensures few { array_vec_len out.new ≤ array_vec_len out.old + 1 }
 {
     let status = ErrCode::UNKNOWN_CONNECTION_IDENTIFIER;
     tell(view, &connection_failed(wants_enhanced(view), status), out);
@@ -197,8 +198,9 @@ fn tell_cancelled(view: &HostView, out: &mut Outbox)
 /// Cancel that of a connection that was not made.
 pub fn tell_caused(view: &HostView, command: &Command, out: &mut Outbox)
     requires { array_vec_len out.old < 64 }
-    ensures { (facts : Facts) → view.now ≡ facts.view → out.new.items
+    ensures notes { (facts : Facts) → view.now ≡ facts.view → out.new.items
         ≡ out.old.items ++ notes_of_events facts.view (events_caused facts command.now) }
+    ensures few { array_vec_len out.new ≤ array_vec_len out.old + 1 }
 {
     match command {
         Command::LeCreateCancel => tell_cancelled(view, out),
