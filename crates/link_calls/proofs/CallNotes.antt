@@ -39,6 +39,7 @@ use Rattle.run_laws.specs.controller_model.Packets.{notes_doing, notes_sent}
 use Rattle.run_laws.specs.controller_model.Radio.{outcome_begun}
 use Rattle.run_laws.specs.controller_model.Side.{notes_after, notes_fed, result_of}
 use Rattle.run_laws.proofs.controller_model.EndNotes.{entered_each, sent_each}
+use Rattle.run_laws.proofs.controller_model.Unasked.{noted_unasked}
 
 abbrev pub is_taking : Note → Bool
 is_taking (Took handle number llid body) = true
@@ -97,7 +98,8 @@ module _ (P : Note → Type 0) (of : IsOfFeeds P) where
       (events_noted facts.view (events_caused facts command))
 
   read_noted : (setup : Setup) (facts : Facts) (opcode : ℕ) (read : CmdRead) → All P (notes_commanded setup facts opcode read)
-  read_noted setup facts opcode (Known command) = known_noted (status_of facts.view command == 0) setup facts opcode command
+  read_noted setup facts opcode (Known command) =
+      noted_unasked setup facts command opcode (All P) (known_noted (status_of facts.view command == 0) setup facts opcode command)
   read_noted setup facts opcode UnknownOpcode = events_noted facts.view (answer_to setup facts opcode UnknownOpcode)
   read_noted setup facts opcode BadLength = events_noted facts.view (answer_to setup facts opcode BadLength)
 

@@ -33,6 +33,7 @@ use Rattle.run_laws.specs.controller_model.Side.{facts_after, facts_fed, result_
 use Rattle.run_laws.specs.controller_model.Step.{HostOctet, TurnBegins, TurnEnds}
 use Rattle.run_laws.proofs.controller_model.Phases.{EachOutcome, heard_is, unheard_is}
 use Rattle.run_laws.specs.run_model.Run.{step_of}
+use Rattle.run_laws.proofs.controller_model.Unasked.{of_unasked}
 
 -- ---- the radio is held by the same link, or by none
 
@@ -75,7 +76,8 @@ known_keeps true setup facts command = command_keeps command facts.radio
 known_keeps false setup facts command = keeps_same facts.radio
 
 read_keeps : (setup : Setup) (facts : Facts) (read : CmdRead) → Keeps facts.radio (facts_commanded setup facts read).radio
-read_keeps setup facts (Known command) = known_keeps (status_of facts.view command == 0) setup facts command
+read_keeps setup facts (Known command) =
+    of_unasked setup facts command (λ (after : Facts). Keeps facts.radio after.radio) (known_keeps (status_of facts.view command == 0) setup facts command)
 read_keeps setup facts UnknownOpcode = keeps_same facts.radio
 read_keeps setup facts BadLength = keeps_same facts.radio
 

@@ -12,11 +12,11 @@ pub mod EnteredLinks
 pub mod HeldRadio
 pub mod Lengths
 pub mod Exchanging
-pub mod InRange
-pub mod Pieces
 -- what the crates above use of those below
 pub use Rattle.run_laws.proofs.control_model as control_model
 pub use Rattle.run_laws.proofs.link_model as link_model
 pub use Rattle.run_laws.proofs.open_links as open_links
 pub use Rattle.run_laws.proofs as run_laws
+pub use Rattle.run_laws.proofs.InRange as InRange
+pub use Rattle.run_laws.proofs.Pieces as Pieces
 pub use Rattle.run_laws.proofs.run_model as run_model

@@ -389,6 +389,7 @@ passes_under setup facts received handle after listens is = phase_under setup fa
 -- a link that was opened in this slot, which has not entered an event or received a good packet
 pub record IsOpenedNow (slot : ℕ) (link : OpenLink) : Type 0 where
   pub opened : link.setup.opened ≡ slot
+  pub past : link.past ≡ []
   pub entries : entries_in link.past ≡ 0
   pub event : (facts_in link).event ≡ no_event
   pub good : (facts_in link).last_good ≡ None
@@ -404,6 +405,7 @@ new_good end link is = ap (λ (l : OpenLink). (facts_in l).last_good) is
 pub new_now : (slot : ℕ) (end : EndSetup) (link : OpenLink) → link ≡ new_link end → end.opened ≡ slot → IsOpenedNow slot link
 new_now slot end link is now = record {
   opened = ap (λ (l : OpenLink). l.setup.opened) is ∙ now;
+  past = ap (λ (l : OpenLink). l.past) is;
   entries = ap (λ (l : OpenLink). entries_in l.past) is;
   event = new_event end link is;
   good = new_good end link is;

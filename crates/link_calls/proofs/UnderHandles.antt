@@ -41,6 +41,7 @@ use Rattle.link_calls.specs.Entries.{count_entry, entries_in}
 use Rattle.link_calls.specs.Hosts.{HasHeardHost, GetsData, Unchanged}
 use Rattle.link_calls.specs.Turns.{HasEndedTurn, change_if, sent_if}
 use Rattle.link_calls.specs.Uses.{fixes_under, sends_under}
+use Rattle.run_laws.proofs.controller_model.Unasked.{of_unasked}
 
 -- a place that is open after a change of it was open before
 pub record WasOpen (change : OpenLink → OpenLink) (before : Option OpenLink) (after : OpenLink) : Type 0 where
@@ -197,7 +198,9 @@ known_under false setup command facts handle after is = Unchanged is
 
 read_under : (setup : Setup) (facts : Facts) (read : CmdRead) (handle : ℕ) (after : OpenLink)
     → link_at handle (facts_commanded setup facts read).links ≡ Some after → HasHeardHost facts.links handle after
-read_under setup facts (Known command) handle after is = known_under (status_of facts.view command == 0) setup command facts handle after is
+read_under setup facts (Known command) handle after is =
+    of_unasked setup facts command (λ (next : Facts). link_at handle next.links ≡ Some after → HasHeardHost facts.links handle after)
+    (known_under (status_of facts.view command == 0) setup command facts handle after) is
 read_under setup facts UnknownOpcode handle after is = Unchanged is
 read_under setup facts BadLength handle after is = Unchanged is
 

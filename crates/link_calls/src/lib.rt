@@ -4,7 +4,6 @@
 
 mod calls;
 mod exchanges;
-mod ranges;
 mod rows;
 
 pub use crate::calls::{
@@ -12,8 +11,4 @@ pub use crate::calls::{
     a_turn_ends_on_links, only_a_central_refuses,
 };
 pub use crate::exchanges::each_end_exchanges_in_its_events;
-pub use crate::ranges::{
-    packets_are_understood_on_their_channel, what_hosts_ask_is_in_range,
-    what_is_sent_is_empty_or_has_octets,
-};
 pub use crate::rows::worked_turns;

@@ -1,6 +1,6 @@
 -- Each open end enters its events in the slots of their anchors, in every run.
 use Rattle.std.proofs.Common.{◌≡◌, ℕ, zero, suc, ◌+◌, ◌*◌, ◌<◌, ◌≤◌, Bool, true, false, Some, List, [], ◌∷◌, ◌++◌, refl, sym, ap, subst, ◌∙◌, arith}
-use Rattle.std.specs.Prelude.{⊤, if◌then◌else◌}
+use Rattle.std.specs.Prelude.{⊤, Err, if◌then◌else◌}
 use Rattle.ble_base.specs.declared.addresses.Address.{Address}
 use Rattle.adv_pdu.specs.declared.pdu.AdvPdu.{AdvPdu}
 use Rattle.adv_pdu.specs.declared.pdu.AdvPdu.TheVariants.{ScanReq, Connect}
@@ -165,7 +165,8 @@ entering_open slot = record {
   serving = entering_served slot;
   received = λ now octets room link entering.
       other_step slot link (PacketReceived now octets room) (fold-append count_entry 0 link.past (PacketReceived now octets room ∷ [])) entering;
-  answered = λ answer link entering. other_step slot link (RequestAnswered answer) (fold-append count_entry 0 link.past (RequestAnswered answer ∷ [])) entering;
+  answered = λ code link entering.
+      other_step slot link (RequestAnswered (Err code)) (fold-append count_entry 0 link.past (RequestAnswered (Err code) ∷ [])) entering;
 }
 
 -- what was plain as a link entered its event was plain before

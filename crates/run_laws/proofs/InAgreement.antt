@@ -1,11 +1,10 @@
 -- What each call keeps of the links of one station, and how a call on one of two stations keeps what relates their links.
 use Rattle.std.proofs.Common.{◌≡◌, ℕ, ◌+◌, ◌<◌, ◌≤◌, ◌==◌, Bool, true, false, Option, Some, None, List, [], ◌∷◌, refl, sym, subst, ◌∙◌, arith}
-use Rattle.std.specs.Prelude.{Result}
+use Rattle.std.specs.Prelude.{Err}
 use Rattle.std.proofs.lemmas.Bool.{eqb-true}
 use Rattle.run_model.specs.link_model.Setup.{Setup as EndSetup}
 use Rattle.run_model.specs.link_model.Acknowledgement.{first_acknowledgement}
 use Rattle.ble_base.specs.declared.error_codes.ErrCode.{ErrCode}
-use Rattle.run_model.specs.procedure_values.declared.asks.Ask.{Ask}
 use Rattle.run_model.specs.link_model.Step.{DataGiven, PduFixed, PacketSent, PacketReceived, RequestAnswered, DataReported}
 use Rattle.run_model.specs.open_links.OpenLinks.{Links, OpenLink, link_after, link_at, link_served, new_link}
 use Rattle.run_model.specs.open_links.Turns.{link_entered}
@@ -77,7 +76,7 @@ short_served = record {
 }
 
 short_open : IsKeptOpen TakesShort
-short_open = record { serving = short_served; received = λ now octets room link is. is; answered = λ answer link is. is }
+short_open = record { serving = short_served; received = λ now octets room link is. is; answered = λ code link is. is }
 
 short_entered : (now : ℕ) (link : OpenLink) → TakesShort link → TakesShort (link_entered now link)
 short_entered now link is = subst (λ (s : EndSetup). 27 ≤ s.link.max_rx) (sym (entered_setup now link)) is
@@ -145,7 +144,7 @@ received_before : (slot handle : ℕ) (octets : List ℕ) (room refuses replies 
     → EachOpen (OpenedBefore slot) (links_receiving handle octets room refuses replies facts)
 received_before slot handle octets room refuses replies facts each =
     sends (OpenedBefore slot) (before_served slot) facts.turn.slot (reply_if replies handle) _
-    (refusing (OpenedBefore slot) (λ answer link is. is) refuses handle _
+    (refusing (OpenedBefore slot) (λ code link is. is) refuses handle _
     (changed (OpenedBefore slot) handle (link_after (PacketReceived facts.turn.slot octets room)) facts.links (λ link is. is) each))
 
 now_before : (slot begun : ℕ) → slot + 1 ≡ begun → slot < begun
@@ -226,7 +225,7 @@ pub record IsKeptByFirst (R : OpenLink → OpenLink → Type 0) : Type 0 where
   pub served : (slot : ℕ) (one other : OpenLink) → R one other → R (link_served slot one) other
   pub sent : (slot : ℕ) (one other : OpenLink) → R one other → R (link_after (PacketSent slot) one) other
   pub entered : (slot : ℕ) (one other : OpenLink) → R one other → R (link_entered slot one) other
-  pub answered : (answer : Result Ask ErrCode) (one other : OpenLink) → R one other → R (link_after (RequestAnswered answer) one) other
+  pub answered : (code : ErrCode) (one other : OpenLink) → R one other → R (link_after (RequestAnswered (Err code)) one) other
 
 pub agree_kept : IsKeptByFirst Agree
 agree_kept = record {
@@ -236,7 +235,7 @@ agree_kept = record {
   served = agree_served;
   sent = agree_sent;
   entered = agree_entered;
-  answered = agree_answered;
+  answered = λ code one other agree. agree_answered (Err code) one other agree;
 }
 
 module _ (R : OpenLink → OpenLink → Type 0) (kept : IsKeptByFirst R) (others : Links) where
@@ -272,7 +271,7 @@ passing_keeps R kept others facts after received new heard (ReceivesOn handle oc
     subst (λ links. AllPairs R links others) (sym links_are)
     (sends (λ one. EachOpen (R one) others) (all_served R kept others) facts.turn.slot (reply_if replies handle) _
     (refusing (λ one. EachOpen (R one) others)
-    (λ answer one each. open_more (R one) (R (link_after (RequestAnswered answer) one)) others (λ other is. kept.answered answer one other is) each) refuses handle _
+    (λ code one each. open_more (R one) (R (link_after (RequestAnswered (Err code)) one)) others (λ other is. kept.answered code one other is) each) refuses handle _
     (changed_at (λ one. EachOpen (R one) others) 0 handle (link_after (PacketReceived facts.turn.slot octets room)) facts.links
     (λ one at each. heard handle octets room one is listens wanted at each) all)))
 

@@ -15,7 +15,8 @@ pub mod ByCalls
 pub mod ChSel
 pub mod LinkPasses
 pub mod PlainLinks
-pub mod PlainPasses
+pub mod InRange
+pub mod Pieces
 pub mod Agreed
 pub mod TwoStations
 pub mod InAgreement
@@ -24,7 +25,6 @@ pub mod PlainTurns
 pub mod OpenedOnce
 pub mod OwnLinks
 pub mod TwoEnds
-pub mod OneEntry
 -- what the crates above use of those below
 pub use Rattle.run_model.proofs.control_model as control_model
 pub use Rattle.run_model.proofs.link_model as link_model

@@ -1,7 +1,7 @@
 -- The open links of a controller after each call on it.
 use Rattle.std.proofs.Common.{◌≡◌, ℕ, zero, suc, ◌+◌, ◌≤◌, ◌==◌, Bool, true, false, Option, Some, None, List, [], ◌∷◌, replicate, refl, sym, subst, ◌∙◌, arith}
 use Rattle.std.proofs.lemmas.Bool.{eqb-true}
-use Rattle.std.specs.Prelude.{⊤, nat_lt, if◌then◌else◌, ◌&&◌, Result}
+use Rattle.std.specs.Prelude.{⊤, nat_lt, if◌then◌else◌, ◌&&◌, Err}
 use Rattle.std.specs.Option.{option_map}
 use Rattle.adv_pdu.specs.declared.pdu.AdvPdu.{AdvPdu}
 use Rattle.adv_pdu.specs.declared.pdu.ConnectFields.{ConnectFields}
@@ -18,7 +18,6 @@ use Rattle.hci_cmd.specs.declared.command.CmdRead.TheVariants.{Known, UnknownOpc
 use Rattle.hci_cmd.specs.Command.{command_of}
 use Rattle.host_view.specs.Unbuilt.{status_of}
 use Rattle.ble_base.specs.declared.error_codes.ErrCode.{ErrCode}
-use Rattle.run_model.specs.procedure_values.declared.asks.Ask.{Ask}
 use Rattle.run_model.specs.link_model.Setup.{Setup as EndSetup}
 use Rattle.run_model.specs.link_model.Step.{DataGiven, PduFixed, PacketSent, PacketReceived, RequestAnswered, DataReported}
 use Rattle.run_model.specs.link_model.declared.setup.LinkSetup.{LinkSetup}
@@ -48,6 +47,7 @@ use Rattle.controller_model.proofs.Always.{ending_is, leaving_is, links_won, ope
 use Rattle.controller_model.proofs.Phases.{EachOutcome, heard_is, unheard_is}
 use Rattle.run_model.specs.Run.{step_of}
 use Rattle.controller_model.specs.Entering.{all_entered}
+use Rattle.controller_model.proofs.Unasked.{of_unasked}
 
 -- ---- a fact of each open link
 
@@ -146,7 +146,7 @@ pub record IsKeptServed (P : OpenLink → Type 0) : Type 0 where
 pub record IsKeptOpen (P : OpenLink → Type 0) : Type 0 where
   pub serving : IsKeptServed P
   pub received : (slot : ℕ) (octets : List ℕ) (room : Bool) (link : OpenLink) → P link → P (link_after (PacketReceived slot octets room) link)
-  pub answered : (answer : Result Ask ErrCode) (link : OpenLink) → P link → P (link_after (RequestAnswered answer) link)
+  pub answered : (code : ErrCode) (link : OpenLink) → P link → P (link_after (RequestAnswered (Err code)) link)
 
 module _ (P : OpenLink → Type 0) where
   changed_from : (first handle : ℕ) (change : Option OpenLink → Option OpenLink) (links : Links)
@@ -179,7 +179,7 @@ module _ (P : OpenLink → Type 0) where
       by None = each.0
       by (Some code) = tt
 
-  pub refuses : ((answer : Result Ask ErrCode) (link : OpenLink) → P link → P (link_after (RequestAnswered answer) link)) → (does : Bool) (handle : ℕ)
+  pub refuses : ((code : ErrCode) (link : OpenLink) → P link → P (link_after (RequestAnswered (Err code)) link)) → (does : Bool) (handle : ℕ)
       (links : Links) → EachOpen P links → EachOpen P (links_refusing does handle links)
   refuses answered true handle links each = changed handle _ links (answered _) each
   refuses answered false handle links each = each
@@ -200,7 +200,8 @@ module _ (P : OpenLink → Type 0) where
   known_open false setup command facts each = each
 
   read_open : (setup : Setup) (facts : Facts) (read : CmdRead) → EachOpen P facts.links → EachOpen P (facts_commanded setup facts read).links
-  read_open setup facts (Known command) each = known_open (status_of facts.view command == 0) setup command facts each
+  read_open setup facts (Known command) each =
+      of_unasked setup facts command (λ (after : Facts). EachOpen P after.links) (known_open (status_of facts.view command == 0) setup command facts each)
   read_open setup facts UnknownOpcode each = each
   read_open setup facts BadLength each = each
 

@@ -1,6 +1,6 @@
 -- The calls of a run, in which all links are plain: how links end, what a turn's end leaves, and what is noted.
 use Rattle.std.proofs.Common.{◌≡◌, ℕ, ◌+◌, ◌⊎◌, inl, inr, Bool, true, false, Option, Some, None, List, [], ◌∷◌, ◌++◌, refl, sym, ap, subst, ◌∙◌, append-nil, append_assoc}
-use Rattle.std.specs.Prelude.{All, flat_map, fold, if◌then◌else◌}
+use Rattle.std.specs.Prelude.{All, flat_map, if◌then◌else◌}
 use Rattle.std.specs.Option.{option_map}
 use Rattle.ble_base.specs.declared.error_codes.ErrCode.{ErrCode}
 use Rattle.ble_base.specs.ErrorCodes.{connection_not_established, connection_timeout}
@@ -11,16 +11,14 @@ use Rattle.instants.specs.declared.indications.Params.{Params}
 use Rattle.run_model.specs.open_links.Ended.{end_by}
 use Rattle.run_model.specs.open_links.Data.{links_reported}
 use Rattle.run_model.specs.open_links.OpenLinks.{Links, OpenLink, facts_in}
-use Rattle.run_model.specs.open_links.Turns.{due_in, ending_in, ends_by, links_without, staying_by}
+use Rattle.run_model.specs.open_links.Turns.{due_in, ending_in, ends_by}
 use Rattle.controller_model.specs.Data.{facts_handed, notes_handed}
 use Rattle.controller_model.specs.Facts.{Facts, Setup}
-use Rattle.controller_model.specs.Links.{facts_leaving, facts_shut, notes_ended, notes_leaving}
+use Rattle.controller_model.specs.Links.{notes_ended, notes_leaving}
 use Rattle.controller_model.specs.Notes.{IsOfNoProcedure}
-use Rattle.controller_model.specs.Packets.{facts_doing}
 use Rattle.controller_model.specs.Plain.{AllPlain}
 use Rattle.controller_model.specs.Side.{facts_after, notes_after}
 use Rattle.controller_model.specs.Step.{Step, TurnEnds}
-use Rattle.controller_model.specs.declared.doing.Doing.TheVariants.{Rests}
 use Rattle.controller_model.proofs.NoProcedures.{notes_of_plain_links}
 use Rattle.plain_links.proofs.Idle.{past_idle}
 use Rattle.plain_links.proofs.Steps.{due_plain, no_ending}
@@ -39,11 +37,6 @@ use Rattle.run_laws.proofs.PlainLinks.{links_plain, plain_hosts}
 abbrev HasNoReason : (OpenLink → Option ℕ) → OpenLink → Type 0
 HasNoReason reason link = reason link ≡ None
 
-none_without : (reason : OpenLink → Option ℕ) (links : Links) → EachOpen (HasNoReason reason) links → links_without reason links ≡ links
-none_without reason [] each = refl
-none_without reason (None ∷ links) each = ap (λ more. None ∷ more) (none_without reason links each.1)
-none_without reason (Some link ∷ links) each = λ i. staying_by (each.0 i) link ∷ none_without reason links each.1 i
-
 none_ends : (reason : OpenLink → Option ℕ) (handle : ℕ) (links : Links) → EachOpen (HasNoReason reason) links → ends_by reason handle links ≡ []
 none_ends reason handle [] each = refl
 none_ends reason handle (None ∷ links) each = none_ends reason (handle + 1) links each.1
@@ -60,11 +53,6 @@ stay_on links plain =
     open_more IsPlainLink (HasNoReason ending_in) links stays_on (each_under IsPlainLink 0 links plain)
 
 -- no plain link ends then
-pub no_leaving : (facts : Facts) → AllPlain facts.links → facts_leaving facts ≡ facts
-no_leaving facts plain =
-    let stay = stay_on facts.links plain in
-    λ i. fold facts_shut (record facts { links = none_without ending_in facts.links stay i }) (none_ends ending_in 0 facts.links stay i)
-
 pub no_leaving_notes : (facts : Facts) → AllPlain facts.links → notes_leaving facts ≡ []
 no_leaving_notes facts plain = ap (flat_map (notes_ended facts.view)) (none_ends ending_in 0 facts.links (stay_on facts.links plain))
 
@@ -73,10 +61,7 @@ handed_plain facts plain handle link is_open =
     open_has IsPlainLink 0 handle (links_reported facts.links) link
     (reports IsPlainLink plain_hosts facts.links (each_under IsPlainLink 0 facts.links plain)) is_open
 
--- so all that happens is that the host receives data
-pub turn_ends : (setup : Setup) (facts : Facts) → AllPlain facts.links → facts_after setup facts TurnEnds ≡ facts_doing Rests (facts_handed facts)
-turn_ends setup facts plain = ap (facts_doing Rests) (no_leaving (facts_handed facts) (handed_plain facts plain))
-
+-- so all that is noted is that the host receives data
 pub turn_ends_noting : (setup : Setup) (facts : Facts) → AllPlain facts.links → notes_after setup facts TurnEnds ≡ notes_handed facts
 turn_ends_noting setup facts plain =
     ap (λ notes. notes_handed facts ++ notes) (no_leaving_notes (facts_handed facts) (handed_plain facts plain)) ∙ append-nil (notes_handed facts)

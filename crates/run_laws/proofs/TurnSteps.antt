@@ -35,6 +35,7 @@ use Rattle.controller_model.specs.Side.{facts_after, facts_fed, result_of}
 use Rattle.controller_model.proofs.Always.{IsKeptAtStarts, MayBegin, facts_opening, leaving_is, opening_passes, start_keeps, winning_is, IsAdvertisingChannel}
 use Rattle.controller_model.proofs.Phases.{EachOutcome, heard_is, unheard_is}
 use Rattle.run_model.specs.Run.{step_of}
+use Rattle.controller_model.proofs.Unasked.{of_unasked}
 
 -- ---- an octet of the host changes neither the turn nor the number of access addresses
 
@@ -51,7 +52,7 @@ known_turn true setup command facts = record { turn = refl; connections = refl; 
 known_turn false setup command facts = same_turn facts
 
 read_turn : (setup : Setup) (facts : Facts) (read : CmdRead) → IsSameTurn facts (facts_commanded setup facts read)
-read_turn setup facts (Known command) = known_turn (status_of facts.view command == 0) setup command facts
+read_turn setup facts (Known command) = of_unasked setup facts command (IsSameTurn facts) (known_turn (status_of facts.view command == 0) setup command facts)
 read_turn setup facts UnknownOpcode = same_turn facts
 read_turn setup facts BadLength = same_turn facts
 

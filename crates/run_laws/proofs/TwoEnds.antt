@@ -14,7 +14,6 @@ use Rattle.run_model.specs.link_model.Setup.{Setup as EndSetup}
 use Rattle.run_model.specs.link_model.Step.{PacketReceived, PacketSent}
 use Rattle.run_model.proofs.link_model.Hearing.{IsHeardWhole}
 use Rattle.run_model.specs.open_links.OpenLinks.{Links, OpenLink, facts_in, link_after, link_at, new_link}
-use Rattle.plain_links.proofs.Growing.{plain_front}
 use Rattle.run_model.proofs.open_links.Unmoved.{entered_setup}
 use Rattle.controller_model.specs.Step.{Step, HostOctet, TurnBegins, PacketHeard, NothingHeard, TurnEnds}
 use Rattle.controller_model.specs.Facts.{Facts, Setup}
@@ -26,13 +25,13 @@ use Rattle.run_model.specs.Run.{Given, facts_at, history_of, run_of, setup_at, s
 use Rattle.run_model.proofs.LinkEnds.{AreTaken, IsUnderstood}
 use Rattle.run_model.proofs.Stations.{is_in}
 use Rattle.run_laws.specs.Ends.{AreEnds, HasSent, HaveOneConnectInd, HearEachOther, HearsItsLink, IsOpen, OpenEnd, ReceivesGood}
-use Rattle.run_laws.specs.Plainness.{IsPlainLink}
-use Rattle.run_laws.proofs.PlainLinks.{links_plain}
+use Rattle.run_laws.specs.Ranges.{HasRanges}
 use Rattle.run_laws.proofs.Agreed.{Agree, ack_of, agree_by, agree_received, exchange, step_facts}
 use Rattle.run_laws.proofs.ByCalls.{all_facts}
 use Rattle.run_laws.proofs.EachCall.{IsCallOf, IsPhase, call_at, facts_called, facts_others, kept_along}
 use Rattle.run_laws.proofs.DistinctAccess.{AreApart}
-use Rattle.run_laws.proofs.InAgreement.{AllAgree, AllPairs, IsKeptByFirst, IsStation, TakesShort, WithAll, agree_kept, all_entered, all_hosts, all_served, first_station, new_agree, one_slot, pairs_back, passing_keeps, station_begins, station_ends, station_fed, station_passes}
+use Rattle.run_laws.proofs.InAgreement.{AllAgree, AllPairs, IsKeptByFirst, IsStation, WithAll, agree_kept, all_entered, all_hosts, all_served, first_station, new_agree, one_slot, pairs_back, passing_keeps, station_begins, station_ends, station_fed, station_passes}
+use Rattle.run_laws.proofs.InRange.{ranges_before, ranges_in}
 use Rattle.run_laws.proofs.LinkPasses.{phase_passes_on}
 use Rattle.run_laws.proofs.OpenSteps.{EachOpen, begin_open, each_under, end_open, none_open, octet_open, open_has, open_more}
 use Rattle.run_laws.proofs.OpenedOnce.{opened_once}
@@ -99,24 +98,23 @@ one_some may one other is is_too = let same : Some one ≡ Some other = sym is �
 
 -- ---- a station that takes a packet
 
-module _ (whole : IsHeardWhole) (given : Given) (six : HaveAddresses given) (distinct : AreDistinct given.stations) (end far : OpenEnd)
+module _ (whole : IsHeardWhole) (given : Given) (distinct : AreDistinct given.stations) (end far : OpenEnd)
     (same : HaveOneConnectInd end.link.setup far.link.setup) (in_too : is_in far.station given.stations ≡ true)
     (before rest : List Event) (at : history_of (run_of given) ≡ before ++ rest) where
   abbrev others : Links
   others = (facts_at given far.station before).links
 
   -- it takes it from the far end
-  taken_from : (slot : ℕ) (room : Bool) (octets : List ℕ) (one : OpenLink) → IsPlainLink one → TakesShort one → HaveOneConnectInd one.setup end.link.setup
+  taken_from : (slot : ℕ) (room : Bool) (octets : List ℕ) (one : OpenLink) → HasRanges one → HaveOneConnectInd one.setup end.link.setup
       → HasSent given before far (facts_in one).event.channel octets → EachOpen (AgreeOn end.link.setup one) others
       → EachOpen (AgreeOn end.link.setup (link_after (PacketReceived slot octets room) one)) others
-  taken_from slot room octets one plain fits is_end sent all =
+  taken_from slot room octets one ranges is_end sent all =
       let from = link_after (PacketSent sent.slot) sent.link in
       let after = link_after (PacketReceived slot octets room) one in
       let agree = open_has (AgreeOn end.link.setup one) 0 sent.handle others from all sent.is_open in
-      let from_plain = plain_front sent.link.setup sent.link.past (PacketSent sent.slot ∷ [])
-      (links_plain given six distinct before rest at far.station in_too sent.handle from sent.is_open) in
+      let from_ranges = ranges_before (PacketSent sent.slot) sent.link (ranges_in given before rest far.station sent.handle from distinct in_too at sent.is_open) in
       let taken : Agree after from =
-      agree_received whole slot sent.slot room one sent.link octets plain from_plain fits sent.packet (sym sent.channel_is) (agree is_end) in
+      agree_received whole slot sent.slot room one sent.link octets ranges from_ranges sent.packet (sym sent.channel_is) (agree is_end) in
       each_under (AgreeOn end.link.setup after) 0 others (λ handle other is_open own both.
       let opened = sym both.opened ∙ is_end.opened ∙ same.opened ∙ sym sent.is_end.opened in
       let under = opened_once given before rest far.station handle sent.handle other from distinct in_too at is_open sent.is_open opened in
@@ -124,10 +122,10 @@ module _ (whole : IsHeardWhole) (given : Given) (six : HaveAddresses given) (dis
       subst (λ l. AreInAgreement (ack_of after) (ack_of l)) equal (taken (subst (λ (l : OpenLink). HaveOneConnectInd one.setup l.setup) (sym equal) both)))
 
   -- what is not good changes nothing, and what is of another link says nothing of this one
-  received_from : (slot : ℕ) (room : Bool) (octets : List ℕ) (one : OpenLink) → IsPlainLink one → TakesShort one
+  received_from : (slot : ℕ) (room : Bool) (octets : List ℕ) (one : OpenLink) → HasRanges one
       → (verdict_of one.setup (facts_in one) octets ≡ Good → HaveOneConnectInd one.setup end.link.setup → HasSent given before far (facts_in one).event.channel octets)
       → EachOpen (AgreeOn end.link.setup one) others → EachOpen (AgreeOn end.link.setup (link_after (PacketReceived slot octets room) one)) others
-  received_from slot room octets one plain fits hears all = by (good_or_kept slot room octets one)
+  received_from slot room octets one ranges hears all = by (good_or_kept slot room octets one)
     where
       by : (verdict_of one.setup (facts_in one) octets ≡ Good) ⊎ (ack_of (link_after (PacketReceived slot octets room) one) ≡ ack_of one)
           → EachOpen (AgreeOn end.link.setup (link_after (PacketReceived slot octets room) one)) others
@@ -137,7 +135,7 @@ module _ (whole : IsHeardWhole) (given : Given) (six : HaveAddresses given) (dis
       by (inl good) =
           each_under (AgreeOn end.link.setup (link_after (PacketReceived slot octets room) one)) 0 others (λ handle other is_open own.
           open_has (AgreeOn end.link.setup (link_after (PacketReceived slot octets room) one)) 0 handle others other
-          (taken_from slot room octets one plain fits own (hears good own) all) is_open own)
+          (taken_from slot room octets one ranges own (hears good own) all) is_open own)
 
 -- ---- what is kept
 
@@ -195,9 +193,8 @@ module _ (whole : IsHeardWhole) (given : Given) (six : HaveAddresses given) (dis
               (λ end now. open_more (Agree (new_link end)) (Pairs (new_link end)) far_facts.links (λ link agree own. agree)
               (new_agree far_facts.turn.slot far_facts.links are.is_other.fresh end (now ∙ slots)))
               (λ handle octets room link was listens wanted is_open all.
-              received_from whole given six distinct one other same in_too before (Called one.station (step_of received) ∷ rest) at facts.turn.slot room octets link
-              (links_plain given six distinct before (Called one.station (step_of received) ∷ rest) at one.station in_it handle link is_open)
-              (open_has TakesShort 0 handle facts.links link are.is_one.short is_open)
+              received_from whole given distinct one other same in_too before (Called one.station (step_of received) ∷ rest) at facts.turn.slot room octets link
+              (ranges_in given before (Called one.station (step_of received) ∷ rest) one.station handle link distinct in_it at is_open)
               (λ good. hears octets link (ap step_of was) (record { handle = handle; listens = listens; is_open = is_open; is_good = good })) all)
               (phase_passes_on setup facts received phase.in_turn.listens) are.agree;
         }

@@ -2,6 +2,7 @@
 pub mod Ends
 pub mod Access
 pub mod OnTime
+pub mod Ranges
 pub mod Plainness
 pub mod Rows
 -- what the crates above use of those below

@@ -4,8 +4,8 @@
 mod access;
 mod agreement;
 mod ends;
-mod entries;
 mod plain;
+mod ranges;
 mod rows;
 
 pub use crate::access::access_addresses_are_taken_in_order;
@@ -14,10 +14,13 @@ pub use crate::agreement::{
     ends_that_hear_each_other_agree, what_is_taken_was_given_in_every_run,
 };
 pub use crate::ends::{
-    each_end_enters_its_events, ends_of_one_link_agree, ends_of_one_link_have_one_connect_ind,
+    each_station_begins_the_turns, ends_of_one_link_agree, ends_of_one_link_have_one_connect_ind,
 };
-pub use crate::entries::both_ends_enter_an_event_in_one_slot;
 pub use crate::plain::{
     links_are_plain, links_of_a_run_end_by_supervision, no_call_of_a_run_notes_a_procedure,
+};
+pub use crate::ranges::{
+    packets_are_understood_on_their_channel, what_hosts_ask_is_in_range,
+    what_is_sent_is_empty_or_has_octets,
 };
 pub use crate::rows::worked_ends;

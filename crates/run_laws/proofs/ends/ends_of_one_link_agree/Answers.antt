@@ -11,13 +11,6 @@ returns-clause-one_link c = λ given before rest central peripheral distinct six
     one_link c.a_pdu_is_understood.ensures.says given before rest central peripheral distinct six (contains_in given.stations central.station is)
     (contains_in given.stations peripheral.station is_too) at ends is_open is_open_too
 
-pub returns-clause-one_event : goal.returns-clause-one_event
-returns-clause-one_event c = λ one other link plain plain_too same.
-    c.plain_ends_agree_in_each_event.ensures one.setup other.setup one.past other.past link plain plain_too same
-
-pub returns-clause-by_number : goal.returns-clause-by_number
-returns-clause-by_number c = λ link plain. c.a_plain_link_runs_no_procedure.ensures.events link.setup link.past plain
-
 pub returns-clause-pair : goal.returns-clause-pair
 returns-clause-pair c = λ a b script before rest central peripheral six six_too is is_too at ends is_open is_open_too.
     let given = given_of a b script in

@@ -1,6 +1,6 @@
 -- Proof of `ranges::packets_are_understood_on_their_channel`.
-use Rattle.link_calls.proofs.Pieces.{ranged_understand, sent_readable}
-use Rattle.link_calls.proofs.ranges.packets_are_understood_on_their_channel.Goals as goal
+use Rattle.run_laws.proofs.Pieces.{ranged_understand, sent_readable}
+use Rattle.run_laws.proofs.ranges.packets_are_understood_on_their_channel.Goals as goal
 
 pub returns-clause-readable : goal.returns-clause-readable
 returns-clause-readable c = sent_readable

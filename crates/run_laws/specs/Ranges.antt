@@ -2,11 +2,11 @@
 -- (Core 5.2, volume 6 part B, sections 4.5.10 and 5.1).
 use Rattle.std.specs.Prelude.{◌≡◌, ◌≤◌, ◌<◌, length}
 use Rattle.ble_base.specs.Limits.{payload_octets}
-use Rattle.run_laws.specs.link_model.ControlSteps.{AreAsksInRange}
-use Rattle.run_laws.specs.link_model.Facts.{Facts}
-use Rattle.run_laws.specs.link_model.Packets.{payload_sent, pdu_sent}
-use Rattle.run_laws.specs.link_model.Payload.{opened_of}
-use Rattle.run_laws.specs.open_links.OpenLinks.{OpenLink}
+use Rattle.run_model.specs.link_model.ControlSteps.{AreAsksInRange}
+use Rattle.run_model.specs.link_model.Facts.{Facts}
+use Rattle.run_model.specs.link_model.Packets.{payload_sent, pdu_sent}
+use Rattle.run_model.specs.link_model.Payload.{opened_of}
+use Rattle.run_model.specs.open_links.OpenLinks.{OpenLink}
 
 pub record HasRanges (link : OpenLink) : Type 0 where
   -- it receives payloads of any length

@@ -2,15 +2,15 @@
 //! send. The bodies are empty: the contracts are the laws.
 ghost use Rattle.std.specs.Prelude.{◌≡◌, ◌++◌, ℕ, true, List, Some};
 ghost use Rattle.std.specs.List.{Contains};
-ghost use Rattle.run_laws.specs.link_model.Acknowledgement.{empty_pdu};
-ghost use Rattle.run_laws.specs.link_model.Controls.{pdu_fixed};
-ghost use Rattle.run_laws.specs.link_model.Data.{is_empty};
-ghost use Rattle.run_laws.specs.link_model.Hearing.{IsUnderstood};
-ghost use Rattle.run_laws.specs.open_links.OpenLinks.{OpenLink, facts_in, link_at};
-ghost use Rattle.run_laws.specs.run_model.Feeding.{AreDistinct};
-ghost use Rattle.run_laws.specs.run_model.History.{Event};
-ghost use Rattle.run_laws.specs.run_model.Run.{Given, facts_at, history_of, run_of};
-ghost use Rattle.link_calls.specs.Ranges.{HasRanges, IsReadable};
+ghost use Rattle.run_model.specs.link_model.Acknowledgement.{empty_pdu};
+ghost use Rattle.run_model.specs.link_model.Controls.{pdu_fixed};
+ghost use Rattle.run_model.specs.link_model.Data.{is_empty};
+ghost use Rattle.run_model.specs.link_model.Hearing.{IsUnderstood};
+ghost use Rattle.run_model.specs.open_links.OpenLinks.{OpenLink, facts_in, link_at};
+ghost use Rattle.run_model.specs.Feeding.{AreDistinct};
+ghost use Rattle.run_model.specs.History.{Event};
+ghost use Rattle.run_model.specs.Run.{Given, facts_at, history_of, run_of};
+ghost use Rattle.run_laws.specs.Ranges.{HasRanges, IsReadable};
 
 /// At any time of a run, what the host of an open end asked and answered is in range, and the end
 /// receives payloads of up to 251 octets (Core 5.2, volume 6 part B, sections 4.5.10 and 5.1).

@@ -17,36 +17,36 @@ use Rattle.data_pdu.specs.Layouts.{written}
 use Rattle.data_pdu.specs.declared.ctrl.Ctrl.{Ctrl}
 use Rattle.data_pdu.specs.declared.ctrl.Ctrl.TheVariants.{StartEncReq}
 use Rattle.wire_fields.specs.Field.{little_endian}
-use Rattle.run_laws.specs.control_model.Control.{Control, Step as ControlStep, Answers, Asks, Enters, SeesAcknowledged, Sends, Takes, after, after_all}
-use Rattle.run_laws.specs.link_end.Sound.{HasLengths, MayCome}
-use Rattle.run_laws.proofs.link_end.Lengths.{lengths_after}
-use Rattle.run_laws.specs.run_model.procedure_values.declared.asks.Ask.{Ask}
-use Rattle.run_laws.specs.run_model.procedure_values.Limits.{tx_of}
-use Rattle.run_laws.specs.link_model.Acknowledgement.{Acknowledgement, Pdu, empty_pdu, is_acked}
-use Rattle.run_laws.specs.link_model.ControlSteps.{AreAsksInRange, IsAskInRange, control_steps_in, step_if, steps_received}
-use Rattle.run_laws.specs.link_model.Controls.{goes_on, is_procedure_pdu, is_quiet_now, next_control, pdu_fixed, pdu_of_control, read_of}
-use Rattle.run_laws.specs.link_model.Data.{Data, data_acked_if, data_given, data_sent_if, is_control, is_data, is_empty, is_unsent, llid_of, pdu_with}
-use Rattle.run_laws.specs.link_model.End.{facts_after, facts_of}
-use Rattle.run_laws.specs.link_model.Entering.{facts_entered_if}
-use Rattle.run_laws.specs.link_model.Facts.{Facts, first_facts}
-use Rattle.run_laws.specs.link_model.Fixing.{data_cut, data_fixed_by, data_goes, fixed_anew}
-use Rattle.run_laws.specs.link_model.Hosts.{asked_unless, is_to_come}
-use Rattle.run_laws.specs.link_model.Packets.{good_pdu}
-use Rattle.run_laws.specs.link_model.Receiving.{accepted_if, accepts, acknowledged_if, acks_control, answers_with_control, facts_before_taking, facts_received, has_acknowledged, heard_in_slot, procedures_take_if}
-use Rattle.run_laws.specs.link_model.Sending.{control_gone_if, facts_sent, takes_leave}
-use Rattle.run_laws.specs.link_model.Setup.{Setup}
-use Rattle.run_laws.specs.link_model.Step.{Step, DataGiven, DataReported, Disconnected, EventEntered, PacketReceived, PacketSent, PduFixed, ProcedureAsked, RequestAnswered}
-use Rattle.run_laws.specs.link_model.Verdicts.{pdu_of}
-use Rattle.run_laws.specs.link_model.Hearing.{IsUnderstood}
-use Rattle.run_laws.specs.link_model.Packets.{pdu_sent}
-use Rattle.run_laws.specs.link_model.Payload.{opened_of}
-use Rattle.run_laws.proofs.link_model.ControlSteps.{one_step}
-use Rattle.run_laws.proofs.link_model.Llids.{past_llid}
-use Rattle.run_laws.proofs.link_model.Repeating.{past_payload}
-use Rattle.run_laws.proofs.link_model.Moves.{EachMoveKeeps, past_keeps}
-use Rattle.run_laws.proofs.open_links.Handed.{read_range}
-use Rattle.run_laws.specs.open_links.OpenLinks.{OpenLink, facts_in}
-use Rattle.link_calls.specs.Ranges.{HasRanges, IsReadable}
+use Rattle.run_model.specs.control_model.Control.{Control, Step as ControlStep, Answers, Asks, Enters, SeesAcknowledged, Sends, Takes, after, after_all}
+use Rattle.run_model.specs.link_end.Sound.{HasLengths, MayCome}
+use Rattle.run_model.proofs.link_end.Lengths.{lengths_after}
+use Rattle.run_model.specs.procedure_values.declared.asks.Ask.{Ask}
+use Rattle.run_model.specs.procedure_values.Limits.{tx_of}
+use Rattle.run_model.specs.link_model.Acknowledgement.{Acknowledgement, Pdu, empty_pdu, is_acked}
+use Rattle.run_model.specs.link_model.ControlSteps.{AreAsksInRange, IsAskInRange, control_steps_in, step_if, steps_received}
+use Rattle.run_model.specs.link_model.Controls.{goes_on, is_procedure_pdu, is_quiet_now, next_control, pdu_fixed, pdu_of_control, read_of}
+use Rattle.run_model.specs.link_model.Data.{Data, data_acked_if, data_given, data_sent_if, is_control, is_data, is_empty, is_unsent, llid_of, pdu_with}
+use Rattle.run_model.specs.link_model.End.{facts_after, facts_of}
+use Rattle.run_model.specs.link_model.Entering.{facts_entered_if}
+use Rattle.run_model.specs.link_model.Facts.{Facts, first_facts}
+use Rattle.run_model.specs.link_model.Fixing.{data_cut, data_fixed_by, data_goes, fixed_anew}
+use Rattle.run_model.specs.link_model.Hosts.{asked_unless, is_to_come}
+use Rattle.run_model.specs.link_model.Packets.{good_pdu}
+use Rattle.run_model.specs.link_model.Receiving.{accepted_if, accepts, acknowledged_if, acks_control, answers_with_control, facts_before_taking, facts_received, has_acknowledged, heard_in_slot, procedures_take_if}
+use Rattle.run_model.specs.link_model.Sending.{control_gone_if, facts_sent, takes_leave}
+use Rattle.run_model.specs.link_model.Setup.{Setup}
+use Rattle.run_model.specs.link_model.Step.{Step, DataGiven, DataReported, Disconnected, EventEntered, PacketReceived, PacketSent, PduFixed, ProcedureAsked, RequestAnswered}
+use Rattle.run_model.specs.link_model.Verdicts.{pdu_of}
+use Rattle.run_model.specs.link_model.Hearing.{IsUnderstood}
+use Rattle.run_model.specs.link_model.Packets.{pdu_sent}
+use Rattle.run_model.specs.link_model.Payload.{opened_of}
+use Rattle.run_model.proofs.link_model.ControlSteps.{one_step}
+use Rattle.run_model.proofs.link_model.Llids.{past_llid}
+use Rattle.run_model.proofs.link_model.Repeating.{past_payload}
+use Rattle.run_model.proofs.link_model.Moves.{EachMoveKeeps, past_keeps}
+use Rattle.run_model.proofs.open_links.Handed.{read_range}
+use Rattle.run_model.specs.open_links.OpenLinks.{OpenLink, facts_in}
+use Rattle.run_laws.specs.Ranges.{HasRanges, IsReadable}
 
 -- ---- the steps of the control part that may come
 

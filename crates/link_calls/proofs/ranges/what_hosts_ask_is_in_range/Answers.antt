@@ -1,6 +1,0 @@
--- Proof of `ranges::what_hosts_ask_is_in_range`.
-use Rattle.link_calls.proofs.InRange.{run_ranges}
-use Rattle.link_calls.proofs.ranges.what_hosts_ask_is_in_range.Goals as goal
-
-pub returns : goal.returns
-returns c = run_ranges

@@ -1,6 +1,0 @@
--- Proof of `ranges::what_is_sent_is_empty_or_has_octets`.
-use Rattle.link_calls.proofs.Pieces.{fixed_whole}
-use Rattle.link_calls.proofs.ranges.what_is_sent_is_empty_or_has_octets.Goals as goal
-
-pub returns : goal.returns
-returns c = fixed_whole
