@@ -15,14 +15,15 @@ use Rattle.journal_packets.specs.link_model.Step.{PacketReceived}
 use Rattle.journal_packets.proofs.link_model.Hearing.{IsHeardWhole}
 use Rattle.journal_packets.specs.open_links.OpenLinks.{OpenLink, facts_in, link_after, link_at}
 use Rattle.controller_model.specs.declared.doing.Turn.{Turn}
-use Rattle.controller_model.specs.Plain.{AllPlain}
 use Rattle.controller_model.specs.Since.{notes_opened_on}
 use Rattle.controller_model.specs.Step.{Step}
+use Rattle.controller_model.specs.Plain.{AllPlain}
 use Rattle.controller_model.specs.Facts.{Facts, Sends}
 use Rattle.run_model.specs.History.{Event, Noted, packet_received, steps_in}
 use Rattle.run_model.specs.Journal.{journal_of, side_of}
 use Rattle.run_model.specs.Links.{is_advertising, links_of}
 use Rattle.run_model.specs.Run.{Given, after_call, facts_at, setup_at, use_at}
+use Rattle.run_model.proofs.Fronts.{IsFront}
 use Rattle.run_model.proofs.Stations.{is_in}
 use Rattle.run_model.proofs.Walk.{Place, AtPackets, IsKept}
 use Rattle.journal_packets.specs.run_laws.Ends.{HaveOneConnectInd}
@@ -56,6 +57,8 @@ pub record IsBegun (history : List Event) (number station : ℕ) (end : EndSetup
 
 pub record AreKnown (given : Given) (Q : Place → List Event → Type 0) : Type 0 where
   pub kept : IsKept given Q
+  -- the history is a front of that of the run
+  pub front : (place : Place) (history : List Event) → Q place history → IsFront given history
   pub begun : (place : Place) (history : List Event) → Q place history → (station handle : ℕ) (link : OpenLink) → is_in station given.stations ≡ true
       → link_at handle (facts_at given station history).links ≡ Some link → IsBegun history (number_at station handle history) station link.setup
   -- the first link of its central that begins with the access address of the end is its own

@@ -33,9 +33,6 @@ use Rattle.journal_packets.specs.link_model.Receiving.{facts_received}
 use Rattle.journal_packets.specs.link_model.Step.{Step, EventEntered, PacketSent, PacketReceived, PduFixed, ProcedureAsked}
 use Rattle.journal_packets.proofs.open_links.Anchors.{enters, one_more_entered, stays_in_place}
 use Rattle.controller_model.proofs.EndNotes.{received_each, sent_each}
-use Rattle.journal_packets.specs.plain_links.Plain.{ArePlain}
-use Rattle.journal_packets.proofs.plain_links.InEvents.{past_in}
-use Rattle.link_calls.specs.Entries.{entries_in}
 use Rattle.link_calls.proofs.HeardSteps.{fixed_same, received_same, sent_in}
 use Rattle.run_model.specs.Journal.{side_of}
 use Rattle.run_model.specs.Readers.{of_side}
@@ -316,11 +313,3 @@ steps_channel setup facts (step ∷ steps) =
 pub past_channel : (setup : Setup) (past : List Step) → fold channel_noted None (notes_of setup past) ≡ channel_last (facts_of setup past)
 unfolding facts_of notes_of
 past_channel setup past = steps_channel setup (first_facts setup) past
-
--- ---- a plain link enters an event in each step that does so
-
-pub record IsEntered (entries : ℕ) (notes : List Note) : Type 0 where
-  pub count : fold count_note 0 notes ≡ entries
-
-pub past_entered : (setup : Setup) (past : List Step) → ArePlain setup past → IsEntered (entries_in past) (notes_of setup past)
-past_entered setup past are = record { count = (end_numbered setup past).count ∙ (past_in setup past are).entered_events }

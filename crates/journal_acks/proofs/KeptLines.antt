@@ -12,6 +12,7 @@ use Rattle.journal_packets.specs.link_model.Controls.{pdu_fixed}
 use Rattle.journal_packets.specs.link_model.Sending.{sent_notes_if}
 use Rattle.journal_packets.specs.link_model.Facts.{Facts as EndFacts}
 use Rattle.journal_packets.proofs.link_model.Hearing.{IsHeardWhole}
+use Rattle.journal_packets.specs.link_model.Step.{PacketSent}
 use Rattle.journal_packets.specs.open_links.OpenLinks.{OpenLink, facts_in, link_at}
 use Rattle.journal_packets.proofs.open_links.Handles.{handle_is}
 use Rattle.controller_model.specs.declared.doing.Doing.{Doing}
@@ -48,7 +49,7 @@ use Rattle.link_calls.proofs.CallNotes.{OpensNone, opening_none}
 use Rattle.journal_acks.proofs.Exchanging.{exchange_at, number_at, number_called, number_other, number_quiet, number_sent}
 use Rattle.journal_acks.proofs.FirstCounts.{first_called, first_of}
 use Rattle.link_calls.specs.Ranges.{HasRanges}
-use Rattle.link_calls.proofs.InRange.{sent_ranges}
+use Rattle.link_calls.proofs.InRange.{ranges_before}
 use Rattle.link_calls.proofs.Pieces.{fixed_whole}
 use Rattle.journal_acks.proofs.KeptCounts.{AreCountedAt, before_call, call_is, counts_kept, own_at, phased, station_is, was_taking}
 use Rattle.link_calls.proofs.LinkCalls.{HasBegun, IsOpenedNow, base_ack, begins_under, begun_before, passes_under, phase_quiet, received_noted, receiving_ack, receiving_setup, taking_opens, taking_sends}
@@ -254,6 +255,11 @@ rests_none handle doing is = ap (sends_under handle) is
 pub rests_deaf : (handle : ℕ) (doing : Doing) (received : Option (List ℕ)) → doing ≡ Rests → listens_under handle doing ≡ true → received ≡ None
 rests_deaf handle doing received is listens = absurd (let h : true ≡ false = sym listens ∙ ap (listens_under handle) is in absurd cc)
 
+-- what is in range once a link sent, or did not, was so before
+unsent_ranges : (sends : Bool) (slot : ℕ) (link : OpenLink) → HasRanges (sent_if sends slot link) → HasRanges link
+unsent_ranges true slot link has = ranges_before (PacketSent slot) link has
+unsent_ranges false slot link has = has
+
 module _ (given : Given) (station slot : ℕ) (on : Bool) (history : List Event) (is : is_in station given.stations ≡ true)
     (rests : (facts_at given station history).turn.doing ≡ Rests) (station_is : IsStation (setup_at given station) (facts_at given station history))
     (apart : HaveOwnNumbers given station history) (counted : AreCountedSo given history (λ one. true) (λ one. packet_received one history)) (lines : AreLined given history)
@@ -292,7 +298,7 @@ module _ (given : Given) (station slot : ℕ) (on : Bool) (history : List Event)
       (lines station handle begun.link is begun.was)
 
   base_ranges : HasRanges begun.base
-  base_ranges = sent_ranges (sends_under handle outcome.next) slot begun.base (subst HasRanges begun.is ranges)
+  base_ranges = unsent_ranges (sends_under handle outcome.next) slot begun.base (subst HasRanges begun.is ranges)
 
   -- it is to send on this link, or on another, or on none
   begins_by : (sends : Bool) → sends_under handle outcome.next ≡ sends
@@ -432,7 +438,7 @@ module _ (given : Given) (Q : Place → List Event → Type 0) (known : AreKnown
       (sends_own given station (step_of received) history handle taken (link_heard setup other heard facts).notes
       (received_noted SendsNone taking_sends setup other heard facts) (received_noted (OpensNone handle) (taking_opens handle) setup other heard facts)
       (ap (λ (end : EndSetup). end.link.handle) (receiving_setup handle room octets facts base) ∙ handle_is 0 handle facts.links base is_station.own.handles was)
-      (sent_ranges (sends_under handle next.turn.doing) slot taken (subst HasRanges same ranges))
+      (unsent_ranges (sends_under handle next.turn.doing) slot taken (subst HasRanges same ranges))
       (lined_same (sent_line_at (number_at station handle history) history (side_of station)) (ack_of base) (ack_of taken)
       (subst (λ a. HasSentSame a (ack_of base)) (sym ack) (sent_same slot octets room base)) (lines station handle base in_it was))
       (counts.acked ∙ (same_but slot octets false room base).acked ∙ ap (λ (a : Acknowledgement). a.acked) (sym ack))

@@ -85,6 +85,7 @@ module _ (history : List Event) (number station : ℕ) (end : EndSetup) (two : E
 pub known_of : IsUnderstood → AreTaken → AreNth → AreApart → (given : Given) → given.stations ≡ 0 ∷ 1 ∷ [] → HaveAddresses given → AreKnown given (IsBelongingSoFar given)
 known_of understood taken nth apart given are_two six = record {
   kept = belonging_kept understood taken given are_two six;
+  front = λ at history q. front_at given at history q.front;
   begun = λ at history q station handle link in_it is_open. begun_as history _ station link.setup q.asked.sent (q.numbered.numbered station handle link is_open);
   fits = λ at history q station handle link octets in_it is_open begins.
       fits_first history _ station link.setup q.asked.sent (q.numbered.numbered station handle link is_open) nth apart given q.asked.counted.each octets

@@ -38,7 +38,7 @@ use Rattle.run_model.proofs.Walk.{Place, AtBegins}
 use Rattle.journal_packets.specs.run_laws.Plainness.{IsPlainLink}
 use Rattle.journal_packets.proofs.run_laws.DistinctAccess.{AreApart}
 use Rattle.journal_packets.proofs.run_laws.OpenSteps.{open_has, reports}
-use Rattle.journal_packets.proofs.run_laws.PlainLinks.{each_plain, plain_hosts}
+use Rattle.journal_packets.proofs.run_laws.PlainLinks.{each_plain, links_plain, plain_hosts}
 use Rattle.journal_packets.proofs.run_laws.TurnPlaces.{Between, Standing, Within, at_stage, stands_at, turned}
 use Rattle.journal_packets.specs.journal_links.Begun.{link_numbered}
 use Rattle.journal_packets.proofs.journal_links.LinksBegun.{number_stays}
@@ -101,13 +101,15 @@ later_between taken given Q distinct done left station history are has =
     (turned setup (AreLater setup) (later_kept taken setup) (past_of station history) (stands_at (AtBegins done (station ∷ left)) station (turns_begun history)) (later_first setup)
     (has.is.holds.hearing.stand station (among given.stations done left station are)))
 
-have_told : AreTaken → (given : Given) (Q : Place → List Event → Type 0) → AreKnown given Q → AreDistinct given.stations → HaveCalls given (AreTold given) (AreGoodAt given Q)
+have_told : AreTaken → (given : Given) (Q : Place → List Event → Type 0) → AreKnown given Q → HaveAddresses given → AreDistinct given.stations
+    → HaveCalls given (AreTold given) (AreGoodAt given Q)
 unfolding AreTold
-have_told taken given Q known distinct = record {
+have_told taken given Q known six distinct = record {
   feeds = λ station octet history. tt;
   begins = λ plan slot done left station history are has next. λ handle link at.
       let in_it = among given.stations done left station are in
-      let is_plain = known.plain (AtBegins done (station ∷ left)) history has.is.known station in_it handle link at in record {
+      let front = known.front (AtBegins done (station ∷ left)) history has.is.known in
+      let is_plain = links_plain given six distinct history front.rest front.at station in_it handle link at in record {
         begun = known.begun (AtBegins done (station ∷ left)) history has.is.known station handle link in_it at;
         heard = plain (packet_received station history) handle (facts_at given station history).turn link _ (λ listens. has.is.holds.hearing.hears station in_it)
             (has.good station handle link in_it at);
@@ -221,7 +223,7 @@ module _ (whole : IsHeardWhole) (understood : IsUnderstood) (taken : AreTaken) (
       let Q = IsBelongingSoFar given in
       let known = known_of understood taken nth apart given are_two six in
       each_at (OfCall given (AreTold given)) (history_of (run_of given)) call.base call.after (Called call.station call.step)
-      (run_calls given (AreTold given) (AreGoodAt given Q) (good_kept whole given Q known are_two six distinct) (have_told taken given Q known distinct) (good_first given)) call.called
+      (run_calls given (AreTold given) (AreGoodAt given Q) (good_kept whole given Q known are_two six distinct) (have_told taken given Q known six distinct) (good_first given)) call.called
 
   -- what holds after the call holds before the line
   at_line : ends_phase call.step ≡ false → IsSo (number_at call.station call.handle call.base) (journal_of (call.base ++ Called call.station call.step ∷ map (Noted call.station) call.earlier)) (side_of call.station)

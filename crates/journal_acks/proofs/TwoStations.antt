@@ -18,7 +18,6 @@ use Rattle.journal_packets.specs.link_model.Packets.{header_sent, packet_sent, p
 use Rattle.journal_packets.specs.link_model.Verdicts.{verdict_by as verdict_by_end}
 use Rattle.journal_packets.specs.link_model.Setup.{Setup as EndSetup}
 use Rattle.link_calls.specs.Ranges.{IsReadable}
-use Rattle.journal_packets.proofs.plain_links.Payloads.{IsInForm}
 use Rattle.journal_packets.proofs.link_model.Hearing.{IsHeardWhole}
 use Rattle.journal_packets.proofs.link_model.Received.{header_read}
 use Rattle.journal_packets.specs.open_links.OpenLinks.{OpenLink, facts_in, link_at}
@@ -247,9 +246,6 @@ air_of_link number other station channel octets history hearings hearing are off
 -- whether the packet of a link carries an empty PDU
 in_form : (count : ℕ) → count ≤ 255 → (nat_le 2 (suc (suc count)) && nat_le (suc (suc count)) 257 && (suc (suc count) == 2 + count)) ≡ true
 in_form count short = grind (arith, nat_tests)
-
-pub sent_in_form : (facts : EndFacts) → IsInForm facts → IsPdu (octets_of (header_sent facts) ++ payload_sent facts)
-sent_in_form facts form = in_form (length (payload_sent facts)) form.short
 
 readable_in_form : (facts : EndFacts) → IsReadable facts → IsPdu (octets_of (header_sent facts) ++ payload_sent facts)
 readable_in_form facts form = let short = form.short in in_form (length (payload_sent facts)) (omega (arith, short))

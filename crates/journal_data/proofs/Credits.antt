@@ -1,6 +1,7 @@
 -- In a run, where hosts send only between turns, what a host is credited is what was reported and its packets of no octet.
-use Rattle.std.proofs.Common.{◌≡◌, ℕ, suc, ◌+◌, ◌<◌, ◌≤◌, Bool, true, false, Option, Some, None, List, [], ◌∷◌, ◌++◌, refl, ap, sym, subst, ◌∙◌, arith}
-use Rattle.std.specs.Prelude.{◌&&◌}
+use Rattle.std.proofs.Common.{◌≡◌, ℕ, suc, ◌+◌, ◌<◌, ◌≤◌, Bool, true, false, Option, Some, None, List, [], ◌∷◌, ◌++◌, map, refl, ap, sym, subst, ◌∙◌, arith}
+use Rattle.std.specs.Prelude.{fold, nat_lt, if◌then◌else◌}
+use Rattle.std.specs.Option.{option_map}
 use Rattle.std.specs.List.{sum_by, AllByRecursion}
 use Rattle.std.proofs.Math.Nat.{mod-eq_of_lt}
 use Rattle.std.proofs.lemmas.Bool.{eq-eqb}
@@ -20,23 +21,28 @@ use Rattle.journal_acks.specs.link_model.Packets.{good_pdu}
 use Rattle.journal_acks.specs.link_model.Setup.{Setup as EndSetup}
 use Rattle.journal_acks.specs.link_model.Step.{Step as EndStep, DataGiven, EventEntered, PduFixed, PacketSent, PacketReceived, DataReported, ProcedureAsked, RequestAnswered, Disconnected}
 use Rattle.journal_acks.proofs.link_model.Pasts.{grows}
-use Rattle.journal_acks.specs.open_links.OpenLinks.{OpenLink, facts_in, link_at}
+use Rattle.journal_acks.specs.open_links.Data.{complete_in, completed_from, link_reported, links_reported}
+use Rattle.journal_acks.specs.open_links.OpenLinks.{OpenLink, facts_in, link_after, link_at}
+use Rattle.journal_acks.proofs.open_links.UnderHandles.{map_at}
 use Rattle.controller_model.specs.Between.{is_between_turns}
-use Rattle.controller_model.specs.Data.{note_received}
+use Rattle.controller_model.specs.Data.{event_completed, note_received, notes_handed}
+use Rattle.controller_model.specs.Events.{notes_of_events}
 use Rattle.controller_model.specs.Facts.{Setup}
 use Rattle.controller_model.specs.Side.{facts_of, notes_after, notes_of}
-use Rattle.controller_model.specs.Since.{empties_of, is_completed_on, note_completed, since_opened}
+use Rattle.controller_model.specs.Since.{count_since, empties_of, is_completed_on, note_completed, note_since, since_opened}
 use Rattle.controller_model.specs.Step.{Step, HostOctet, TurnBegins, PacketHeard, NothingHeard, TurnEnds}
-use Rattle.controller_model.proofs.Books.{Fact, IsKeptInBook, IsSilent}
+use Rattle.controller_model.proofs.BookEnds.{handing_book, reporting_book}
+use Rattle.controller_model.proofs.Books.{Fact, IsBookAfter, IsKeptInBook, IsSilent, and_then}
 use Rattle.controller_model.proofs.BooksAlways.{book_of}
 use Rattle.controller_model.proofs.OtherNotes.{event_handle_is, two_octets_hold}
+use Rattle.controller_model.proofs.PiecesBelow.{all_pieces}
 use Rattle.journal_acks.specs.run_model.Feeding.{HasNoted}
 use Rattle.journal_acks.specs.run_model.History.{Event, HostFed, noted_by, past_of, steps_in}
 use Rattle.journal_acks.specs.run_model.Run.{Given, after_call, after_feed, after_octets, facts_at, setup_at, step_of}
 use Rattle.journal_acks.proofs.run_model.Calls.{flat_nothing, past_own}
 use Rattle.journal_acks.proofs.run_laws.OpenSteps.{open_has}
 use Rattle.journal_data.proofs.Booked.{count_if, count_up}
-use Rattle.journal_data.proofs.FewComplete.{HadFew, IsFedBetween, IsFew, MayFeed, between_more, fed_more, few_always, had_front, had_last}
+use Rattle.journal_data.proofs.FewComplete.{HadFew, IsFedBetween, IsFew, MayFeed, between_more, fed_more, few_always, had_front, had_last, had_reported}
 use Rattle.journal_data.proofs.DataSteps.{IsKeptByEnd, IsOwnStep, end_keeps}
 use Rattle.controller_model.proofs.EndNotes.{sent_each, received_each}
 
@@ -197,6 +203,40 @@ credited_past setup past handle link few_links few fed is =
     let most = setup.host_buffers in
     (book_of handle (IsCounted setup.links handle most few_links few) setup (counted_kept setup.links handle most few_links few) past link is).1
     (open_has (IsFew most) 0 handle (facts_of setup past).links link (few_always setup most past (omega arith) fed) is).1
+
+-- and as a turn ends, also where the link ends then
+pub credited_handed : (setup : Setup) (past : List Step) (handle : ℕ) (link : OpenLink) → setup.links ≤ 4096 → setup.host_buffers ≤ 65535
+    → IsFedBetween past → link_at handle (facts_of setup past).links ≡ Some link
+    → let handed = notes_handed (facts_of setup past) in
+    sum_by (count_up handle) (fold (note_since handle) (since_opened handle (notes_of setup past)) handed)
+    ≡ (facts_in (link_reported link)).outgoing.reported + fold (count_since handle) (empties_of setup handle past) handed
+credited_handed setup past handle link few_links few fed is =
+    let facts = facts_of setup past in
+    let most = setup.host_buffers in
+    let many = setup.links in
+    let fact = IsCounted many handle most few_links few in
+    let kept = counted_kept many handle most few_links few in
+    let since = since_opened handle (notes_of setup past) in
+    let count = empties_of setup handle past in
+    let pieces = map note_received facts.received in
+    let reports = notes_of_events facts.view (map event_completed (completed_from 0 facts.links)) in
+    let reported = link_at handle (links_reported facts.links) in
+    let whole = all_pieces setup past in
+    let handed : IsBookAfter many handle fact (link_at handle facts.links) [] since count pieces =
+    subst (λ (place : Option OpenLink). IsBookAfter many handle fact place [] since count pieces) (sym is)
+    (handing_book many handle fact kept (Some link) facts.received since count whole.below (book_of handle fact setup kept past link is)) in
+    let after : IsBookAfter many handle fact reported [] since count (pieces ++ reports) =
+    and_then many handle fact kept reported [] since count pieces reports
+    (reporting_book many handle fact kept facts.view 0 facts.links (fold (note_since handle) since pieces) (fold (count_since handle) count pieces)
+    (omega (arith, whole.own.many)) handed) in
+    let place : reported ≡ Some (link_reported link) = map_at (option_map link_reported) 0 handle facts.links refl ∙ ap (option_map link_reported) is in
+    (subst (λ (place : Option OpenLink). IsBookAfter many handle fact place [] since count (pieces ++ reports)) place after).1
+    (had_then (nat_lt 0 (complete_in link)) (open_has (IsFew most) 0 handle facts.links link (few_always setup most past (omega arith) fed) is).1)
+  where
+    had_then : (some : Bool) → HadFew setup.host_buffers link.setup link.past
+        → HadFew setup.host_buffers (if some then link_after DataReported link else link).setup (if some then link_after DataReported link else link).past
+    had_then true had = had_reported setup.host_buffers link had
+    had_then false had = had
 
 -- ---- a station of a run
 

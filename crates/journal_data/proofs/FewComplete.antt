@@ -176,7 +176,7 @@ had_given most start body link had =
     let last = had_last most link.setup link.past had in
     had_more most link.setup link.past (DataGiven start body) had (omega (arith, same, last))
 
-had_reported : (most : ℕ) (link : OpenLink) → HasHadFew most link → HasHadFew most (link_after DataReported link)
+pub had_reported : (most : ℕ) (link : OpenLink) → HasHadFew most link → HasHadFew most (link_after DataReported link)
 had_reported most link had = had_more most link.setup link.past DataReported had (omega arith)
 
 -- ---- the links of a controller, in a turn

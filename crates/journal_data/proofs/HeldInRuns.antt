@@ -46,8 +46,7 @@ use Rattle.journal_data.proofs.HeldNotes.{IsHeld, IsHeldNote, call_held}
 use Rattle.journal_data.proofs.KeptData.{IsDataAt, data_kept, own_numbers}
 use Rattle.journal_data.proofs.LeastHandles.{OpenLeast, least_standing, pass_opens}
 use Rattle.journal_data.proofs.Law.{eight_of, first_data}
-use Rattle.journal_data.proofs.StationLines.{IsStationBooked, call_booked, event_booked, event_own, octet_own, octet_unused, octet_stays, AllStay}
-use Rattle.controller_model.proofs.NoProcedures.{plain_stays}
+use Rattle.journal_data.proofs.StationLines.{IsStationBooked, call_booked, event_booked, event_own, octet_own, octet_unused}
 
 -- ---- each step
 
@@ -61,12 +60,12 @@ module _ (whole : IsHeardWhole) (given : Given) (Q : Place → List Event → Ty
   P place history = AreHeldSoFar given Q place history
 
   one_more : (station : ℕ) (step : Step) (history : List Event) → HaveOwnNumbers given station history → HaveOwnNumbers given station (after_call given station step history)
-      → AllStay (facts_at given station history) step → IsStationBooked given station history
+      → IsStationBooked given station history
       → OpenLeast (facts_at given station history).links (notes_after (setup_at given station) (facts_at given station history) step)
       → Each IsHeld [] history → Each IsHeld [] (after_call given station step history)
-  one_more station step history own own_after stay booked least each =
+  one_more station step history own own_after booked least each =
       each_append IsHeld [] history (Called station step ∷ map (Noted station) (notes_after (setup_at given station) (facts_at given station history) step)) each
-      (call_held given station step history (few_links.links station) own own_after stay booked.links least)
+      (call_held given station step history (few_links.links station) own own_after booked.links least)
 
   -- a call that ends no phase opens none
   none_least : (station : ℕ) (step : Step) (history : List Event) → ends_phase step ≡ false
@@ -96,7 +95,6 @@ module _ (whole : IsHeardWhole) (given : Given) (Q : Place → List Event → Ty
   turn_more station step history before place in_it has next least =
       one_more station step history (own_numbers given Q known before history station in_it has.is.counted.known)
       (own_numbers given Q known place (after_call given station step history) station in_it next.counted.known)
-      (λ handle ends. plain_stays (facts_at given station history).links (known.plain before history has.is.counted.known station in_it) handle)
       (has.is.are.well station in_it).booked least has.each
 
   octets_more : (station : ℕ) (octets : List ℕ) (history : List Event) → HaveOwnNumbers given station history → IsStationBooked given station history
@@ -106,8 +104,8 @@ module _ (whole : IsHeardWhole) (given : Given) (Q : Place → List Event → Ty
       let own_next = octet_own given station octet history own in
       octets_more station octets (after_call given station (HostOctet octet) history) own_next
       (call_booked given station (HostOctet octet) history (few_links.links station) own own_next (octet_unused given station octet history)
-      (octet_stays given station octet history) booked)
-      (one_more station (HostOctet octet) history own own_next (octet_stays given station octet history) booked (none_least station (HostOctet octet) history refl) each)
+      booked)
+      (one_more station (HostOctet octet) history own own_next booked (none_least station (HostOctet octet) history refl) each)
 
   feed_more : (station : ℕ) (octets : List ℕ) (history : List Event) → HaveOwnNumbers given station history → IsStationBooked given station history
       → Each IsHeld [] history → Each IsHeld [] (after_feed given station octets history)

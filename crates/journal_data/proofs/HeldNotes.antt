@@ -1,6 +1,6 @@
 -- Before each note of a call, the links that the lines of its station have open are those that are open by the notes so
 -- far: a line that names a link is of an open link, and a link is opened under a handle that none has.
-use Rattle.std.proofs.Common.{◌≡◌, ℕ, ◌<◌, ◌≤◌, ◌==◌, Bool, true, false, Some, None, List, [], ◌∷◌, ◌++◌, map, cond, refl, ap, sym, subst, ◌∙◌, append-nil, append_assoc, arith, Option}
+use Rattle.std.proofs.Common.{◌≡◌, ℕ, ◌<◌, ◌≤◌, ◌==◌, ◌⊎◌, inl, inr, Bool, true, false, Some, None, List, [], ◌∷◌, ◌++◌, map, cond, refl, ap, sym, subst, ◌∙◌, append-nil, append_assoc, arith, Option}
 use Rattle.std.specs.Prelude.{◌||◌, fold, is_some, ⊤}
 use Rattle.std.specs.List.{AllByRecursion, sum_by, Contains}
 use Rattle.std.proofs.lemmas.List.Sums.{sum_by-cons}
@@ -11,11 +11,13 @@ use Rattle.ble_base.specs.declared.notes.Note.TheVariants.{Up, Opened, Shut, Sen
 use Rattle.ble_base.specs.declared.roles.Role.{Role}
 use Rattle.host_view.specs.Noted.{acl_handle, is_acl_data, two_octets}
 use Rattle.journal_acks.specs.open_links.OpenLinks.{IsLeastFree}
+use Rattle.controller_model.specs.Data.{facts_handed, notes_handed}
+use Rattle.controller_model.specs.Links.{notes_leaving}
 use Rattle.controller_model.specs.Since.{is_data_note}
 use Rattle.controller_model.specs.Facts.{Facts}
 use Rattle.controller_model.specs.Notes.{HasHandleBelow, is_opening, is_event}
 use Rattle.controller_model.specs.Side.{facts_after, notes_after}
-use Rattle.controller_model.specs.Step.{Step}
+use Rattle.controller_model.specs.Step.{Step, TurnEnds}
 use Rattle.controller_model.proofs.OpenNotes.{open_after, open_before}
 use Rattle.journal_acks.specs.run_model.Due.{Each}
 use Rattle.journal_acks.specs.run_model.History.{Event, TurnBegan, HostFed, Called, Noted, Transmitted, past_of}
@@ -35,10 +37,11 @@ use Rattle.journal_data.proofs.EachLine.{call_lines, lines_at, note_lines, numbe
 use Rattle.journal_data.proofs.Fronts.{front_all}
 use Rattle.journal_data.proofs.HeldLinks.{HoldsLinks, nothing_in, opened_holds, under_is}
 use Rattle.journal_data.proofs.LeastHandles.{OpenLeast}
-use Rattle.journal_data.proofs.NotedLines.{AreApart, IsOfBase, note_links, number_opened, numbers_noted, numbers_quiet, one_on, still_open, swapped, with_noted, completed_data, received_data}
-use Rattle.journal_data.proofs.Openness.{AreNot, IsNotedAs, stays, shuts, opens_first, is_open, is_shutting, note_open, past_noted}
+use Rattle.journal_data.proofs.NotedLines.{AreApart, IsOfBase, note_links, number_opened, numbers_noted, numbers_quiet, one_on, still_open, swapped, with_noted, completed_data, received_data, sent_data, took_data}
+use Rattle.journal_data.proofs.Openness.{AreNot, IsNotedAs, stays, shuts, opens_first, is_open, is_shutting, note_open, open_still, past_noted, handed_not}
 use Rattle.journal_data.proofs.OpenLines.{IsOfStaying, middle, of_staying, open_mid, opened_mid, parts, shut_mid}
-use Rattle.journal_data.proofs.StationLines.{called_then, each_in, names_few, of_after, of_before, own_apart, AllStay}
+use Rattle.journal_data.proofs.StationLines.{called_then, each_in, names_few, of_after, of_before, own_apart}
+use Rattle.journal_data.proofs.TurnsEnded.{ends_or_not, leaving_no_data}
 
 -- ---- notes that open no link
 
@@ -110,11 +113,25 @@ none_any link (one ∷ links) none = by (one.link == link) refl (none_any link l
         let parts = sum_by-cons (λ (x : OpenUnder). cond (x.link == link) 1 0) one links in
         rest (omega (arith, parts, none))
 
+-- ---- as a turn ends
+
+-- what is so of no note that the host receives then is so of none before a note of the data of a link
+before_data : (handle : ℕ) (kind : Note → Bool) (handed leaving earlier later : List Note) (note : Note) → handed ++ leaving ≡ earlier ++ note ∷ later
+    → is_data_note handle note ≡ true → AreNot (is_data_note handle) leaving → AreNot kind handed → AreNot kind earlier
+before_data handle kind [] leaving earlier later note is of_it none not =
+    absurd (let h : true ≡ false =
+    sym of_it ∙ middle (λ one. is_data_note handle one ≡ false) earlier note later (subst (AreNot (is_data_note handle)) is none) in absurd cc)
+before_data handle kind (first ∷ handed) leaving [] later note is of_it none not = tt
+before_data handle kind (first ∷ handed) leaving (one ∷ earlier) later note is of_it none not =
+    let same = parts first one (handed ++ leaving) (earlier ++ note ∷ later) is in (
+      subst (λ n. kind n ≡ false) same.heads not.0,
+      before_data handle kind handed leaving earlier later note same.tails of_it none not.1,
+    )
+
 -- ---- a call
 
 module _ (given : Given) (station : ℕ) (step : Step) (history : List Event) (few : (setup_at given station).links ≤ 4096) (own : HaveOwnNumbers given station history)
     (own_after : HaveOwnNumbers given station (after_call given station step history))
-    (stay : AllStay (facts_at given station history) step)
     (held : AreHeld (setup_at given station).links station history (is_open (facts_at given station history).links))
     (least : OpenLeast (facts_at given station history).links (notes_after (setup_at given station) (facts_at given station history) step)) where
   abbrev many : ℕ
@@ -233,7 +250,7 @@ module _ (given : Given) (station : ℕ) (step : Step) (history : List Event) (f
     opening_held (note ∷ earlier) later are =
         let same = parts first note rest (earlier ++ later) are in
         let of = of_rest rest shut
-        (subst (AllByRecursion (λ note. is_shutting note ≡ false → IsOfBase after_open note)) is (of_after (setup_at given station) (past_of station history) step few stay)).1 in
+        (subst (AllByRecursion (λ note. is_shutting note ≡ false → IsOfBase after_open note)) is (of_after (setup_at given station) (past_of station history) step few)).1 in
         subst (λ (one : Note). AreHeldAfter (one ∷ earlier)) same.heads
         (subst (λ (all : List Event). AreHeld many station all (λ other. fold (note_open other) (note_open other (before_open other) first) earlier))
         (one_on station called first earlier)
@@ -270,18 +287,38 @@ module _ (given : Given) (station : ℕ) (step : Step) (history : List Event) (f
       middle (IsOfBase before_open) earlier note later
       (subst (AllByRecursion (IsOfBase before_open)) are (of_before (setup_at given station) (past_of station history) step few))
 
-  then_of : (earlier later : List Note) (note : Note) → notes ≡ earlier ++ note ∷ later → is_shutting note ≡ false → IsOfBase after_open note
-  then_of earlier later note are =
-      middle (λ one. is_shutting one ≡ false → IsOfBase after_open one) earlier note later
-      (subst (AllByRecursion (λ one. is_shutting one ≡ false → IsOfBase after_open one)) are (of_after (setup_at given station) (past_of station history) step few stay))
+  -- a link is open before each note of its data: also before one that comes as a turn ends, at the end of which it is shut
+  open_then : (earlier later : List Note) (note : Note) (handle : ℕ) → notes ≡ earlier ++ note ∷ later → is_data_note handle note ≡ true
+      → fold (note_open handle) (before_open handle) earlier ≡ true
+  open_then earlier later note handle are of_it = by (ends_or_not step)
+    where
+      inside : Contains notes note
+      inside = middle (Contains notes) earlier note later (subst (λ (all : List Note). AllByRecursion (Contains notes) all) are (each_in (Contains notes) notes (λ one is. is)))
+
+      on : before_open handle ≡ true
+      on = open_before (setup_at given station) (past_of station history) step note handle few inside of_it
+
+      by : (step ≡ TurnEnds) ⊎ (step ≡ TurnEnds → ⊥) → fold (note_open handle) (before_open handle) earlier ≡ true
+      by (inl ends) =
+          let facts = facts_at given station history in
+          let whole : notes_handed facts ++ notes_leaving (facts_handed facts) ≡ earlier ++ note ∷ later =
+          ap (λ s. notes_after (setup_at given station) facts s) (sym ends) ∙ are in
+          let no_data = leaving_no_data handle facts in
+          open_still handle (before_open handle) earlier
+          (before_data handle is_opening (notes_handed facts) (notes_leaving (facts_handed facts)) earlier later note whole of_it no_data (handed_not is_opening (λ octets. refl) facts))
+          (before_data handle is_shutting (notes_handed facts) (notes_leaving (facts_handed facts)) earlier later note whole of_it no_data (handed_not is_shutting (λ octets. refl) facts))
+          ∙ on
+      by (inr goes) =
+          open_mid before_open after_open notes noted_as earlier (note ∷ later) handle are on
+          (open_after (setup_at given station) (past_of station history) step note handle few inside of_it (λ ends. absurd (goes ends)))
 
   note_is : (earlier later : List Note) (note : Note) → notes ≡ earlier ++ note ∷ later → IsHeldNote station (with_noted station called earlier) note
   note_is earlier later (Sent handle counted llid body) are =
       let note = Sent handle counted llid body in
-      stays_under earlier (note ∷ later) are handle (base_of earlier later note are) (then_of earlier later note are refl)
+      is_under earlier (note ∷ later) are handle (open_then earlier later note handle are (sent_data handle counted llid body))
   note_is earlier later (Took handle counted llid body) are =
       let note = Took handle counted llid body in
-      stays_under earlier (note ∷ later) are handle (base_of earlier later note are) (then_of earlier later note are refl)
+      is_under earlier (note ∷ later) are handle (open_then earlier later note handle are (took_data handle counted llid body))
   note_is earlier later (Enter handle event channel) are =
       let note = Enter handle event channel in
       let staying = middle (IsOfStaying before_open after_open) earlier note later
@@ -302,13 +339,11 @@ module _ (given : Given) (station : ℕ) (step : Step) (history : List Event) (f
       let note = Up packet in
       let setup = setup_at given station in
       let past = past_of station history in
-      let mid = with_noted station called earlier in
-      let inside = middle (Contains notes) earlier note later (subst (λ (all : List Note). AllByRecursion (Contains notes) all) are (each_in (Contains notes) notes (λ one is. is))) in
       let one = middle NamesOneHandle earlier note later (subst (AllByRecursion NamesOneHandle) are (step_one setup past step)) in
       let its_length = middle HasItsLength earlier note later (subst (AllByRecursion HasItsLength) are (step_lengths setup past step)) in
       let under = λ (handle : ℕ) (of : is_data_note handle note ≡ true).
       ap (λ (place : Option ℕ). is_some place)
-      (stays_under earlier (note ∷ later) are handle (open_before setup past step note handle few inside of) (open_after setup past step note handle few inside of (stay handle))) in (
+      (is_under earlier (note ∷ later) are handle (open_then earlier later note handle are of)) in (
         (λ acl. record { is_open = under (acl_handle packet.items) (received_data packet acl); whole = its_length acl }),
         (λ event. record { one_handle = one event; is_open = under (two_octets 4 packet.items) (completed_data packet event) }),
       )

@@ -46,6 +46,7 @@ use Rattle.controller_model.proofs.Feds.{frames_more}
 use Rattle.controller_model.proofs.Resets.{resets}
 use Rattle.controller_model.specs.Since.{count_fed}
 use Rattle.journal_data.specs.HostLines.{OpenUnder, Submitted, buffers_of, has_octets, is_dropped, is_reset, kept_of, kept_one, link_under, packet_in, packets_framed}
+use Rattle.controller_model.proofs.Unasked.{of_unasked}
 
 -- ---- octet by octet
 
@@ -595,7 +596,8 @@ known_leaves false setup facts command differs = refl
 known_leaves true setup facts command differs = others_leave command facts.links differs
 
 read_leaves : (setup : Setup) (facts : Facts) (read : CmdRead) → (read ≡ Known Reset → ⊥) → (facts_commanded setup facts read).links ≡ facts.links
-read_leaves setup facts (Known command) differs = known_leaves (status_of facts.view command == 0) setup facts command (λ is. differs (ap Known is))
+read_leaves setup facts (Known command) differs =
+    of_unasked setup facts command (λ (after : Facts). after.links ≡ facts.links) (known_leaves (status_of facts.view command == 0) setup facts command (λ is. differs (ap Known is)))
 read_leaves setup facts UnknownOpcode differs = refl
 read_leaves setup facts BadLength differs = refl
 

@@ -6,7 +6,7 @@ use Rattle.ble_base.specs.declared.notes.Note.TheVariants.{Opened}
 use Rattle.journal_acks.proofs.link_model.Hearing.{IsHeardWhole}
 use Rattle.controller_model.specs.Between.{is_between_turns}
 use Rattle.controller_model.specs.Side.{notes_after}
-use Rattle.controller_model.specs.Step.{Step, TurnBegins, TurnEnds}
+use Rattle.controller_model.specs.Step.{Step, TurnBegins, PacketHeard, NothingHeard, TurnEnds}
 use Rattle.controller_model.proofs.Always.{IsInTurn}
 use Rattle.journal_acks.specs.run_model.Feeding.{AreDistinct}
 use Rattle.journal_acks.specs.run_model.History.{Event, TurnBegan, Called, Noted, Transmitted, packet_received, past_of, turns_begun}
@@ -36,13 +36,13 @@ use Rattle.journal_data.proofs.FedInRuns.{between_standing}
 use Rattle.journal_data.proofs.FeedSide.{feed_arrives, feed_well}
 use Rattle.journal_data.proofs.Mine.{AreMine, other_back, packet_mine}
 use Rattle.journal_data.proofs.MineKept.{heard_none_mine, hearing_mine}
-use Rattle.journal_data.proofs.Moves.{begin_moves, end_moves, phase_moves}
+use Rattle.journal_data.proofs.EndCalls.{IsEndMade, end_arriving, end_well}
+use Rattle.journal_data.proofs.Moves.{begin_moves, phase_moves}
 use Rattle.journal_data.proofs.OneCall.{EachAt, HasMoved, IsCallMade, arriving_after, well_after, far_side}
 use Rattle.journal_data.proofs.Openness.{past_noted}
 use Rattle.journal_data.proofs.FewLinks.{HaveFewLinks}
 use Rattle.journal_data.proofs.SameView.{SeesSame, same_end, same_well, sees_other_call, sees_other_feed, sees_packet, sees_turn}
 use Rattle.journal_data.proofs.Sides.{AreArriving}
-use Rattle.controller_model.proofs.NoProcedures.{plain_stays}
 
 abbrev IsArriving : Given → ℕ → ℕ → List Event → Type 0
 IsArriving given station other history =
@@ -127,6 +127,11 @@ pub pass_in_turn : (received : Option (List ℕ)) → IsInTurn (step_of received
 pass_in_turn None = tt
 pass_in_turn (Some octets) = tt
 
+-- and it is not the end of the turn
+pass_goes_on : (received : Option (List ℕ)) → step_of received ≡ TurnEnds → ⊥
+pass_goes_on None is = let h : NothingHeard ≡ TurnEnds = is in absurd cc
+pass_goes_on (Some octets) is = let h : PacketHeard octets ≡ TurnEnds = is in absurd cc
+
 -- ---- each step
 
 module _ (whole : IsHeardWhole) (given : Given) (Q : Place → List Event → Type 0) (known : AreKnown given Q) (are_two : IsOfTwo given) (few_links : HaveFewLinks given)
@@ -151,12 +156,12 @@ module _ (whole : IsHeardWhole) (given : Given) (Q : Place → List Event → Ty
       (sym (λ i. lines_of side (last_by_call station step [] history station i) ((journal_event history (Called station step) ∙ append-nil (journal_of history)) i))
       ∙ known.fresh place (after_call given station step history) counted.known station first.handle first.role first.own first.peer called (map (Noted station) first.rest) is at)
 
-  call_well : (station : ℕ) (step : Step) (history : List Event) (before place : Place) → is_in station given.stations ≡ true → IsInTurn step
+  call_well : (station : ℕ) (step : Step) (history : List Event) (before place : Place) → is_in station given.stations ≡ true → IsInTurn step → (step ≡ TurnEnds → ⊥)
       → C before history → C place (after_call given station step history)
       → EachAt given station (after_call given station step history) (HasMoved given station history)
       → (AreFew given station history → AreFew given station (after_call given station step history))
       → AreMine given history → AreWell given history → AreWell given (after_call given station step history)
-  call_well station step history before place is in_turn was counted moved few mine are =
+  call_well station step history before place is in_turn goes_on was counted moved few mine are =
       let after = after_call given station step history in
       let other = other_of station in
       let far = other_in given are_two station is in
@@ -174,11 +179,34 @@ module _ (whole : IsHeardWhole) (given : Given) (Q : Place → List Event → Ty
         moved = moved;
         few = few (are.well station is).few;
         in_turn = in_turn;
-        stay = λ handle ends. plain_stays (facts_at given station history).links (known.plain before history was.known station is) handle;
+        goes_on = goes_on;
       } in
       own_all given are_two station history after is (λ one differs. sees_other_call given one station step history differs) (record {
         well = well_after given few_links.links eight station step history made;
         arriving = arriving_after given few_links.links eight station step history made;
+      }) are
+
+  end_well_kept : (station : ℕ) (history : List Event) (before place : Place) → is_in station given.stations ≡ true → C before history
+      → C place (after_call given station TurnEnds history) → AreWell given history → AreWell given (after_call given station TurnEnds history)
+  end_well_kept station history before place is was counted are =
+      let after = after_call given station TurnEnds history in
+      let other = other_of station in
+      let far = other_in given are_two station is in
+      let made : IsEndMade given station history = record {
+        well = are.well station is;
+        far_well = are.well other far;
+        clear = opened_clear station TurnEnds history place is counted;
+        arriving = are.arriving station is;
+        own = own_numbers given Q known before history station is was.known;
+        own_after = own_numbers given Q known place after station is counted.known;
+        begun = λ handle link at. known.begun before history was.known station handle link is at;
+        far_begun = λ handle link at. known.begun before history was.known other handle link far at;
+        agree = known.agree whole before history was.known station other is far (own_differs station);
+        few = few_end given station history (are.well station is).few;
+      } in
+      own_all given are_two station history after is (λ one differs. sees_other_call given one station TurnEnds history differs) (record {
+        well = end_well given few_links.links eight station history made;
+        arriving = end_arriving given few_links.links eight station history made;
       }) are
 
   feed_kept : (station : ℕ) (octets : List ℕ) (history : List Event) (place : Place) → is_in station given.stations ≡ true → C place history → IsBetween given station history
@@ -233,7 +261,7 @@ module _ (whole : IsHeardWhole) (given : Given) (Q : Place → List Event → Ty
         record {
           counted = counted;
           mine = heard_none_mine given after counted.holds.hearing.hears;
-          are = call_well station step history (AtBegins done (station ∷ left)) place in_it tt is.counted counted (begin_moves given station slot on history)
+          are = call_well station step history (AtBegins done (station ∷ left)) place in_it tt (λ ends. let h : TurnBegins slot on ≡ TurnEnds = ends in absurd cc) is.counted counted (begin_moves given station slot on history)
               (few_begin given station slot on history) is.mine is.are;
         };
     on_begun = λ history is. record { counted = kept.on_begun history is.counted; mine = is.mine; are = is.are };
@@ -263,7 +291,7 @@ module _ (whole : IsHeardWhole) (given : Given) (Q : Place → List Event → Ty
         record {
           counted = counted;
           mine = hearing_mine given are_two station history in_it is.mine;
-          are = call_well station step history (AtListening phases done (station ∷ left)) place in_it (pass_in_turn received) is.counted counted
+          are = call_well station step history (AtListening phases done (station ∷ left)) place in_it (pass_in_turn received) (pass_goes_on received) is.counted counted
               (λ handle link at. phase_moves given station history handle link before.uses.in_turn.listens at)
               (few_pass given station received history) is.mine is.are;
         };
@@ -277,8 +305,7 @@ module _ (whole : IsHeardWhole) (given : Given) (Q : Place → List Event → Ty
         record {
           counted = counted;
           mine = heard_none_mine given after counted.holds.hearing.hears;
-          are = call_well station TurnEnds history (AtEnds done (station ∷ left)) place in_it tt is.counted counted (end_moves given station history)
-              (few_end given station history) is.mine is.are;
+          are = end_well_kept station history (AtEnds done (station ∷ left)) place in_it is.counted counted is.are;
         };
     on_ended = λ history is. record { counted = kept.on_ended history is.counted; mine = is.mine; are = is.are };
   }

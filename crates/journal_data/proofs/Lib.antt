@@ -18,6 +18,7 @@ pub mod Mine
 pub mod MineKept
 pub mod Openness
 pub mod NotedLines
+mod TurnsEnded
 pub mod StationLines
 mod OpenLines
 pub mod LeastHandles
@@ -27,12 +28,15 @@ pub mod HeldNotes
 pub mod LinesGrow
 pub mod FewComplete
 mod Credits
+mod HandedPieces
 pub mod FedInRuns
 pub mod Ends
 pub mod ClearLines
 mod SameView
 mod NotedStays
+mod EndedLinks
 pub mod OneCall
+mod EndCalls
 pub mod Moves
 mod FeedSide
 pub mod KeptData

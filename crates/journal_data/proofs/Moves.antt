@@ -7,7 +7,7 @@ use Rattle.journal_acks.specs.open_links.OpenLinks.{OpenLink, facts_in, link_at}
 use Rattle.controller_model.specs.Facts.{Facts}
 use Rattle.controller_model.specs.Heard.{has_room}
 use Rattle.controller_model.specs.Side.{facts_after}
-use Rattle.controller_model.specs.Step.{TurnBegins, TurnEnds}
+use Rattle.controller_model.specs.Step.{TurnBegins}
 use Rattle.journal_acks.specs.run_model.History.{Event, packet_received}
 use Rattle.journal_acks.specs.run_model.Run.{Given, after_call, facts_at, setup_at, step_of}
 use Rattle.journal_acks.proofs.run_laws.Agreed.{ack_of, ack_sent, first_ack}
@@ -16,7 +16,6 @@ use Rattle.journal_acks.proofs.KeptCounts.{own_at}
 use Rattle.journal_acks.specs.link_calls.Phases.{HasPassed, IsNew, Stays, Takes}
 use Rattle.journal_acks.proofs.link_calls.LinkCalls.{base_ack, begins_under, passes_under}
 use Rattle.journal_acks.specs.link_calls.Uses.{sends_under}
-use Rattle.journal_acks.proofs.link_calls.UnderHandles.{end_under}
 use Rattle.journal_acks.specs.link_calls.Turns.{sent_if}
 use Rattle.journal_data.proofs.OneCall.{HasMoved, Kept, New, Took}
 use Rattle.journal_acks.specs.link_model.Controls.{pdu_fixed}
@@ -75,11 +74,3 @@ phase_moves given station history handle link listens at =
     let next = facts_after setup facts (step_of received) in
     passed_moves given station history handle link (has_room setup facts) next
     (passes_under setup facts received handle link listens (own_at given station (step_of received) history handle link at))
-
--- ---- as a turn ends
-
-pub end_moves : (given : Given) (station : ℕ) (history : List Event) (handle : ℕ) (link : OpenLink)
-    → link_at handle (facts_at given station (after_call given station TurnEnds history)).links ≡ Some link → HasMoved given station history handle link
-end_moves given station history handle link at =
-    let was = end_under (setup_at given station) (facts_at given station history) handle link (own_at given station TurnEnds history handle link at) in
-    Kept was.link was.was (ap (λ (a : Acknowledgement). a.accepted) was.ack) (ap (λ (a : Acknowledgement). take a.acked a.sent) was.ack)

@@ -225,7 +225,7 @@ still_open handle linked (Shut other reason) none on = by (other == handle) on
 still_open handle linked (Up packet) none on = on
 still_open handle linked note none on = on
 
-since_plain : (handle : ℕ) (since : List Note) (note : Note) → is_opening note ≡ false → since ++ note ∷ [] ≡ note_since handle since note
+pub since_plain : (handle : ℕ) (since : List Note) (note : Note) → is_opening note ≡ false → since ++ note ∷ [] ≡ note_since handle since note
 since_plain handle since (Opened other role own peer) none = absurd cc
 since_plain handle since (Up packet) none = refl
 since_plain handle since note none = refl

@@ -1,4 +1,4 @@
--- A call in a turn keeps that the data of both sides arrives in order.
+-- A call in a turn, before the end of it, keeps that the data of both sides arrives in order.
 use Rattle.std.proofs.Common.{◌≡◌, ℕ, zero, suc, ◌≤◌, ◌==◌, true, false, Option, Some, List, [], ◌∷◌, ◌++◌, length, take, refl, sym, ap, subst, ◌∙◌, if◌then◌else◌, arith}
 use Rattle.std.specs.Prelude.{◌≢◌}
 use Rattle.std.specs.Option.{option_map}
@@ -12,7 +12,7 @@ use Rattle.journal_acks.specs.open_links.OpenLinks.{OpenLink, facts_in, link_at}
 use Rattle.controller_model.specs.Facts.{Facts, Setup}
 use Rattle.controller_model.specs.Side.{notes_after}
 use Rattle.controller_model.specs.Since.{data_waiting}
-use Rattle.controller_model.specs.Step.{Step}
+use Rattle.controller_model.specs.Step.{Step, TurnEnds}
 use Rattle.controller_model.proofs.Always.{IsInTurn}
 use Rattle.journal_acks.proofs.run_model.LinksKnown.{link_by_other, link_by_own}
 use Rattle.journal_acks.proofs.run_model.Notes.{noted_own}
@@ -40,7 +40,7 @@ use Rattle.journal_data.proofs.Openness.{opens_where_free}
 use Rattle.journal_data.proofs.Sides.{AreArriving, End, IsBusy, IsFound, IsSound, call_arrives}
 use Rattle.journal_data.proofs.LinesGrow.{call_grows}
 use Rattle.journal_data.proofs.NotedLines.{IsSameOn}
-use Rattle.journal_data.proofs.StationLines.{IsNoneOf, UnusedWhereOpened, call_booked, call_same_on, AllStay}
+use Rattle.journal_data.proofs.StationLines.{IsNoneOf, UnusedWhereOpened, call_booked, call_same_on}
 use Rattle.journal_data.proofs.KeptSubmitted.{turn_submitted}
 use Rattle.journal_data.proofs.Submitting.{call_submits, turn_fed}
 
@@ -59,7 +59,7 @@ pub data HasMoved (given : Given) (station : ℕ) (history : List Event) (handle
 abbrev pub EachAt : Given → ℕ → List Event → (ℕ → OpenLink → Type 0) → Type 0
 EachAt given station history P = (handle : ℕ) (link : OpenLink) → link_at handle (facts_at given station history).links ≡ Some link → P handle link
 
--- a call in a turn
+-- a call in a turn, before its end
 pub record IsCallMade (given : Given) (station : ℕ) (step : Step) (history : List Event) : Type 0 where
   pub well : IsWell given station history
   pub far_well : IsWell given (other_of station) history
@@ -78,15 +78,15 @@ pub record IsCallMade (given : Given) (station : ℕ) (step : Step) (history : L
   pub moved : EachAt given station (after_call given station step history) (HasMoved given station history)
   pub few : AreFew given station (after_call given station step history)
   pub in_turn : IsInTurn step
-  -- no link ends as a turn ends
-  pub stay : AllStay (facts_at given station history) step
+  -- it is not the end of the turn
+  pub goes_on : step ≡ TurnEnds → ⊥
 
 no_front : {X : Type 0} (front rest : List X) → front ++ rest ≡ [] → front ≡ []
 no_front [] rest is = refl
 no_front (x ∷ front) rest is = absurd cc
 
 -- the other one of two stations
-other_not : (station : ℕ) → (other_of station == station) ≡ false
+pub other_not : (station : ℕ) → (other_of station == station) ≡ false
 other_not zero = refl
 other_not (suc station) = false_from_ne_true (0 == suc station) (λ same. let is = eqb-true 0 (suc station) same in omega (arith, is))
 
@@ -145,7 +145,7 @@ module _ (given : Given) (few : (station : ℕ) → (setup_at given station).lin
   pub well_after : IsWell given station then_on
   well_after = record {
     noted = noted_own given station step history made.well.noted;
-    booked = call_booked given station step history (few station) made.own made.own_after unused made.stay made.well.booked;
+    booked = call_booked given station step history (few station) made.own made.own_after unused made.well.booked;
     submitted = turn_submitted given station step history made.in_turn (λ handle opened. (made.clear handle opened).submitted) made.well.submitted;
     fed = turn_fed given station step history made.in_turn made.well.fed;
     few = made.few;
@@ -156,7 +156,8 @@ module _ (given : Given) (few : (station : ℕ) → (setup_at given station).lin
 
   -- what the lines say of links that are not open then is the same
   others_same : (number : ℕ) → IsNoneOf given station number then_on → IsSameOn number before_lines after_lines
-  others_same number none = call_same_on given station step history (few station) made.own made.own_after unused made.stay made.well.booked number none
+  others_same number none =
+      call_same_on given station step history (few station) made.own made.own_after unused made.well.booked (λ handle ends. absurd (made.goes_on ends)) number none
 
   sound_after : (handle : ℕ) (link : OpenLink) → place_after handle ≡ Some link → IsSound (end_of station handle then_on given link) after_lines
   sound_after handle link at = sound given station handle then_on link (few station) (eight station) well_after at

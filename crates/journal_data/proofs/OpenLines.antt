@@ -27,7 +27,7 @@ pub middle : (P : Note → Type 0) (earlier : List Note) (note : Note) (later : 
 middle P [] note later all = all.0
 middle P (first ∷ earlier) note later all = middle P earlier note later all.1
 
-all_back : (P : Note → Type 0) (earlier later : List Note) → AllByRecursion P (earlier ++ later) → AllByRecursion P later
+pub all_back : (P : Note → Type 0) (earlier later : List Note) → AllByRecursion P (earlier ++ later) → AllByRecursion P later
 all_back P [] later all = all
 all_back P (note ∷ earlier) later all = all_back P earlier later all.1
 

@@ -67,6 +67,7 @@ use Rattle.journal_acks.proofs.link_calls.CallNotes.{is_taking}
 use Rattle.controller_model.proofs.EndNotes.{sent_each, received_each, entered_each}
 use Rattle.controller_model.proofs.ProcedureEvents.{AreOfProcedures, IsOfProcedure, entering_events, reception_events}
 use Rattle.controller_model.specs.Entering.{events_entering, notes_all_entering}
+use Rattle.controller_model.proofs.Unasked.{both_unasked}
 
 -- ---- what a note says
 
@@ -391,7 +392,9 @@ known_as false setup facts opcode command =
 
 read_as : (setup : Setup) (facts : Facts) (opcode : ℕ) (read : CmdRead)
     → IsNotedAs (is_open facts.links) (is_open (facts_commanded setup facts read).links) (notes_commanded setup facts opcode read)
-read_as setup facts opcode (Known command) = known_as (status_of facts.view command == 0) setup facts opcode command
+read_as setup facts opcode (Known command) =
+    both_unasked setup facts command opcode (λ (after : Facts) (notes : List Note). IsNotedAs (is_open facts.links) (is_open after.links) notes)
+    (known_as (status_of facts.view command == 0) setup facts opcode command)
 read_as setup facts opcode UnknownOpcode =
     stays_quiet (is_open facts.links) (is_open facts.links) _ (answer_quiet setup facts opcode UnknownOpcode) (λ handle. refl)
 read_as setup facts opcode BadLength =
@@ -657,13 +660,13 @@ phase_as setup facts own = let nothing = stays tt tt (λ handle. refl) in record
 -- ---- each step
 
 -- what the host receives as a turn ends
-handed_not : (kind : Note → Bool) → ((octets : List ℕ) → kind (Up (record { items = octets })) ≡ false) → (facts : Facts) → AreNot kind (notes_handed facts)
+pub handed_not : (kind : Note → Bool) → ((octets : List ℕ) → kind (Up (record { items = octets })) ≡ false) → (facts : Facts) → AreNot kind (notes_handed facts)
 handed_not kind up facts =
     let events = map event_completed (completed_from 0 facts.links) in
     both_not kind (map note_received facts.received) (notes_of_events facts.view events) (pieces_not kind up facts.received) (events_not kind up facts.view events)
 
 -- and the links that end then
-leaving_not : (kind : Note → Bool) → ((octets : List ℕ) → kind (Up (record { items = octets })) ≡ false)
+pub leaving_not : (kind : Note → Bool) → ((octets : List ℕ) → kind (Up (record { items = octets })) ≡ false)
     → ((handle reason : ℕ) → kind (note_shut handle reason) ≡ false) → (facts : Facts) → AreNot kind (notes_leaving (facts_handed facts))
 leaving_not kind up shut facts =
     ends_not kind facts.view (λ one. shut one.handle one.reason.0)

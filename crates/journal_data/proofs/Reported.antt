@@ -43,6 +43,7 @@ use Rattle.controller_model.proofs.TurnNotes.{EachNote, turn_noted}
 use Rattle.journal_data.specs.Held.{IsOfOneHandle}
 use Rattle.journal_data.proofs.PieceLengths.{AreShort, all_short, packet_length}
 use Rattle.journal_data.proofs.Openness.{AreNot, NoReport, begun_reports, is_report, phase_reports, all_append, leaving_reports}
+use Rattle.controller_model.proofs.Unasked.{noted_unasked}
 
 -- a Number Of Completed Packets event is of one handle
 abbrev pub NamesOneHandle : Note → Type 0
@@ -75,7 +76,7 @@ module _ (P : Note → Type 0) (of_event : (event : Event) → P (Up (record { i
   of_packets [] = tt
   of_packets (event ∷ events) = (of_event event, of_packets events)
 
-  of_events : (view : View) (events : List Event) → AllByRecursion P (notes_of_events view events)
+  pub of_events : (view : View) (events : List Event) → AllByRecursion P (notes_of_events view events)
   of_events view events = of_packets (filter (λ event. passes view (mask_bit_of event)) events)
 
   of_shuts : (handles : List ℕ) → AllByRecursion P (map (λ handle. note_shut handle 0) handles)
@@ -102,7 +103,8 @@ module _ (P : Note → Type 0) (of_event : (event : Event) → P (Up (record { i
   of_known false setup facts opcode command = of_events facts.view (answer_to setup facts opcode (Known command))
 
   of_read : (setup : Setup) (facts : Facts) (opcode : ℕ) (read : CmdRead) → AllByRecursion P (notes_commanded setup facts opcode read)
-  of_read setup facts opcode (Known command) = of_known (status_of facts.view command == 0) setup facts opcode command
+  of_read setup facts opcode (Known command) =
+      noted_unasked setup facts command opcode (AllByRecursion P) (of_known (status_of facts.view command == 0) setup facts opcode command)
   of_read setup facts opcode UnknownOpcode = of_events facts.view (answer_to setup facts opcode UnknownOpcode)
   of_read setup facts opcode BadLength = of_events facts.view (answer_to setup facts opcode BadLength)
 

@@ -42,6 +42,7 @@ use Rattle.journal_data.proofs.EachLine.{event_lines, call_lines, lines_at, note
 use Rattle.journal_data.proofs.HeldLinks.{HoldsLinks, holds_none}
 use Rattle.journal_data.proofs.Openness.{AreNot, IsNotedAs, stays, shuts, opens_first, is_open, is_shutting, note_open, open_still, past_noted, all_of, same_open}
 use Rattle.journal_data.proofs.NotedLines.{IsUnused, IsSameOn, same_itself, same_then, IsLink, is_link, AreApart, IsOfBase, IsNotOf, sent_data, took_data, IsBookedSo, booked_along, booked_where, opening_kept, with_noted, one_on, numbers_quiet, notes_kept}
+use Rattle.journal_data.proofs.TurnsEnded.{is_else, none_else}
 use Rattle.controller_model.proofs.OpenPlaces.{mapped_opens}
 use Rattle.journal_acks.specs.open_links.Data.{link_reported}
 
@@ -57,10 +58,6 @@ pub record IsStationBooked (given : Given) (station : ℕ) (history : List Event
 
 pub each_in : (P : Note → Type 0) (notes : List Note) → ((note : Note) → Contains notes note → P note) → AllByRecursion P notes
 each_in P notes is = all_of (Contains notes) P is notes (recursion_from_All (Contains notes) notes (All-contains_itself notes))
-
--- no link of the station ends as a turn ends
-abbrev pub AllStay : Facts → Step → Type 0
-AllStay facts step = (handle : ℕ) → StaysIn facts step handle
 
 module _ (setup : Setup) (past : List Step) (step : Step) (few : setup.links ≤ 4096) where
   abbrev notes_then : List Note
@@ -86,16 +83,23 @@ module _ (setup : Setup) (past : List Step) (step : Step) (few : setup.links ≤
       by note inside = tt
 
   -- and PDUs where they are open after it
-  pub of_after : AllStay (facts_of setup past) step
-      → AllByRecursion (λ note. is_shutting note ≡ false → IsOfBase (is_open (facts_after setup (facts_of setup past) step).links) note) notes_then
-  of_after stay = each_in _ notes_then by
+  pub of_after : AllByRecursion (λ note. is_shutting note ≡ false → IsOfBase (is_open (facts_after setup (facts_of setup past) step).links) note) notes_then
+  of_after = each_in _ notes_then by
     where
+      -- none is noted as a turn ends
+      goes_on : (note : Note) (handle : ℕ) → is_else note ≡ true → Contains (notes_after setup (facts_of setup past) step) note
+          → StaysIn (facts_of setup past) step handle
+      goes_on note handle is inside ends =
+          absurd (let h : true ≡ false = sym is ∙ none_else setup (facts_of setup past) step note inside ends in absurd cc)
+
       by : (note : Note) → Contains (notes_after setup (facts_of setup past) step) note → is_shutting note ≡ false
           → IsOfBase (is_open (facts_after setup (facts_of setup past) step).links) note
       by (Sent handle counted llid body) inside none =
-          open_after setup past step (Sent handle counted llid body) handle few inside (sent_data handle counted llid body) (stay handle)
+          let note = Sent handle counted llid body in
+          open_after setup past step note handle few inside (sent_data handle counted llid body) (goes_on note handle refl inside)
       by (Took handle counted llid body) inside none =
-          open_after setup past step (Took handle counted llid body) handle few inside (took_data handle counted llid body) (stay handle)
+          let note = Took handle counted llid body in
+          open_after setup past step note handle few inside (took_data handle counted llid body) (goes_on note handle refl inside)
       by (Shut handle reason) inside none = absurd cc
       by (Up packet) inside none = tt
       by note inside none = tt
@@ -120,6 +124,17 @@ so_booked given station history booked = record {
   links = booked.links;
 }
 
+pub called_numbers : (station : ℕ) (step : Step) (history : List Event) → numbers_at station (history ++ Called station step ∷ []) ≡ numbers_at station history
+called_numbers station step history = ap (λ (links : Links). links.link_of station) (links_event history (Called station step))
+
+-- so it is once a call has begun
+pub called_booked : (given : Given) (station : ℕ) (step : Step) (history : List Event) → IsStationBooked given station history
+    → IsBookedSo (setup_at given station).links station (history ++ Called station step ∷ []) (is_open (facts_at given station history).links)
+called_booked given station step history booked =
+    booked_along (setup_at given station).links (numbers_at station history) _ (lines_at station history) _ _ _ (is_open (facts_at given station history).links)
+    (called_numbers station step history) (call_lines station history station step)
+    (λ handle. ap (since_opened handle) (flat_nothing (notes_in station) history (Called station step) refl)) (so_booked given station history booked)
+
 pub own_apart : (given : Given) (station : ℕ) (history : List Event) → HaveOwnNumbers given station history
     → AreApart (numbers_at station history) (is_open (facts_at given station history).links)
 own_apart given station history own one other on on_too differs =
@@ -137,7 +152,7 @@ UnusedWhereOpened given station step history =
 
 module _ (given : Given) (station : ℕ) (step : Step) (history : List Event) (few : (setup_at given station).links ≤ 4096) (own : HaveOwnNumbers given station history)
     (own_after : HaveOwnNumbers given station (after_call given station step history)) (unused : UnusedWhereOpened given station step history)
-    (stay : AllStay (facts_at given station history) step) (booked : IsStationBooked given station history) where
+    (booked : IsStationBooked given station history) where
   abbrev many : ℕ
   many = (setup_at given station).links
 
@@ -160,13 +175,8 @@ module _ (given : Given) (station : ℕ) (step : Step) (history : List Event) (f
     kept : IsBookedSo many station then_on after_open
     same : (other : ℕ) → AllByRecursion (IsNotOf other (numbers_at station then_on)) notes → IsSameOn other (lines_at station history) (lines_at station then_on)
 
-  numbers_called : numbers_at station called ≡ numbers_at station history
-  numbers_called = ap (λ (links : Links). links.link_of station) (links_event history (Called station step))
-
   called_so : IsBookedSo many station called before_open
-  called_so =
-      booked_along many (numbers_at station history) _ (lines_at station history) _ _ _ before_open numbers_called (call_lines station history station step)
-      (λ handle. ap (since_opened handle) (flat_nothing (notes_in station) history (Called station step) refl)) (so_booked given station history booked)
+  called_so = called_booked given station step history booked
 
   lines_called : lines_at station called ≡ lines_at station history
   lines_called = call_lines station history station step
@@ -175,7 +185,7 @@ module _ (given : Given) (station : ℕ) (step : Step) (history : List Event) (f
   plain_call : AreNot is_opening notes → ((handle : ℕ) → fold (note_open handle) (before_open handle) notes ≡ after_open handle) → KeepsCall
   plain_call none opens =
       let kept = notes_kept many station called before_open before_open notes
-      (subst (λ (number : ℕ → ℕ). AreApart number before_open) (sym numbers_called) (own_apart given station history own)) (λ handle on. on) none
+      (subst (λ (number : ℕ → ℕ). AreApart number before_open) (sym (called_numbers station step history)) (own_apart given station history own)) (λ handle on. on) none
       (of_before (setup_at given station) (past_of station history) step few) called_so in
       let numbers : numbers_at station then_on ≡ numbers_at station called = ap (numbers_at station) (sym (called_then station step history notes)) ∙ numbers_quiet station called notes none in
       record {
@@ -211,7 +221,7 @@ module _ (given : Given) (station : ℕ) (step : Step) (history : List Event) (f
       (subst (λ (held : Facts). AreApart (numbers_at station then_on) (is_open held.links)) (own_facts given station step history) (own_apart given station then_on own_after)) in
       let kept = notes_kept many station next (λ other. note_open other (before_open other) first) after_open rest own_then
       (λ other on. within other (handle == other) refl on) none
-      (of_rest rest shut (subst (AllByRecursion (λ note. is_shutting note ≡ false → IsOfBase after_open note)) is (of_after setup past step few stay)).1)
+      (of_rest rest shut (subst (AllByRecursion (λ note. is_shutting note ≡ false → IsOfBase after_open note)) is (of_after setup past step few)).1)
       (opening_kept many station called before_open handle role first_own peer free below unused_then called_so) in
       record {
         kept = booked_where many (numbers_at station then_on) (lines_at station then_on) (λ other. since_opened other (noted_by station then_on)) _ after_open
@@ -261,10 +271,11 @@ module _ (given : Given) (station : ℕ) (step : Step) (history : List Event) (f
         links = so.links;
       }
 
-  -- of a link that the station does not have open after the call
-  pub call_same_on : (other : ℕ) → IsNoneOf given station other (after_call given station step history)
+  -- of a link that the station does not have open after the call, where no turn ends in it
+  pub call_same_on : ((handle : ℕ) → StaysIn (facts_at given station history) step handle) → (other : ℕ)
+      → IsNoneOf given station other (after_call given station step history)
       → IsSameOn other (lines_at station history) (lines_at station (after_call given station step history))
-  call_same_on other none_of =
+  call_same_on stay other none_of =
       call_kept.same other (each_in (IsNotOf other (numbers_at station then_on)) notes (λ note inside handle is.
       let now = is_link (link_at handle (facts_after (setup_at given station) (facts_at given station history) step).links)
       (open_after (setup_at given station) (past_of station history) step note handle few inside is (stay handle)) in
@@ -307,10 +318,6 @@ octet_none_of given station octet other history none handle link at =
     let was = octet_was given station octet handle history link at in
     ap (λ n. n == other) (octet_number given station octet handle history) ∙ none handle was.link was.is
 
--- and no turn ends in it
-pub octet_stays : (given : Given) (station octet : ℕ) (history : List Event) → AllStay (facts_at given station history) (HostOctet octet)
-octet_stays given station octet history handle ends = absurd cc
-
 -- what a feed keeps
 pub record KeepsFeed (given : Given) (station : ℕ) (history after : List Event) : Type 0 where
   pub booked : IsStationBooked given station after
@@ -323,14 +330,14 @@ octets_kept given station (octet ∷ octets) history few own booked =
     let next = after_call given station (HostOctet octet) history in
     let own_next = octet_own given station octet history own in
     let unused = octet_unused given station octet history in
-    let stay = octet_stays given station octet history in
-    let rest = octets_kept given station octets next few own_next (call_booked given station (HostOctet octet) history few own own_next unused stay booked) in
+    let rest = octets_kept given station octets next few own_next (call_booked given station (HostOctet octet) history few own own_next unused booked) in
     record {
       booked = rest.booked;
       same = λ other none.
           let none_next = octet_none_of given station octet other history none in
           same_then other (lines_at station history) (lines_at station next) _
-          (call_same_on given station (HostOctet octet) history few own own_next unused stay booked other none_next) (rest.same other none_next);
+          (call_same_on given station (HostOctet octet) history few own own_next unused booked (λ handle ends. absurd cc) other none_next)
+          (rest.same other none_next);
     }
 
 -- ---- other events

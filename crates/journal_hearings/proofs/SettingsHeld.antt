@@ -40,6 +40,7 @@ use Rattle.controller_model.proofs.Handles.{HaveOwnHandles, handles_kept, own_ha
 use Rattle.journal_hearings.specs.Settings.{accepted_commands, accepted_command, commands_sent, command_read, is_left_out, list_after, policy_after, status_unless}
 use Rattle.journal_hearings.proofs.AnswerStatuses.{command_status, complete_status, reads_statuses, statuses_append, statuses_noted, statuses_of}
 use Rattle.journal_hearings.proofs.CommandCodes.{FitsCode, FitsRead, IsPlain, read_fits}
+use Rattle.controller_model.proofs.Unasked.{both_unasked}
 
 -- ---- what a controller holds
 
@@ -262,7 +263,10 @@ module _ (setup : Setup) (facts : Facts) (opcode : ℕ) where
 
 command_set : (setup : Setup) (facts : Facts) (opcode : ℕ) (read : CmdRead) → FitsRead opcode read
     → IsAnsweredSet facts (facts_commanded setup facts read) (reads_of (is_left_out opcode) read) (statuses_of (notes_commanded setup facts opcode read))
-command_set setup facts opcode (Known command) fits = known_set setup facts opcode command fits
+command_set setup facts opcode (Known command) fits =
+    both_unasked setup facts command opcode
+    (λ (after : Facts) (notes : List Note). IsAnsweredSet facts after (reads_of (is_left_out opcode) (Known command)) (statuses_of notes))
+    (known_set setup facts opcode command fits)
 command_set setup facts opcode UnknownOpcode fits =
     subst (IsAnsweredSet facts facts (reads_of (is_left_out opcode) UnknownOpcode)) (sym (command_status facts.view 0x01 opcode))
     (refused_set (is_left_out opcode) facts UnknownOpcode (0x01 % 256) refl)

@@ -1,24 +1,29 @@
 -- The credits of a side in the turn that is under way, by the lines, and whether each note fits them.
-use Rattle.std.proofs.Common.{◌≡◌, ℕ, zero, suc, ◌+◌, ◌<◌, ◌≤◌, ◌&&◌, Bool, true, false, Option, Some, None, List, [], ◌∷◌, ◌++◌, length, map, refl, sym, ap, subst, ◌∙◌, append-nil, append_assoc, arith}
-use Rattle.std.specs.Prelude.{⊤, fold, if◌then◌else◌}
+use Rattle.std.proofs.Common.{◌≡◌, ℕ, zero, suc, ◌+◌, ◌<◌, ◌≤◌, ◌&&◌, ◌||◌, ◌⊎◌, inl, inr, Bool, true, false, Option, Some, None, List, [], ◌∷◌, ◌++◌, length, map, refl, sym, ap, subst, ◌∙◌, append-nil, append_assoc, arith}
+use Rattle.std.specs.Prelude.{⊤, filter, flat_map, fold, if◌then◌else◌}
 use Rattle.std.specs.List.{AllByRecursion}
 use Rattle.std.specs.Option.{option_map}
 use Rattle.std.proofs.lemmas.Bool.{and_from}
 use Rattle.std.proofs.lemmas.List.Sums.{fold-append}
+use Rattle.arrayvec.specs.ArrayVec.{ArrayVec}
+use Rattle.ble_base.specs.declared.error_codes.ErrCode.{ErrCode}
 use Rattle.ble_base.specs.declared.notes.Note.{Note}
 use Rattle.ble_base.specs.declared.notes.Note.TheVariants.{Shut as ShutNote, Up as UpNote}
 use Rattle.ble_base.specs.declared.roles.Side.{Side}
-use Rattle.hci_evt.specs.Event.{written}
-use Rattle.hci_evt.specs.declared.event.Event.TheVariants.{CompletedPackets}
+use Rattle.hci_evt.specs.Event.{mask_bit_of, written}
+use Rattle.hci_evt.specs.declared.event.Event.{Event as HostEvent}
+use Rattle.hci_evt.specs.declared.event.Event.TheVariants.{CompletedPackets, DisconnectionComplete}
 use Rattle.host_view.specs.View.{View}
 use Rattle.journal.specs.declared.entries.Entry.{Entry}
-use Rattle.journal.specs.declared.entries.Entry.TheVariants.{Turn, Air, Up}
+use Rattle.journal.specs.declared.entries.Entry.TheVariants.{Turn, Air, Shut, Up}
 use Rattle.journal_data.specs.open_links.Data.{complete_in, completed_from}
 use Rattle.journal_data.specs.open_links.Offered.{completed_by}
 use Rattle.journal_data.specs.open_links.OpenLinks.{Links}
+use Rattle.journal_data.specs.open_links.declared.ended.LinkEnded.{LinkEnded}
 use Rattle.acl_banks.specs.declared.pieces.Piece.{Piece}
 use Rattle.journal_data.specs.controller_model.Data.{acl_packet, event_completed, note_received}
-use Rattle.journal_data.specs.controller_model.Events.{notes_of_events}
+use Rattle.journal_data.specs.controller_model.Events.{notes_of_events, passes}
+use Rattle.journal_data.specs.controller_model.Links.{note_shut, notes_ended}
 use Rattle.journal_data.specs.controller_model.Step.{Step}
 use Rattle.run_model.specs.Due.{Each}
 use Rattle.run_model.specs.History.{Event, TurnBegan, HostFed, Called, Noted, Transmitted}
@@ -26,9 +31,11 @@ use Rattle.run_model.specs.Journal.{entries_of, entry_of, journal_from, journal_
 use Rattle.run_model.specs.Links.{Links as Numbers, links_after, links_of}
 use Rattle.run_model.proofs.Calls.{with_notes}
 use Rattle.run_model.proofs.Parts.{journal_event, journal_more}
+use Rattle.run_model.proofs.Places.{each_append}
 use Rattle.journal_data.proofs.run_laws.OpenSteps.{EachOpen}
 use Rattle.journal_data.specs.journal_packets.Belonging.{is_side}
 use Rattle.wire_fields.specs.Field.{little_endian}
+use Rattle.journal_data.proofs.journal_acks.Exchanging.{map_both}
 use Rattle.journal_data.proofs.journal_acks.TwoStations.{side_same}
 use Rattle.journal_hosts.specs.Credits.{credit_count, credit_handle, fed_after, is_being_fed, is_credit}
 use Rattle.journal_hosts.proofs.CreditNotes.{AreNoCredits, IsNoCredit, IsOfOctet}
@@ -235,11 +242,52 @@ count_held : (handle count : ℕ) → count ≤ 65535 → 0 < count → 0 < cred
 unfolding little_endian
 count_held handle count fits some = omega (arith, fits, some)
 
+-- ---- the links that a side shuts
+
+-- since the last credit of the side in a turn
+abbrev pub shut_after : Side → Bool → Entry → Bool
+shut_after side shut (Turn slot a_on b_on) = false
+shut_after side shut (Up other octets) = if is_side other side && is_credit octets then false else shut
+shut_after side shut (Shut other link reason) = is_side other side || shut
+shut_after side shut entry = shut
+
+abbrev pub shut_at : Side → List Event → Bool
+shut_at side history = fold (shut_after side) false (journal_of history)
+
+shut_event : (side : Side) (history : List Event) (event : Event)
+    → shut_at side (history ++ event ∷ []) ≡ fold (shut_after side) (shut_at side history) (entries_of (links_of history) event)
+shut_event side history event =
+    ap (fold (shut_after side) false) (journal_event history event) ∙ fold-append (shut_after side) false (journal_of history) (entries_of (links_of history) event)
+
+shut_now : (station handle : ℕ) (reason : ErrCode) (history : List Event) → shut_at (side_of station) (history ++ Noted station (ShutNote handle reason) ∷ []) ≡ true
+shut_now station handle reason history =
+    shut_event (side_of station) history (Noted station (ShutNote handle reason))
+    ∙ ap (λ (own : Bool). own || shut_at (side_of station) history) (side_same station)
+
+still_shut : (station : ℕ) (packet : ArrayVec ℕ) (history : List Event) → is_credit packet.items ≡ false → shut_at (side_of station) history ≡ true
+    → shut_at (side_of station) (history ++ Noted station (UpNote packet) ∷ []) ≡ true
+still_shut station packet history none shut =
+    shut_event (side_of station) history (Noted station (UpNote packet))
+    ∙ by (is_side (side_of station) (side_of station)) (is_credit packet.items) none ∙ shut
+  where
+    by : (own credit : Bool) → credit ≡ false → (if own && credit then false else shut_at (side_of station) history) ≡ shut_at (side_of station) history
+    by own true is = absurd cc
+    by true false is = refl
+    by false false is = refl
+
 -- no side has a credit after that packet yet
 abbrev pub HaveNone : List Event → Type 0
 HaveNone history = (side : Side) → some_handles (handles_at side history) ≡ []
 
-module _ (Few Fit Stay : Type 0) where
+no_front : (xs ys : List Note) → AreNoCredits (xs ++ ys) → AreNoCredits xs
+no_front [] ys none = tt
+no_front (x ∷ xs) ys none = (none.0, no_front xs ys none.1)
+
+no_back : (xs ys : List Note) → AreNoCredits (xs ++ ys) → AreNoCredits ys
+no_back [] ys none = none
+no_back (x ∷ xs) ys none = no_back xs ys none.1
+
+module _ (Few Fit : Type 0) where
   -- before the first packet of the turn it is of one packet; after it, where handles fit into two octets, it is above all
   -- handles before it
   abbrev pub Fits : Option (List ℕ) → List ℕ → Type 0
@@ -253,16 +301,17 @@ module _ (Few Fit Stay : Type 0) where
     -- where counts fit into two octets, it is of at least one packet
     pub some : Fit → 0 < credit_count octets
 
-  -- where no link ends as a turn ends, a packet to the host that is no credit comes before all credits of its side after
-  -- that packet
+  -- a packet to the host that is no credit comes before all credits of its side after that packet, or after its side shut
+  -- a link
   pub record IsFit (station : ℕ) (history : List Event) (octets : List ℕ) : Type 0 where
     pub credit : is_credit octets ≡ true → HasPlace (side_of station) (journal_of history) octets
-    pub other : Stay → is_credit octets ≡ false → some_handles (handles_at (side_of station) history) ≡ []
+    pub other : is_credit octets ≡ false → (some_handles (handles_at (side_of station) history) ≡ []) ⊎ (shut_at (side_of station) history ≡ true)
 
-  -- and what is no packet to a host before those of both sides
+  -- and what is neither a packet to a host nor the end of a link before those of both sides
   abbrev pub FitsNote : ℕ → List Event → Note → Type 0
   FitsNote station history (UpNote packet) = IsFit station history packet.items
-  FitsNote station history note = Stay → HaveNone history
+  FitsNote station history (ShutNote handle reason) = ⊤
+  FitsNote station history note = HaveNone history
 
   abbrev pub CreditsFit : List Event → Event → Type 0
   CreditsFit history (Noted station note) = FitsNote station history note
@@ -275,12 +324,13 @@ module _ (Few Fit Stay : Type 0) where
       → IsFit station history octets
   no_credit station history octets none first = record {
     credit = λ is. absurd (let h : false ≡ true = sym none ∙ is in absurd cc);
-    other = λ stay is. first;
+    other = λ is. inl first;
   }
 
   quiet_fits : (station : ℕ) (history : List Event) (note : Note) → IsNoCredit note → HaveNone history → FitsNote station history note
   quiet_fits station history (UpNote packet) none first = no_credit station history packet.items none (first (side_of station))
-  quiet_fits station history note none first = λ stay. first
+  quiet_fits station history (ShutNote handle reason) none first = tt
+  quiet_fits station history note none first = first
 
   pub quiet_each : (station : ℕ) (notes : List Note) (history : List Event) → AreNoCredits notes → HaveNone history → Each CreditsFit history (map (Noted station) notes)
   quiet_each station [] history none first = tt
@@ -297,9 +347,10 @@ module _ (Few Fit Stay : Type 0) where
       fed = λ none. fed;
       some = λ fit. omega (arith, count);
     };
-    other = λ stay is. ap some_handles (early (side_of station));
+    other = λ is. inl (ap some_handles (early (side_of station)));
   }
-  early_fits station history note early fed one = λ stay side. ap some_handles (early side)
+  early_fits station history (ShutNote handle reason) early fed one = tt
+  early_fits station history note early fed one = λ side. ap some_handles (early side)
 
   pub early_each : (station : ℕ) (notes : List Note) (history : List Event) → ((side : Side) → handles_at side history ≡ None)
       → is_being_fed (side_of station) (journal_of history) ≡ true → AllByRecursion IsOfOctet notes → Each CreditsFit history (map (Noted station) notes)
@@ -310,21 +361,31 @@ module _ (Few Fit Stay : Type 0) where
         (fed_noted station history note fed ones.0) ones.1,
   )
 
-  -- what is noted only of links that end as a turn ends
-  leaving_fits : (station : ℕ) (history : List Event) (note : Note) → IsNoCredit note → (Stay → ⊥) → FitsNote station history note
-  leaving_fits station history (UpNote packet) none never = record {
-    credit = λ is. absurd (let h : false ≡ true = sym none ∙ is in absurd cc);
-    other = λ stay. absurd (never stay);
-  }
-  leaving_fits station history note none never = λ stay. absurd (never stay)
+  -- what is noted of links that end as a turn ends
+  packets_each : (station : ℕ) (events : List HostEvent) (history : List Event) → AreNoCredits (map (λ event. UpNote (record { items = written event })) events)
+      → shut_at (side_of station) history ≡ true
+      → Each CreditsFit history (map (Noted station) (map (λ event. UpNote (record { items = written event })) events))
+  packets_each station [] history none shut = tt
+  packets_each station (event ∷ events) history none shut =
+      let packet : ArrayVec ℕ = record { items = written event } in (
+        record { credit = λ is. absurd (let h : false ≡ true = sym none.0 ∙ is in absurd cc); other = λ is. inr shut },
+        packets_each station events (history ++ Noted station (UpNote packet) ∷ []) none.1 (still_shut station packet history none.0 shut),
+      )
 
-  pub leaving_each : (station : ℕ) (notes : List Note) (history : List Event) → AreNoCredits notes → (Stay → notes ≡ [])
-      → Each CreditsFit history (map (Noted station) notes)
-  leaving_each station [] history none empty = tt
-  leaving_each station (note ∷ notes) history none empty = (
-    leaving_fits station history note none.0 (λ stay. let no : note ∷ notes ≡ [] = empty stay in absurd cc),
-    leaving_each station notes (history ++ Noted station note ∷ []) none.1 (λ stay. let no : note ∷ notes ≡ [] = empty stay in absurd cc),
-  )
+  pub leaving_each : (station : ℕ) (view : View) (ended : List LinkEnded) (history : List Event) → AreNoCredits (flat_map (notes_ended view) ended)
+      → Each CreditsFit history (map (Noted station) (flat_map (notes_ended view) ended))
+  leaving_each station view [] history none = tt
+  leaving_each station view (one ∷ ended) history none =
+      let notes = notes_ended view one in
+      let more = flat_map (notes_ended view) ended in
+      let events = filter (λ event. passes view (mask_bit_of event)) (DisconnectionComplete 0 one.handle one.reason.0 ∷ []) in
+      subst (Each CreditsFit history) (sym (map_both station notes more))
+      (each_append CreditsFit history (map (Noted station) notes) (map (Noted station) more) (
+        tt,
+        packets_each station events (history ++ Noted station (note_shut one.handle one.reason.0) ∷ []) (no_front notes more none).1
+            (shut_now station one.handle (record { 0 = one.reason.0 }) history),
+      )
+      (leaving_each station view ended (history ++ map (Noted station) notes) (no_back notes more none)))
 
   -- ---- the credits as a turn ends
 
@@ -369,7 +430,7 @@ module _ (Few Fit Stay : Type 0) where
               fed = λ none. absurd (let h : None ≡ Some handles = sym none ∙ are in absurd cc);
               some = λ fit. count_held first (suc count) (most fit) (omega arith);
             };
-            other = λ stay is. absurd (let h : false ≡ true = sym is ∙ is_one first (suc count) in absurd cc);
+            other = λ is. absurd (let h : false ≡ true = sym is ∙ is_one first (suc count) in absurd cc);
           },
           one (suc count),
         )

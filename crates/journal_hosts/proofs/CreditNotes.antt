@@ -52,6 +52,7 @@ use Rattle.journal_hosts.specs.Credits.{credit_count, is_credit}
 use Rattle.journal_data.proofs.controller_model.ProcedureEvents.{entering_events, reception_events}
 use Rattle.journal_data.proofs.controller_model.EndNotes.{sent_each, received_each, entered_each}
 use Rattle.journal_data.specs.controller_model.Entering.{events_entering, notes_all_entering}
+use Rattle.journal_data.proofs.controller_model.Unasked.{noted_unasked}
 
 abbrev pub IsNoCredit : Note → Type 0
 IsNoCredit (Up packet) = is_credit packet.items ≡ false
@@ -270,7 +271,8 @@ known_ones true setup facts opcode command =
     (caused_ones facts command)
 
 command_ones : (setup : Setup) (facts : Facts) (opcode : ℕ) (read : CmdRead) → AllByRecursion IsOfOctet (notes_commanded setup facts opcode read)
-command_ones setup facts opcode (Known command) = known_ones (status_of facts.view command == 0) setup facts opcode command
+command_ones setup facts opcode (Known command) =
+    noted_unasked setup facts command opcode (AllByRecursion IsOfOctet) (known_ones (status_of facts.view command == 0) setup facts opcode command)
 command_ones setup facts opcode UnknownOpcode = answer_ones setup facts opcode UnknownOpcode
 command_ones setup facts opcode BadLength = answer_ones setup facts opcode BadLength
 

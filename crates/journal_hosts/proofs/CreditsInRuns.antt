@@ -1,16 +1,16 @@
 -- In every run of two stations the credits of a host are in their order.
-use Rattle.std.proofs.Common.{◌≡◌, ℕ, ◌<◌, ◌≤◌, ◌==◌, ◌&&◌, Bool, true, false, Option, Some, None, List, [], ◌∷◌, ◌++◌, map, refl, sym, ap, subst, ◌∙◌, append-nil, append_assoc, arith}
+use Rattle.std.proofs.Common.{◌≡◌, ℕ, ◌<◌, ◌≤◌, ◌==◌, ◌&&◌, ◌||◌, ◌⊎◌, inl, inr, Bool, true, false, Option, Some, None, List, [], ◌∷◌, ◌++◌, map, refl, sym, ap, subst, ◌∙◌, append_assoc, arith}
 use Rattle.std.specs.Prelude.{⊤, fold, take, if◌then◌else◌}
 use Rattle.std.specs.List.{AllByRecursion}
 use Rattle.std.specs.Option.{option_map}
 use Rattle.std.proofs.lemmas.List.Sums.{fold-append}
 use Rattle.arrayvec.specs.ArrayVec.{ArrayVec}
 use Rattle.ble_base.specs.declared.notes.Note.{Note}
-use Rattle.ble_base.specs.declared.notes.Note.TheVariants.{Up as UpNote}
+use Rattle.ble_base.specs.declared.notes.Note.TheVariants.{Shut as ShutNote, Up as UpNote}
 use Rattle.ble_base.specs.declared.roles.Side.{Side}
 use Rattle.ble_base.specs.declared.roles.Side.TheVariants.{A, B}
 use Rattle.journal.specs.declared.entries.Entry.{Entry}
-use Rattle.journal.specs.declared.entries.Entry.TheVariants.{Turn, Air, Up}
+use Rattle.journal.specs.declared.entries.Entry.TheVariants.{Turn, Air, Shut, Up}
 use Rattle.journal_data.specs.open_links.Data.{complete_in, completed_from}
 use Rattle.journal_data.specs.open_links.OpenLinks.{Links}
 use Rattle.journal_data.specs.controller_model.Data.{event_completed, note_received, notes_ended_turn, facts_handed, notes_handed}
@@ -40,16 +40,12 @@ use Rattle.journal_data.proofs.journal_acks.TwoStations.{IsOfTwo, other_apart}
 use Rattle.journal_data.proofs.FedInRuns.{fed_standing}
 use Rattle.journal_data.proofs.FewComplete.{IsFew, few_always}
 use Rattle.journal_data.proofs.FewLinks.{HaveFewLinks}
-use Rattle.journal_hosts.specs.Credits.{AllCreditsAreOfOne, AllCreditsAreOfSome, AllCreditsAscend, AllEarlyCreditsComeAtOnce, AllLateCreditsComeLast, MayFollowCredit, credit_handle, is_being_fed, is_credit}
-use Rattle.journal_hosts.proofs.CreditLines.{CreditsFit, Fits, FitsNote, HasPlace, HaveNone, pieces_each, fed_by_host, fed_called, fed_notes, ascend, early_called, early_each, handles_after, handles_at, handles_event, handles_of, other_called, quiet_called, quiet_each, quiet_more, some_handles, leaving_each}
+use Rattle.journal_hosts.specs.Credits.{AllCreditsAreOfOne, AllCreditsAreOfSome, AllCreditsAscend, AllEarlyCreditsComeAtOnce, AllLateCreditsComeLast, MayFollowCredit, credit_handle, has_shut, is_being_fed, is_credit}
+use Rattle.journal_hosts.proofs.CreditLines.{CreditsFit, Fits, FitsNote, HasPlace, HaveNone, pieces_each, fed_by_host, fed_called, fed_notes, ascend, early_called, early_each, handles_after, handles_at, handles_event, handles_of, other_called, quiet_called, quiet_each, quiet_more, shut_after, shut_at, some_handles, leaving_each}
 use Rattle.journal_hosts.proofs.CreditNotes.{IsBeforeEnd, octet_ones, pieces_none, turn_none, leaving_none}
 use Rattle.journal_hosts.proofs.QuietTurns.{AreQuiet, IsSilent, ends_calm, quiet_first, quiet_kept}
-use Rattle.run_model.specs.LinkEnds.{HaveAddresses}
-use Rattle.run_model.proofs.Fronts.{IsFrontAt, front_at, front_first, fronts_kept}
-use Rattle.journal_data.proofs.run_laws.PlainLinks.{links_plain}
-use Rattle.journal_data.proofs.run_laws.PlainTurns.{turn_ends_noting}
-use Rattle.journal_data.specs.controller_model.Links.{notes_leaving}
-use Rattle.std.proofs.lemmas.List.{append_cancel_left}
+use Rattle.journal_data.specs.controller_model.Links.{ends_for, notes_leaving}
+use Rattle.journal_data.specs.open_links.Turns.{ending_in}
 use Rattle.journal_hosts.proofs.Calm.{nothing_handed}
 
 -- ---- whether a packet was on the air in the turn
@@ -102,7 +98,7 @@ pub record HaveFewBuffers (given : Given) : Type 0 where
 
 -- each credit of a run fits
 abbrev AllFit : Given → List Event → Event → Type 0
-AllFit given history event = CreditsFit (HaveFewLinks given) (HaveFewBuffers given) (HaveAddresses given) history event
+AllFit given history event = CreditsFit (HaveFewLinks given) (HaveFewBuffers given) history event
 
 load_few : (most : ℕ) (links : Links) → EachOpen (IsFew most) links → EachOpen (λ link. complete_in link ≤ most) links
 load_few most links few = open_more (IsFew most) (λ link. complete_in link ≤ most) links (λ link one. let load = one.0 in omega (arith, load)) few
@@ -131,8 +127,8 @@ module _ (given : Given) (station : ℕ) (history : List Event) where
       let many = (own_handles (setup_at given station) (past_of station history)).many in
       subst (Each (AllFit given) called_first) (sym (map_both station pieces events))
       (each_append (AllFit given) called_first (map (Noted station) pieces) (map (Noted station) events)
-      (pieces_each (HaveFewLinks given) (HaveFewBuffers given) (HaveAddresses given) station facts.received called_first (ap some_handles (same_called ∙ none)))
-      (ascend (HaveFewLinks given) (HaveFewBuffers given) (HaveAddresses given) station facts.view 0 facts.links (called_first ++ map (Noted station) pieces) []
+      (pieces_each (HaveFewLinks given) (HaveFewBuffers given) station facts.received called_first (ap some_handles (same_called ∙ none)))
+      (ascend (HaveFewLinks given) (HaveFewBuffers given) station facts.view 0 facts.links (called_first ++ map (Noted station) pieces) []
       (quiet_more (side_of station) station pieces called_first (pieces_none facts.received) ∙ same_called ∙ none) (λ few. tt) (λ few. let most = few.links station in omega (arith, many, most)) fits))
 
   handed_by : (HaveFewBuffers given → EachOpen (λ link. complete_in link ≤ 65535) facts.links) → (IsSilent history → notes_handed facts ≡ []) → (handles : Option (List ℕ)) → handles_at (side_of station) history ≡ handles → some_handles handles ≡ []
@@ -142,16 +138,17 @@ module _ (given : Given) (station : ℕ) (history : List Event) where
       subst (λ notes. Each (AllFit given) called_first (map (Noted station) notes)) (sym (nothing silent)) tt
   handed_by fits nothing (Some handles) is none = handed_each fits (is ∙ ap Some none)
 
-  end_each : (HaveFewBuffers given → EachOpen (λ link. complete_in link ≤ 65535) facts.links) → (IsSilent history → notes_handed facts ≡ []) → (HaveAddresses given → notes_leaving (facts_handed facts) ≡ [])
+  end_each : (HaveFewBuffers given → EachOpen (λ link. complete_in link ≤ 65535) facts.links) → (IsSilent history → notes_handed facts ≡ [])
       → some_handles (handles_at (side_of station) history) ≡ [] → Each (AllFit given) called_first (map (Noted station) (notes_ended_turn facts))
-  end_each fits nothing stay none =
+  end_each fits nothing none =
       let handed = notes_handed facts in
-      let leaving = notes_leaving (facts_handed facts) in
+      let left = facts_handed facts in
+      let leaving = notes_leaving left in
       subst (Each (AllFit given) called_first) (sym (map_both station handed leaving))
       (each_append (AllFit given) called_first (map (Noted station) handed) (map (Noted station) leaving)
       (handed_by fits nothing (handles_at (side_of station) history) refl none)
-      (leaving_each (HaveFewLinks given) (HaveFewBuffers given) (HaveAddresses given) station leaving (called_first ++ map (Noted station) handed)
-      (leaving_none (facts_handed facts)) stay))
+      (leaving_each (HaveFewLinks given) (HaveFewBuffers given) station left.view (ends_for ending_in left) (called_first ++ map (Noted station) handed)
+      (leaving_none left)))
 
 -- ---- what holds at each place
 
@@ -163,7 +160,6 @@ HandlesAt given (AtEnds done left) history =
 HandlesAt given place history = (side : Side) → some_handles (handles_at side history) ≡ []
 
 record AreInOrder (given : Given) (place : Place) (history : List Event) : Type 0 where
-  front : IsFrontAt given place history
   quiet : AreQuiet given place history
   each : Each (AllFit given) [] history
   within : HandlesAt given place history
@@ -189,7 +185,7 @@ octet_early given station octet history feeding =
       early = record {
         each = each_append (AllFit given) [] history (Called station step ∷ map (Noted station) notes) feeding.early.each (
           tt,
-          early_each (HaveFewLinks given) (HaveFewBuffers given) (HaveAddresses given) station notes called
+          early_each (HaveFewLinks given) (HaveFewBuffers given) station notes called
               (λ side. handles_event side history (Called station step) ∙ feeding.early.none side) fed ones,
         );
         none = λ side. early_called side station step notes history (feeding.early.none side);
@@ -224,7 +220,7 @@ turn_each given station step history is none each =
     let notes = notes_after (setup_at given station) (facts_at given station history) step in
     each_append (AllFit given) [] history (Called station step ∷ map (Noted station) notes) each (
       tt,
-      quiet_each (HaveFewLinks given) (HaveFewBuffers given) (HaveAddresses given) station notes (history ++ Called station step ∷ [])
+      quiet_each (HaveFewLinks given) (HaveFewBuffers given) station notes (history ++ Called station step ∷ [])
           (turn_none (setup_at given station) (facts_at given station history) step is)
           (λ side. ap some_handles (handles_event side history (Called station step)) ∙ none side),
     )
@@ -265,58 +261,42 @@ end_handles given are_two done station history in_it within other in_too false i
     turned B A = refl
     turned B B = refl
 
--- no link ends as a turn ends, since no control procedure runs
-none_leave : (given : Given) → HaveAddresses given → AreDistinct given.stations → (place : Place) (history : List Event) → IsFrontAt given place history
-    → (station : ℕ) → is_in station given.stations ≡ true → notes_leaving (facts_handed (facts_at given station history)) ≡ []
-none_leave given six distinct place history front station in_it =
-    let facts = facts_at given station history in
-    let at = front_at given place history front in
-    append_cancel_left (notes_handed facts) (notes_leaving (facts_handed facts)) []
-    (turn_ends_noting (setup_at given station) facts (links_plain given six distinct history at.rest at.at station in_it) ∙ sym (append-nil (notes_handed facts)))
-
 order_kept : (given : Given) → IsOfTwo given → AreDistinct given.stations → IsKept given (AreInOrder given)
-order_kept given are_two distinct = let kept = quiet_kept given are_two distinct in let fronts = fronts_kept given in record {
+order_kept given are_two distinct = let kept = quiet_kept given are_two distinct in record {
   on_turn = λ slot plan history begun at is.
       let event = TurnBegan slot (map plan.radio_of given.stations) in record {
-        front = fronts.on_turn slot plan history begun at is.front;
         quiet = kept.on_turn slot plan history begun at is.quiet;
         each = each_event (AllFit given) history event is.each tt;
         within = λ side. handles_event side history event;
       };
   on_feed = λ plan done left station history are some now is.
       let early = feed_early given station (take (plan.feed_of station) (octets_left given station history)) history (record { each = is.each; none = is.within }) in record {
-        front = fronts.on_feed plan done left station history are some now is.front;
         quiet = kept.on_feed plan done left station history are some now is.quiet;
         each = early.each;
         within = early.none;
       };
   on_fed = λ history is. record {
-    front = fronts.on_fed history is.front;
     quiet = kept.on_fed history is.quiet;
     each = is.each;
     within = λ side. ap some_handles (is.within side);
   };
   on_begin = λ slot plan done left station history are due is.
       let step = TurnBegins slot (plan.radio_of station) in record {
-        front = fronts.on_begin slot plan done left station history are due is.front;
         quiet = kept.on_begin slot plan done left station history are due is.quiet;
         each = turn_each given station step history tt is.within is.each;
         within = λ side. ap some_handles (turn_handles given station step history tt side) ∙ is.within side;
       };
   on_begun = λ history is. record {
-    front = fronts.on_begun history is.front;
     quiet = kept.on_begun history is.quiet;
     each = is.each;
     within = is.within;
   };
   on_phase = λ phases history many is. record {
-    front = fronts.on_phase phases history many is.front;
     quiet = kept.on_phase phases history many is.quiet;
     each = is.each;
     within = is.within;
   };
   on_silence = λ phases done left station history are none is. record {
-    front = fronts.on_silence phases done left station history are none is.front;
     quiet = kept.on_silence phases done left station history are none is.quiet;
     each = is.each;
     within = is.within;
@@ -324,33 +304,28 @@ order_kept given are_two distinct = let kept = quiet_kept given are_two distinct
   on_packet = λ phases plan done left station channel octets history are some due is.
       let hearings = hearings_of given plan.fates station channel octets history in
       let event = Transmitted station channel octets hearings in record {
-        front = fronts.on_packet phases plan done left station channel octets history are some due is.front;
         quiet = kept.on_packet phases plan done left station channel octets history are some due is.quiet;
         each = each_event (AllFit given) history event is.each is.within;
         within = λ side. ap some_handles (handles_event side history event)
             ∙ air_handles side (side_of station) channel octets hearings (handles_at side history) ∙ is.within side;
       };
   on_air = λ phases history is. record {
-    front = fronts.on_air phases history is.front;
     quiet = kept.on_air phases history is.quiet;
     each = is.each;
     within = is.within;
   };
   on_hearing = λ phases done left station history are some is.
       let received = packet_received station history in record {
-        front = fronts.on_hearing phases done left station history are some is.front;
         quiet = kept.on_hearing phases done left station history are some is.quiet;
         each = turn_each given station (step_of received) history (heard_before received) is.within is.each;
         within = λ side. ap some_handles (turn_handles given station (step_of received) history (heard_before received) side) ∙ is.within side;
       };
   on_heard = λ phases history is. record {
-    front = fronts.on_heard phases history is.front;
     quiet = kept.on_heard phases history is.quiet;
     each = is.each;
     within = is.within;
   };
   on_phases = λ history is. record {
-    front = fronts.on_phases history is.front;
     quiet = kept.on_phases history is.quiet;
     each = is.each;
     within = λ station in_it out. is.within (side_of station);
@@ -358,19 +333,16 @@ order_kept given are_two distinct = let kept = quiet_kept given are_two distinct
   on_end = λ done left station history are some is.
       let in_it = among given.stations done left station are in
       let facts = facts_at given station history in record {
-        front = fronts.on_end done left station history are some is.front;
         quiet = kept.on_end done left station history are some is.quiet;
         each = each_append (AllFit given) [] history (Called station TurnEnds ∷ map (Noted station) (notes_ended_turn facts)) is.each (
           tt,
           end_each given station history (few_complete given station history (stands_at (AtEnds done (station ∷ left)) station (turns_begun history)) (is.quiet.stand station in_it))
               (λ silent. nothing_handed facts (ends_calm given distinct done left station history are is.quiet silent))
-              (λ six. none_leave given six distinct (AtEnds done (station ∷ left)) history is.front station in_it)
               (is.within station in_it (not_before given.stations done left station distinct are)),
         );
         within = λ other in_too out. end_handles given are_two done station history in_it is.within other in_too (other == station) refl out;
       };
   on_ended = λ history is. record {
-    front = fronts.on_ended history is.front;
     quiet = kept.on_ended history is.quiet;
     each = is.each;
     within = tt;
@@ -380,7 +352,7 @@ order_kept given are_two distinct = let kept = quiet_kept given are_two distinct
 run_in_order : (given : Given) → IsOfTwo given → AreDistinct given.stations → Each (AllFit given) [] (history_of (run_of given))
 run_in_order given are_two distinct =
     ends_with (run_of given) (IsWhole given (AreInOrder given)) (IsStopped given (AreInOrder given)) (Each (AllFit given) [])
-    (run_kept given (AreInOrder given) (order_kept given are_two distinct) (record { front = front_first given; quiet = quiet_first given; each = tt; within = tt }))
+    (run_kept given (AreInOrder given) (order_kept given are_two distinct) (record { quiet = quiet_first given; each = tt; within = tt }))
     (λ history whole. whole.is.each) (λ history stop stopped. stopped.kept.each)
 
 -- ---- each line
@@ -401,7 +373,7 @@ module _ (given : Given) (are_two : IsOfTwo given) (distinct : AreDistinct given
   journal = journal_of (history_of (run_of given))
 
   abbrev HasOwnPlace : Side → List Entry → List ℕ → Type 0
-  HasOwnPlace side front octets = HasPlace (HaveFewLinks given) (HaveFewBuffers given) (HaveAddresses given) side front octets
+  HasOwnPlace side front octets = HasPlace (HaveFewLinks given) (HaveFewBuffers given) side front octets
 
   each_placed : (front rest : List Entry) (side : Side) (octets : List ℕ) → journal ≡ front ++ Up side octets ∷ rest → is_credit octets ≡ true
       → HasOwnPlace side front octets
@@ -422,7 +394,7 @@ module _ (given : Given) (are_two : IsOfTwo given) (distinct : AreDistinct given
 
   pub are_of_one : AllCreditsAreOfOne journal
   are_of_one = λ front rest side octets is credit none.
-      subst (λ handles. Fits (HaveFewLinks given) (HaveFewBuffers given) (HaveAddresses given) handles octets) (early_now front side none)
+      subst (λ handles. Fits (HaveFewLinks given) (HaveFewBuffers given) handles octets) (early_now front side none)
       (each_placed front rest side octets is credit).fits
 
   pub come_at_once : AllEarlyCreditsComeAtOnce journal
@@ -482,43 +454,93 @@ held_by P side front octets between credit packets no_turn all =
     held_then side P (credit_handle octets) between (has.some ++ credit_handle octets ∷ []) no_turn (all_last P has.some (credit_handle octets))
     (subst (λ handles. AllByRecursion P (some_handles handles)) has.is all)
 
-fits_all : (Few Fit Stay : Type 0) → Few → (handles : Option (List ℕ)) (octets : List ℕ) → Fits Few Fit Stay handles octets
+fits_all : (Few Fit : Type 0) → Few → (handles : Option (List ℕ)) (octets : List ℕ) → Fits Few Fit handles octets
     → AllByRecursion (λ handle. handle < credit_handle octets) (some_handles handles)
-fits_all Few Fit Stay few None octets fits = tt
-fits_all Few Fit Stay few (Some handles) octets fits = fits few
+fits_all Few Fit few None octets fits = tt
+fits_all Few Fit few (Some handles) octets fits = fits few
 
 -- ---- what comes after a credit in its turn
 
-module _ (Few Fit Stay : Type 0) (stay : Stay) (side : Side) (before : List Event) (some : some_handles (handles_at side before) ≡ [] → ⊥) where
-  note_follows : (station : ℕ) (link_of : ℕ → ℕ) (last : ℕ) (note : Note) → FitsNote Few Fit Stay station before note
-      → MayFollowCredit side (entry_of (side_of station) link_of last note)
-  note_follows station link_of last (UpNote packet) fit = λ own. by (is_credit packet.items) refl own
-    where
-      by : (credit : Bool) → is_credit packet.items ≡ credit → side_of station ≡ side → credit ≡ true
-      by true is own = refl
-      by false is own = absurd (some (ap (λ s. some_handles (handles_at s before)) (sym own) ∙ fit.other stay is))
-  note_follows station link_of last note fit = absurd (some (fit stay side))
+-- where a side has shut a link since its last credit, by lines of one turn, it did so in these lines, or before them
+shut_then : (side : Side) (between : List Entry) (shut : Bool) → turns_of between ≡ [] → fold (shut_after side) shut between ≡ true
+    → (shut ≡ true) ⊎ (has_shut side between ≡ true)
+shut_then side [] shut no_turn is = inl is
+shut_then side (Turn slot a_on b_on ∷ between) shut no_turn is = absurd cc
+shut_then side (Up other packet ∷ between) shut no_turn is =
+    by (is_side other side && is_credit packet)
+    (shut_then side between (if is_side other side && is_credit packet then false else shut) no_turn is)
+  where
+    by : (credit : Bool) → ((if credit then false else shut) ≡ true) ⊎ (has_shut side between ≡ true) → (shut ≡ true) ⊎ (has_shut side between ≡ true)
+    by true (inl none) = absurd (let h : false ≡ true = none in absurd cc)
+    by false (inl before) = inl before
+    by credit (inr later) = inr later
+shut_then side (Shut other link reason ∷ between) shut no_turn is =
+    by (is_side other side) (shut_then side between (is_side other side || shut) no_turn is)
+  where
+    by : (own : Bool) → ((own || shut) ≡ true) ⊎ (has_shut side between ≡ true) → (shut ≡ true) ⊎ ((own || has_shut side between) ≡ true)
+    by true now = inr refl
+    by false (inl before) = inl before
+    by false (inr later) = inr later
+shut_then side (entry ∷ between) shut no_turn is = shut_then side between shut no_turn is
 
-  event_follows : (links : Numbers) (event : Event) (entry : Entry) → CreditsFit Few Fit Stay before event → entries_of links event ≡ entry ∷ [] → MayFollowCredit side entry
+-- so it did so after the credit
+shut_since : (side : Side) (front : List Entry) (octets : List ℕ) (between : List Entry) → is_credit octets ≡ true → turns_of between ≡ []
+    → fold (shut_after side) false (front ++ Up side octets ∷ between) ≡ true → has_shut side between ≡ true
+shut_since side front octets between credit no_turn is =
+    by (shut_then side between false no_turn
+    (sym (ap (λ (own : Bool). fold (shut_after side) (if own && is_credit octets then false else before) between) (same_side side)
+    ∙ ap (λ (credits : Bool). fold (shut_after side) (if credits then false else before) between) credit)
+    ∙ sym (fold-append (shut_after side) false front (Up side octets ∷ between)) ∙ is))
+  where
+    before : Bool
+    before = fold (shut_after side) false front
+
+    by : (◌≡◌ {A = Bool} false true) ⊎ (has_shut side between ≡ true) → has_shut side between ≡ true
+    by (inl none) = absurd cc
+    by (inr later) = later
+
+module _ (Few Fit : Type 0) (side : Side) (before : List Event) (shut : Bool) (some : some_handles (handles_at side before) ≡ [] → ⊥)
+    (known : shut_at side before ≡ true → shut ≡ true) where
+  up_follows : (test : Bool) → shut ≡ test → (station : ℕ) (packet : ArrayVec ℕ) → FitsNote Few Fit station before (UpNote packet)
+      → MayFollowCredit side test (Up (side_of station) packet.items)
+  up_follows true is station packet fit = tt
+  up_follows false is station packet fit = λ own. by (is_credit packet.items) refl own
+    where
+      last : (side_of station ≡ side) → (some_handles (handles_at (side_of station) before) ≡ []) ⊎ (shut_at (side_of station) before ≡ true) → ◌≡◌ {A = Bool} false true
+      last own (inl none) = absurd (some (ap (λ s. some_handles (handles_at s before)) (sym own) ∙ none))
+      last own (inr now) = sym is ∙ known (subst (λ s. shut_at s before ≡ true) own now)
+
+      by : (credit : Bool) → is_credit packet.items ≡ credit → side_of station ≡ side → credit ≡ true
+      by true is_one own = refl
+      by false is_none own = last own (fit.other is_none)
+
+  note_follows : (station : ℕ) (link_of : ℕ → ℕ) (last : ℕ) (note : Note) → FitsNote Few Fit station before note
+      → MayFollowCredit side shut (entry_of (side_of station) link_of last note)
+  note_follows station link_of last (UpNote packet) fit = up_follows shut refl station packet fit
+  note_follows station link_of last (ShutNote handle reason) fit = tt
+  note_follows station link_of last note fit = absurd (some (fit side))
+
+  event_follows : (links : Numbers) (event : Event) (entry : Entry) → CreditsFit Few Fit before event → entries_of links event ≡ entry ∷ [] → MayFollowCredit side shut entry
   event_follows links (TurnBegan slot radios) entry fit is =
-      let same : Turn slot (radio_in 0 radios) (Some (radio_in 1 radios)) ≡ entry = cc in subst (MayFollowCredit side) same tt
+      let same : Turn slot (radio_in 0 radios) (Some (radio_in 1 radios)) ≡ entry = cc in subst (MayFollowCredit side shut) same tt
   event_follows links (HostFed station octets) entry fit is = absurd (some (fit side))
   event_follows links (Called station step) entry fit is = absurd cc
   event_follows links (Noted station note) entry fit is =
       let same : entry_of (side_of station) (links.link_of station) (links.last_of station) note ≡ entry = cc in
-      subst (MayFollowCredit side) same (note_follows station (links.link_of station) (links.last_of station) note fit)
+      subst (MayFollowCredit side shut) same (note_follows station (links.link_of station) (links.last_of station) note fit)
   event_follows links (Transmitted station channel octets hearings) entry fit is = absurd (some (fit side))
 
 module _ (given : Given) (are_two : IsOfTwo given) (distinct : AreDistinct given.stations) where
-  pub come_last : HaveAddresses given → AllLateCreditsComeLast (journal_of (history_of (run_of given)))
-  come_last six = λ front between rest side octets entry is credit packets no_turn.
+  pub come_last : AllLateCreditsComeLast (journal_of (history_of (run_of given)))
+  come_last = λ front between rest side octets entry is credit packets no_turn.
       let before = front ++ Up side octets ∷ between in
       let history = history_of (run_of given) in
       let one = is_of_event history before rest entry (is ∙ sym (append_assoc front (Up side octets ∷ between) (entry ∷ rest))) in
       let fit = each_at (AllFit given) history one.before one.after one.event (run_in_order given are_two distinct) one.is_at in
-      event_follows (HaveFewLinks given) (HaveFewBuffers given) (HaveAddresses given) six side one.before
+      event_follows (HaveFewLinks given) (HaveFewBuffers given) side one.before (has_shut side between)
       (λ none. held_by (λ handle. ⊥) side front octets between credit packets no_turn
       (subst (λ handles. AllByRecursion (λ handle. ⊥) handles) (sym (ap (λ entries. some_handles (handles_of side entries)) one.front_is ∙ none)) tt))
+      (λ now. shut_since side front octets between credit no_turn (ap (fold (shut_after side) false) one.front_is ∙ now))
       (links_of one.before) one.event entry fit one.entry_is
 
   pub ascends : HaveFewLinks given → AllCreditsAscend (journal_of (history_of (run_of given)))
@@ -526,4 +548,4 @@ module _ (given : Given) (are_two : IsOfTwo given) (distinct : AreDistinct given
       let before = front ++ Up side one ∷ between in
       let fits = (each_placed given are_two distinct before rest side other (is ∙ sym (append_assoc front (Up side one ∷ between) (Up side other ∷ rest))) credit_too).fits in
       held_by (λ handle. handle < credit_handle other) side front one between credit packets no_turn
-      (fits_all (HaveFewLinks given) (HaveFewBuffers given) (HaveAddresses given) few (handles_of side before) other fits)
+      (fits_all (HaveFewLinks given) (HaveFewBuffers given) few (handles_of side before) other fits)

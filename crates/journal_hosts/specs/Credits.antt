@@ -1,6 +1,7 @@
 -- When complete packets are reported to a host, and in which order (Core 5.2, volume 4 part E, section 7.7.19; when and
 -- in which order is our choice).
 use Rattle.std.specs.Prelude.{◌≡◌, ℕ, ◌<◌, ◌&&◌, Bool, true, false, List, [], ◌∷◌, ◌++◌, fold, ⊤}
+use Rattle.std.specs.List.{list_any}
 use Rattle.ble_base.specs.declared.roles.Side.{Side}
 use Rattle.host_view.specs.Noted.{two_octets}
 use Rattle.journal.specs.declared.entries.Entry.{Entry}
@@ -55,13 +56,24 @@ AllCreditsAscend journal = (front between rest : List Entry) (side : Side) (one 
     → journal ≡ front ++ Up side one ∷ (between ++ Up side other ∷ rest) → is_credit one ≡ true → is_credit other ≡ true
     → 0 < turn_packets front → turns_of between ≡ [] → credit_handle one < credit_handle other
 
--- and the lines that come after such a credit, in that turn, are packets to hosts; those to its own host are credits
-abbrev pub MayFollowCredit : Side → Entry → Type 0
-MayFollowCredit side (Turn slot a_on b_on) = ⊤
-MayFollowCredit side (Up other octets) = other ≡ side → is_credit octets ≡ true
-MayFollowCredit side entry = ⊥
+-- whether a side shuts a link in these lines
+abbrev pub is_shut_by : Side → Entry → Bool
+is_shut_by side (Shut other link reason) = is_side other side
+is_shut_by side entry = false
+
+abbrev pub has_shut : Side → List Entry → Bool
+has_shut side lines = list_any (is_shut_by side) lines
+
+-- and the lines that come after such a credit, in that turn, are packets to hosts, and lines of links that are shut;
+-- those to its own host, before its side shuts a link, are credits
+abbrev pub MayFollowCredit : Side → Bool → Entry → Type 0
+MayFollowCredit side shut (Turn slot a_on b_on) = ⊤
+MayFollowCredit side true (Up other octets) = ⊤
+MayFollowCredit side false (Up other octets) = other ≡ side → is_credit octets ≡ true
+MayFollowCredit side shut (Shut other link reason) = ⊤
+MayFollowCredit side shut entry = ⊥
 
 abbrev pub AllLateCreditsComeLast : List Entry → Type 0
 AllLateCreditsComeLast journal = (front between rest : List Entry) (side : Side) (octets : List ℕ) (entry : Entry)
     → journal ≡ front ++ Up side octets ∷ (between ++ entry ∷ rest) → is_credit octets ≡ true
-    → 0 < turn_packets front → turns_of between ≡ [] → MayFollowCredit side entry
+    → 0 < turn_packets front → turns_of between ≡ [] → MayFollowCredit side (has_shut side between) entry

@@ -5,7 +5,6 @@ ghost use Rattle.journal_hosts.specs.Credits.{AllCreditsAreOfOne, AllCreditsAreO
 ghost use Rattle.journal_hosts.specs.Credits.{AllCreditsAscend, AllEarlyCreditsComeAtOnce};
 ghost use Rattle.journal_hosts.specs.Credits.{AllLateCreditsComeLast};
 ghost use Rattle.run_model.specs.Journal.{journal_of};
-ghost use Rattle.run_model.specs.LinkEnds.{HaveAddresses};
 ghost use Rattle.run_model.specs.Run.{Given, history_of, run_of, setup_at};
 
 /// In the journal of a run of two stations, with any number of links each, each Number Of Completed
@@ -40,9 +39,9 @@ pub fn credits_of_a_turn_are_in_the_order_of_handles()
 
 /// In the journal of a run of two stations, with any number of links each, after the first packet
 /// of a turn such an event comes as the turn ends: after it, in that turn, there are only packets to
-/// hosts, and those to its own host are such events too (Core 5.2, volume 4 part E, section 7.7.19;
-/// when it comes is our choice).
+/// hosts, and lines of links that are shut. Those to its own host, before its side shuts a link, are
+/// such events too (Core 5.2, volume 4 part E, section 7.7.19; when it comes is our choice).
 pub fn each_late_credit_comes_as_its_turn_ends()
-    ensures { (given : Given) → given.stations ≡ 0 ∷ 1 ∷ [] → HaveAddresses given
+    ensures { (given : Given) → given.stations ≡ 0 ∷ 1 ∷ []
         → AllLateCreditsComeLast (journal_of (history_of (run_of given))) }
 {}

@@ -44,7 +44,6 @@ use Rattle.run_laws.proofs.run_model.Ordered.{pair_distinct}
 use Rattle.run_laws.proofs.run_model.Parts.{journal_more}
 use Rattle.run_laws.proofs.run_model.Places.{each_at}
 use Rattle.run_laws.proofs.ChSel.{link_two}
-use Rattle.run_laws.proofs.PlainLinks.{links_plain}
 use Rattle.journal_links.specs.Begun.{LinkBegun, link_numbered}
 use Rattle.journal_links.specs.Changes.{changes_of}
 use Rattle.journal_links.specs.Entered.{IsEnteredInTime, anchor_in, channel_in}
@@ -55,7 +54,7 @@ use Rattle.journal_links.proofs.ChangesAt.{changes_before, none_opened}
 use Rattle.journal_links.proofs.EntriesNoted.{noted_after}
 use Rattle.journal_links.proofs.LineNotes.{lines_are_notes, open_was_opened}
 use Rattle.journal_links.proofs.OfTwo.{two_apart}
-use Rattle.journal_links.proofs.Ranges.{fields_in_range, ranges_of}
+use Rattle.journal_links.proofs.Ranges.{values_in_range}
 use Rattle.journal_links.proofs.NoChanges.{no_changes, none_before}
 use Rattle.journal_links.proofs.NoProcedures.{none_names}
 use Rattle.journal_links.proofs.Numbered.{IsLinkOf, link_of_number}
@@ -144,8 +143,7 @@ module _ (understood : IsUnderstood) (taken : AreTaken) (a b : List ℕ) (script
       (subst (λ s. Contains (notes_after setup (facts_at given station base) s) (line.note handle)) turn.is is_noted) in
       let in_it = each_at (OfStations given) (history_of (run_of given)) base call.after called (run_of_stations given) call.called in
       let link = entered.link in
-      let ranges = ranges_of link (fields_in_range taken given base (called ∷ call.after) station handle link distinct in_it call.called entered.is_open)
-      (links_plain given addresses distinct base (called ∷ call.after) call.called station in_it handle link entered.is_open) in
+      let ranges = values_in_range taken given base (called ∷ call.after) station handle link distinct in_it call.called entered.is_open in
       let call_notes = ap (λ s. notes_after setup (facts_at given station base) s) (sym turn.is) ∙ call.notes_are in
       let noted_line = noted_after setup (past_of station base) turn.slot turn.on handle event channel entered ranges call.earlier call.later call_notes in
       let numbered = numbered_at understood taken given base call.after called distinct addresses call.called refl station handle entered.link entered.is_open in

@@ -1,5 +1,5 @@
 -- Where no line names a procedure, no change of the parameters of a link is in force.
-use Rattle.std.proofs.Common.{◌≡◌, ℕ, ◌==◌, Bool, true, false, Option, Some, None, List, [], ◌∷◌, ◌++◌, length, refl, ap, subst, ◌∙◌, append_assoc, arith, length-append}
+use Rattle.std.proofs.Common.{◌≡◌, ℕ, ◌==◌, Bool, true, false, Option, Some, None, List, [], ◌∷◌, ◌++◌, length, refl, ap, ◌∙◌, append_assoc, arith, length-append}
 use Rattle.std.specs.Prelude.{take, if◌then◌else◌}
 use Rattle.std.specs.List.{filter, flat_map}
 use Rattle.std.proofs.lemmas.Grind.{flat_map-append}
@@ -9,20 +9,12 @@ use Rattle.ble_base.specs.declared.roles.Side.{Side}
 use Rattle.ble_base.specs.declared.roles.Side.TheVariants.{A, B}
 use Rattle.journal.specs.declared.entries.Entry.{Entry}
 use Rattle.journal.specs.declared.entries.Entry.TheVariants.{Applied, Enter, Sent, Took}
-use Rattle.run_laws.specs.run_model.Feeding.{AreDistinct}
-use Rattle.run_laws.specs.run_model.History.{Event}
-use Rattle.run_laws.specs.run_model.Journal.{journal_from, journal_of}
-use Rattle.run_laws.specs.run_model.LinkEnds.{HaveAddresses}
-use Rattle.run_laws.specs.run_model.Links.{links_of}
 use Rattle.run_laws.specs.run_model.Readers.{of_side}
-use Rattle.run_laws.specs.run_model.Run.{Given, history_of, run_of}
-use Rattle.run_laws.proofs.run_model.Parts.{journal_more}
 use Rattle.link_changes.specs.Noted.{indications_noted, is_applied_note}
 use Rattle.journal_links.specs.Begun.{LinkBegun}
 use Rattle.journal_links.specs.Changes.{changes_of, note_said, notes_said, role_on}
 use Rattle.journal_links.specs.LinkLines.{link_named, where_named}
 use Rattle.journal_links.specs.Procedures.{NamesNoProcedure, NoneNamesAProcedure}
-use Rattle.journal_links.proofs.NoProcedures.{none_named}
 
 -- the lines before a place name none either
 pub none_before : (front rest : List Entry) → NoneNamesAProcedure (front ++ rest) → NoneNamesAProcedure front
@@ -71,11 +63,3 @@ none_applied side number (line ∷ journal) none =
 pub no_changes : (number : ℕ) (link : LinkBegun) (side : Side) (front : List Entry) → NoneNamesAProcedure front → changes_of number link side front ≡ []
 no_changes number link side front none =
     ap (λ (n : ℕ). take n (indications_noted (role_on link side) (notes_said side number front))) (none_applied side number front none)
-
--- so it is at any place of a run so far
-pub no_changes_at : (given : Given) → HaveAddresses given → AreDistinct given.stations → (before rest : List Event) → history_of (run_of given) ≡ before ++ rest
-    → (number : ℕ) (link : LinkBegun) (side : Side) → changes_of number link side (journal_of before) ≡ []
-no_changes_at given addresses distinct before rest is number link side =
-    no_changes number link side (journal_of before)
-    (none_before (journal_of before) (journal_from (links_of before) rest)
-    (subst NoneNamesAProcedure (ap journal_of is ∙ journal_more before rest) (none_named given addresses distinct)))

@@ -1,16 +1,11 @@
--- The values of each link of a run are in their ranges: those of its CONNECT_IND, and what its host asks, which is
--- nothing so far.
-use Rattle.std.proofs.Common.{◌≡◌, ℕ, true, List, [], ◌∷◌, ◌++◌, Some, sym, subst}
+-- The values of each link of a run are in their ranges: those of its CONNECT_IND, and what its host asks and answers.
+use Rattle.std.proofs.Common.{◌≡◌, ℕ, Bool, true, false, List, [], ◌∷◌, ◌++◌, Some, subst}
+use Rattle.std.specs.Prelude.{Err}
 use Rattle.std.specs.List.{AllByRecursion}
 use Rattle.adv_pdu.specs.Ranges.{IsInRange}
-use Rattle.run_laws.specs.link_model.ControlSteps.{IsAskInRange}
-use Rattle.run_laws.specs.link_model.Facts.{Facts as EndFacts, first_facts as first_end}
-use Rattle.run_laws.specs.link_model.Setup.{Setup as EndSetup}
-use Rattle.run_laws.specs.link_model.Step.{Step as EndStep, DataGiven, DataReported, Disconnected, EventEntered, PacketReceived, PacketSent, PduFixed, ProcedureAsked, RequestAnswered}
-use Rattle.run_laws.specs.link_model.End.{facts_after as end_after}
-use Rattle.run_laws.specs.open_links.OpenLinks.{OpenLink, link_at}
-use Rattle.run_laws.specs.plain_links.Plain.{ArePlain, ArePlainFrom, IsPlain}
-use Rattle.run_laws.proofs.open_links.Unmoved.{entered_setup}
+use Rattle.run_laws.specs.link_model.Step.{Step as EndStep, DataGiven, DataReported, EventEntered, PacketReceived, PacketSent, PduFixed, RequestAnswered}
+use Rattle.run_laws.specs.open_links.OpenLinks.{OpenLink, link_after, link_at}
+use Rattle.run_laws.specs.open_links.Turns.{entered_if, enters_in, link_entered}
 use Rattle.controller_model.specs.Facts.{Setup, Facts}
 use Rattle.controller_model.specs.Side.{facts_of}
 use Rattle.controller_model.proofs.LinkFields.{range_of_test}
@@ -20,94 +15,98 @@ use Rattle.run_laws.specs.run_model.Run.{Given, facts_at, history_of, run_of, se
 use Rattle.run_laws.proofs.run_model.LinkEnds.{AreTaken}
 use Rattle.run_laws.proofs.run_model.Stations.{is_in}
 use Rattle.run_laws.proofs.Entering.{IsInTurn, taken_in_range, turn_first, turn_kept}
+use Rattle.run_laws.proofs.InRange.{ranges_in}
 use Rattle.run_laws.proofs.OpenSteps.{EachOpen, IsKeptByHosts, IsKeptOpen, IsKeptServed, MayOpen, begin_open, end_open, none_open, octet_open, open_has, phase_open}
 use Rattle.run_laws.proofs.TurnPlaces.{IsTurned, Stage, Within, stands_in_run, turned}
 use Rattle.run_laws.proofs.TurnSteps.{MakesWell}
 use Rattle.link_changes.specs.InForce.{AsksMap, HasRanges}
 
--- ---- the fields of its CONNECT_IND
+-- ---- the fields of its CONNECT_IND, and the maps that its host asks for
 
-abbrev HasFields : OpenLink → Type 0
-HasFields link = IsInRange link.setup.link.fields
+record HasValues (link : OpenLink) : Type 0 where
+  fields : IsInRange link.setup.link.fields
+  maps : AllByRecursion AsksMap link.past
 
-fields_hosts : IsKeptByHosts HasFields
-fields_hosts = record { given = λ start body link is. is; reported = λ link is. is }
+one_more : (past : List EndStep) (step : EndStep) → AllByRecursion AsksMap past → AsksMap step → AllByRecursion AsksMap (past ++ step ∷ [])
+one_more [] step are is = (is, tt)
+one_more (first ∷ past) step are is = (are.0, one_more past step are.1 is)
 
-fields_served : IsKeptServed HasFields
-fields_served = record { hosts = fields_hosts; served = λ slot link is. is; fixed = λ link is. is; sent = λ slot link is. is }
+values_after : (step : EndStep) (link : OpenLink) → AsksMap step → HasValues link → HasValues (link_after step link)
+values_after step link is has = record { fields = has.fields; maps = one_more link.past step has.maps is }
 
-fields_open : IsKeptOpen HasFields
-fields_open = record { serving = fields_served; received = λ slot octets room link is. is; answered = λ answer link is. is }
+entered_values : (slot : ℕ) (link : OpenLink) → HasValues link → HasValues (link_entered slot link)
+entered_values slot link has = by (enters_in slot link)
+  where
+    by : (enters : Bool) → HasValues (entered_if enters slot link)
+    by true = values_after (EventEntered slot) link tt has
+    by false = has
 
-record HaveFields (setup : Setup) (stage : Stage) (begun : ℕ) (facts : Facts) : Type 0 where
-  in_turn : IsInTurn setup stage begun facts
-  each : EachOpen HasFields facts.links
-
-may_open : AreTaken → (setup : Setup) (phases begun : ℕ) (facts : Facts) → IsInTurn setup (Within phases) begun facts → MayOpen HasFields fields_open facts
-may_open taken setup phases begun facts in_turn = record {
-  made = λ channel link doing.
-      let made = subst (MakesWell setup facts.connections) doing in_turn.makes in range_of_test link.fields made.in_range;
-  taken = λ pdu on fields handle takes. taken_in_range taken on.params facts.view.accepted pdu fields takes;
+values_hosts : IsKeptByHosts HasValues
+values_hosts = record {
+  given = λ start body link has. values_after (DataGiven start body) link tt has;
+  reported = λ link has. values_after DataReported link tt has;
 }
 
-fields_kept : AreTaken → (setup : Setup) → IsTurned setup (HaveFields setup)
-fields_kept taken setup = record {
+values_served : IsKeptServed HasValues
+values_served = record {
+  hosts = values_hosts;
+  served = λ slot link has. record { fields = has.fields; maps = has.maps };
+  fixed = λ link has. values_after PduFixed link tt has;
+  sent = λ slot link has. values_after (PacketSent slot) link tt has;
+}
+
+values_open : IsKeptOpen HasValues
+values_open = record {
+  serving = values_served;
+  received = λ slot octets room link has. values_after (PacketReceived slot octets room) link tt has;
+  answered = λ code link has. values_after (RequestAnswered (Err code)) link tt has;
+}
+
+record HaveValues (setup : Setup) (stage : Stage) (begun : ℕ) (facts : Facts) : Type 0 where
+  in_turn : IsInTurn setup stage begun facts
+  each : EachOpen HasValues facts.links
+
+may_open : AreTaken → (setup : Setup) (phases begun : ℕ) (facts : Facts) → IsInTurn setup (Within phases) begun facts → MayOpen HasValues values_open facts
+may_open taken setup phases begun facts in_turn = record {
+  made = λ channel link doing.
+      let made = subst (MakesWell setup facts.connections) doing in_turn.makes in record { fields = range_of_test link.fields made.in_range; maps = tt };
+  taken = λ pdu on fields handle takes. record { fields = taken_in_range taken on.params facts.view.accepted pdu fields takes; maps = tt };
+}
+
+values_kept : AreTaken → (setup : Setup) → IsTurned setup (HaveValues setup)
+values_kept taken setup = record {
   feeds = λ begun octet facts are. record {
     in_turn = (turn_kept setup).feeds begun octet facts are.in_turn;
-    each = octet_open HasFields fields_hosts setup facts octet are.each;
+    each = octet_open HasValues values_hosts setup facts octet are.each;
   };
   begins = λ begun on facts are. record {
     in_turn = (turn_kept setup).begins begun on facts are.in_turn;
-    each = begin_open HasFields HasFields fields_served setup begun on facts
-        (λ link is. subst (λ (s : EndSetup). IsInRange s.link.fields) (sym (entered_setup begun link)) is) are.each;
+    each = begin_open HasValues HasValues values_served setup begun on facts (entered_values begun) are.each;
   };
   passes = λ phases begun received facts are. record {
     in_turn = (turn_kept setup).passes phases begun received facts are.in_turn;
-    each = phase_open HasFields fields_open setup facts received (may_open taken setup phases begun facts are.in_turn) are.each;
+    each = phase_open HasValues values_open setup facts received (may_open taken setup phases begun facts are.in_turn) are.each;
   };
   ends = λ begun facts are. record {
     in_turn = (turn_kept setup).ends begun facts are.in_turn;
-    each = end_open HasFields fields_hosts setup facts are.each;
+    each = end_open HasValues values_hosts setup facts are.each;
   };
 }
 
--- at any time of a run
-pub fields_in_range : AreTaken → (given : Given) (before rest : List Event) (station handle : ℕ) (link : OpenLink) → AreDistinct given.stations
+-- ---- at any time of a run
+
+pub values_in_range : AreTaken → (given : Given) (before rest : List Event) (station handle : ℕ) (link : OpenLink) → AreDistinct given.stations
     → is_in station given.stations ≡ true → history_of (run_of given) ≡ before ++ rest
-    → link_at handle (facts_at given station before).links ≡ Some link → IsInRange link.setup.link.fields
-fields_in_range taken given before rest station handle link distinct is at is_open =
+    → link_at handle (facts_at given station before).links ≡ Some link → HasRanges link.setup link.past
+values_in_range taken given before rest station handle link distinct is at is_open =
     let setup = setup_at given station in
     let past = past_of station before in
     let stands = stands_in_run given before rest station distinct is at in
-    let are = turned setup (HaveFields setup) (fields_kept taken setup) past stands.at
-    (record { in_turn = turn_first setup; each = none_open HasFields setup.links }) stands.is in
-    open_has HasFields 0 handle (facts_of setup past).links link are.each is_open
-
--- ---- what its host asks: a plain link is asked for nothing
-
-step_asks : (setup : EndSetup) (facts : EndFacts) (step : EndStep) → IsPlain setup facts step → IsAskInRange step × AsksMap step
-step_asks setup facts (DataGiven start body) plain = (tt, tt)
-step_asks setup facts (ProcedureAsked ask) plain = absurd plain
-step_asks setup facts (RequestAnswered answer) plain = absurd plain
-step_asks setup facts (Disconnected reason slot) plain = absurd plain
-step_asks setup facts (EventEntered slot) plain = (tt, tt)
-step_asks setup facts PduFixed plain = (tt, tt)
-step_asks setup facts (PacketSent slot) plain = (tt, tt)
-step_asks setup facts (PacketReceived slot octets room) plain = (tt, tt)
-step_asks setup facts DataReported plain = (tt, tt)
-
-asks_from : (setup : EndSetup) (facts : EndFacts) (past : List EndStep) → ArePlainFrom setup facts past → AllByRecursion IsAskInRange past × AllByRecursion AsksMap past
-asks_from setup facts [] plain = (tt, tt)
-asks_from setup facts (step ∷ past) plain =
-    let first = step_asks setup facts step plain.0 in
-    let more = asks_from setup (end_after setup facts step) past plain.1 in
-    ((first.0, more.0), (first.1, more.1))
-
-asks_of : (setup : EndSetup) (past : List EndStep) → ArePlain setup past → AllByRecursion IsAskInRange past × AllByRecursion AsksMap past
-unfolding ArePlain
-asks_of setup past plain = asks_from setup (first_end setup) past plain
-
-pub ranges_of : (link : OpenLink) → IsInRange link.setup.link.fields → ArePlain link.setup link.past → HasRanges link.setup link.past
-ranges_of link fields plain =
-    let asks = asks_of link.setup link.past plain in
-    record { latency = fields.parameters.latency_to; asks = asks.0; maps = asks.1 }
+    let are = turned setup (HaveValues setup) (values_kept taken setup) past stands.at
+    (record { in_turn = turn_first setup; each = none_open HasValues setup.links }) stands.is in
+    let has = open_has HasValues 0 handle (facts_of setup past).links link are.each is_open in
+    record {
+      latency = has.fields.parameters.latency_to;
+      asks = (ranges_in given before rest station handle link distinct is at is_open).asks;
+      maps = has.maps;
+    }
