@@ -22,7 +22,7 @@ use Rattle.journal_ends.specs.link_model.procedure_stages.Queue.{waiting_in}
 abbrev pub IsFree : Facts → Type 0
 IsFree facts = is_control facts.outgoing.fixed ≡ false
 
-given_free : (handle : ℕ) (start : Bool) (body : List ℕ) (outgoing : Data) → (data_given handle start body outgoing).fixed ≡ outgoing.fixed
+pub given_free : (handle : ℕ) (start : Bool) (body : List ℕ) (outgoing : Data) → (data_given handle start body outgoing).fixed ≡ outgoing.fixed
 given_free handle start [] outgoing = refl
 given_free handle start (octet ∷ octets) outgoing = refl
 
@@ -30,7 +30,7 @@ asked_free : (comes : Bool) (facts : Facts) (ask : _) → IsFree facts → IsFre
 asked_free true facts ask is = is
 asked_free false facts ask is = is
 
-entered_free : (goes : Bool) (setup : Setup) (slot : ℕ) (facts : Facts) → IsFree facts → IsFree (facts_entered_if goes setup slot facts)
+pub entered_free : (goes : Bool) (setup : Setup) (slot : ℕ) (facts : Facts) → IsFree facts → IsFree (facts_entered_if goes setup slot facts)
 entered_free true setup slot facts is = is
 entered_free false setup slot facts is = is
 
@@ -47,7 +47,7 @@ anew_free true waiting goes outgoing = refl
 anew_free false waiting true outgoing = piece_free (next_piece outgoing)
 anew_free false waiting false outgoing = refl
 
-fixed_free : (stays : Bool) (facts : Facts) → IsFree facts → IsFree (if stays then facts else fixed_anew facts)
+pub fixed_free : (stays : Bool) (facts : Facts) → IsFree facts → IsFree (if stays then facts else fixed_anew facts)
 fixed_free true facts is = is
 fixed_free false facts is =
     anew_free (is_some (next_control facts)) (waiting_in facts.control.table.queue) (data_goes facts) (data_cut facts)

@@ -1,5 +1,6 @@
 -- The control part of one end after several steps, by the lines of its notes.
-use Rattle.std.proofs.Common.{◌≡◌, ℕ, ◌&&◌, not, Bool, true, false, Option, Some, None, List, [], ◌∷◌, ◌++◌, fold, map, refl, sym, ap, ◌∙◌, if◌then◌else◌}
+use Rattle.std.proofs.Common.{◌≡◌, ℕ, ◌&&◌, not, Bool, true, false, Option, Some, None, List, [], ◌∷◌, ◌++◌, fold, map, refl, sym, ap, ◌∙◌, append-nil, if◌then◌else◌}
+use Rattle.std.proofs.Math.Bool.{and-false}
 use Rattle.ble_base.specs.declared.error_codes.ErrCode.{ErrCode}
 use Rattle.ble_base.specs.declared.notes.Note.{Note}
 use Rattle.ble_base.specs.declared.notes.Note.TheVariants.{Enter}
@@ -7,6 +8,9 @@ use Rattle.ble_base.specs.declared.procedure_kinds.Kind.{Kind}
 use Rattle.ble_base.specs.declared.roles.Role.{Role}
 use Rattle.ble_base.specs.declared.roles.Side.{Side}
 use Rattle.data_pdu.specs.Header.{header_in}
+use Rattle.journal.specs.declared.entries.Entry.{Entry as Line}
+use Rattle.journal.specs.declared.entries.Entry.TheVariants.{Took}
+use Rattle.journal_ends.specs.journal_acks.link_calls.Phases.{refusal}
 use Rattle.journal_ends.specs.journal_links.LinkLines.{line_of}
 use Rattle.journal_ends.specs.link_model.Acknowledgement.{Pdu, is_acked}
 use Rattle.journal_ends.specs.link_model.Controls.{goes_on, is_procedure_pdu, pdu_fixed}
@@ -20,18 +24,18 @@ use Rattle.journal_ends.specs.link_model.Receiving.{accepts, acked_kind, acks_co
 use Rattle.journal_ends.specs.link_model.Sending.{sent_notes_if}
 use Rattle.journal_ends.specs.link_model.Setup.{Setup, first_anchor, first_params}
 use Rattle.journal_ends.specs.link_model.Step.{Step, EventEntered, PacketReceived, PacketSent}
-use Rattle.journal_ends.specs.link_model.ControlSteps.{control_steps_of}
+use Rattle.journal_ends.specs.link_model.ControlSteps.{control_steps_of, step_if}
 use Rattle.journal_ends.specs.link_model.Verdicts.{pdu_of}
 use Rattle.journal_ends.specs.link_model.control_end.Answers.{entry_of}
 use Rattle.journal_ends.specs.link_model.control_end.Held.{held_of}
 use Rattle.journal_ends.specs.link_model.control_end.declared.answers.Entry.{Entry}
 use Rattle.journal_ends.specs.link_model.control_end.declared.answers.Taken.{Taken}
-use Rattle.journal_ends.specs.link_model.control_model.Control.{Control, Step as ControlStep, after_all, first_control}
+use Rattle.journal_ends.specs.link_model.control_model.Control.{Control, Step as ControlStep, Answers, after_all, first_control}
 use Rattle.journal_ends.specs.link_model.declared.events.ConnectionEvent.{ConnectionEvent}
 use Rattle.journal_ends.specs.link_model.procedure_stages.Kinds.{role_of}
 use Rattle.journal_ends.proofs.link_model.ControlSteps.{past_goes}
 use Rattle.journal_ends.proofs.link_model.control_model.Moving.{role_after}
-use Rattle.journal_controls.specs.LineSteps.{steps_saying}
+use Rattle.journal_controls.specs.LineSteps.{asks_by, steps_said, steps_saying, steps_taking}
 use Rattle.journal_controls.specs.OneEnd.{steps_noted}
 use Rattle.journal_controls.specs.SaidLines.{NoneOpens, moved_by}
 use Rattle.journal_controls.proofs.NotedSteps.{joined, noted_both}
@@ -51,16 +55,39 @@ past_keeps setup past =
     ∙ ap (λ (d : Control). role_of d.table.progress) (sym (joined (control_steps_of setup past) steps first))
     ∙ role_after setup.link.role setup.link.max_rx (first_params setup.link.fields) (first_anchor setup) (control_steps_of setup past ++ steps)
 
--- so the lines of notes move it by the steps of these notes
-pub moved_noted : (side : Side) (number slot : ℕ) (role : Role) (notes : List Note) (c : Control) → KeepsRole role c
-    → moved_by slot (map (line_of side number) notes) c ≡ after_all (steps_noted side number role slot notes) c
-moved_noted side number slot role [] c keeps = refl
-moved_noted side number slot role (note ∷ notes) c keeps =
+-- so the lines of notes move it by the steps of these notes, where none of them refuses a request
+abbrev pub NoneRefuses : Side → ℕ → Bool → ℕ → List Note → Type 0
+NoneRefuses side number withheld slot [] = Unit {0}
+NoneRefuses side number withheld slot (note ∷ notes) =
+    ((c : Control) → let line = line_of side number note in steps_said withheld slot c line ≡ steps_saying (role_of c.table.progress) slot line)
+    × NoneRefuses side number withheld slot notes
+
+pub moved_noted : (side : Side) (number : ℕ) (withheld : Bool) (slot : ℕ) (role : Role) (notes : List Note) (c : Control) → KeepsRole role c
+    → NoneRefuses side number withheld slot notes
+    → moved_by withheld slot (map (line_of side number) notes) c ≡ after_all (steps_noted side number role slot notes) c
+moved_noted side number withheld slot role [] c keeps none = refl
+moved_noted side number withheld slot role (note ∷ notes) c keeps none =
     let line = line_of side number note in
     let steps = steps_saying role slot line in
-    ap (λ r. moved_by slot (map (line_of side number) notes) (after_all (steps_saying r slot line) c)) (keeps [])
-    ∙ moved_noted side number slot role notes (after_all steps c) (role_stays role c steps keeps)
+    ap (λ all. moved_by withheld slot (map (line_of side number) notes) (after_all all c)) (none.0 c ∙ ap (λ r. steps_saying r slot line) (keeps []))
+    ∙ moved_noted side number withheld slot role notes (after_all steps c) (role_stays role c steps keeps) none.1
     ∙ sym (joined steps (steps_noted side number role slot notes) c)
+
+-- where nothing is withheld, none does
+pub unwithheld : (side : Side) (number slot : ℕ) (notes : List Note) → NoneRefuses side number false slot notes
+unwithheld side number slot [] = tt
+unwithheld side number slot (note ∷ notes) = ((λ c. by c (line_of side number note)), unwithheld side number slot notes)
+  where
+    by : (c : Control) (line : Line) → steps_said false slot c line ≡ steps_saying (role_of c.table.progress) slot line
+    by c (Took other link count llid body) =
+        let pdu : Pdu = record { llid = llid; body = body } in
+        ap (λ b. steps_taking slot pdu ++ step_if b (Answers refusal)) (and-false (asks_by slot c pdu)) ∙ append-nil (steps_taking slot pdu)
+    by c line = refl
+
+pub refuse_both : (side : Side) (number : ℕ) (withheld : Bool) (slot : ℕ) (notes more : List Note) → NoneRefuses side number withheld slot notes
+    → NoneRefuses side number withheld slot more → NoneRefuses side number withheld slot (notes ++ more)
+refuse_both side number withheld slot [] more here there = there
+refuse_both side number withheld slot (note ∷ notes) more here there = (here.0, refuse_both side number withheld slot notes more here.1 there)
 
 -- ---- no note of an end opens a link or shuts it
 

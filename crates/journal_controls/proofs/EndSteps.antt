@@ -157,6 +157,19 @@ not_true : (a : Bool) → not a ≡ true → a ≡ false
 not_true false is = refl
 not_true true is = absurd cc
 
+-- the steps of a packet that is heard, by the facts of the end
+pub told_steps : (slot : ℕ) (setup : Setup) (facts : Facts) (before after : Exchanged) (last : Pdu) (header : DataHeader)
+    → IsToldOf setup.link.role facts header before after last → let acks = has_acknowledged facts header in
+    after_all (steps_heard setup.link.role slot before after last (has_next facts.control)) facts.control
+    ≡ after_all (step_if (acks_control acks facts) SeesAcknowledged
+    ++ step_if (answers_with_control setup.link.role (acknowledged_if acks (heard_in_slot slot header.md facts))) (Sends slot true)) facts.control
+told_steps slot setup facts before after last header told =
+    let acks = has_acknowledged facts header in
+    let acked_is = acks_by acks before.acked after.acked facts.acknowledgement.acked last facts.acknowledgement.last told.acked_before told.acked_after
+    (λ is. told.last_is (not_true (is_acked facts.acknowledgement) (left_of (not (is_acked facts.acknowledgement)) (acknowledges (bits_of facts.acknowledgement) header) is))) in
+    let answers_is = answers_by setup.link.role acks slot header.md (has_next facts.control) facts after told.acked_after told.sent_after told.fixes in
+    λ i. after_all (step_if (acked_is i) SeesAcknowledged ++ step_if (answers_is i) (Sends slot true)) facts.control
+
 module _ (side : Side) (number slot : ℕ) (room : Bool) (setup : Setup) (facts : Facts) (before after : Exchanged) (last : Pdu) where
   heard_by : (pdu : List ℕ) → IsToldOf setup.link.role facts (header_in pdu) before after last
       → after_all (steps_received setup.link.role slot room (Some pdu) facts) facts.control
@@ -172,13 +185,10 @@ module _ (side : Side) (number slot : ℕ) (room : Bool) (setup : Setup) (facts 
       let accepted = accepts room header pdu now in
       let first = step_if (acks_control acks facts) SeesAcknowledged ++ step_if (answers_with_control role own) (Sends slot true) in
       let taken = step_if (accepted && is_procedure_pdu pdu) (Takes (read_of pdu) slot true) in
-      let acked_is = acks_by acks before.acked after.acked facts.acknowledgement.acked last facts.acknowledgement.last told.acked_before told.acked_after
-      (λ is. told.last_is (not_true (is_acked facts.acknowledgement) (left_of (not (is_acked facts.acknowledgement)) (acknowledges (bits_of facts.acknowledgement) header) is))) in
-      let answers_is = answers_by role acks slot header.md (has_next facts.control) facts after told.acked_after told.sent_after told.fixes in
       joined first taken facts.control
       ∙ (λ i. after_all
       (sym (heard_steps side number role slot accepted setup.link.handle (acked_kind (acks_control acks facts) facts) pdu now) i)
-      (after_all (step_if (sym acked_is i) SeesAcknowledged ++ step_if (sym answers_is i) (Sends slot true)) facts.control))
+      (sym (told_steps slot setup facts before after last header told) i))
 
   pub packet_moves : (octets pdu : List ℕ) → good_pdu setup facts octets ≡ Some pdu → IsToldOf setup.link.role facts (header_in pdu) before after last
       → (facts_after setup facts (PacketReceived slot octets room)).control

@@ -7,6 +7,7 @@ use Rattle.ble_base.specs.declared.notes.Note.TheVariants.{Up}
 use Rattle.ble_base.specs.declared.roles.Side.{Side}
 use Rattle.controller_model.specs.Side.{notes_after}
 use Rattle.controller_model.specs.Step.{Step as Call}
+use Rattle.host_masks.specs.Masks.{masks_of, withholds_requests}
 use Rattle.journal.specs.declared.entries.Entry.{Entry}
 use Rattle.journal.specs.declared.entries.Entry.TheVariants.{Air, Fed, Turn}
 use Rattle.journal_ends.specs.Seen.{Hears, heard_in_line}
@@ -18,12 +19,12 @@ use Rattle.journal_ends.specs.link_model.procedure_stages.Kinds.{role_of}
 use Rattle.journal_ends.specs.run_model.History.{Event, TurnBegan, HostFed, Called, Hearing, Noted, Transmitted}
 use Rattle.journal_ends.specs.run_model.Journal.{entries_of, entry_of, journal_of, mark_of, radio_in, side_of}
 use Rattle.journal_ends.specs.run_model.Links.{links_of}
-use Rattle.journal_ends.specs.run_model.Readers.{PairOpening, pair_openings_in, turns_of}
+use Rattle.journal_ends.specs.run_model.Readers.{PairOpening, fed_in, fed_to_side, pair_openings_in, turns_of}
 use Rattle.journal_ends.specs.run_model.Run.{Given, after_call, facts_at, setup_at}
 use Rattle.journal_ends.proofs.SeenEvents.{lines_at}
 use Rattle.journal_ends.proofs.journal_links.LinkLines.{line_more}
 use Rattle.journal_ends.proofs.run_model.Parts.{journal_event}
-use Rattle.journal_controls.specs.LineSteps.{control_after, control_on, has_next, steps_heard, turn_now}
+use Rattle.journal_controls.specs.LineSteps.{control_after, control_on, has_next, steps_heard, turn_now, withholds}
 use Rattle.journal_controls.specs.SaidLines.{NoneOpens, moved_by}
 use Rattle.journal_controls.proofs.LineFolds.{control_more, heard_line, line_moves, moved_both, quiet_line}
 
@@ -34,12 +35,17 @@ control_at number side history = control_on side number (journal_of history)
 abbrev pub turn_at : List Event → ℕ
 turn_at history = turn_now (journal_of history)
 
+abbrev pub withholds_at : Side → List Event → Bool
+withholds_at side history = withholds side (journal_of history)
+
 -- lines of this turn, and nothing that is heard
 pub record IsMoving (number : ℕ) (side : Side) (history after : List Event) : Type 0 where
   pub more : List Entry
   pub lines : lines_at number side after ≡ lines_at number side history ++ more
   pub turns : turn_at after ≡ turn_at history
-  pub control : (c : Control) → NoneOpens more → control_at number side history ≡ Some c → control_at number side after ≡ Some (moved_by (turn_at history) more c)
+  pub withheld : withholds_at side after ≡ withholds_at side history
+  pub control : (c : Control) → NoneOpens more → control_at number side history ≡ Some c
+      → control_at number side after ≡ Some (moved_by (withholds_at side history) (turn_at history) more c)
 
 first_none : (lines more : List Entry) → NoneOpens (lines ++ more) → NoneOpens lines
 first_none [] more none = tt
@@ -55,16 +61,19 @@ moving_then number side first second third one next = record {
   more = one.more ++ next.more;
   lines = next.lines ∙ ap (λ xs. xs ++ next.more) one.lines ∙ append_assoc (lines_at number side first) one.more next.more;
   turns = next.turns ∙ one.turns;
+  withheld = next.withheld ∙ one.withheld;
   control = λ c none is.
-      next.control (moved_by (turn_at first) one.more c) (last_none one.more next.more none) (one.control c (first_none one.more next.more none) is)
-      ∙ ap (λ slot. Some (moved_by slot next.more (moved_by (turn_at first) one.more c))) one.turns
-      ∙ ap Some (sym (moved_both (turn_at first) one.more next.more c));
+      let slot = turn_at first in
+      let held = withholds_at side first in
+      next.control (moved_by held slot one.more c) (last_none one.more next.more none) (one.control c (first_none one.more next.more none) is)
+      ∙ (λ i. Some (moved_by (one.withheld i) (one.turns i) next.more (moved_by held slot one.more c)))
+      ∙ ap Some (sym (moved_both held slot one.more next.more c));
 }
 
--- an event with one line that begins no turn
+-- an event with one line that begins no turn and is not of a host
 line_moving : (number : ℕ) (side : Side) (history : List Event) (event : Event) (line : Entry) → entries_of (links_of history) event ≡ line ∷ []
-    → heard_in_line side number (journal_of history) line ≡ [] → pair_openings_in line ≡ [] → IsMoving number side history (history ++ event ∷ [])
-line_moving number side history event line is deaf begins =
+    → heard_in_line side number (journal_of history) line ≡ [] → pair_openings_in line ≡ [] → fed_in side line ≡ [] → IsMoving number side history (history ++ event ∷ [])
+line_moving number side history event line is deaf begins feeds =
     let front = journal_of history in
     let named = where_named side number (link_named line) line in
     let journal = journal_event history event ∙ ap (λ xs. front ++ xs) is in record {
@@ -72,13 +81,12 @@ line_moving number side history event line is deaf begins =
       lines = ap (λ xs. lines_of side number xs) journal ∙ line_more side number front line named (append-nil named);
       turns = ap turn_now journal
           ∙ ap (λ (turns : List PairOpening). length turns - 1) (flat_map-append pair_openings_in front (line ∷ []) ∙ (λ i. turns_of front ++ (begins i ++ [])) ∙ append-nil (turns_of front));
+      withheld = ap (withholds side) journal ∙ ap (λ octets. withholds_requests (masks_of octets))
+          (flat_map-append (fed_in side) front (line ∷ []) ∙ (λ i. fed_to_side side front ++ (feeds i ++ [])) ∙ append-nil (fed_to_side side front));
       control = λ c none was.
           ap (control_on side number) journal ∙ control_more side number front line ∙ ap (λ before. control_after side number front before line) was
           ∙ line_moves side number front line c deaf none;
     }
-
-pub feed_moving : (number : ℕ) (side : Side) (history : List Event) (station : ℕ) (octets : List ℕ) → IsMoving number side history (history ++ HostFed station octets ∷ [])
-feed_moving number side history station octets = line_moving number side history (HostFed station octets) _ refl refl refl
 
 note_hears : (number : ℕ) (side other : Side) (front : List Entry) (link_of : ℕ → ℕ) (last : ℕ) (note : Note) → heard_in_line side number front (entry_of other link_of last note) ≡ []
 note_hears number side other front link_of last (Up packet) = refl
@@ -88,18 +96,24 @@ note_begins : (other : Side) (link_of : ℕ → ℕ) (last : ℕ) (note : Note) 
 note_begins other link_of last (Up packet) = refl
 note_begins other link_of last note = refl
 
+note_feeds : (side other : Side) (link_of : ℕ → ℕ) (last : ℕ) (note : Note) → fed_in side (entry_of other link_of last note) ≡ []
+note_feeds side other link_of last (Up packet) = refl
+note_feeds side other link_of last note = refl
+
 note_moving : (number : ℕ) (side : Side) (history : List Event) (station : ℕ) (note : Note) → IsMoving number side history (history ++ Noted station note ∷ [])
 note_moving number side history station note =
     let links = links_of history in
     line_moving number side history (Noted station note) _ refl
     (note_hears number side (side_of station) (journal_of history) (links.link_of station) (links.last_of station) note)
     (note_begins (side_of station) (links.link_of station) (links.last_of station) note)
+    (note_feeds side (side_of station) (links.link_of station) (links.last_of station) note)
 
 none_moving : (number : ℕ) (side : Side) (history after : List Event) → journal_of after ≡ journal_of history → IsMoving number side history after
 none_moving number side history after same = record {
   more = [];
   lines = ap (λ xs. lines_of side number xs) same ∙ sym (append-nil (lines_at number side history));
   turns = ap turn_now same;
+  withheld = ap (withholds side) same;
   control = λ c none was. ap (control_on side number) same ∙ was;
 }
 
@@ -134,11 +148,12 @@ turn_still number side history slot radios =
 -- by the lines that it adds
 pub call_moves : (given : Given) (side : Side) (number station : ℕ) (step : Call) (history : List Event) (more : List Entry) (c : Control)
     → lines_at number side (after_call given station step history) ≡ lines_at number side history ++ more → NoneOpens more
-    → control_at number side history ≡ Some c → control_at number side (after_call given station step history) ≡ Some (moved_by (turn_at history) more c)
+    → control_at number side history ≡ Some c
+    → control_at number side (after_call given station step history) ≡ Some (moved_by (withholds_at side history) (turn_at history) more c)
 call_moves given side number station step history more c lines none was =
     let moving = call_moving given number side station step history in
     let same = append_cancel_left (lines_at number side history) moving.more more (sym moving.lines ∙ lines) in
-    moving.control c (subst NoneOpens (sym same) none) was ∙ ap (λ xs. Some (moved_by (turn_at history) xs c)) same
+    moving.control c (subst NoneOpens (sym same) none) was ∙ ap (λ xs. Some (moved_by (withholds_at side history) (turn_at history) xs c)) same
 
 -- a host sends
 pub feed_still : (number : ℕ) (side : Side) (history : List Event) (station : ℕ) (octets : List ℕ)
@@ -155,7 +170,7 @@ abbrev pub air_line : ℕ → ℕ → List ℕ → Hearing → Entry
 air_line station channel octets hearing = Air (side_of station) channel octets (mark_of hearing.fate) hearing.verdict
 
 module _ (number : ℕ) (side : Side) (history : List Event) (station channel : ℕ) (octets : List ℕ) (hearing : Hearing) where
-  abbrev aired : List Event
+  abbrev pub aired : List Event
   aired = history ++ Transmitted station channel octets (hearing ∷ []) ∷ []
 
   journal_aired : journal_of aired ≡ journal_of history ++ air_line station channel octets hearing ∷ []

@@ -8,6 +8,15 @@ pub mod EndMoves
 pub mod PeripheralFixed
 pub mod TurnMoves
 pub mod Counted
+pub mod FixedEnds
+pub mod TakingLines
+pub mod LinkMoves
+pub mod OpenedControls
+pub mod ControlledEnds
+pub mod ControlPackets
+pub mod PassedControls
+pub mod KeptControls
+pub mod RunControls
 -- what the crates above use of those below
 pub use Rattle.journal_ends.proofs as journal_ends
 pub use Rattle.journal_ends.proofs.journal_acks as journal_acks

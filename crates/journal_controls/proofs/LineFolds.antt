@@ -18,7 +18,7 @@ use Rattle.journal_ends.specs.link_model.procedure_stages.Kinds.{role_of}
 use Rattle.journal_ends.specs.run_model.Readers.{of_side}
 use Rattle.journal_ends.proofs.journal_acks.TwoStations.{same_number}
 use Rattle.journal_controls.specs.SaidLines.{NoneOpens, is_opening, moved_by}
-use Rattle.journal_controls.specs.LineSteps.{control_after, control_begun, control_from, control_moved, control_on, has_next, steps_heard, steps_saying, steps_seen, turn_now}
+use Rattle.journal_controls.specs.LineSteps.{control_after, control_begun, control_from, control_moved, control_on, has_next, steps_heard, steps_said, steps_seen, turn_now, withholds}
 
 -- ---- a line more
 
@@ -68,20 +68,21 @@ quiet_line side number front before line none =
 
 -- ---- lines that an end says
 
-pub moved_both : (slot : ℕ) (lines more : List Entry) (c : Control) → moved_by slot (lines ++ more) c ≡ moved_by slot more (moved_by slot lines c)
-moved_both slot [] more c = refl
-moved_both slot (line ∷ lines) more c = moved_both slot lines more (after_all (steps_saying (role_of c.table.progress) slot line) c)
+pub moved_both : (withheld : Bool) (slot : ℕ) (lines more : List Entry) (c : Control)
+    → moved_by withheld slot (lines ++ more) c ≡ moved_by withheld slot more (moved_by withheld slot lines c)
+moved_both withheld slot [] more c = refl
+moved_both withheld slot (line ∷ lines) more c = moved_both withheld slot lines more (after_all (steps_said withheld slot c line) c)
 
 -- a line of its own
 said_line : (side : Side) (number : ℕ) (front : List Entry) (line : Entry) (c : Control) → is_opening line ≡ false → seen_in_line side number front line ≡ Says line ∷ []
-    → control_after side number front (Some c) line ≡ Some (moved_by (turn_now front) (line ∷ []) c)
+    → control_after side number front (Some c) line ≡ Some (moved_by (withholds side front) (turn_now front) (line ∷ []) c)
 said_line side number front line c opens is =
     moves side number front (Some c) line opens
     ∙ ap (λ seen. Some (after_all (flat_map (steps_seen side number front line c) seen) c)) is
-    ∙ ap (λ steps. Some (after_all steps c)) (append-nil (steps_saying (role_of c.table.progress) (turn_now front) line))
+    ∙ ap (λ steps. Some (after_all steps c)) (append-nil (steps_said (withholds side front) (turn_now front) c line))
 
 -- the line is of this side and of this link, or it is not
-data IsNamed (line : Entry) (named : List Entry) : Type 0 where
+pub data IsNamed (line : Entry) (named : List Entry) : Type 0 where
   Own : named ≡ line ∷ [] → IsNamed line named
   Others : named ≡ [] → IsNamed line named
 
@@ -93,22 +94,22 @@ named_if B A same line = Others refl
 named_if B B true line = Own refl
 named_if B B false line = Others refl
 
-named_by : (side : Side) (number : ℕ) (names : Option (Side × ℕ)) (line : Entry) → IsNamed line (where_named side number names line)
+pub named_by : (side : Side) (number : ℕ) (names : Option (Side × ℕ)) (line : Entry) → IsNamed line (where_named side number names line)
 named_by side number None line = Others refl
 named_by side number (Some named) line = named_if side named.0 (named.1 == number) line
 
 -- a line in which the end hears nothing
 pub line_moves : (side : Side) (number : ℕ) (front : List Entry) (line : Entry) (c : Control) → heard_in_line side number front line ≡ []
     → let named = where_named side number (link_named line) line in NoneOpens named
-    → control_after side number front (Some c) line ≡ Some (moved_by (turn_now front) named c)
+    → control_after side number front (Some c) line ≡ Some (moved_by (withholds side front) (turn_now front) named c)
 line_moves side number front line c deaf opens = by (named_by side number (link_named line) line)
   where
     by : IsNamed line (where_named side number (link_named line) line)
-        → control_after side number front (Some c) line ≡ Some (moved_by (turn_now front) (where_named side number (link_named line) line) c)
+        → control_after side number front (Some c) line ≡ Some (moved_by (withholds side front) (turn_now front) (where_named side number (link_named line) line) c)
     by (Own is) =
-        said_line side number front line c (subst NoneOpens is opens).0 (λ i. deaf i ++ map Says (is i)) ∙ ap (λ lines. Some (moved_by (turn_now front) lines c)) (sym is)
+        said_line side number front line c (subst NoneOpens is opens).0 (λ i. deaf i ++ map Says (is i)) ∙ ap (λ lines. Some (moved_by (withholds side front) (turn_now front) lines c)) (sym is)
     by (Others none) =
-        quiet_line side number front (Some c) line (λ i. deaf i ++ map Says (none i)) ∙ ap (λ lines. Some (moved_by (turn_now front) lines c)) (sym none)
+        quiet_line side number front (Some c) line (λ i. deaf i ++ map Says (none i)) ∙ ap (λ lines. Some (moved_by (withholds side front) (turn_now front) lines c)) (sym none)
 
 -- ---- a good packet that the end hears
 

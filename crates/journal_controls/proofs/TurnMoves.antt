@@ -62,7 +62,7 @@ module _ (side : Side) (number slot : ℕ) (setup : Setup) where
     abbrev now : Facts
     now = facts_after setup facts (PacketReceived slot octets room)
 
-    answers_by : (answers : Bool) → (answers ≡ true → setup.link.role ≡ Peripheral) → AreByLines side number slot setup now (first_if answers (PacketSent slot) [])
+    pub answers_by : (answers : Bool) → (answers ≡ true → setup.link.role ≡ Peripheral) → AreByLines side number slot setup now (first_if answers (PacketSent slot) [])
     answers_by false peripheral = by_none side number slot setup now
     answers_by true peripheral =
         let role = peripheral refl in

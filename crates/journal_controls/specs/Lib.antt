@@ -2,6 +2,7 @@
 pub mod LineSteps
 pub mod OneEnd
 pub mod SaidLines
+pub mod Hearing
 pub mod LinesDue
 pub mod TurnSteps
 pub mod Rows
@@ -11,4 +12,5 @@ pub use Rattle.journal_ends.specs.journal_acks as journal_acks
 pub use Rattle.journal_ends.specs.journal_links as journal_links
 pub use Rattle.journal_ends.specs.journal_packets as journal_packets
 pub use Rattle.journal_ends.specs.link_model as link_model
+pub use Rattle.journal_ends.specs.open_links as open_links
 pub use Rattle.journal_ends.specs.run_model as run_model

@@ -7,11 +7,13 @@ use Rattle.ble_base.specs.declared.roles.Role.{Role}
 use Rattle.ble_base.specs.declared.roles.Role.TheVariants.{Central, Peripheral}
 use Rattle.ble_base.specs.declared.roles.Side.{Side}
 use Rattle.controller_model.specs.Heard.{most_received}
+use Rattle.host_masks.specs.Masks.{masks_of, withholds_requests}
 use Rattle.journal.specs.declared.entries.Entry.{Entry}
 use Rattle.journal.specs.declared.entries.Entry.TheVariants.{Enter, Opened, Sent, Shut, Took}
 use Rattle.journal_ends.specs.Seen.{Hears, Says, Seen, seen_in_line}
 use Rattle.journal_ends.specs.journal_acks.Carried.{carried_of}
 use Rattle.journal_ends.specs.journal_acks.Exchange.{Exchanged, exchange_of}
+use Rattle.journal_ends.specs.journal_acks.link_calls.Phases.{refusal}
 use Rattle.journal_ends.specs.journal_links.Begun.{LinkBegun, link_numbered}
 use Rattle.journal_ends.specs.journal_links.Changes.{role_on}
 use Rattle.journal_ends.specs.journal_packets.Belonging.{is_side}
@@ -20,19 +22,22 @@ use Rattle.journal_ends.specs.link_model.ControlSteps.{step_if}
 use Rattle.journal_ends.specs.link_model.Controls.{is_procedure_pdu, read_of}
 use Rattle.journal_ends.specs.link_model.Data.{is_control}
 use Rattle.journal_ends.specs.link_model.Setup.{first_params}
-use Rattle.journal_ends.specs.link_model.control_end.Answers.{next_ctrl}
+use Rattle.journal_ends.specs.link_model.control_end.Answers.{next_ctrl, taken_of}
 use Rattle.journal_ends.specs.link_model.control_end.Held.{held_of}
-use Rattle.journal_ends.specs.link_model.control_model.Control.{Control, Step as ControlStep, Enters, SeesAcknowledged, Sends, Takes, after_all, first_control}
+use Rattle.journal_ends.specs.link_model.control_model.Control.{Control, Step as ControlStep, Answers, Enters, SeesAcknowledged, Sends, Takes, after_all, first_control}
 use Rattle.journal_ends.specs.link_model.procedure_stages.Kinds.{role_of}
-use Rattle.journal_ends.specs.run_model.Readers.{turns_of}
+use Rattle.journal_ends.specs.link_model.procedure_stages.Steps.{asks_host}
+use Rattle.journal_ends.specs.run_model.Readers.{fed_to_side, turns_of}
 
 -- ---- its host
 
--- the steps that a host asks for in a line (our choice: the controller refuses each command of a procedure yet). A
--- request of the peer that the mask of the host withholds is refused at once (section 5.1.7), which no line says: so
--- what is said here is of links on which no request is withheld
+-- the steps that a host asks for in a line (our choice: the controller refuses each command of a procedure yet)
 abbrev pub steps_asked : Side → ℕ → List Entry → Entry → List ControlStep
 steps_asked side number front line = []
+
+-- the masks of the host of a side withhold from it the requests of its peer, by these entries
+abbrev pub withholds : Side → List Entry → Bool
+withholds side front = withholds_requests (masks_of (fed_to_side side front))
 
 -- ---- it says a line
 
@@ -51,6 +56,22 @@ steps_saying role slot (Sent side link count llid body) =
     steps_sending role slot (record { llid = llid; body = body })
 steps_saying role slot (Took side link count llid body) = steps_taking slot (record { llid = llid; body = body })
 steps_saying role slot line = []
+
+-- the host is to be asked as this PDU is taken (section 5.1.7)
+abbrev pub asks_by : ℕ → Control → Pdu → Bool
+asks_by slot control pdu =
+    is_procedure_pdu pdu && asks_host (taken_of (read_of pdu) slot true (held_of control)).effect
+
+-- a request that is withheld from the host is refused at once, which no line says
+abbrev pub steps_refusing : Bool → ℕ → Control → Pdu → List ControlStep
+steps_refusing withheld slot control pdu = step_if (asks_by slot control pdu && withheld) (Answers refusal)
+
+-- the steps of a line of an end with this control part
+abbrev pub steps_said : Bool → ℕ → Control → Entry → List ControlStep
+steps_said withheld slot control (Took side link count llid body) =
+    let pdu : Pdu = record { llid = llid; body = body } in
+    steps_taking slot pdu ++ steps_refusing withheld slot control pdu
+steps_said withheld slot control line = steps_saying (role_of control.table.progress) slot line
 
 -- ---- it hears a good packet of the other end
 
@@ -81,8 +102,7 @@ turn_now front = length (turns_of front) - 1
 
 -- the steps of what it says or hears in a line that comes after these
 abbrev pub steps_seen : Side → ℕ → List Entry → Entry → Control → Seen → List ControlStep
-steps_seen side number front line control (Says own) =
-    steps_saying (role_of control.table.progress) (turn_now front) own
+steps_seen side number front line control (Says own) = steps_said (withholds side front) (turn_now front) control own
 steps_seen side number front line control (Hears slot octets) =
     steps_heard (role_of control.table.progress) slot (exchange_of number front side)
     (exchange_of number (front ++ line ∷ []) side) (carried_of number front side) (has_next control)

@@ -28,6 +28,20 @@ version_sent = second_slot ++ Sent B 1 1 version_pdu.llid version_pdu.body ∷ [
 abbrev pub version_taken : List Entry
 version_taken = version_sent ++ Took A 1 1 version_pdu.llid version_pdu.body ∷ []
 
+-- LL_CONNECTION_PARAM_REQ for an interval of 48 slots, no latency and a timeout of 720 ms, without offsets (section
+-- 2.4.2.16)
+abbrev pub param_pdu : Pdu
+param_pdu = record {
+  llid = 3;
+  body =
+      0x0F ∷ 0x30 ∷ 0x00 ∷ 0x30 ∷ 0x00 ∷ 0x00 ∷ 0x00 ∷ 0x48 ∷ 0x00 ∷ 0x00 ∷ 0x00 ∷ 0x00
+      ∷ 0xFF ∷ 0xFF ∷ 0xFF ∷ 0xFF ∷ 0xFF ∷ 0xFF ∷ 0xFF ∷ 0xFF ∷ 0xFF ∷ 0xFF ∷ 0xFF ∷ 0xFF ∷ [];
+}
+
+-- the central takes it in turn 3
+abbrev pub param_taken : List Entry
+param_taken = second_slot ++ Took B 1 1 param_pdu.llid param_pdu.body ∷ []
+
 -- the control part of the central, of which the host has asked for an exchange of versions
 abbrev pub version_wanted : Control
 version_wanted = after (Asks Version) (first_on Central)

@@ -4,8 +4,7 @@ use Rattle.std.specs.List.{AllByRecursion}
 use Rattle.journal.specs.declared.entries.Entry.{Entry}
 use Rattle.journal.specs.declared.entries.Entry.TheVariants.{Opened, Shut}
 use Rattle.journal_ends.specs.link_model.control_model.Control.{Control, after_all}
-use Rattle.journal_ends.specs.link_model.procedure_stages.Kinds.{role_of}
-use Rattle.journal_controls.specs.LineSteps.{steps_saying}
+use Rattle.journal_controls.specs.LineSteps.{steps_said}
 
 -- a line that says that a side opens a link, or shuts it
 abbrev pub is_opening : Entry → Bool
@@ -16,8 +15,8 @@ is_opening line = false
 abbrev pub NoneOpens : List Entry → Type 0
 NoneOpens lines = AllByRecursion (λ line. is_opening line ≡ false) lines
 
--- the control part after these lines of its end, in this turn
-abbrev pub moved_by : ℕ → List Entry → Control → Control
-moved_by slot [] control = control
-moved_by slot (line ∷ lines) control =
-    moved_by slot lines (after_all (steps_saying (role_of control.table.progress) slot line) control)
+-- the control part after these lines of its end, in this turn, where requests are withheld from the host or are not
+abbrev pub moved_by : Bool → ℕ → List Entry → Control → Control
+moved_by withheld slot [] control = control
+moved_by withheld slot (line ∷ lines) control =
+    moved_by withheld slot lines (after_all (steps_said withheld slot control line) control)

@@ -1,6 +1,6 @@
 //! Laws of the control part as a controller is called, by the lines that the call adds. The bodies
 //! are empty: the contracts are the laws.
-ghost use Rattle.std.specs.Prelude.{◌≡◌, ◌++◌, ℕ, List, Some, map};
+ghost use Rattle.std.specs.Prelude.{◌≡◌, ◌++◌, ℕ, List, Some, false, map};
 ghost use Rattle.ble_base.specs.declared.notes.Note.{Note};
 ghost use Rattle.ble_base.specs.declared.roles.Side.{Side};
 ghost use Rattle.controller_model.specs.Step.{Step as Call};
@@ -14,12 +14,13 @@ ghost use Rattle.journal_ends.specs.link_model.control_model.Control.{Control, a
 ghost use Rattle.journal_ends.specs.run_model.History.{Event};
 ghost use Rattle.journal_ends.specs.run_model.Journal.{journal_of};
 ghost use Rattle.journal_ends.specs.run_model.Run.{Given, after_call};
-ghost use Rattle.journal_controls.specs.LineSteps.{control_on, turn_now};
+ghost use Rattle.journal_controls.specs.LineSteps.{control_on, turn_now, withholds};
 ghost use Rattle.journal_controls.specs.OneEnd.{steps_noted};
 ghost use Rattle.journal_controls.specs.SaidLines.{NoneOpens, moved_by};
 
 /// A call on a controller, after any history, moves the control part of an end by the lines that it
-/// adds for that end, in order, where none of them opens the link or shuts it.
+/// adds for that end, in order, where none of them opens the link or shuts it. A request that is
+/// withheld from the host is refused as it is taken (Core 5.2, volume 6 part B, section 5.1.7).
 pub fn a_call_moves_the_control_part_by_its_lines()
     ensures { (given : Given) (side : Side) (number station : ℕ) (call : Call)
         (history : List Event) (more : List Entry) (control : Control)
@@ -27,18 +28,19 @@ pub fn a_call_moves_the_control_part_by_its_lines()
         ≡ lines_of side number (journal_of history) ++ more
         → NoneOpens more → control_on side number (journal_of history) ≡ Some control
         → control_on side number (journal_of (after_call given station call history))
-        ≡ Some (moved_by (turn_now (journal_of history)) more control) }
+        ≡ Some (moved_by (withholds side (journal_of history)) (turn_now (journal_of history)) more
+        control) }
 {}
 
 /// The lines of what an end notes in any steps neither open its link nor shut it, and they move the
-/// control part that it holds by the steps of these notes.
+/// control part that it holds by the steps of these notes, where nothing is withheld from its host.
 pub fn the_lines_of_an_end_move_the_control_part_by_its_notes()
     ensures opens_none { (side : Side) (number : ℕ) (setup : Setup) (facts : Facts)
         (steps : List Step)
         → NoneOpens (map (line_of side number) (notes_from setup facts steps)) }
     ensures moves { (side : Side) (number slot : ℕ) (setup : Setup) (past : List Step)
         (notes : List Note)
-        → moved_by slot (map (line_of side number) notes) (facts_of setup past).control
+        → moved_by false slot (map (line_of side number) notes) (facts_of setup past).control
         ≡ after_all (steps_noted side number setup.link.role slot notes)
         (facts_of setup past).control }
 {}

@@ -1,13 +1,19 @@
 //! Laws of the PDU that an end has fixed as it hears a packet. The bodies are empty: the contracts
 //! are the laws.
-ghost use Rattle.std.specs.Prelude.{◌≡◌, ℕ, Bool, List, false, true};
+ghost use Rattle.std.specs.Prelude.{◌≡◌, ◌++◌, ℕ, Bool, List, Some, false, true};
+ghost use Rattle.std.specs.List.{Contains};
 ghost use Rattle.ble_base.specs.declared.roles.Role.{Role};
+ghost use Rattle.journal_ends.specs.journal_acks.link_calls.Uses.{listens_under};
 ghost use Rattle.journal_ends.specs.link_model.Data.{is_control};
 ghost use Rattle.journal_ends.specs.link_model.End.{facts_after, facts_of};
 ghost use Rattle.journal_ends.specs.link_model.Facts.{Facts};
 ghost use Rattle.journal_ends.specs.link_model.Receiving.{has_ended, replies_of};
 ghost use Rattle.journal_ends.specs.link_model.Setup.{Setup};
 ghost use Rattle.journal_ends.specs.link_model.Step.{Step, PacketReceived, PacketSent, PduFixed};
+ghost use Rattle.journal_ends.specs.open_links.OpenLinks.{OpenLink, facts_in, link_at};
+ghost use Rattle.journal_ends.specs.run_model.Feeding.{AreDistinct};
+ghost use Rattle.journal_ends.specs.run_model.History.{Event};
+ghost use Rattle.journal_ends.specs.run_model.Run.{Given, facts_at, history_of, run_of};
 ghost use Rattle.journal_controls.specs.LineSteps.{has_next};
 
 /// An end of which no control PDU has left the queue and waits to be sent fixes a control PDU
@@ -30,4 +36,24 @@ pub fn a_control_pdu_is_fixed_where_one_waits()
         → replies_of setup facts slot octets room ≡ false
         → let heard = facts_after setup facts (PacketReceived slot octets room) in
         is_control heard.outgoing.fixed ≡ true → has_ended heard ≡ true }
+{}
+
+/// At any time of a run, a control PDU of an open end that has left the queue is sent at once, and
+/// so does not wait, unless the end has ended the link. A peripheral that listens has fixed a
+/// control PDU exactly where one waits (Core 5.2, volume 6 part B, sections 4.5.1 and 4.5.9; when a
+/// PDU is fixed is our choice).
+pub fn what_open_ends_have_fixed()
+    ensures free { (given : Given) (before rest : List Event) (station handle : ℕ)
+        (link : OpenLink) → AreDistinct given.stations → Contains given.stations station
+        → history_of (run_of given) ≡ before ++ rest
+        → link_at handle (facts_at given station before).links ≡ Some link
+        → has_ended (facts_in link) ≡ false
+        → is_control (facts_in link).outgoing.fixed ≡ false }
+    ensures fixes { (given : Given) (before rest : List Event) (station handle : ℕ)
+        (link : OpenLink) → AreDistinct given.stations → Contains given.stations station
+        → history_of (run_of given) ≡ before ++ rest
+        → link_at handle (facts_at given station before).links ≡ Some link
+        → listens_under handle (facts_at given station before).turn.doing ≡ true
+        → link.setup.link.role ≡ Role.Peripheral
+        → (facts_in link).fixes_control ≡ has_next (facts_in link).control }
 {}

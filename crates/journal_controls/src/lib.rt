@@ -1,5 +1,6 @@
-//! The control part of each end of a link, by the lines of a journal, and what moves it at one end.
-//! Definitions and laws; no code.
+//! The control part of each end of a link, by the lines of a journal, what moves it at one end, and
+//! the law that in each run of two stations it is the one that the end holds. Definitions and laws;
+//! no code.
 #![tactic(auto)]
 
 mod calls;
@@ -8,6 +9,7 @@ mod events;
 mod fixing;
 mod journals;
 mod rows;
+mod runs;
 mod turns;
 
 pub use crate::calls::{
@@ -23,9 +25,10 @@ pub use crate::events::{
     a_packet_moves_the_control_part_of_the_end_that_hears_it,
     turns_and_hosts_leave_the_control_part,
 };
-pub use crate::fixing::a_control_pdu_is_fixed_where_one_waits;
+pub use crate::fixing::{a_control_pdu_is_fixed_where_one_waits, what_open_ends_have_fixed};
 pub use crate::journals::only_what_an_end_says_and_hears_moves_its_control_part;
-pub use crate::rows::{worked_controls, worked_lines_due, worked_versions};
+pub use crate::rows::{worked_controls, worked_lines_due, worked_requests, worked_versions};
+pub use crate::runs::the_control_part_by_lines_is_the_one_that_the_end_holds;
 pub use crate::turns::{
     a_packet_that_is_taken_moves_the_control_part_by_its_lines,
     a_turn_that_begins_moves_the_control_part_by_its_lines,

@@ -1,19 +1,24 @@
 //! Worked examples, which the definitions compute.
-ghost use Rattle.std.specs.Prelude.{◌≡◌, ◌++◌, ◌∷◌, [], None, Some, true};
+ghost use Rattle.std.specs.Prelude.{◌≡◌, ◌++◌, ◌∷◌, [], None, Some, false, true};
+ghost use Rattle.std.specs.Option.{option_map};
 ghost use Rattle.ble_base.specs.ErrorCodes.{connection_timeout};
 ghost use Rattle.ble_base.specs.declared.procedure_kinds.Kind.{Kind};
 ghost use Rattle.ble_base.specs.declared.roles.Role.TheVariants.{Central, Peripheral};
 ghost use Rattle.ble_base.specs.declared.roles.Side.TheVariants.{A, B};
-ghost use Rattle.journal.specs.declared.entries.Entry.TheVariants.{Began, Enter, Shut};
+ghost use Rattle.host_masks.specs.Rows.{masking_octets};
+ghost use Rattle.journal.specs.declared.entries.Entry.TheVariants.{Began, Enter, Fed, Shut};
 ghost use Rattle.journal_ends.specs.journal_acks.Rows.{data_acknowledged};
+ghost use Rattle.journal_ends.specs.journal_acks.link_calls.Phases.{refusal};
 ghost use Rattle.journal_ends.specs.link_model.Controls.{read_of};
+ghost use Rattle.journal_ends.specs.link_model.control_model.Control.{Answers, Control};
 ghost use Rattle.journal_ends.specs.link_model.control_model.Control.{Enters, Sends, Takes};
 ghost use Rattle.journal_ends.specs.link_model.control_model.Control.{after_all};
+ghost use Rattle.journal_ends.specs.link_model.procedure_stages.InProgress.{is_host_asked};
 ghost use Rattle.journal_ends.specs.run_model.Rows.{one_connection_journal, one_event_journal};
 ghost use Rattle.journal_controls.specs.LineSteps.{control_on};
 ghost use Rattle.journal_controls.specs.LinesDue.{applied_due, due_saying, lines_due};
 ghost use Rattle.journal_controls.specs.Rows.{first_on, version_pdu, version_sent, version_taken};
-ghost use Rattle.journal_controls.specs.Rows.{version_wanted};
+ghost use Rattle.journal_controls.specs.Rows.{param_pdu, param_taken, version_wanted};
 
 /// As a link is opened, each end has the first control part of its role; and then that part enters
 /// an event with the end. An empty PDU and a PDU of data do not move it. A side has none on another
@@ -39,6 +44,21 @@ pub fn worked_versions()
     ensures taken { control_on A 1 version_taken
         ≡ Some (after_all (Enters 2 true ∷ Takes (read_of version_pdu) 3 true ∷ [])
         (first_on Peripheral)) }
+{}
+
+/// A central takes a request for other parameters. By the masks of a start it refuses it at once; where
+/// its host lets the event of it through, the request waits for the answer of the host.
+pub fn worked_requests()
+    ensures refused { control_on B 1 param_taken
+        ≡ Some (after_all (Enters 2 true ∷ Takes (read_of param_pdu) 3 true ∷ Answers refusal ∷ [])
+        (first_on Central)) }
+    ensures told { control_on B 1 (Fed B masking_octets ∷ param_taken)
+        ≡ Some (after_all (Enters 2 true ∷ Takes (read_of param_pdu) 3 true ∷ [])
+        (first_on Central)) }
+    ensures asked { option_map (λ (control : Control). is_host_asked control.table.progress)
+        (control_on B 1 (Fed B masking_octets ∷ param_taken)) ≡ Some true }
+    ensures answered { option_map (λ (control : Control). is_host_asked control.table.progress)
+        (control_on B 1 param_taken) ≡ Some false }
 {}
 
 /// The host of a central that asks for an exchange of versions is told that it began just after the

@@ -29,6 +29,7 @@ use Rattle.journal_acks.specs.link_calls.Uses.{sends_under}
 use Rattle.journal_acks.proofs.link_calls.UnderHandles.{WasOpen, change_under, map_under, staying_under, was_open}
 use Rattle.journal_acks.specs.link_calls.Turns.{change_if, sent_if}
 use Rattle.journal_ends.proofs.PastSeen.{AreDeaf, IsDeaf, deaf_both}
+use Rattle.controller_model.proofs.Unasked.{of_unasked}
 
 -- ---- one link
 
@@ -88,7 +89,9 @@ known_grown false setup command facts handle after at = same_under facts.links h
 
 read_grown : (setup : Setup) (facts : Facts) (read : CmdRead) (handle : ℕ) (after : OpenLink)
     → link_at handle (facts_commanded setup facts read).links ≡ Some after → HasGrown facts.links handle after
-read_grown setup facts (Known command) handle after at = known_grown (status_of facts.view command == 0) setup command facts handle after at
+read_grown setup facts (Known command) handle after at =
+    of_unasked setup facts command (λ (next : Facts). link_at handle next.links ≡ Some after → HasGrown facts.links handle after)
+    (known_grown (status_of facts.view command == 0) setup command facts handle after) at
 read_grown setup facts UnknownOpcode handle after at = same_under facts.links handle after at
 read_grown setup facts BadLength handle after at = same_under facts.links handle after at
 

@@ -93,7 +93,7 @@ pub record AreSeenAt (given : Given) (place : Place) (history : List Event) : Ty
 
 -- ---- what an end hears next
 
-listened_as : (handle : ℕ) (doing : Doing) → listens_under handle doing ≡ is_number (link_listened doing) handle
+pub listened_as : (handle : ℕ) (doing : Doing) → listens_under handle doing ≡ is_number (link_listened doing) handle
 listened_as handle (CentralListens other) = refl
 listened_as handle (PeripheralListens other) = refl
 listened_as handle (Advertises channel) = refl
@@ -174,7 +174,7 @@ module _ (understood : IsUnderstood) (taken : AreTaken) (nth : AreNth) (apart : 
   distinct = are_distinct given are_two
 
   -- before an octet that is to come
-  lined_octet : (station octet : ℕ) (octets : List ℕ) (history rest : List Event) → history_of (run_of given) ≡ after_octets given station (octet ∷ octets) history ++ rest
+  pub lined_octet : (station octet : ℕ) (octets : List ℕ) (history rest : List Event) → history_of (run_of given) ≡ after_octets given station (octet ∷ octets) history ++ rest
       → AreLined given history
   lined_octet station octet octets history rest is =
       let step = HostOctet octet in
@@ -184,7 +184,7 @@ module _ (understood : IsUnderstood) (taken : AreTaken) (nth : AreNth) (apart : 
       (Called station step)
       (is ∙ ap (λ xs. xs ++ rest) more.is ∙ append_assoc (history ++ called) more.events rest ∙ append_assoc history called (more.events ++ rest)) refl
 
-  lined_next : (station : ℕ) (octets : List ℕ) (history rest : List Event) → history_of (run_of given) ≡ after_octets given station octets history ++ rest
+  pub lined_next : (station : ℕ) (octets : List ℕ) (history rest : List Event) → history_of (run_of given) ≡ after_octets given station octets history ++ rest
       → AreLined given (after_octets given station octets history) → AreLined given history
   lined_next station [] history rest is lined = lined
   lined_next station (octet ∷ octets) history rest is lined = lined_octet station octet octets history rest is

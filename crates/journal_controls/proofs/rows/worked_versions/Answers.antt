@@ -3,6 +3,8 @@ use Rattle.std.proofs.Common.{refl}
 use Rattle.adv_pdu.specs.Header.{kept_bits}
 use Rattle.adv_pdu.specs.Reading.{read_of}
 use Rattle.air_frame.specs.Hearing.{heard_in}
+use Rattle.data_pdu.specs.Layouts.{makers}
+use Rattle.data_pdu.specs.Reading.{ctrl_of, length_of}
 use Rattle.frame_bits.specs.Crc.{crc, crc_octets, crc_of_bits, remainder}
 use Rattle.frame_bits.specs.Whitening.{mask_of, next_mask, whitening_bit, whitening_of}
 use Rattle.controller_model.specs.Packets.{pdu_heard}
@@ -15,5 +17,5 @@ use Rattle.journal_controls.specs.LineSteps.{control_on}
 use Rattle.journal_controls.proofs.rows.worked_versions.Goals as goal
 
 pub returns : goal.returns
-unfolding control_on exchange_of sent_line_of link_of_packet is_answer links_begun pdu_heard heard_in read_of kept_bits crc crc_octets crc_of_bits remainder mask_of next_mask whitening_bit whitening_of little_endian
+unfolding control_on ctrl_of length_of makers exchange_of sent_line_of link_of_packet is_answer links_begun pdu_heard heard_in read_of kept_bits crc crc_octets crc_of_bits remainder mask_of next_mask whitening_bit whitening_of little_endian
 returns c = record { sent = refl; waits = refl; taken = refl }

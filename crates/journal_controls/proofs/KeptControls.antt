@@ -1,0 +1,400 @@
+-- Each step of a run of two stations keeps that the control part of each open end is, by the journal, the one that the end
+-- holds.
+use Rattle.std.proofs.Common.{◌≡◌, ℕ, suc, ◌+◌, ◌==◌, Bool, true, false, Option, Some, None, List, [], ◌∷◌, ◌++◌, inl, inr, length, replicate, refl, sym, ap, subst, ◌∙◌, append_assoc, arith}
+use Rattle.std.specs.Prelude.{◌⊎◌, map, take, if◌then◌else◌}
+use Rattle.std.proofs.lemmas.Bool.{eqb-true}
+use Rattle.ble_base.specs.declared.roles.Role.{Role}
+use Rattle.ble_base.specs.declared.roles.Role.TheVariants.{Central, Peripheral}
+use Rattle.controller_model.specs.Facts.{Facts, Listens, Sends}
+use Rattle.controller_model.specs.Side.{facts_after, facts_of, notes_after}
+use Rattle.controller_model.specs.Step.{Step as Call, HostOctet, TurnBegins, TurnEnds}
+use Rattle.host_masks.specs.Masks.{view_masks, withholds_requests}
+use Rattle.host_masks.proofs.LineMasks.{line_masks}
+use Rattle.journal_ends.specs.journal_acks.link_calls.Uses.{listens_under}
+use Rattle.journal_ends.specs.open_links.OpenLinks.{OpenLink, facts_in, link_at}
+use Rattle.journal_ends.specs.run_model.Due.{Each}
+use Rattle.journal_ends.specs.run_model.Feeding.{is_octet}
+use Rattle.journal_ends.specs.run_model.History.{Event, TurnBegan, HostFed, Called, Hearing, Noted, Transmitted, packet_received, turns_begun}
+use Rattle.journal_ends.specs.run_model.Journal.{journal_of, side_of}
+use Rattle.journal_ends.specs.run_model.LinkEnds.{HaveAddresses}
+use Rattle.journal_ends.specs.run_model.Readers.{station_of, turns_of}
+use Rattle.journal_ends.specs.run_model.Run.{Given, after_call, after_feed, after_octets, facts_at, hearings_of, history_of, octets_left, run_of, setup_at, step_of, use_at}
+use Rattle.radio_replay.specs.declared.fates.Fate.{Fate}
+use Rattle.journal_ends.proofs.EndsKnown.{AreLined, lined_at}
+use Rattle.journal_ends.proofs.KeptSeen.{AreSeenAt, lined_next, lined_octet, seen_first, seen_kept}
+use Rattle.journal_ends.proofs.SeenCalls.{IsSeenAt, held_at, moved as seen_moved, whole as seen_whole}
+use Rattle.journal_ends.proofs.journal_acks.Counting.{facts_event, moved as count_moved}
+use Rattle.journal_ends.proofs.journal_acks.Exchanging.{exchange_at, number_at, number_called, number_quiet, number_sent}
+use Rattle.journal_ends.proofs.journal_acks.KeptCounts.{unsent}
+use Rattle.journal_ends.proofs.journal_acks.KeptLines.{AreLinedAt, lines_kept}
+use Rattle.journal_ends.proofs.journal_acks.Known.{known_of}
+use Rattle.journal_ends.proofs.journal_acks.LinkPackets.{lines_first}
+use Rattle.journal_ends.proofs.journal_acks.Standing.{PhasedBy, listens_wanted, phased_at, sender_role}
+use Rattle.journal_ends.proofs.journal_acks.TwoStations.{IsOfTwo, hearing_of, one_hearing}
+use Rattle.journal_ends.proofs.journal_acks.link_calls.CallNotes.{OpensNone, begin_noted, end_noted, octet_noted, opening_none}
+use Rattle.journal_ends.proofs.journal_links.OfTwo.{are_distinct, of_two_stations}
+use Rattle.journal_ends.proofs.journal_packets.AccessOrder.{AreNth}
+use Rattle.journal_ends.proofs.journal_packets.SoFar.{IsBelongingSoFar}
+use Rattle.journal_ends.proofs.link_model.Hearing.{IsHeardWhole}
+use Rattle.journal_ends.proofs.run_laws.ByCalls.{last_turn}
+use Rattle.journal_ends.proofs.run_laws.DistinctAccess.{AreApart}
+use Rattle.journal_ends.proofs.run_laws.Hearings.{wanted_is}
+use Rattle.journal_ends.proofs.run_laws.LinkPhases.{begins_in}
+use Rattle.journal_ends.proofs.run_laws.OpenSteps.{none_open, open_has}
+use Rattle.journal_ends.proofs.run_laws.TurnPlaces.{Within, at_stage}
+use Rattle.journal_ends.proofs.run_model.Fates.{turns_are}
+use Rattle.journal_ends.proofs.run_model.Fronts.{front_at}
+use Rattle.journal_ends.proofs.run_model.LinkEnds.{AreTaken, IsUnderstood, received_by, received_event}
+use Rattle.journal_ends.proofs.run_model.Places.{each_called, each_event}
+use Rattle.journal_ends.proofs.run_model.Stations.{among, is_in, not_before}
+use Rattle.journal_ends.proofs.run_model.Walk.{AtBegins, AtEnds, AtFeeds, AtListening, AtPackets, IsKept, NoTurn, Place}
+use Rattle.journal_controls.specs.Hearing.{control_next}
+use Rattle.journal_controls.proofs.ControlPackets.{packet_moves}
+use Rattle.journal_controls.proofs.ControlledEnds.{AreControlledSo, IsControlledAt, controlled_call, controlled_event, controlled_same, moved, moved_own, taking_next, whole}
+use Rattle.journal_controls.proofs.EventMoves.{control_at, feed_still, turn_at, turn_still, withholds_at}
+use Rattle.journal_controls.proofs.FixedEnds.{fixed_in}
+use Rattle.journal_controls.proofs.LinkMoves.{MovesTo, begin_moves, end_moves, octet_moves}
+use Rattle.journal_controls.proofs.PassedControls.{passes_own}
+
+-- ---- what is kept
+
+-- the control part of each open end of a station is the one that it holds
+abbrev pub AreControlledOf : Given → List Event → ℕ → Type 0
+AreControlledOf given history station =
+    is_in station given.stations ≡ true → (handle : ℕ) (link : OpenLink) → link_at handle (facts_at given station history).links ≡ Some link
+    → control_at (number_at station handle history) (side_of station) history ≡ Some (facts_in link).control
+
+-- so are those of all stations
+abbrev pub AreControlled : Given → List Event → Type 0
+AreControlled given history = (station : ℕ) → AreControlledOf given history station
+
+-- before a call, it is that as the packet of the call has reached the end
+abbrev pub IsControlledBefore : Given → List Event → ℕ → Call → Type 0
+IsControlledBefore given before station step =
+    is_in station given.stations ≡ true → (handle : ℕ) (link : OpenLink) → link_at handle (facts_at given station before).links ≡ Some link
+    → control_at (number_at station handle before) (side_of station) before ≡ Some (control_next handle (facts_at given station before) step link)
+
+abbrev pub ControlBefore : Given → List Event → Event → Type 0
+ControlBefore given before (TurnBegan slot radios) = AreControlled given before
+ControlBefore given before (Called station step) = IsControlledBefore given before station step
+ControlBefore given before (HostFed station octets) = Unit {0}
+ControlBefore given before (Noted station note) = Unit {0}
+ControlBefore given before (Transmitted station channel octets hearings) = AreControlled given before
+
+pub record AreControlledAt (given : Given) (place : Place) (history : List Event) : Type 0 where
+  pub seen : AreSeenAt given place history
+  pub lined : AreLinedAt given (IsBelongingSoFar given) place history
+  pub control : AreControlledSo given history (λ station. packet_received station history)
+  pub each : Each (ControlBefore given) [] history
+
+-- where a station received nothing, all its ends are as they were
+whole_at : (given : Given) (history : List Event) (received : ℕ → Option (List ℕ)) (station handle : ℕ) (link : OpenLink) → is_in station given.stations ≡ true
+    → link_at handle (facts_at given station history).links ≡ Some link → (listens_under handle (facts_at given station history).turn.doing ≡ true → received station ≡ None)
+    → AreControlledSo given history received → control_at (number_at station handle history) (side_of station) history ≡ Some (facts_in link).control
+whole_at given history received station handle link in_it at none are =
+    whole (received station) handle (facts_at given station history).turn link (number_at station handle history) (side_of station) history none (are station handle link in_it at)
+
+pub all_whole : (given : Given) (history : List Event) → ((station : ℕ) → is_in station given.stations ≡ true → packet_received station history ≡ None)
+    → AreControlledSo given history (λ station. packet_received station history) → AreControlled given history
+all_whole given history none are = λ station in_it handle link at.
+    whole_at given history (λ one. packet_received one history) station handle link in_it at (λ on. none station in_it) are
+
+-- a call in which nothing is heard
+whole_before : (given : Given) (history : List Event) (received : ℕ → Option (List ℕ)) (station : ℕ) (step : Call)
+    → ((handle : ℕ) (facts : Facts) (link : OpenLink) → control_next handle facts step link ≡ (facts_in link).control) → received station ≡ None
+    → AreControlledSo given history received → IsControlledBefore given history station step
+whole_before given history received station step deaf none are = λ in_it handle link at.
+    whole_at given history received station handle link in_it at (λ on. none) are ∙ ap Some (sym (deaf handle (facts_at given station history) link))
+
+-- a call, and all that is noted in it
+call_each : (given : Given) (station : ℕ) (step : Call) (history : List Event) → Each (ControlBefore given) [] history → IsControlledBefore given history station step
+    → Each (ControlBefore given) [] (after_call given station step history)
+call_each given station step history each is =
+    each_called (ControlBefore given) station step (notes_after (setup_at given station) (facts_at given station history) step) history each is (λ before note. tt)
+
+-- ---- small steps
+
+there_and_back : (station : ℕ) → (station ≡ 0) ⊎ (station ≡ 1) → station_of (side_of station) ≡ station
+there_and_back station (inl is) = ap (λ n. station_of (side_of n)) is ∙ sym is
+there_and_back station (inr is) = ap (λ n. station_of (side_of n)) is ∙ sym is
+
+no_octet : (received : Option (List ℕ)) → is_octet (step_of received) ≡ false
+no_octet None = refl
+no_octet (Some octets) = refl
+
+first_sender : (phases : ℕ) (role : Role) → phases ≡ 0 → ((phases ≡ 0) × (role ≡ Central)) ⊎ ((phases ≡ 1) × (role ≡ Peripheral)) → role ≡ Central
+first_sender phases role first (inl central) = central.1
+first_sender phases role first (inr later) = absurd (let same = later.0 in omega (arith, first, same))
+
+turn_is : (history : List Event) (slot : ℕ) → turns_begun history ≡ slot + 1 → turn_at history ≡ slot
+turn_is history slot is = last_turn (length (turns_of (journal_of history))) slot (turns_are history ∙ is)
+
+abbrev NoneReceived : ℕ → Option (List ℕ)
+NoneReceived station = None
+
+module _ (heard_whole : IsHeardWhole) (understood : IsUnderstood) (taken : AreTaken) (nth : AreNth) (apart : AreApart) (given : Given) (are_two : IsOfTwo given)
+    (six : HaveAddresses given) where
+  -- ---- what a host sends
+
+  record AreFed (history : List Event) : Type 0 where
+    control : AreControlledSo given history NoneReceived
+    each : Each (ControlBefore given) [] history
+
+  octet_fed : (station octet : ℕ) (history : List Event) → is_in station given.stations ≡ true → AreLined given history → AreLined given (after_call given station (HostOctet octet) history)
+      → AreFed history → AreFed (after_call given station (HostOctet octet) history)
+  octet_fed station octet history in_it lined lined_after fed =
+      let step = HostOctet octet in
+      let setup = setup_at given station in
+      let facts = facts_at given station history in record {
+        control = controlled_call given station step history NoneReceived NoneReceived lined lined_after (λ handle link at.
+            let number = number_at station handle history in
+            let has = octet_moves (side_of station) number (withholds_at (side_of station) history) (turn_at history) setup facts octet handle link
+            (held_at given station step history in_it lined lined_after handle link at) in
+            moved_own given station step history in_it lined lined_after handle link at None refl
+            (number_called given station step history handle (octet_noted (OpensNone handle) (opening_none handle).starts.feeds setup facts octet)) has.base has.was
+            (facts_in has.base).control has.is (whole_at given history NoneReceived station handle has.base in_it has.was (λ on. refl) fed.control))
+            (λ other is_too differs. refl) fed.control;
+        each = call_each given station step history fed.each (whole_before given history NoneReceived station step (λ handle held link. refl) refl fed.control);
+      }
+
+  octets_fed : (station : ℕ) (octets : List ℕ) (history rest : List Event) → is_in station given.stations ≡ true
+      → history_of (run_of given) ≡ after_octets given station octets history ++ rest → AreLined given (after_octets given station octets history)
+      → AreFed history → AreFed (after_octets given station octets history)
+  octets_fed station [] history rest in_it is lined fed = fed
+  octets_fed station (octet ∷ octets) history rest in_it is lined fed =
+      let next = after_call given station (HostOctet octet) history in
+      octets_fed station octets next rest in_it is lined
+      (octet_fed station octet history in_it (lined_octet understood taken nth apart given are_two six station octet octets history rest is)
+      (lined_next understood taken nth apart given are_two six station octets next rest is lined) fed)
+
+  feed_fed : (station : ℕ) (octets : List ℕ) (history rest : List Event) → is_in station given.stations ≡ true
+      → history_of (run_of given) ≡ after_feed given station octets history ++ rest → AreLined given (after_feed given station octets history)
+      → AreFed history → AreFed (after_feed given station octets history)
+  feed_fed station [] history rest in_it is lined fed = fed
+  feed_fed station (octet ∷ octets) history rest in_it is lined fed =
+      let event = HostFed station (octet ∷ octets) in
+      octets_fed station (octet ∷ octets) (history ++ event ∷ []) rest in_it is lined (record {
+        control = controlled_event given history event NoneReceived (λ one. refl) (λ number side. feed_still number side history station (octet ∷ octets))
+            (λ one handle. number_quiet one handle history event (λ links. refl)) fed.control;
+        each = each_event (ControlBefore given) history event fed.each tt;
+      })
+
+  -- ---- a packet
+
+  -- before it, no end has one to take
+  none_before : (phases : ℕ) (done left : List ℕ) (station channel : ℕ) (octets : List ℕ) (history : List Event) → given.stations ≡ done ++ station ∷ left
+      → use_at given station history ≡ Sends channel octets → AreSeenAt given (AtPackets phases done (station ∷ left)) history
+      → (one handle : ℕ) (link : OpenLink) → is_in one given.stations ≡ true → link_at handle (facts_at given one history).links ≡ Some link
+      → listens_under handle (facts_at given one history).turn.doing ≡ true → packet_received one history ≡ None
+  none_before phases done left station channel octets history are wanted has = λ one handle link in_one at on. by one handle link in_one at on (one == station) refl
+    where
+      by : (one handle : ℕ) (link : OpenLink) → is_in one given.stations ≡ true → link_at handle (facts_at given one history).links ≡ Some link
+          → listens_under handle (facts_at given one history).turn.doing ≡ true → (same : Bool) → (one == station) ≡ same → packet_received one history ≡ None
+      by one handle link in_one at on true same =
+          let place = AtPackets phases done (station ∷ left) in
+          let facts = facts_at given one history in
+          let listens = (phased_at given place history has.holds.hearing.stand one in_one).uses.in_turn.listens in
+          let sends = ap (λ n. use_at given n history) (eqb-true one station same) ∙ wanted in
+          absurd (let h : Sends channel octets ≡ Listens (facts_in link).event.channel =
+          sym sends ∙ sym (wanted_is given one history) ∙ listens_wanted facts handle link facts.turn.doing on listens at in absurd cc)
+      by one handle link in_one at on false differs =
+          has.silent one station in_one (among given.stations done left station are) differs (not_before given.stations done left station (are_distinct given are_two) are)
+
+  pub packet_whole : (phases : ℕ) (done left : List ℕ) (station channel : ℕ) (octets : List ℕ) (history : List Event) → given.stations ≡ done ++ station ∷ left
+      → use_at given station history ≡ Sends channel octets → AreControlledAt given (AtPackets phases done (station ∷ left)) history → AreControlled given history
+  packet_whole phases done left station channel octets history are wanted has = λ one in_one handle link at.
+      whole_at given history (λ each. packet_received each history) one handle link in_one at
+      (none_before phases done left station channel octets history are wanted has.seen one handle link in_one at) has.control
+
+  module _ (phases : ℕ) (done left : List ℕ) (station channel : ℕ) (octets : List ℕ) (fates : List Fate) (history : List Event) (stations_are : given.stations ≡ done ++ station ∷ left)
+      (wanted : use_at given station history ≡ Sends channel octets) (has : AreControlledAt given (AtPackets phases done (station ∷ left)) history) where
+    abbrev place_after : Place
+    place_after = AtPackets phases (done ++ station ∷ []) left
+
+    abbrev hearing : Hearing
+    hearing = hearing_of given fates station channel octets history
+
+    abbrev hearings : List Hearing
+    hearings = hearings_of given fates station channel octets history
+
+    abbrev after : List Event
+    after = history ++ Transmitted station channel octets hearings ∷ []
+
+    aired_is : after ≡ history ++ Transmitted station channel octets (hearing ∷ []) ∷ []
+    aired_is = ap (λ xs. history ++ Transmitted station channel octets xs ∷ []) (one_hearing given are_two fates station channel octets history (among given.stations done left station stations_are))
+
+    packet_controlled : AreSeenAt given place_after after → AreLinedAt given (IsBelongingSoFar given) place_after after → AreControlledSo given after (λ one. packet_received one after)
+    packet_controlled seen lined = λ one handle link in_one at.
+        let place = AtPackets phases done (station ∷ left) in
+        let facts = facts_at given one history in
+        let turn = facts.turn in
+        let turn_after = (facts_at given one after).turn in
+        let side = side_of one in
+        let number = number_at one handle history in
+        let numbers = number_sent one handle history station channel octets hearings in
+        let same = facts_event given one history (Transmitted station channel octets hearings) refl in
+        let turns = ap (λ (f : Facts). f.turn) same in
+        let is_open = ap (λ (f : Facts). link_at handle f.links) (sym same) ∙ at in
+        let none = none_before phases done left station channel octets history stations_are wanted has.seen one handle link in_one is_open in
+        let received = packet_received one history in
+        let received_too = packet_received one after in
+        let aired = history ++ Transmitted station channel octets (hearing ∷ []) ∷ [] in
+        let front = front_at given place history has.seen.known.front in
+        let moves = packet_moves number side history station channel octets hearing received received_too handle turn link (unsent place one) (unsent place_after one) none
+        (whole_at given history (λ each. packet_received each history) one handle link in_one is_open none has.control)
+        (seen_whole received handle turn link number side history none (has.seen.seen one handle link in_one is_open))
+        (subst (λ h. IsSeenAt received_too handle turn link number side h) aired_is
+        (seen_moved handle link side after received_too received_too turn_after turn (number_at one handle after) number refl (sym turns) (sym numbers) (seen.seen one handle link in_one at)))
+        (has.lined.counts.counted one handle link in_one is_open)
+        (count_moved handle link (unsent place_after one) (unsent place_after one) received_too received_too turn_after turn
+        (exchange_at (number_at one handle after) after side) (exchange_at number aired side) refl refl (sym turns) (sym (λ i. exchange_at (numbers i) (aired_is i) side))
+        (lined.counts.counted one handle link in_one at))
+        (has.lined.lines one handle link in_one is_open)
+        (fixed_in given history front.rest one handle link (are_distinct given are_two) in_one front.at is_open).fixes in
+        moved handle link side after received_too received_too turn turn_after number (number_at one handle after) refl turns numbers
+        (subst (λ h. IsControlledAt received_too handle turn link number side h) (sym aired_is) moves)
+
+  -- ---- each step
+
+  pub controls_kept : IsKept given (AreControlledAt given)
+  controls_kept =
+      let distinct = are_distinct given are_two in
+      let sees = seen_kept understood taken nth apart given are_two six in
+      let lines = lines_kept heard_whole given (IsBelongingSoFar given) (known_of understood taken nth apart given are_two six) are_two six distinct in record {
+        on_turn = λ slot plan history begun at has.
+            let event = TurnBegan slot (map plan.radio_of given.stations) in record {
+              seen = sees.on_turn slot plan history begun at has.seen;
+              lined = lines.on_turn slot plan history begun at has.lined;
+              control = controlled_same given (history ++ event ∷ []) (λ one. packet_received one history) (λ one. packet_received one (history ++ event ∷ []))
+                  (λ one in_it. received_event one history event)
+                  (controlled_event given history event (λ one. packet_received one history) (λ one. refl)
+                  (λ number side. turn_still number side history slot (map plan.radio_of given.stations)) (λ one handle. number_quiet one handle history event (λ links. refl)) has.control);
+              each = each_event (ControlBefore given) history event has.each (all_whole given history has.seen.holds.hearing.hears has.control);
+            };
+        on_feed = λ plan done left station history are some now has.
+            let octets = take (plan.feed_of station) (octets_left given station history) in
+            let after = after_feed given station octets history in
+            let place = AtFeeds (done ++ station ∷ []) left in
+            let seen = sees.on_feed plan done left station history are some now has.seen in
+            let front = front_at given place after seen.known.front in
+            let fed = feed_fed station octets history front.rest (among given.stations done left station are) front.at (lined_at understood taken given are_two six place after seen.known) (record {
+              control = controlled_same given history (λ one. packet_received one history) NoneReceived (λ one in_one. sym (has.seen.holds.hearing.hears one in_one)) has.control;
+              each = has.each;
+            }) in record {
+              seen = seen;
+              lined = lines.on_feed plan done left station history are some now has.lined;
+              control = controlled_same given after NoneReceived (λ one. packet_received one after) (λ one in_one. seen.holds.hearing.hears one in_one) fed.control;
+              each = fed.each;
+            };
+        on_fed = λ history has. record { seen = sees.on_fed history has.seen; lined = lines.on_fed history has.lined; control = has.control; each = has.each };
+        on_begin = λ slot plan done left station history are due has.
+            let on = plan.radio_of station in
+            let step = TurnBegins slot on in
+            let in_it = among given.stations done left station are in
+            let setup = setup_at given station in
+            let facts = facts_at given station history in
+            let after = after_call given station step history in
+            let seen = sees.on_begin slot plan done left station history are due has.seen in
+            let lined = lined_at understood taken given are_two six (AtBegins done (station ∷ left)) history has.seen.known in
+            let lined_after = lined_at understood taken given are_two six (AtBegins (done ++ station ∷ []) left) after seen.known in
+            let none = has.seen.holds.hearing.hears station in_it in record {
+              seen = seen;
+              lined = lines.on_begin slot plan done left station history are due has.lined;
+              control = controlled_call given station step history (λ one. packet_received one history) (λ one. packet_received one after) lined lined_after (λ handle link at.
+                  let number = number_at station handle history in
+                  let held = held_at given station step history in_it lined lined_after handle link at in
+                  let next = facts_after setup facts step in
+                  let moves = begin_moves (side_of station) number (withholds_at (side_of station) history) slot setup facts on handle link held
+                  (λ sends. first_sender 0 link.setup.link.role refl (sender_role 0 next.links next.turn.doing handle link (begins_in setup slot on facts) sends held)) in
+                  moved_own given station step history in_it lined lined_after handle link at (packet_received station after) (seen.holds.hearing.hears station in_it)
+                  (number_called given station step history handle (begin_noted (OpensNone handle) (opening_none handle) setup slot on facts)) moves.base moves.was
+                  (facts_in moves.base).control
+                  (subst (λ n. MovesTo (side_of station) number (withholds_at (side_of station) history) n moves.base link (facts_in moves.base).control)
+                  (sym (turn_is history slot due.slot_is)) moves.is)
+                  (whole_at given history (λ one. packet_received one history) station handle moves.base in_it moves.was (λ listens. none) has.control))
+                  (λ other is_too differs. received_by given other station step history false differs) has.control;
+              each = call_each given station step history has.each
+                  (whole_before given history (λ one. packet_received one history) station step (λ handle held link. refl) none has.control);
+            };
+        on_begun = λ history has. record { seen = sees.on_begun history has.seen; lined = lines.on_begun history has.lined; control = has.control; each = has.each };
+        on_phase = λ phases history few has. record { seen = sees.on_phase phases history few has.seen; lined = lines.on_phase phases history few has.lined; control = has.control; each = has.each };
+        on_silence = λ phases done left station history are none has. record {
+          seen = sees.on_silence phases done left station history are none has.seen;
+          lined = lines.on_silence phases done left station history are none has.lined;
+          control = has.control;
+          each = has.each;
+        };
+        on_packet = λ phases plan done left station channel octets history are some due has.
+            let seen = sees.on_packet phases plan done left station channel octets history are some due has.seen in
+            let lined = lines.on_packet phases plan done left station channel octets history are some due has.lined in record {
+              seen = seen;
+              lined = lined;
+              control = packet_controlled phases done left station channel octets plan.fates history are due.is_wanted has seen lined;
+              each = each_event (ControlBefore given) history (Transmitted station channel octets (hearings_of given plan.fates station channel octets history)) has.each
+                  (packet_whole phases done left station channel octets history are due.is_wanted has);
+            };
+        on_air = λ phases history has. record { seen = sees.on_air phases history has.seen; lined = lines.on_air phases history has.lined; control = has.control; each = has.each };
+        on_hearing = λ phases done left station history are some has.
+            let received = packet_received station history in
+            let step = step_of received in
+            let in_it = among given.stations done left station are in
+            let after = after_call given station step history in
+            let facts = facts_at given station history in
+            let place = AtListening phases (done ++ station ∷ []) left in
+            let seen = sees.on_hearing phases done left station history are some has.seen in
+            let lined = lined_at understood taken given are_two six (AtListening phases done (station ∷ left)) history has.seen.known in
+            let lined_after = lined_at understood taken given are_two six place after seen.known in
+            let front = front_at given place after seen.known.front in
+            let notes = map (Noted station) (notes_after (setup_at given station) facts step) in
+            let phased =
+            subst (λ b. PhasedBy given history station (if b then at_stage (Within (suc phases)) (turns_begun history) else at_stage (Within phases) (turns_begun history)))
+            (not_before given.stations done left station distinct are)
+            (phased_at given (AtListening phases done (station ∷ left)) history has.seen.holds.hearing.stand station in_it) in
+            let held = ap withholds_requests (sym (ap (λ n. view_masks (facts_at given n history).view) (sym (there_and_back station (of_two_stations given are_two station in_it)))
+            ∙ line_masks given are_two (side_of station) history (notes ++ front.rest) (Called station step) (front.at ∙ append_assoc history (Called station step ∷ notes) front.rest)
+            (no_octet received))) in record {
+              seen = seen;
+              lined = lines.on_hearing phases done left station history are some has.lined;
+              control = controlled_call given station step history (λ one. packet_received one history) (λ one. packet_received one after) lined lined_after
+                  (passes_own understood taken given are_two six station history phases place in_it phased lined lined_after seen.known seen.seen held
+                  (turn_is history facts.turn.slot (sym phased.uses.in_turn.slot_is)) has.control)
+                  (λ other is_too differs. received_by given other station step history false differs) has.control;
+              each = call_each given station step history has.each (λ in_one handle link at.
+                  has.control station handle link in_it at ∙ ap Some (taking_next handle facts received link));
+            };
+        on_heard = λ phases history has. record { seen = sees.on_heard phases history has.seen; lined = lines.on_heard phases history has.lined; control = has.control; each = has.each };
+        on_phases = λ history has. record { seen = sees.on_phases history has.seen; lined = lines.on_phases history has.lined; control = has.control; each = has.each };
+        on_end = λ done left station history are some has.
+            let step = TurnEnds in
+            let in_it = among given.stations done left station are in
+            let setup = setup_at given station in
+            let facts = facts_at given station history in
+            let after = after_call given station step history in
+            let seen = sees.on_end done left station history are some has.seen in
+            let lined = lined_at understood taken given are_two six (AtEnds done (station ∷ left)) history has.seen.known in
+            let lined_after = lined_at understood taken given are_two six (AtEnds (done ++ station ∷ []) left) after seen.known in
+            let none = has.seen.holds.hearing.hears station in_it in record {
+              seen = seen;
+              lined = lines.on_end done left station history are some has.lined;
+              control = controlled_call given station step history (λ one. packet_received one history) (λ one. packet_received one after) lined lined_after (λ handle link at.
+                  let moves = end_moves (side_of station) (number_at station handle history) (withholds_at (side_of station) history) (turn_at history) setup facts handle link
+                  (held_at given station step history in_it lined lined_after handle link at) in
+                  moved_own given station step history in_it lined lined_after handle link at (packet_received station after) (seen.holds.hearing.hears station in_it)
+                  (number_called given station step history handle (end_noted (OpensNone handle) (opening_none handle).starts.feeds setup facts)) moves.base moves.was
+                  (facts_in moves.base).control moves.is
+                  (whole_at given history (λ one. packet_received one history) station handle moves.base in_it moves.was (λ listens. none) has.control))
+                  (λ other is_too differs. received_by given other station step history false differs) has.control;
+              each = call_each given station step history has.each
+                  (whole_before given history (λ one. packet_received one history) station step (λ handle held link. refl) none has.control);
+            };
+        on_ended = λ history has. record { seen = sees.on_ended history has.seen; lined = lines.on_ended history has.lined; control = has.control; each = has.each };
+      }
+
+-- as a run begins no link is open
+none_controlled : (given : Given) → AreControlledSo given [] (λ station. packet_received station [])
+unfolding facts_of
+none_controlled given = λ station handle link in_it at.
+    absurd (open_has (λ one. ⊥) 0 handle (replicate (setup_at given station).links None) link (none_open (λ one. ⊥) (setup_at given station).links) at)
+
+pub controls_first : (given : Given) → AreControlledAt given NoTurn []
+controls_first given = record { seen = seen_first given; lined = lines_first given; control = none_controlled given; each = tt }

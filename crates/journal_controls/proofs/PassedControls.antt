@@ -1,0 +1,118 @@
+-- A phase passes at a station: what its control parts are then by the journal.
+use Rattle.std.proofs.Common.{◌≡◌, ℕ, ◌⊎◌, inl, inr, true, Option, Some, None, List, [], ◌∷◌, sym, ap, subst, ◌∙◌}
+use Rattle.std.specs.Prelude.{All}
+use Rattle.controller_model.specs.Facts.{Facts}
+use Rattle.controller_model.specs.Heard.{has_room}
+use Rattle.controller_model.specs.Links.{note_opened}
+use Rattle.controller_model.specs.Side.{facts_after, notes_after}
+use Rattle.host_masks.specs.Masks.{view_masks, withholds_requests}
+use Rattle.journal_ends.specs.Seen.{Says, seen_of}
+use Rattle.journal_ends.specs.journal_acks.link_calls.Phases.{HasPassed, IsNew, Stays, Takes}
+use Rattle.journal_ends.specs.journal_acks.link_calls.Uses.{sends_under}
+use Rattle.journal_ends.specs.journal_links.LinkLines.{line_of}
+use Rattle.journal_ends.specs.link_model.End.{facts_of}
+use Rattle.journal_ends.specs.link_model.Facts.{first_facts}
+use Rattle.journal_ends.specs.open_links.OpenLinks.{OpenLink, facts_in, link_at}
+use Rattle.journal_ends.specs.run_model.History.{Event, packet_received, turns_begun}
+use Rattle.journal_ends.specs.run_model.Journal.{side_of}
+use Rattle.journal_ends.specs.run_model.LinkEnds.{HaveAddresses}
+use Rattle.journal_ends.specs.run_model.Run.{Given, after_call, facts_at, setup_at, step_of}
+use Rattle.journal_ends.proofs.EndsKnown.{AreLined}
+use Rattle.journal_ends.proofs.SeenCalls.{AreSeenSo, held_at, seen_in_link, whole as seen_whole}
+use Rattle.journal_ends.proofs.journal_acks.Exchanging.{number_at, number_called}
+use Rattle.journal_ends.proofs.journal_acks.Standing.{PhasedBy}
+use Rattle.journal_ends.proofs.journal_acks.TwoStations.{IsOfTwo}
+use Rattle.journal_ends.proofs.journal_acks.link_calls.CallNotes.{OpensNone}
+use Rattle.journal_ends.proofs.journal_acks.link_calls.InRange.{ranges_in}
+use Rattle.journal_ends.proofs.journal_acks.link_calls.LinkCalls.{IsOpenedNow, passes_under, phase_quiet}
+use Rattle.journal_ends.proofs.journal_links.OfTwo.{are_distinct}
+use Rattle.journal_ends.proofs.journal_packets.SoFar.{IsBelongingSoFar}
+use Rattle.journal_ends.proofs.run_laws.TurnPlaces.{Within, at_stage}
+use Rattle.journal_ends.proofs.run_model.Fronts.{front_at}
+use Rattle.journal_ends.proofs.run_model.LinkEnds.{AreTaken, IsUnderstood, received_by}
+use Rattle.journal_ends.proofs.run_model.Calls.{same_station}
+use Rattle.journal_ends.proofs.run_model.Stations.{is_in}
+use Rattle.journal_ends.proofs.run_model.Walk.{Place}
+use Rattle.journal_controls.specs.Hearing.{control_if}
+use Rattle.journal_controls.proofs.ControlledEnds.{AreControlledSo, IsControlledAt, control_taking, from_whole, moved_own, whole}
+use Rattle.journal_controls.proofs.EventMoves.{turn_at, withholds_at}
+use Rattle.journal_controls.proofs.FixedEnds.{sends_replying}
+use Rattle.journal_controls.proofs.LinkMoves.{MovesTo, same_moves, taken_moves}
+use Rattle.journal_controls.proofs.OpenedControls.{opened_control}
+
+-- an end to which nothing happened yet
+first_said : (number station : ℕ) (link : OpenLink) → link.past ≡ []
+    → seen_in_link number (side_of station) link ≡ Says (line_of (side_of station) number (note_opened link.setup.link)) ∷ []
+unfolding seen_of
+first_said number station link none = ap (λ past. seen_of (side_of station) number link.setup past) none
+
+first_control_is : (link : OpenLink) → link.past ≡ [] → (first_facts link.setup).control ≡ (facts_in link).control
+unfolding facts_of
+first_control_is link none = ap (λ past. (facts_of link.setup past).control) (sym none)
+
+module _ (understood : IsUnderstood) (taken : AreTaken) (given : Given) (are_two : IsOfTwo given) (six : HaveAddresses given) (station : ℕ) (history : List Event) (phases : ℕ)
+    (place : Place) (in_it : is_in station given.stations ≡ true) (phased : PhasedBy given history station (at_stage (Within phases) (turns_begun history)))
+    (lined : AreLined given history) (lined_after : AreLined given (after_call given station (step_of (packet_received station history)) history))
+    (known : IsBelongingSoFar given place (after_call given station (step_of (packet_received station history)) history))
+    (seen : AreSeenSo given (after_call given station (step_of (packet_received station history)) history)
+    (λ one. packet_received one (after_call given station (step_of (packet_received station history)) history)))
+    (held : withholds_at (side_of station) history ≡ withholds_requests (view_masks (facts_at given station history).view))
+    (slot_is : turn_at history ≡ (facts_at given station history).turn.slot) (are : AreControlledSo given history (λ one. packet_received one history)) where
+  abbrev received : Option (List ℕ)
+  received = packet_received station history
+
+  abbrev next : List Event
+  next = after_call given station (step_of received) history
+
+  abbrev facts : Facts
+  facts = facts_at given station history
+
+  abbrev IsNow : ℕ → OpenLink → Type 0
+  IsNow handle link = IsControlledAt (packet_received station next) handle (facts_at given station next).turn link (number_at station handle next) (side_of station) next
+
+  none_next : packet_received station next ≡ None
+  none_next = received_by given station station (step_of received) history true (same_station station)
+
+  fresh : (handle : ℕ) (link : OpenLink) → link_at handle (facts_at given station next).links ≡ Some link → link.past ≡ [] → IsNow handle link
+  fresh handle link at none =
+      let number = number_at station handle next in
+      let turn = (facts_at given station next).turn in
+      let front = front_at given place next known.front in
+      let said = seen_whole (packet_received station next) handle turn link number (side_of station) next (λ on. none_next) (seen station handle link in_it at)
+      ∙ first_said number station link none in
+      from_whole (packet_received station next) handle turn link number (side_of station) next (λ on. none_next)
+      (opened_control understood taken given are_two six next front.rest number station link front.at known.asked.sent in_it (known.numbered.numbered station handle link at)
+      (ranges_in given next front.rest station handle link (are_distinct given are_two) in_it front.at at) said
+      ∙ ap Some (first_control_is link none))
+
+  passed : (handle : ℕ) (link : OpenLink) → link_at handle (facts_at given station next).links ≡ Some link → number_at station handle next ≡ number_at station handle history
+      → HasPassed facts (has_room (setup_at given station) facts) received handle (facts_after (setup_at given station) facts (step_of received)).turn.doing link → IsNow handle link
+  passed handle link at number (IsNew end made opened off) = fresh handle link at (ap (λ (l : OpenLink). l.past) made)
+  passed handle link at number (Stays was none nothing listened) =
+      let own = number_at station handle history in
+      moved_own given station (step_of received) history in_it lined lined_after handle link at (packet_received station next) none_next number link was (facts_in link).control
+      (same_moves (side_of station) own (withholds_at (side_of station) history) (turn_at history) link)
+      (whole received handle facts.turn link own (side_of station) history nothing (are station handle link in_it was))
+  passed handle link at number (Takes base octets was some on same) =
+      let own = number_at station handle history in
+      let side = side_of station in
+      let setup = setup_at given station in
+      let room = has_room setup facts in
+      let sends = sends_under handle (facts_after setup facts (step_of received)).turn.doing in
+      let from = control_if true facts.turn.slot octets base in
+      let moves = taken_moves side own facts handle room octets base was sends link (sends_replying setup facts received handle base octets was some on) same in
+      moved_own given station (step_of received) history in_it lined lined_after handle link at (packet_received station next) none_next number base was from
+      (subst (λ w. MovesTo side own w (turn_at history) base link from) (sym held)
+      (subst (λ n. MovesTo side own (withholds_requests (view_masks facts.view)) n base link from) (sym slot_is) moves))
+      (are station handle base in_it was ∙ (λ i. Some (control_taking (on i) (some i) facts.turn.slot base)))
+
+  pub passes_own : (handle : ℕ) (link : OpenLink) → link_at handle (facts_at given station next).links ≡ Some link → IsNow handle link
+  passes_own handle link at = by (phase_quiet (setup_at given station) facts received handle)
+    where
+      by : All (OpensNone handle) (notes_after (setup_at given station) (facts_at given station history) (step_of (packet_received station history)))
+          ⊎ ((one : OpenLink) → link_at handle (facts_after (setup_at given station) (facts_at given station history) (step_of (packet_received station history))).links ≡ Some one
+          → IsOpenedNow (facts_at given station history).turn.slot one) → IsNow handle link
+      by (inl quiet) =
+          passed handle link at (number_called given station (step_of received) history handle quiet)
+          (passes_under (setup_at given station) facts received handle link phased.uses.in_turn.listens (held_at given station (step_of received) history in_it lined lined_after handle link at))
+      by (inr new) = fresh handle link at (new link (held_at given station (step_of received) history in_it lined lined_after handle link at)).past
