@@ -1,0 +1,175 @@
+-- The lines of a station as a turn begins, and as a link of it receives a packet, come where they are due.
+use Rattle.std.proofs.Common.{◌≡◌, ℕ, ◌+◌, ◌==◌, Bool, false, Option, Some, None, List, [], ◌∷◌, ◌++◌, map, refl, sym, ap, subst, ◌∙◌, append-nil, append_assoc}
+use Rattle.std.specs.Prelude.{flat_map}
+use Rattle.std.proofs.lemmas.Bool.{eqb-true, false_from_ne_true}
+use Rattle.std.proofs.lemmas.List.{map-append}
+use Rattle.ble_base.specs.declared.notes.Note.{Note}
+use Rattle.ble_base.specs.declared.roles.Side.{Side}
+use Rattle.controller_model.specs.Entering.{notes_all_entering}
+use Rattle.controller_model.specs.Events.{notes_of_events}
+use Rattle.controller_model.specs.Facts.{Setup, Facts}
+use Rattle.controller_model.specs.Heard.{events_received, heard, link_hearing, link_received, notes_taken, replies_in, reply_if}
+use Rattle.controller_model.specs.Links.{facts_ending, note_shut, notes_ended, notes_ending}
+use Rattle.controller_model.specs.Outcome.{notes_passed}
+use Rattle.controller_model.specs.Packets.{notes_doing}
+use Rattle.controller_model.specs.Radio.{outcome_begun}
+use Rattle.controller_model.specs.Side.{notes_after}
+use Rattle.controller_model.specs.Step.{PacketHeard, TurnBegins}
+use Rattle.controller_model.specs.host_view.View.{View}
+use Rattle.controller_model.specs.open_links.OpenLinks.{Links, OpenLink, facts_in, link_at, link_from}
+use Rattle.controller_model.specs.open_links.Turns.{due_in, ends_by, links_without, place_without, staying_by}
+use Rattle.controller_model.specs.open_links.Ended.{end_by}
+use Rattle.controller_model.proofs.Always.{ending_is}
+use Rattle.controller_model.proofs.EndNotes.{received_each}
+use Rattle.controller_model.proofs.open_links.Ends.{stays_where_not_due}
+use Rattle.data_pdu.specs.Header.{header_in}
+use Rattle.hci_evt.specs.declared.event.Event.TheVariants.{DisconnectionComplete}
+use Rattle.journal.specs.declared.entries.Entry.{Entry}
+use Rattle.journal.specs.declared.entries.Entry.TheVariants.{Done, Refused, Took}
+use Rattle.journal_controls.specs.journal_links.LinkLines.{line_of}
+use Rattle.journal_controls.specs.link_model.End.{notes_after as end_notes}
+use Rattle.journal_controls.specs.link_model.Packets.{good_pdu}
+use Rattle.journal_controls.specs.link_model.Receiving.{acks_control, facts_before_taking, has_acknowledged}
+use Rattle.journal_controls.specs.link_model.Step.{PacketReceived}
+use Rattle.journal_controls.proofs.journal_acks.link_calls.CallNotes.{doing_noted, ending_noted}
+use Rattle.journal_controls.specs.run_model.Journal.{entry_of}
+use Rattle.journal_controls.specs.LineSteps.{control_on, turn_now}
+use Rattle.journal_controls.specs.LinesDue.{due_hearing}
+use Rattle.journal_due.specs.EachLine.{IsDueOn}
+use Rattle.journal_due.specs.ProcedureLines.{RestsAt}
+use Rattle.journal_due.proofs.DueEntries.{AreAllTold, told_both}
+use Rattle.journal_due.proofs.DuePhases.{plain_feeds}
+use Rattle.journal_due.proofs.DuePlain.{IsPlain, plain_told}
+use Rattle.journal_due.proofs.DueReceptions.{receiving_told}
+use Rattle.journal_due.proofs.DueSteps.{IsOwnLine, control_apart}
+use Rattle.journal_due.proofs.DueTurns.{AreKnownFrom, all_told, at_first, at_later, events_keep, events_told, plain_lines, same_lines}
+
+-- a link that stays was open, and has no reason to end
+record Stays (reason : OpenLink → Option ℕ) (handle : ℕ) (links : Links) (link : OpenLink) : Type 0 where
+  at : link_at handle links ≡ Some link
+  none : reason link ≡ None
+
+stays_by : (reason : OpenLink → Option ℕ) (handle : ℕ) (links : Links) (link : OpenLink) → link_at handle (links_without reason links) ≡ Some link → Stays reason handle links link
+stays_by reason handle links link at = by (link_at handle links) refl (sym (stays_where_not_due reason 0 handle links) ∙ at)
+  where
+    by : (found : Option OpenLink) → link_at handle links ≡ found → place_without reason found ≡ Some link → Stays reason handle links link
+    by None is stays = absurd cc
+    by (Some one) is stays = may (reason one) refl stays
+      where
+        may : (why : Option ℕ) → reason one ≡ why → staying_by why one ≡ Some link → Stays reason handle links link
+        may None none same = let equal : one ≡ link = cc in record { at = is ∙ ap Some equal; none = ap reason (sym equal) ∙ none }
+        may (Some code) none same = absurd cc
+
+module _ (side : Side) (link_of : ℕ → ℕ) (last : ℕ) where
+  abbrev line : Note → Entry
+  line note = entry_of side link_of last note
+
+  -- ---- links end
+
+  shut_own : (handle code : ℕ) → IsOwnLine side (link_of handle) (line (note_shut handle code))
+  shut_own handle code = record { named = refl; deaf = λ other front. refl; own = refl; no_turn = refl }
+
+  -- links that end leave the control part of another one
+  ends_keep : (view : View) (reason : OpenLink → Option ℕ) (number first : ℕ) (links : Links) (front : List Entry)
+      → ((handle code : ℕ) (link : OpenLink) → link_from first handle links ≡ Some link → reason link ≡ Some code → (link_of handle == number) ≡ false)
+      → control_on side number (front ++ map line (flat_map (notes_ended view) (ends_by reason first links))) ≡ control_on side number front
+  ends_keep view reason number first [] front apart = ap (control_on side number) (append-nil front)
+  ends_keep view reason number first (None ∷ links) front apart =
+      ends_keep view reason number (first + 1) links front (λ handle code link at. apart handle code link (at_later first handle None links link at))
+  ends_keep view reason number first (Some link ∷ links) front apart =
+      by (λ next. ends_keep view reason number (first + 1) links next (λ handle code one at. apart handle code one (at_later first handle (Some link) links one at))) (reason link) refl
+    where
+      by : ((next : List Entry) → control_on side number (next ++ map line (flat_map (notes_ended view) (ends_by reason (first + 1) links))) ≡ control_on side number next)
+          → (why : Option ℕ) → reason link ≡ why
+          → control_on side number (front ++ map line (flat_map (notes_ended view) (end_by first why ++ ends_by reason (first + 1) links))) ≡ control_on side number front
+      by rest None none = rest front
+      by rest (Some code) some =
+          let shut = line (note_shut first code) in
+          let events = notes_of_events view (DisconnectionComplete 0 first code ∷ []) in
+          let later = flat_map (notes_ended view) (ends_by reason (first + 1) links) in
+          let next = front ++ shut ∷ [] in
+          ap (λ lines. control_on side number (front ++ shut ∷ lines)) (map-append line events later)
+          ∙ ap (control_on side number) (sym (append_assoc front (shut ∷ []) (map line events ++ map line later)))
+          ∙ ap (control_on side number) (sym (append_assoc next (map line events) (map line later)))
+          ∙ rest (next ++ map line events)
+          ∙ events_keep side link_of last view (DisconnectionComplete 0 first code ∷ []) next number
+          ∙ control_apart side (link_of first) number front shut (shut_own first code) (apart first code link (at_first first (Some link) links) some)
+
+  -- what is known of the links that stay
+  ending_known : (slot : ℕ) (facts : Facts) (front : List Entry) → AreKnownFrom side link_of last 0 facts.links front
+      → AreKnownFrom side link_of last 0 (facts_ending slot facts).links (front ++ map line (notes_ending slot facts))
+  ending_known slot facts front known =
+      subst (λ (f : Facts). AreKnownFrom side link_of last 0 f.links (front ++ map line (notes_ending slot facts))) (sym (ending_is slot facts)) (record {
+        handles = λ handle link at. known.handles handle link (stays_by (due_in slot) handle facts.links link at).at;
+        controls = λ handle link at.
+            let stays = stays_by (due_in slot) handle facts.links link at in
+            ends_keep facts.view (due_in slot) (link_of handle) 0 facts.links front (λ other code one is some.
+            known.numbers other handle one link is stays.at (false_from_ne_true (other == handle) (λ same.
+            let equal : Some one ≡ Some link = sym is ∙ ap (λ n. link_at n facts.links) (eqb-true other handle same) ∙ stays.at in
+            let h : Some code ≡ None = sym some ∙ ap (due_in slot) (some_same equal) ∙ stays.none in absurd cc)))
+            ∙ known.controls handle link stays.at;
+        numbers = λ one other a b at at_too differs.
+            known.numbers one other a b (stays_by (due_in slot) one facts.links a at).at (stays_by (due_in slot) other facts.links b at_too).at differs;
+      })
+    where
+      some_same : {a b : OpenLink} → Some a ≡ Some b → a ≡ b
+      some_same same = cc
+
+  -- ---- a turn begins
+
+  pub begin_told : (setup : Setup) (facts : Facts) (slot : ℕ) (on : Bool) (front : List Entry) → AreKnownFrom side link_of last 0 facts.links front → turn_now front ≡ slot
+      → RestsAt side front → AreAllTold side front (map line (notes_after setup facts (TurnBegins slot on)))
+  begin_told setup facts slot on front known now rests =
+      let ending = facts_ending slot facts in
+      let shuts = notes_ending slot facts in
+      let entries = notes_all_entering ending.view slot 0 ending.links in
+      let sends = notes_doing (outcome_begun slot on facts).next (outcome_begun slot on facts).facts in
+      let one = plain_told side front (map line shuts) (plain_lines side link_of last shuts (ending_noted IsPlain plain_feeds slot facts)) rests in
+      let mid = front ++ map line shuts in
+      let two = all_told side link_of last ending.view slot 0 ending.links mid (one.turn_is ∙ now) (ending_known slot facts front known) one.left in
+      let next = mid ++ map line entries in
+      let three = plain_told side next (map line sends)
+      (plain_lines side link_of last sends (doing_noted IsPlain (λ handle number llid octets. refl) (outcome_begun slot on facts).next (outcome_begun slot on facts).facts)) two.left in
+      subst (λ lines. AreAllTold side front lines) (sym (map-append line (shuts ++ entries) sends ∙ ap (λ lines. lines ++ map line sends) (map-append line shuts entries)))
+      (told_both side front (map line shuts ++ map line entries) (map line sends) (told_both side front (map line shuts) (map line entries) one two)
+      (subst (λ xs. AreAllTold side xs (map line sends)) (append_assoc front (map line shuts) (map line entries)) three))
+
+  -- ---- a link receives a packet
+
+  -- its lines are those of its notes
+  received_lines : (handle slot : ℕ) (octets : List ℕ) (room : Bool) (link : OpenLink) → link.setup.link.handle ≡ handle
+      → map line (end_notes link.setup (facts_in link) (PacketReceived slot octets room))
+      ≡ map (line_of side (link_of handle)) (end_notes link.setup (facts_in link) (PacketReceived slot octets room))
+  received_lines handle slot octets room link is =
+      let named = ap link_of is in
+      same_lines side link_of last handle (end_notes link.setup (facts_in link) (PacketReceived slot octets room))
+      (received_each (λ note. line note ≡ line_of side (link_of handle) note) link.setup slot room (good_pdu link.setup (facts_in link) octets) (facts_in link) (record {
+        took = λ number llid body. ap (λ n. Took side n number llid body) named;
+        refused = λ kind code. ap (λ n. Refused side n kind code) named;
+        done = λ kind. ap (λ n. Done side n kind) named;
+      }))
+
+  pub received_told : (setup : Setup) (facts : Facts) (handle : ℕ) (octets pdu : List ℕ) (room : Bool) (link : OpenLink) (front : List Entry)
+      → heard setup facts.turn.doing octets facts ≡ link_hearing handle room octets facts → link_at handle facts.links ≡ Some link → link.setup.link.handle ≡ handle
+      → good_pdu link.setup (facts_in link) octets ≡ Some pdu → turn_now front ≡ facts.turn.slot
+      → control_on side (link_of handle) front ≡ Some (facts_before_taking link.setup.link.role facts.turn.slot (header_in pdu) (facts_in link)).control
+      → IsDueOn side (link_of handle) (due_hearing side (link_of handle) (acks_control (has_acknowledged (facts_in link) (header_in pdu)) (facts_in link)) (facts_in link).control) front
+      → AreAllTold side front (map line (notes_after setup facts (PacketHeard octets)))
+  received_told setup facts handle octets pdu room link front is at own good now control on =
+      let slot = facts.turn.slot in
+      let taken = end_notes link.setup (facts_in link) (PacketReceived slot octets room) in
+      let events = events_received handle slot room (Some link) octets in
+      let ups = notes_of_events facts.view events in
+      let doing = reply_if (replies_in slot room (link_at handle facts.links) octets) handle in
+      let sends = notes_doing doing (link_received handle room octets facts) in
+      let one = subst (λ lines. AreAllTold side front lines) (sym (received_lines handle slot octets room link own))
+      (receiving_told side (link_of handle) front link.setup (facts_in link) octets pdu room slot now good control on) in
+      let mid = front ++ map line taken in
+      let two = events_told side link_of last facts.view events mid one.left in
+      let next = mid ++ map line ups in
+      let three = plain_told side next (map line sends) (plain_lines side link_of last sends (doing_noted IsPlain (λ other number llid body. refl) doing (link_received handle room octets facts))) two.left in
+      subst (λ outcome. AreAllTold side front (map line (notes_passed outcome))) (sym is)
+      (subst (λ found. AreAllTold side front (map line ((notes_taken slot room found octets ++ notes_of_events facts.view (events_received handle slot room found octets)) ++ sends))) (sym at)
+      (subst (λ lines. AreAllTold side front lines) (sym (map-append line (taken ++ ups) sends ∙ ap (λ lines. lines ++ map line sends) (map-append line taken ups)))
+      (told_both side front (map line taken ++ map line ups) (map line sends) (told_both side front (map line taken) (map line ups) one two)
+      (subst (λ xs. AreAllTold side xs (map line sends)) (append_assoc front (map line taken) (map line ups)) three))))

@@ -1,0 +1,187 @@
+-- The lines of a station as a turn begins come where they are due: links end, the others enter their events one after
+-- another, and one sends.
+use Rattle.std.proofs.Common.{◌≡◌, ℕ, ◌+◌, ◌≤◌, ◌==◌, Bool, true, false, Option, Some, None, List, [], ◌∷◌, ◌++◌, map, refl, sym, ap, subst, ◌∙◌, append-nil, append_assoc, arith}
+use Rattle.std.specs.Prelude.{All, filter, if◌then◌else◌}
+use Rattle.std.specs.List.{AllByRecursion}
+use Rattle.std.proofs.lemmas.Bool.{eqb-true}
+use Rattle.std.proofs.lemmas.List.{map-append}
+use Rattle.std.proofs.lemmas.List.Elements.{All-head, All-tail}
+use Rattle.ble_base.specs.declared.notes.Note.{Note}
+use Rattle.ble_base.specs.declared.notes.Note.TheVariants.{Up}
+use Rattle.ble_base.specs.declared.roles.Side.{Side}
+use Rattle.hci_evt.specs.declared.event.Event.{Event}
+use Rattle.hci_evt.specs.Event.{mask_bit_of, written}
+use Rattle.journal.specs.declared.entries.Entry.{Entry}
+use Rattle.journal.specs.declared.entries.Entry.TheVariants.{Applied, Began, Done, Enter}
+use Rattle.controller_model.specs.Entering.{events_entering, notes_all_entering}
+use Rattle.controller_model.specs.Events.{notes_of_events, passes}
+use Rattle.controller_model.specs.host_view.View.{View}
+use Rattle.controller_model.proofs.EndNotes.{entered_each}
+use Rattle.journal_controls.specs.journal_links.LinkLines.{line_of}
+use Rattle.journal_controls.specs.link_model.End.{notes_after}
+use Rattle.journal_controls.specs.link_model.Entering.{facts_entered}
+use Rattle.journal_controls.specs.link_model.Step.{EventEntered}
+use Rattle.journal_controls.specs.journal_ends.open_links.OpenLinks.{Links, OpenLink, facts_in, link_from}
+use Rattle.journal_controls.specs.journal_ends.open_links.Turns.{enters_in, notes_if}
+use Rattle.journal_controls.specs.run_model.Journal.{entry_of}
+use Rattle.journal_controls.specs.LineSteps.{control_on, turn_now}
+use Rattle.journal_controls.proofs.LineFolds.{control_more, quiet_line}
+use Rattle.journal_controls.proofs.journal_acks.TwoStations.{same_number}
+use Rattle.journal_due.specs.ProcedureLines.{RestsAt}
+use Rattle.journal_due.proofs.DueEntries.{AreAllTold, entering_told, no_lines, told_both}
+use Rattle.journal_due.proofs.DuePlain.{IsPlain, IsPlainLine, note_plain, plain_told}
+use Rattle.journal_due.proofs.DueSteps.{IsOwnLine, control_apart}
+
+-- ---- the links by handle, from one on
+
+pub from_first : (first handle : ℕ) (links : Links) (link : OpenLink) → link_from first handle links ≡ Some link → first ≤ handle
+from_first first handle [] link at = absurd cc
+from_first first handle (place ∷ links) link at = by (first == handle) refl (λ more. from_first (first + 1) handle links link more) at
+  where
+    by : (here : Bool) → (first == handle) ≡ here → (link_from (first + 1) handle links ≡ Some link → first + 1 ≤ handle)
+        → (if here then place else link_from (first + 1) handle links) ≡ Some link → first ≤ handle
+    by true here later at = let same = eqb-true first handle here in omega (arith, same)
+    by false here later at = let more = later at in omega (arith, more)
+
+pub apart_from : (first handle : ℕ) → first + 1 ≤ handle → (first == handle) ≡ false
+apart_from first handle more = grind (arith, more)
+
+-- a later one is under the same handle
+pub at_later : (first handle : ℕ) (place : Option OpenLink) (links : Links) (link : OpenLink) → link_from (first + 1) handle links ≡ Some link
+    → link_from first handle (place ∷ links) ≡ Some link
+at_later first handle place links link at =
+    ap (λ b. if b then place else link_from (first + 1) handle links) (apart_from first handle (from_first (first + 1) handle links link at)) ∙ at
+
+pub at_first : (first : ℕ) (place : Option OpenLink) (links : Links) → link_from first first (place ∷ links) ≡ place
+at_first first place links = ap (λ b. if b then place else link_from (first + 1) first links) (same_number first)
+
+-- ---- lines of one station, with the numbers of its links
+
+module _ (side : Side) (link_of : ℕ → ℕ) (last : ℕ) where
+  abbrev pub line : Note → Entry
+  line note = entry_of side link_of last note
+
+  pub plain_lines : (notes : List Note) → All IsPlain notes → AllByRecursion (IsPlainLine side) (map line notes)
+  plain_lines [] all = tt
+  plain_lines (note ∷ notes) all = (note_plain side link_of last note (All-head IsPlain note notes all), plain_lines notes (All-tail IsPlain note notes all))
+
+  -- ---- events for the host
+
+  ups_told : (events : List Event) (front : List Entry) → RestsAt side front → AreAllTold side front (map line (map (λ event. Up (record { items = written event })) events))
+  ups_told events front rests = plain_told side front _ (ups_plain events) rests
+    where
+      ups_plain : (events : List Event) → AllByRecursion (IsPlainLine side) (map line (map (λ event. Up (record { items = written event })) events))
+      ups_plain [] = tt
+      ups_plain (event ∷ events) = (note_plain side link_of last (Up (record { items = written event })) refl, ups_plain events)
+
+  pub events_told : (view : View) (events : List Event) (front : List Entry) → RestsAt side front → AreAllTold side front (map line (notes_of_events view events))
+  events_told view events front rests = ups_told (filter (λ event. passes view (mask_bit_of event)) events) front rests
+
+  pub events_keep : (view : View) (events : List Event) (front : List Entry) (number : ℕ)
+      → control_on side number (front ++ map line (notes_of_events view events)) ≡ control_on side number front
+  events_keep view events front number = by (filter (λ event. passes view (mask_bit_of event)) events) front
+    where
+      by : (events : List Event) (front : List Entry) → control_on side number (front ++ map line (map (λ event. Up (record { items = written event })) events)) ≡ control_on side number front
+      by [] front = ap (control_on side number) (append-nil front)
+      by (event ∷ events) front =
+          let up = line (Up (record { items = written event })) in
+          ap (control_on side number) (sym (append_assoc front (up ∷ []) _))
+          ∙ by events (front ++ up ∷ [])
+          ∙ control_more side number front up ∙ quiet_line side number front (control_on side number front) up refl
+
+  -- ---- an event of one link
+
+  own_keep : (own other : ℕ) (lines front : List Entry) → AllByRecursion (IsOwnLine side own) lines → (own == other) ≡ false
+      → control_on side other (front ++ lines) ≡ control_on side other front
+  own_keep own other [] front all apart = ap (control_on side other) (append-nil front)
+  own_keep own other (one ∷ lines) front all apart =
+      ap (control_on side other) (sym (append_assoc front (one ∷ []) lines))
+      ∙ own_keep own other lines (front ++ one ∷ []) all.1 apart
+      ∙ control_apart side own other front one all.0 apart
+
+  -- its lines are those of its notes
+  pub same_lines : (handle : ℕ) (notes : List Note) → AllByRecursion (λ note. line note ≡ line_of side (link_of handle) note) notes
+      → map line notes ≡ map (line_of side (link_of handle)) notes
+  same_lines handle [] all = refl
+  same_lines handle (note ∷ notes) all = λ i. all.0 i ∷ same_lines handle notes all.1 i
+
+  pub record IsOfLink (own : ℕ) (notes : List Note) : Type 0 where
+    pub lines_are : map line notes ≡ map (line_of side own) notes
+    pub are_own : AllByRecursion (IsOwnLine side own) (map line notes)
+
+  pub mapped_own : (own : ℕ) (notes : List Note) → AllByRecursion (λ note. IsOwnLine side own (line note)) notes → AllByRecursion (IsOwnLine side own) (map line notes)
+  mapped_own own [] all = tt
+  mapped_own own (note ∷ notes) all = (all.0, mapped_own own notes all.1)
+
+  entry_of_link : (handle slot : ℕ) (enters : Bool) (link : OpenLink) → link.setup.link.handle ≡ handle → IsOfLink (link_of handle) (notes_if enters slot link)
+  entry_of_link handle slot false link is = record { lines_are = refl; are_own = tt }
+  entry_of_link handle slot true link is =
+      let named = ap link_of is in
+      let event = (facts_entered link.setup slot (facts_in link)).event in record {
+        lines_are = same_lines handle (notes_after link.setup (facts_in link) (EventEntered slot))
+            (entered_each (λ note. line note ≡ line_of side (link_of handle) note) link.setup slot (facts_in link) (record {
+              applied = λ number. ap (λ n. Applied side n number event.number) named;
+              enter = ap (λ n. Enter side n event.number event.channel) named;
+              done = λ kind. ap (λ n. Done side n kind) named;
+              began = λ kind. ap (λ n. Began side n kind) named;
+            }));
+        are_own = mapped_own (link_of handle) (notes_after link.setup (facts_in link) (EventEntered slot))
+            (entered_each (λ note. IsOwnLine side (link_of handle) (line note)) link.setup slot (facts_in link) (record {
+              applied = λ number. record { named = ap (λ n. Some (side, n)) named; deaf = λ other front. refl; own = refl; no_turn = refl };
+              enter = record { named = ap (λ n. Some (side, n)) named; deaf = λ other front. refl; own = refl; no_turn = refl };
+              done = λ kind. record { named = ap (λ n. Some (side, n)) named; deaf = λ other front. refl; own = refl; no_turn = refl };
+              began = λ kind. record { named = ap (λ n. Some (side, n)) named; deaf = λ other front. refl; own = refl; no_turn = refl };
+            }));
+      }
+
+  entry_told : (handle slot : ℕ) (enters : Bool) (link : OpenLink) (front : List Entry) → turn_now front ≡ slot → link.setup.link.handle ≡ handle
+      → control_on side (link_of handle) front ≡ Some (facts_in link).control → RestsAt side front → AreAllTold side front (map line (notes_if enters slot link))
+  entry_told handle slot false link front now is control rests = no_lines side front rests
+  entry_told handle slot true link front now is control rests =
+      subst (λ lines. AreAllTold side front lines) (sym (entry_of_link handle slot true link is).lines_are)
+      (subst (λ one. AreAllTold side front (map (line_of side (link_of handle)) (notes_after link.setup (facts_in link) (EventEntered one)))) now
+      (entering_told side (link_of handle) link.setup (facts_in link) front control rests))
+
+  -- ---- all links enter their events
+
+  -- the open links from a handle on: their handles and numbers, and their control parts by the lines so far
+  pub record AreKnownFrom (first : ℕ) (links : Links) (front : List Entry) : Type 0 where
+    pub handles : (handle : ℕ) (link : OpenLink) → link_from first handle links ≡ Some link → link.setup.link.handle ≡ handle
+    pub controls : (handle : ℕ) (link : OpenLink) → link_from first handle links ≡ Some link → control_on side (link_of handle) front ≡ Some (facts_in link).control
+    pub numbers : (one other : ℕ) (a b : OpenLink) → link_from first one links ≡ Some a → link_from first other links ≡ Some b → (one == other) ≡ false
+        → (link_of one == link_of other) ≡ false
+
+  -- the later ones, by lines that move no control part of them
+  later_known : (first : ℕ) (place : Option OpenLink) (links : Links) (front after : List Entry) → AreKnownFrom first (place ∷ links) front
+      → ((handle : ℕ) (link : OpenLink) → link_from (first + 1) handle links ≡ Some link → control_on side (link_of handle) after ≡ control_on side (link_of handle) front)
+      → AreKnownFrom (first + 1) links after
+  later_known first place links front after known keep = record {
+    handles = λ handle link at. known.handles handle link (at_later first handle place links link at);
+    controls = λ handle link at. keep handle link at ∙ known.controls handle link (at_later first handle place links link at);
+    numbers = λ one other a b at at_too differs. known.numbers one other a b (at_later first one place links a at) (at_later first other place links b at_too) differs;
+  }
+
+  pub all_told : (view : View) (slot first : ℕ) (links : Links) (front : List Entry) → turn_now front ≡ slot → AreKnownFrom first links front → RestsAt side front
+      → AreAllTold side front (map line (notes_all_entering view slot first links))
+  all_told view slot first [] front now known rests = no_lines side front rests
+  all_told view slot first (None ∷ links) front now known rests =
+      all_told view slot (first + 1) links front now (later_known first None links front front known (λ handle link at. refl)) rests
+  all_told view slot first (Some link ∷ links) front now known rests =
+      let here = at_first first (Some link) links in
+      let handle_is = known.handles first link here in
+      let enters = enters_in slot link in
+      let entry = notes_if enters slot link in
+      let events = notes_of_events view (events_entering slot first (Some link)) in
+      let rest = notes_all_entering view slot (first + 1) links in
+      let one = entry_told first slot enters link front now handle_is (known.controls first link here) rests in
+      let mid = front ++ map line entry in
+      let two = events_told view (events_entering slot first (Some link)) mid one.left in
+      let next = mid ++ map line events in
+      let keep = λ (handle : ℕ) (later : OpenLink) (at : link_from (first + 1) handle links ≡ Some later).
+      events_keep view (events_entering slot first (Some link)) mid (link_of handle)
+      ∙ own_keep (link_of first) (link_of handle) (map line entry) front (entry_of_link first slot enters link handle_is).are_own
+      (known.numbers first handle link later here (at_later first handle (Some link) links later at) (apart_from first handle (from_first (first + 1) handle links later at))) in
+      let three = all_told view slot (first + 1) links next (two.turn_is ∙ one.turn_is ∙ now) (later_known first (Some link) links front next known keep) two.left in
+      subst (λ lines. AreAllTold side front lines) (sym (map-append line (entry ++ events) rest ∙ ap (λ lines. lines ++ map line rest) (map-append line entry events)))
+      (told_both side front (map line entry ++ map line events) (map line rest) (told_both side front (map line entry) (map line events) one two)
+      (subst (λ xs. AreAllTold side xs (map line rest)) (append_assoc front (map line entry) (map line events)) three))
