@@ -1,0 +1,213 @@
+-- How one end is to leave its link goes by its lines, by the packet that it hears and by those that it sends.
+use Rattle.std.proofs.Common.{◌≡◌, ℕ, ◌+◌, ◌&&◌, not, Bool, true, false, Option, Some, None, List, [], ◌∷◌, ◌++◌, refl, sym, ap, ◌∙◌, arith, if◌then◌else◌}
+use Rattle.std.specs.Prelude.{nat_lt}
+use Rattle.std.specs.List.{AllByRecursion}
+use Rattle.ble_base.specs.declared.error_codes.ErrCode.{ErrCode}
+use Rattle.ble_base.specs.declared.notes.Note.{Note}
+use Rattle.ble_base.specs.declared.notes.Note.TheVariants.{Enter}
+use Rattle.ble_base.specs.declared.procedure_kinds.Kind.{Kind}
+use Rattle.ble_base.specs.declared.roles.Side.{Side}
+use Rattle.data_pdu.specs.Header.{header_in}
+use Rattle.ack_bit.specs.AckBits.{acknowledges}
+use Rattle.journal.specs.declared.entries.Entry.{Entry}
+use Rattle.journal.specs.declared.entries.Entry.TheVariants.{Took}
+use Rattle.journal_controls.specs.LineSteps.{is_more_acked, steps_said}
+use Rattle.journal_controls.specs.OneEnd.{IsToldOf}
+use Rattle.journal_controls.specs.journal_acks.Exchange.{Exchanged}
+use Rattle.journal_controls.specs.journal_links.LinkLines.{line_of}
+use Rattle.journal_controls.specs.link_model.Acknowledgement.{Pdu, bits_of, is_acked}
+use Rattle.journal_controls.specs.link_model.Controls.{goes_on, is_procedure_pdu, is_terminate, pdu_fixed, read_of}
+use Rattle.journal_controls.specs.link_model.Data.{is_control, is_empty, numbered}
+use Rattle.journal_controls.specs.link_model.End.{facts_after, notes_after}
+use Rattle.journal_controls.specs.link_model.Entering.{began_notes, done_notes, event_notes, facts_entered, facts_entered_if}
+use Rattle.journal_controls.specs.link_model.Events.{applied_notes}
+use Rattle.journal_controls.specs.link_model.Facts.{Facts}
+use Rattle.journal_controls.specs.link_model.Packets.{good_pdu}
+use Rattle.journal_controls.specs.link_model.Receiving.{accepted_if, accepts, acked_kind, acknowledged_if, acks_control, answers_with_control, code_of, facts_before_taking, facts_received, given_if, given_notes, has_acknowledged, heard_in_slot, leaving_acked_if, leaving_by, procedures_take_if, received_notes, refused_notes, took_notes_if}
+use Rattle.journal_controls.specs.link_model.Sending.{control_gone_if, leaving_sent, sent_notes_if, takes_leave}
+use Rattle.journal_controls.specs.link_model.Setup.{Setup}
+use Rattle.journal_controls.specs.link_model.Step.{EventEntered, PacketReceived, PacketSent}
+use Rattle.journal_controls.specs.link_model.Verdicts.{pdu_of}
+use Rattle.journal_controls.specs.link_model.control_end.Answers.{entry_of, taken_of}
+use Rattle.journal_controls.specs.link_model.control_end.Held.{held_of}
+use Rattle.journal_controls.specs.link_model.control_end.declared.answers.Entry.{Entry as Entered}
+use Rattle.journal_controls.specs.link_model.control_end.declared.answers.Taken.{Taken}
+use Rattle.journal_controls.specs.link_model.control_model.Control.{Control, after_all}
+use Rattle.journal_controls.specs.link_model.declared.events.ConnectionEvent.{ConnectionEvent}
+use Rattle.journal_controls.specs.link_model.declared.state.Leaving.{Leaving}
+use Rattle.journal_leaving.specs.Leaving.{acks_terminate, leaving_saying}
+use Rattle.journal_controls.specs.Hearing.{control_hearing}
+use Rattle.journal_leaving.specs.Hearing.{leaving_hearing}
+use Rattle.journal_leaving.specs.Said.{leaving_noted}
+
+-- ---- notes of which none says that a PDU is taken
+
+abbrev is_taking : Entry → Bool
+is_taking (Took side link count llid body) = true
+is_taking line = false
+
+abbrev NoneTakes : Side → ℕ → List Note → Type 0
+NoneTakes side number notes = AllByRecursion (λ note. is_taking (line_of side number note) ≡ false) notes
+
+saying_none : (slot : ℕ) (control : Option Control) (l : Leaving) (line : Entry) → is_taking line ≡ false → leaving_saying slot control l line ≡ l
+saying_none slot control l (Took side link count llid body) is = absurd cc
+saying_none slot control l line is = refl
+
+module _ (side : Side) (number : ℕ) where
+  none_both : (notes more : List Note) → NoneTakes side number notes → NoneTakes side number more → NoneTakes side number (notes ++ more)
+  none_both [] more here there = there
+  none_both (note ∷ notes) more here there = (here.0, none_both notes more here.1 there)
+
+  done_none : (handle : ℕ) (kind : Option Kind) → NoneTakes side number (done_notes handle kind)
+  done_none handle None = tt
+  done_none handle (Some kind) = (refl, tt)
+
+  began_none : (handle : ℕ) (kind : Option Kind) → NoneTakes side number (began_notes handle kind)
+  began_none handle None = tt
+  began_none handle (Some kind) = (refl, tt)
+
+  applied_none : (handle event : ℕ) (applied : Option ℕ) → NoneTakes side number (applied_notes handle event applied)
+  applied_none handle event None = tt
+  applied_none handle event (Some change) = (refl, tt)
+
+  refused_none : (handle : ℕ) (refused : Option (Kind × ErrCode)) → NoneTakes side number (refused_notes handle refused)
+  refused_none handle None = tt
+  refused_none handle (Some (kind, code)) = (refl, tt)
+
+  given_none : (handle : ℕ) (given : Taken) → NoneTakes side number (given_notes handle given)
+  given_none handle given =
+      none_both (refused_notes handle given.refused) (done_notes handle given.done) (refused_none handle given.refused) (done_none handle given.done)
+
+  sent_none : (noted : Bool) (handle count : ℕ) (pdu : Pdu) → NoneTakes side number (sent_notes_if noted handle count pdu)
+  sent_none true handle count pdu = (refl, tt)
+  sent_none false handle count pdu = tt
+
+  entered_none : (goes : Bool) (handle : ℕ) (event : ConnectionEvent) (entry : Entered) → NoneTakes side number (if goes then event_notes handle event entry else [])
+  entered_none false handle event entry = tt
+  entered_none true handle event entry =
+      let applied = applied_notes handle event.number entry.applied in
+      let enter = Enter handle (record { 0 = event.number }) event.channel ∷ [] in
+      let done = done_notes handle entry.done in
+      none_both ((applied ++ enter) ++ done) (began_notes handle entry.began)
+      (none_both (applied ++ enter) done (none_both applied enter (applied_none handle event.number entry.applied) (refl, tt)) (done_none handle entry.done))
+      (began_none handle entry.began)
+
+  -- their lines change nothing
+  none_noted : (withheld : Bool) (slot : ℕ) (notes : List Note) (c : Control) (l : Leaving) → NoneTakes side number notes → leaving_noted side number withheld slot notes c l ≡ l
+  none_noted withheld slot [] c l none = refl
+  none_noted withheld slot (note ∷ notes) c l none =
+      let line = line_of side number note in
+      none_noted withheld slot notes (after_all (steps_said withheld slot c line) c) (leaving_saying slot (Some c) l line) none.1
+      ∙ saying_none slot (Some c) l line none.0
+
+  pub entry_noted : (withheld : Bool) (slot : ℕ) (setup : Setup) (facts : Facts) (l : Leaving) (c : Control) → leaving_noted side number withheld slot (notes_after setup facts (EventEntered slot)) c l ≡ l
+  entry_noted withheld slot setup facts l c =
+      none_noted withheld slot (notes_after setup facts (EventEntered slot)) c l
+      (entered_none (goes_on facts) setup.link.handle (facts_entered setup slot facts).event (entry_of slot true (held_of facts.control)))
+
+  pub sent_noted : (withheld : Bool) (slot : ℕ) (setup : Setup) (facts : Facts) (l : Leaving) (c : Control) → leaving_noted side number withheld slot (notes_after setup facts (PacketSent slot)) c l ≡ l
+  sent_noted withheld slot setup facts l c =
+      none_noted withheld slot (notes_after setup facts (PacketSent slot)) c l
+      (sent_none (is_acked facts.acknowledgement && not (is_empty (pdu_fixed facts))) setup.link.handle (numbered facts.acknowledgement.sent) (pdu_fixed facts))
+
+  -- ---- the notes of a packet that is heard
+
+  done_first : (withheld : Bool) (slot handle : ℕ) (kind : Option Kind) (notes : List Note) (c : Control) (l : Leaving)
+      → leaving_noted side number withheld slot (done_notes handle kind ++ notes) c l ≡ leaving_noted side number withheld slot notes c l
+  done_first withheld slot handle None notes c l = refl
+  done_first withheld slot handle (Some kind) notes c l = refl
+
+  abbrev left_by : Bool → ℕ → Pdu → Control → Leaving → Leaving
+  left_by takes slot pdu c l = if takes then leaving_by (code_of (taken_of (read_of pdu) slot true (held_of c)).effect) l else l
+
+  took_first : (withheld : Bool) (accepted empty control : Bool) (slot handle : ℕ) (pdu : Pdu) (now : Facts) (notes : List Note) (c : Control) (l : Leaving)
+      → is_empty pdu ≡ empty → is_control pdu ≡ control → NoneTakes side number notes
+      → leaving_noted side number withheld slot (took_notes_if (accepted && not empty) handle pdu now ++ notes) c l ≡ left_by (accepted && (control && not empty)) slot pdu c l
+  took_first withheld false empty control slot handle pdu now notes c l e k none = none_noted withheld slot notes c l none
+  took_first withheld true true true slot handle pdu now notes c l e k none = none_noted withheld slot notes c l none
+  took_first withheld true true false slot handle pdu now notes c l e k none = none_noted withheld slot notes c l none
+  took_first withheld true false control slot handle pdu now notes c l e k none =
+      let line = Took side number (numbered now.acknowledgement.accepted + 1) pdu.llid pdu.body in
+      none_noted withheld slot notes (after_all (steps_said withheld slot c line) c) (leaving_saying slot (Some c) l line) none
+      ∙ ap (λ b. left_by b slot pdu c l) (λ i. k i && not (e i))
+
+-- ---- an end that hears
+
+gone_leaving : (goes : Bool) (slot : ℕ) (facts : Facts) → (control_gone_if goes slot facts).leaving ≡ facts.leaving
+gone_leaving true slot facts = refl
+gone_leaving false slot facts = refl
+
+taken_leaving : (side : Side) (number : ℕ) (takes : Bool) (pdu : Pdu) (slot : ℕ) (facts : Facts)
+    → (procedures_take_if takes pdu slot facts).leaving ≡ left_by side number takes slot pdu facts.control facts.leaving
+taken_leaving side number true pdu slot facts = refl
+taken_leaving side number false pdu slot facts = refl
+
+-- what it says of the packet moves it, from what it was as the packet reached it
+module _ (side : Side) (number : ℕ) (withheld : Bool) (slot : ℕ) (room : Bool) (setup : Setup) (facts : Facts) where
+  received_leaves : (may : Option (List ℕ)) → let role = setup.link.role in
+      (facts_received role slot room may facts).leaving
+      ≡ leaving_noted side number withheld slot (received_notes setup slot room may facts) (control_hearing role slot may facts) (leaving_hearing role slot may facts)
+  received_leaves None = refl
+  received_leaves (Some octets) =
+      let handle = setup.link.handle in
+      let header = header_in octets in
+      let pdu = pdu_of octets in
+      let now = facts_before_taking setup.link.role slot header facts in
+      let accepted = accepts room header pdu now in
+      let given = given_if (accepted && is_procedure_pdu pdu) pdu slot now in
+      taken_leaving side number (accepted && is_procedure_pdu pdu) pdu slot (accepted_if accepted pdu now)
+      ∙ sym (done_first side number withheld slot handle (acked_kind (acks_control (has_acknowledged facts header) facts) facts)
+      (took_notes_if (accepted && not (is_empty pdu)) handle pdu now ++ given_notes handle given) now.control now.leaving
+      ∙ took_first side number withheld accepted (is_empty pdu) (is_control pdu) slot handle pdu now (given_notes handle given) now.control now.leaving refl refl
+      (given_none side number handle given))
+
+  pub packet_leaves : (octets : List ℕ) → let role = setup.link.role in let may = good_pdu setup facts octets in
+      (facts_after setup facts (PacketReceived slot octets room)).leaving
+      ≡ leaving_noted side number withheld slot (notes_after setup facts (PacketReceived slot octets room)) (control_hearing role slot may facts) (leaving_hearing role slot may facts)
+  packet_leaves octets = received_leaves (good_pdu setup facts octets)
+
+-- ---- what the lines tell of an end that hears
+
+more_by_one : (count : ℕ) → nat_lt count (count + 1) ≡ true
+more_by_one count = grind arith
+
+none_more : (count : ℕ) → nat_lt count count ≡ false
+none_more count = grind arith
+
+acks_by : (acks : Bool) (before after count : ℕ) (last sent : Pdu) → before ≡ count → after ≡ (if acks then count + 1 else count) → (acks ≡ true → last ≡ sent)
+    → acks_terminate (nat_lt before after) last ≡ (acks && is_terminate sent)
+acks_by true before after count last sent was is same =
+    (λ i. nat_lt (was i) (is i) && is_terminate (same refl i)) ∙ ap (λ b. b && is_terminate sent) (more_by_one count)
+acks_by false before after count last sent was is same =
+    (λ i. nat_lt (was i) (is i) && is_terminate last) ∙ ap (λ b. b && is_terminate last) (none_more count)
+
+left_of : (a b : Bool) → (a && b) ≡ true → a ≡ true
+left_of true b is = refl
+left_of false b is = is
+
+not_true : (a : Bool) → not a ≡ true → a ≡ false
+not_true false is = refl
+not_true true is = absurd cc
+
+pub hearing_told : (slot : ℕ) (setup : Setup) (facts : Facts) (before after : Exchanged) (last : Pdu) (pdu : List ℕ)
+    → IsToldOf setup.link.role facts (header_in pdu) before after last
+    → leaving_acked_if (acks_terminate (is_more_acked before after) last) facts.leaving ≡ leaving_hearing setup.link.role slot (Some pdu) facts
+hearing_told slot setup facts before after last pdu told =
+    let header = header_in pdu in
+    let acks = has_acknowledged facts header in
+    let own = acknowledged_if acks (heard_in_slot slot header.md facts) in
+    let acked_is = acks_by acks before.acked after.acked facts.acknowledgement.acked last facts.acknowledgement.last told.acked_before told.acked_after
+    (λ is. told.last_is (not_true (is_acked facts.acknowledgement) (left_of (not (is_acked facts.acknowledgement)) (acknowledges (bits_of facts.acknowledgement) header) is))) in
+    ap (λ b. leaving_acked_if b facts.leaving) acked_is ∙ sym (gone_leaving (answers_with_control setup.link.role own) slot own)
+
+-- ---- an end that enters an event, fixes its PDU, or sends
+
+entered_leaving : (goes : Bool) (setup : Setup) (slot : ℕ) (facts : Facts) → (facts_entered_if goes setup slot facts).leaving ≡ facts.leaving
+entered_leaving true setup slot facts = refl
+entered_leaving false setup slot facts = refl
+
+pub entered_leaves : (slot : ℕ) (setup : Setup) (facts : Facts) → (facts_after setup facts (EventEntered slot)).leaving ≡ facts.leaving
+entered_leaves slot setup facts = entered_leaving (goes_on facts) setup slot facts
+
+pub sent_leaving : (slot : ℕ) (setup : Setup) (facts : Facts) → (facts_after setup facts (PacketSent slot)).leaving ≡ leaving_sent facts.leaving
+sent_leaving slot setup facts = ap leaving_sent (gone_leaving (takes_leave facts) slot facts)

@@ -1,0 +1,602 @@
+-- Each step of a run of two stations keeps that each open end is, by the journal, to leave its link as the end holds it.
+use Rattle.std.proofs.Common.{◌≡◌, ℕ, zero, suc, ◌+◌, ◌-◌, ◌==◌, inl, inr, Bool, true, false, not, Option, Some, None, List, [], ◌∷◌, ◌++◌, length, replicate, refl, sym, ap, subst, ◌∙◌, append-nil, append_assoc}
+use Rattle.std.specs.Prelude.{◌&&◌, ◌⊎◌, map, take, if◌then◌else◌}
+use Rattle.std.proofs.lemmas.Bool.{eqb-true}
+use Rattle.ble_base.specs.declared.roles.Side.{Side}
+use Rattle.controller_model.specs.Facts.{Facts, Listens, Sends}
+use Rattle.controller_model.specs.Side.{facts_after, facts_of, notes_after}
+use Rattle.controller_model.specs.Step.{Step as Call, HostOctet, NothingHeard, PacketHeard, TurnBegins, TurnEnds}
+use Rattle.controller_model.specs.declared.doing.Doing.TheVariants.{Rests}
+use Rattle.controller_model.specs.declared.doing.Turn.{Turn}
+use Rattle.host_masks.specs.Masks.{view_masks, withholds_requests}
+use Rattle.host_masks.proofs.LineMasks.{line_masks}
+use Rattle.radio_replay.specs.declared.fates.Fate.{Fate}
+use Rattle.journal_controls.specs.journal_acks.Exchange.{is_number}
+use Rattle.journal_controls.specs.journal_acks.link_calls.Uses.{listens_under, sends_under}
+use Rattle.journal_controls.specs.journal_packets.Belonging.{is_side, link_of_packet}
+use Rattle.journal_controls.specs.link_model.Step.{PacketSent}
+use Rattle.journal_controls.specs.open_links.OpenLinks.{OpenLink, facts_in, link_after, link_at}
+use Rattle.journal_controls.specs.open_links.Turns.{ending_in}
+use Rattle.journal_controls.specs.run_model.Due.{Each, packet_in}
+use Rattle.journal_controls.specs.run_model.Feeding.{is_octet}
+use Rattle.journal_controls.specs.run_model.History.{Event, TurnBegan, HostFed, Called, Hearing, Noted, Transmitted, packet_received, past_of, turns_begun}
+use Rattle.journal_controls.specs.run_model.Journal.{journal_of, side_of}
+use Rattle.journal_controls.specs.run_model.LinkEnds.{HaveAddresses}
+use Rattle.journal_controls.specs.run_model.Links.{is_advertising}
+use Rattle.journal_controls.specs.run_model.Readers.{station_of, turns_of}
+use Rattle.journal_controls.specs.run_model.Run.{Given, after_call, after_feed, after_octets, facts_at, hearings_of, history_of, octets_left, run_of, setup_at, step_of, use_at}
+use Rattle.journal_controls.proofs.EventMoves.{air_line, turn_at, withholds_at}
+use Rattle.journal_controls.proofs.FixedEnds.{fixed_in}
+use Rattle.journal_controls.proofs.KeptControls.{AreControlledAt, IsControlledBefore, controls_first, controls_kept}
+use Rattle.journal_controls.proofs.RunControls.{control_before_call}
+use Rattle.journal_controls.proofs.journal_acks.Counting.{IsBegun, apart_numbers, facts_event, moved as count_moved}
+use Rattle.journal_controls.proofs.journal_acks.Exchanging.{exchange_at, number_at, number_called, number_quiet, number_sent}
+use Rattle.journal_controls.proofs.journal_acks.KeptCounts.{unsent}
+use Rattle.journal_controls.proofs.journal_acks.KeptLines.{AreLinedAt}
+use Rattle.journal_controls.proofs.journal_acks.Known.{known_of}
+use Rattle.journal_controls.proofs.journal_acks.Standing.{PhasedBy, last_phase, listens_wanted, other_sends, phased_at, sends_on, sends_other, silent_sends}
+use Rattle.journal_controls.proofs.journal_acks.TwoStations.{IsOfTwo, hearing_of, one_hearing, other_is, other_of, same_number, side_same}
+use Rattle.journal_controls.proofs.journal_acks.link_calls.CallNotes.{OpensNone, begin_noted, end_noted, octet_noted, opening_none}
+use Rattle.journal_controls.proofs.journal_ends.EndsKnown.{AreLined, begun_at, lined_at}
+use Rattle.journal_controls.proofs.journal_ends.KeptSeen.{AreSeenAt, lined_next, lined_octet}
+use Rattle.journal_controls.proofs.journal_ends.SeenCalls.{IsSeenAt, held_at, moved as seen_moved, whole as seen_whole}
+use Rattle.journal_controls.proofs.journal_ends.run_laws.ByCalls.{last_turn}
+use Rattle.journal_controls.proofs.journal_ends.run_laws.DistinctAccess.{AreApart}
+use Rattle.journal_controls.proofs.journal_ends.run_laws.Hearings.{own_facts, wanted_is}
+use Rattle.journal_controls.proofs.journal_ends.run_laws.OpenSteps.{none_open, open_has}
+use Rattle.journal_controls.proofs.journal_ends.run_laws.TurnPlaces.{Between, Within, at_stage, stands_at, turned}
+use Rattle.journal_controls.proofs.journal_ends.run_laws.TurnSteps.{octet_turn}
+use Rattle.journal_controls.proofs.journal_links.OfTwo.{are_distinct, of_two_stations}
+use Rattle.journal_controls.proofs.journal_packets.AccessOrder.{AreNth}
+use Rattle.journal_controls.proofs.journal_packets.SoFar.{IsBelongingSoFar, sends_on_its_link}
+use Rattle.journal_controls.proofs.link_model.Hearing.{IsHeardWhole}
+use Rattle.journal_controls.proofs.run_model.Calls.{same_station}
+use Rattle.journal_controls.proofs.run_model.Fates.{turns_are}
+use Rattle.journal_controls.proofs.run_model.Fronts.{front_at}
+use Rattle.journal_controls.proofs.run_model.LinkEnds.{AreTaken, IsUnderstood, received_by, received_event}
+use Rattle.journal_controls.proofs.run_model.Places.{each_called, each_event}
+use Rattle.journal_controls.proofs.run_model.Stations.{among, in_more_other, in_more_same, is_in, not_before}
+use Rattle.journal_controls.proofs.run_model.Walk.{AtBegins, AtEnds, AtFeeds, AtListening, AtPackets, IsKept, NoTurn, Place}
+use Rattle.journal_leaving.specs.Hearing.{leaving_next}
+use Rattle.journal_leaving.specs.Leaving.{is_own_packet, leaving_sent_if}
+use Rattle.journal_leaving.proofs.EventMoves.{feed_still, leaving_at, turn_still}
+use Rattle.journal_leaving.proofs.LeavingEnds.{AreLeftSo, IsLeftAt, and_none, any_sending, leaves_own, left_call, left_event, left_same, moved, taking_next, whole}
+use Rattle.journal_leaving.proofs.LeavingPackets.{other_left, own_left}
+use Rattle.journal_leaving.proofs.LinkLeaves.{LeavesTo, begin_leaves, end_leaves, octet_leaves}
+use Rattle.journal_leaving.proofs.PassedLeavings.{passes_own}
+use Rattle.journal_leaving.proofs.StayingLinks.{AreStaying, staying_first, staying_kept}
+
+-- ---- what is kept
+
+-- each open end of a station is to leave its link as the station holds it
+abbrev pub AreLeftOf : Given → List Event → ℕ → Type 0
+AreLeftOf given history station =
+    is_in station given.stations ≡ true → (handle : ℕ) (link : OpenLink) → link_at handle (facts_at given station history).links ≡ Some link
+    → leaving_at (number_at station handle history) (side_of station) history ≡ Some (facts_in link).leaving
+
+abbrev pub AreLeft : Given → List Event → Type 0
+AreLeft given history = (station : ℕ) → AreLeftOf given history station
+
+-- none is to leave it as the turn ends
+abbrev pub AllStay : Given → List Event → Type 0
+AllStay given history =
+    (station : ℕ) → is_in station given.stations ≡ true → (handle : ℕ) (link : OpenLink) → link_at handle (facts_at given station history).links ≡ Some link
+    → ending_in link ≡ None
+
+-- before a call, it is that as the packet of the call has reached the end
+abbrev pub IsLeftBefore : Given → List Event → ℕ → Call → Type 0
+IsLeftBefore given before station step =
+    is_in station given.stations ≡ true → (handle : ℕ) (link : OpenLink) → link_at handle (facts_at given station before).links ≡ Some link
+    → leaving_at (number_at station handle before) (side_of station) before ≡ Some (leaving_next handle (facts_at given station before) step link)
+
+-- as a turn begins, each open end is one of its link
+abbrev pub BegunBefore : Given → List Event → ℕ → Call → Type 0
+BegunBefore given before station (TurnBegins slot on) =
+    (handle : ℕ) (link : OpenLink) → link_at handle (facts_at given station before).links ≡ Some link → IsBegun before (number_at station handle before) station link.setup
+BegunBefore given before station (HostOctet octet) = Unit {0}
+BegunBefore given before station (PacketHeard octets) = Unit {0}
+BegunBefore given before station NothingHeard = Unit {0}
+BegunBefore given before station TurnEnds = Unit {0}
+
+abbrev pub LeftBefore : Given → List Event → Event → Type 0
+LeftBefore given before (TurnBegan slot radios) = AreLeft given before × AllStay given before
+LeftBefore given before (Called station step) = IsLeftBefore given before station step × BegunBefore given before station step
+LeftBefore given before (HostFed station octets) = Unit {0}
+LeftBefore given before (Noted station note) = Unit {0}
+LeftBefore given before (Transmitted station channel octets hearings) = Unit {0}
+
+pub record AreLeftAt (given : Given) (place : Place) (history : List Event) : Type 0 where
+  pub controls : AreControlledAt given place history
+  pub left : AreLeftSo given history (unsent place) (λ station. packet_received station history)
+  pub each : Each (LeftBefore given) [] history
+
+-- where a station neither sends nor has received anything, all its ends are as they were
+whole_at : (given : Given) (history : List Event) (unsent : ℕ → Bool) (received : ℕ → Option (List ℕ)) (station handle : ℕ) (link : OpenLink) → is_in station given.stations ≡ true
+    → link_at handle (facts_at given station history).links ≡ Some link → (unsent station && sends_under handle (facts_at given station history).turn.doing) ≡ false
+    → (listens_under handle (facts_at given station history).turn.doing ≡ true → received station ≡ None)
+    → AreLeftSo given history unsent received → leaving_at (number_at station handle history) (side_of station) history ≡ Some (facts_in link).leaving
+whole_at given history unsent received station handle link in_it at sent none are =
+    whole (unsent station) (received station) handle (facts_at given station history).turn link (number_at station handle history) (side_of station) history sent none
+    (are station handle link in_it at)
+
+-- a call in which nothing is heard
+whole_before : (given : Given) (history : List Event) (unsent : ℕ → Bool) (received : ℕ → Option (List ℕ)) (station : ℕ) (step : Call)
+    → ((handle : ℕ) (facts : Facts) (link : OpenLink) → leaving_next handle facts step link ≡ (facts_in link).leaving)
+    → ((handle : ℕ) → (unsent station && sends_under handle (facts_at given station history).turn.doing) ≡ false) → received station ≡ None
+    → AreLeftSo given history unsent received → IsLeftBefore given history station step
+whole_before given history unsent received station step deaf sent none are = λ in_it handle link at.
+    whole_at given history unsent received station handle link in_it at (sent handle) (λ on. none) are ∙ ap Some (sym (deaf handle (facts_at given station history) link))
+
+-- a call, and all that is noted in it
+call_each : (given : Given) (station : ℕ) (step : Call) (history : List Event) → Each (LeftBefore given) [] history → BegunBefore given history station step
+    → IsLeftBefore given history station step → Each (LeftBefore given) [] (after_call given station step history)
+call_each given station step history each begun is =
+    each_called (LeftBefore given) station step (notes_after (setup_at given station) (facts_at given station history) step) history each (is, begun) (λ before note. tt)
+
+any_passes : (given : Given) (history : List Event) (station : ℕ) (received : Option (List ℕ)) → BegunBefore given history station (step_of received)
+any_passes given history station None = tt
+any_passes given history station (Some octets) = tt
+
+-- ---- small steps
+
+there_and_back : (station : ℕ) → (station ≡ 0) ⊎ (station ≡ 1) → station_of (side_of station) ≡ station
+there_and_back station (inl is) = ap (λ n. station_of (side_of n)) is ∙ sym is
+there_and_back station (inr is) = ap (λ n. station_of (side_of n)) is ∙ sym is
+
+no_octet : (received : Option (List ℕ)) → is_octet (step_of received) ≡ false
+no_octet None = refl
+no_octet (Some octets) = refl
+
+pub turn_is : (history : List Event) (slot : ℕ) → turns_begun history ≡ slot + 1 → turn_at history ≡ slot
+turn_is history slot is = last_turn (length (turns_of (journal_of history))) slot (turns_are history ∙ is)
+
+sender_apart : (station : ℕ) → is_side (side_of station) (side_of (other_of station)) ≡ false
+sender_apart zero = refl
+sender_apart (suc station) = refl
+
+-- octets add events to a history
+record HasMore (history later : List Event) : Type 0 where
+  events : List Event
+  is : later ≡ history ++ events
+
+octets_more : (given : Given) (station : ℕ) (octets : List ℕ) (history : List Event) → HasMore history (after_octets given station octets history)
+octets_more given station [] history = record { events = []; is = sym (append-nil history) }
+octets_more given station (octet ∷ octets) history =
+    let notes = notes_after (setup_at given station) (facts_at given station history) (HostOctet octet) in
+    let more = octets_more given station octets (after_call given station (HostOctet octet) history) in
+    let called = Called station (HostOctet octet) ∷ map (Noted station) notes in
+    record { events = called ++ more.events; is = more.is ∙ append_assoc history called more.events }
+
+abbrev NoneReceived : ℕ → Option (List ℕ)
+NoneReceived station = None
+
+-- all that a station has to send is still to come
+abbrev AllUnsent : ℕ → Bool
+AllUnsent station = true
+
+-- between two turns no station sends
+pub all_left : (given : Given) (history : List Event) → AreLeftAt given NoTurn history → AreLeft given history
+all_left given history has = λ station in_it handle link at.
+    let holds = has.controls.seen.holds in
+    let rests = (phased_at given NoTurn history holds.hearing.stand station in_it).phase in
+    whole_at given history AllUnsent (λ one. packet_received one history) station handle link in_it at (ap (sends_under handle) rests) (λ on. holds.hearing.hears station in_it) has.left
+
+pub all_stay : (given : Given) (history : List Event) → AreLeftAt given NoTurn history → AllStay given history
+all_stay given history has = λ station in_it handle link at.
+    let setup = setup_at given station in
+    turned setup AreStaying (staying_kept setup) (past_of station history) (stands_at NoTurn station (turns_begun history)) (staying_first setup)
+    (has.controls.seen.holds.hearing.stand station in_it) handle link at
+
+module _ (heard_whole : IsHeardWhole) (understood : IsUnderstood) (taken : AreTaken) (nth : AreNth) (apart : AreApart) (given : Given) (are_two : IsOfTwo given)
+    (six : HaveAddresses given) where
+  -- what the control part of an end is before a call
+  control_in : (history notes rest : List Event) (station : ℕ) (step : Call) → history_of (run_of given) ≡ (history ++ Called station step ∷ notes) ++ rest
+      → IsControlledBefore given history station step
+  control_in history notes rest station step at =
+      control_before_call heard_whole understood taken nth apart given are_two six history (notes ++ rest) station step (at ∙ append_assoc history (Called station step ∷ notes) rest)
+
+  -- ---- what a host sends
+
+  record AreFed (station : ℕ) (history : List Event) : Type 0 where
+    rests : (facts_at given station history).turn.doing ≡ Rests
+    left : AreLeftSo given history AllUnsent NoneReceived
+    each : Each (LeftBefore given) [] history
+
+  octet_fed : (station octet : ℕ) (history : List Event) → is_in station given.stations ≡ true → AreLined given history → AreLined given (after_call given station (HostOctet octet) history)
+      → IsControlledBefore given history station (HostOctet octet) → AreFed station history → AreFed station (after_call given station (HostOctet octet) history)
+  octet_fed station octet history in_it lined lined_after controls fed =
+      let step = HostOctet octet in
+      let setup = setup_at given station in
+      let facts = facts_at given station history in
+      let rests = ap (λ (f : Facts). f.turn.doing) (own_facts given station step history) ∙ ap (λ (turn : Turn). turn.doing) (octet_turn setup facts octet).turn ∙ fed.rests in record {
+        rests = rests;
+        left = left_call given station step history AllUnsent AllUnsent NoneReceived NoneReceived lined lined_after (λ handle link at.
+            let number = number_at station handle history in
+            let has = octet_leaves (side_of station) number (withholds_at (side_of station) history) (turn_at history) setup facts octet handle link
+            (held_at given station step history in_it lined lined_after handle link at) in
+            let c = (facts_in has.base).control in
+            leaves_own given station step history in_it lined lined_after handle link at None refl
+            (number_called given station step history handle (octet_noted (OpensNone handle) (opening_none handle).starts.feeds setup facts octet)) has.base has.was
+            false c (facts_in has.base).leaving (has.is c) (ap (sends_under handle) rests) (controls in_it handle has.base has.was)
+            (whole_at given history AllUnsent NoneReceived station handle has.base in_it has.was (ap (sends_under handle) fed.rests) (λ on. refl) fed.left))
+            (λ other is_too differs. refl) (λ other is_too differs. refl) fed.left;
+        each = call_each given station step history fed.each tt
+            (whole_before given history AllUnsent NoneReceived station step (λ handle held link. refl) (λ handle. ap (sends_under handle) fed.rests) refl fed.left);
+      }
+
+  octets_fed : (station : ℕ) (octets : List ℕ) (history rest : List Event) → is_in station given.stations ≡ true
+      → history_of (run_of given) ≡ after_octets given station octets history ++ rest → AreLined given (after_octets given station octets history)
+      → AreFed station history → AreFed station (after_octets given station octets history)
+  octets_fed station [] history rest in_it is lined fed = fed
+  octets_fed station (octet ∷ octets) history rest in_it is lined fed =
+      let step = HostOctet octet in
+      let next = after_call given station step history in
+      let notes = map (Noted station) (notes_after (setup_at given station) (facts_at given station history) step) in
+      let more = octets_more given station octets next in
+      octets_fed station octets next rest in_it is lined
+      (octet_fed station octet history in_it (lined_octet understood taken nth apart given are_two six station octet octets history rest is)
+      (lined_next understood taken nth apart given are_two six station octets next rest is lined)
+      (control_in history notes (more.events ++ rest) station step (is ∙ ap (λ xs. xs ++ rest) more.is ∙ append_assoc next more.events rest)) fed)
+
+  feed_fed : (station : ℕ) (octets : List ℕ) (history rest : List Event) → is_in station given.stations ≡ true
+      → history_of (run_of given) ≡ after_feed given station octets history ++ rest → AreLined given (after_feed given station octets history)
+      → AreFed station history → AreFed station (after_feed given station octets history)
+  feed_fed station [] history rest in_it is lined fed = fed
+  feed_fed station (octet ∷ octets) history rest in_it is lined fed =
+      let event = HostFed station (octet ∷ octets) in
+      octets_fed station (octet ∷ octets) (history ++ event ∷ []) rest in_it is lined (record {
+        rests = ap (λ (f : Facts). f.turn.doing) (facts_event given station history event refl) ∙ fed.rests;
+        left = left_event given history event AllUnsent NoneReceived (λ one. refl) (λ number side. feed_still number side history station (octet ∷ octets))
+            (λ one handle. number_quiet one handle history event (λ links. refl)) fed.left;
+        each = each_event (LeftBefore given) history event fed.each tt;
+      })
+
+  -- ---- a station that sends nothing
+
+  silence_left : (phases : ℕ) (done left : List ℕ) (station : ℕ) (history : List Event) → given.stations ≡ done ++ station ∷ left
+      → packet_in (use_at given station history) ≡ [] → AreLeftAt given (AtPackets phases done (station ∷ left)) history
+      → AreLeftSo given history (unsent (AtPackets phases (done ++ station ∷ []) left)) (λ one. packet_received one history)
+  silence_left phases done left station history are none has = λ one handle link in_it at. by one handle link in_it at (one == station) refl
+    where
+      by : (one handle : ℕ) (link : OpenLink) → is_in one given.stations ≡ true → link_at handle (facts_at given one history).links ≡ Some link → (same : Bool) → (one == station) ≡ same
+          → IsLeftAt (not (is_in one (done ++ station ∷ []))) (packet_received one history) handle (facts_at given one history).turn link (number_at one handle history) (side_of one) history
+      by one handle link in_it at true same =
+          let place = AtPackets phases done (station ∷ left) in
+          let phased = phased_at given place history has.controls.seen.holds.hearing.stand one in_it in
+          any_sending (not (is_in one done)) (not (is_in one (done ++ station ∷ []))) (packet_received one history) handle (facts_at given one history).turn link
+          (number_at one handle history) (side_of one) history
+          (silent_sends (facts_at given one history) handle link phased.uses.sends at
+          (ap packet_in (wanted_is given one history) ∙ ap (λ n. packet_in (use_at given n history)) (eqb-true one station same) ∙ none)) (has.left one handle link in_it at)
+      by one handle link in_it at false differs =
+          subst (λ b. IsLeftAt (not b) (packet_received one history) handle (facts_at given one history).turn link (number_at one handle history) (side_of one) history)
+          (sym (in_more_other one station done differs)) (has.left one handle link in_it at)
+
+  -- ---- a packet
+
+  module _ (phases : ℕ) (done left : List ℕ) (station channel : ℕ) (octets : List ℕ) (fates : List Fate) (history : List Event) (stations_are : given.stations ≡ done ++ station ∷ left)
+      (wanted : use_at given station history ≡ Sends channel octets) (has : AreLeftAt given (AtPackets phases done (station ∷ left)) history) where
+    abbrev place : Place
+    place = AtPackets phases done (station ∷ left)
+
+    abbrev place_after : Place
+    place_after = AtPackets phases (done ++ station ∷ []) left
+
+    abbrev hearing : Hearing
+    hearing = hearing_of given fates station channel octets history
+
+    abbrev hearings : List Hearing
+    hearings = hearings_of given fates station channel octets history
+
+    abbrev after : List Event
+    after = history ++ Transmitted station channel octets hearings ∷ []
+
+    abbrev facts : ℕ → Facts
+    facts one = facts_at given one history
+
+    in_it : is_in station given.stations ≡ true
+    in_it = among given.stations done left station stations_are
+
+    aired_is : after ≡ history ++ Transmitted station channel octets (hearing ∷ []) ∷ []
+    aired_is = ap (λ xs. history ++ Transmitted station channel octets xs ∷ []) (one_hearing given are_two fates station channel octets history in_it)
+
+    -- before it, no end has one to take
+    none_before : (one handle : ℕ) (link : OpenLink) → is_in one given.stations ≡ true → link_at handle (facts one).links ≡ Some link
+        → listens_under handle (facts one).turn.doing ≡ true → packet_received one history ≡ None
+    none_before one handle link in_one at on = by (one == station) refl
+      where
+        by : (same : Bool) → (one == station) ≡ same → packet_received one history ≡ None
+        by true same =
+            let listens = (phased_at given place history has.controls.seen.holds.hearing.stand one in_one).uses.in_turn.listens in
+            let sends = ap (λ n. use_at given n history) (eqb-true one station same) ∙ wanted in
+            absurd (let h : Sends channel octets ≡ Listens (facts_in link).event.channel =
+            sym sends ∙ sym (wanted_is given one history) ∙ listens_wanted (facts one) handle link (facts one).turn.doing on listens at in absurd cc)
+        by false differs = has.controls.seen.silent one station in_one in_it differs (not_before given.stations done left station (are_distinct given are_two) stations_are)
+
+    -- it is of the link on which its station sends
+    abbrev own_test : Side → ℕ → Bool
+    own_test side number = is_own_packet side number (journal_of history) (air_line station channel octets hearing)
+
+    own_is : (handle : ℕ) (link : OpenLink) → link_at handle (facts station).links ≡ Some link
+        → own_test (side_of station) (number_at station handle history) ≡ sends_under handle (facts station).turn.doing
+    own_is handle link at = by (is_advertising channel) refl
+      where
+        by : (on : Bool) → is_advertising channel ≡ on → own_test (side_of station) (number_at station handle history) ≡ sends_under handle (facts_at given station history).turn.doing
+        by true on =
+            let phased = phased_at given place history has.controls.seen.holds.hearing.stand station in_it in
+            ap (λ b. (not b && is_number (link_of_packet (journal_of history) (side_of station) octets) (number_at station handle history)) && is_side (side_of station) (side_of station)) on
+            ∙ sym (other_sends (facts station) handle channel octets link phased.uses.sends at (wanted_is given station history ∙ wanted) on)
+        by false off =
+            let known = has.controls.seen.known in
+            let sent = sends_on_its_link nth apart given are_two six phases done left station history stations_are known channel octets wanted off in
+            let apart_from = apart_numbers given (IsBelongingSoFar given) (known_of understood taken nth apart given are_two six) place history known station sent.handle handle
+            (link_after (PacketSent sent.slot) sent.link) link in_it sent.is_open at in
+            (λ i. (not (off i) && is_number (sent.belongs i) (number_at station handle history)) && side_same station i)
+            ∙ and_yes (number_at station sent.handle history == number_at station handle history)
+            ∙ which sent.handle (sent.handle == handle) refl (sends_on sent.handle (facts station).turn.doing sent.sends) apart_from
+          where
+            and_yes : (b : Bool) → (b && true) ≡ b
+            and_yes true = refl
+            and_yes false = refl
+
+            which : (one : ℕ) → (same : Bool) → (one == handle) ≡ same → sends_under one (facts_at given station history).turn.doing ≡ true
+                → ((one == handle) ≡ false → (number_at station one history == number_at station handle history) ≡ false)
+                → (number_at station one history == number_at station handle history) ≡ sends_under handle (facts_at given station history).turn.doing
+            which one true same sends apart_from =
+                let equal = eqb-true one handle same in
+                ap (λ n. number_at station n history == number_at station handle history) equal ∙ same_number (number_at station handle history)
+                ∙ sym (ap (λ n. sends_under n (facts_at given station history).turn.doing) (sym equal) ∙ sends)
+            which one false differs sends apart_from = apart_from differs ∙ sym (sends_other one handle (facts_at given station history).turn.doing sends differs)
+
+    other_is_none : (one number : ℕ) → is_in one given.stations ≡ true → (one == station) ≡ false → own_test (side_of one) number ≡ false
+    other_is_none one number in_one differs =
+        ap (λ n. own_test (side_of n) number) (other_is given are_two station one in_it in_one differs)
+        ∙ ap (λ b. (not (is_advertising channel) && is_number (link_of_packet (journal_of history) (side_of station) octets) number) && b) (sender_apart station)
+        ∙ and_none (not (is_advertising channel) && is_number (link_of_packet (journal_of history) (side_of station) octets) number)
+
+    module _ (seen : AreSeenAt given place_after after) (lined : AreLinedAt given (IsBelongingSoFar given) place_after after) where
+      -- an end whose packet it is not
+      not_own : (one handle : ℕ) (link : OpenLink) → is_in one given.stations ≡ true → link_at handle (facts_at given one after).links ≡ Some link
+          → own_test (side_of one) (number_at one handle history) ≡ false
+          → (unsent place_after one && sends_under handle (facts one).turn.doing) ≡ (unsent place one && sends_under handle (facts one).turn.doing)
+          → IsLeftAt (unsent place_after one) (packet_received one after) handle (facts_at given one after).turn link (number_at one handle after) (side_of one) after
+      not_own one handle link in_one at apart sent =
+          let turn = (facts one).turn in
+          let turn_after = (facts_at given one after).turn in
+          let side = side_of one in
+          let number = number_at one handle history in
+          let numbers = number_sent one handle history station channel octets hearings in
+          let same = facts_event given one history (Transmitted station channel octets hearings) refl in
+          let turns = ap (λ (f : Facts). f.turn) same in
+          let is_open = ap (λ (f : Facts). link_at handle f.links) (sym same) ∙ at in
+          let none = none_before one handle link in_one is_open in
+          let received = packet_received one history in
+          let received_too = packet_received one after in
+          let aired = history ++ Transmitted station channel octets (hearing ∷ []) ∷ [] in
+          let front = front_at given place history has.controls.seen.known.front in
+          let moves = other_left number side history station channel octets hearing received received_too handle turn link (unsent place one) (unsent place_after one) none
+          (has.left one handle link in_one is_open) apart sent
+          (seen_whole received handle turn link number side history none (has.controls.seen.seen one handle link in_one is_open))
+          (subst (λ h. IsSeenAt received_too handle turn link number side h) aired_is
+          (seen_moved handle link side after received_too received_too turn_after turn (number_at one handle after) number refl (sym turns) (sym numbers) (seen.seen one handle link in_one at)))
+          (has.controls.lined.counts.counted one handle link in_one is_open)
+          (count_moved handle link (unsent place_after one) (unsent place_after one) received_too received_too turn_after turn
+          (exchange_at (number_at one handle after) after side) (exchange_at number aired side) refl refl (sym turns) (sym (λ i. exchange_at (numbers i) (aired_is i) side))
+          (lined.counts.counted one handle link in_one at))
+          (has.controls.lined.lines one handle link in_one is_open)
+          (fixed_in given history front.rest one handle link (are_distinct given are_two) in_one front.at is_open).fixes in
+          moved handle link side after (unsent place_after one) (unsent place_after one) received_too received_too turn turn_after number (number_at one handle after) refl refl turns numbers
+          (subst (λ h. IsLeftAt (unsent place_after one) received_too handle turn link number side h) (sym aired_is) moves)
+
+      -- an end of the station that sends it
+      at_sender : (handle : ℕ) (link : OpenLink) → link_at handle (facts_at given station after).links ≡ Some link
+          → IsLeftAt (unsent place_after station) (packet_received station after) handle (facts_at given station after).turn link (number_at station handle after) (side_of station) after
+      at_sender handle link at = by (sends_under handle (facts station).turn.doing) refl
+        where
+          is_open : link_at handle (facts_at given station history).links ≡ Some link
+          is_open = ap (λ (f : Facts). link_at handle f.links) (sym (facts_event given station history (Transmitted station channel octets hearings) refl)) ∙ at
+
+          by : (sends : Bool) → sends_under handle (facts_at given station history).turn.doing ≡ sends
+              → IsLeftAt (unsent place_after station) (packet_received station after) handle (facts_at given station after).turn link (number_at station handle after) (side_of station) after
+          by true on =
+              let turn = (facts station).turn in
+              let turn_after = (facts_at given station after).turn in
+              let side = side_of station in
+              let number = number_at station handle history in
+              let received_too = packet_received station after in
+              let before = ap not (not_before given.stations done left station (are_distinct given are_two) stations_are) in
+              let now = ap not (in_more_same station station done (same_station station)) in
+              let moves = own_left number side history station channel octets hearing (packet_received station history) received_too handle turn link
+              (unsent place station) (unsent place_after station) (none_before station handle link in_it is_open) (has.left station handle link in_it is_open)
+              (own_is handle link is_open ∙ on) before now on in
+              moved handle link side after (unsent place_after station) (unsent place_after station) received_too received_too turn turn_after number (number_at station handle after) refl refl
+              (ap (λ (f : Facts). f.turn) (facts_event given station history (Transmitted station channel octets hearings) refl))
+              (number_sent station handle history station channel octets hearings)
+              (subst (λ h. IsLeftAt (unsent place_after station) received_too handle turn link number side h) (sym aired_is) moves)
+          by false off =
+              not_own station handle link in_it at (own_is handle link is_open ∙ off)
+              (ap (λ b. unsent place_after station && b) off ∙ and_none (unsent place_after station) ∙ sym (ap (λ b. unsent place station && b) off ∙ and_none (unsent place station)))
+
+      packet_left : AreLeftSo given after (unsent place_after) (λ one. packet_received one after)
+      packet_left = λ one handle link in_one at. by one handle link in_one at (one == station) refl
+        where
+          by : (one handle : ℕ) (link : OpenLink) → is_in one given.stations ≡ true → link_at handle (facts_at given one after).links ≡ Some link → (same : Bool) → (one == station) ≡ same
+              → IsLeftAt (unsent place_after one) (packet_received one after) handle (facts_at given one after).turn link (number_at one handle after) (side_of one) after
+          by one handle link in_one at true same =
+              let equal = eqb-true one station same in
+              subst (λ n. IsLeftAt (unsent place_after n) (packet_received n after) handle (facts_at given n after).turn link (number_at n handle after) (side_of n) after) (sym equal)
+              (at_sender handle link (subst (λ n. link_at handle (facts_at given n after).links ≡ Some link) equal at))
+          by one handle link in_one at false differs =
+              not_own one handle link in_one at (other_is_none one (number_at one handle history) in_one differs)
+              (ap (λ b. not b && sends_under handle (facts one).turn.doing) (in_more_other one station done differs))
+
+  -- ---- each step
+
+  pub leavings_kept : IsKept given (AreLeftAt given)
+  leavings_kept =
+      let distinct = are_distinct given are_two in
+      let kept = controls_kept heard_whole understood taken nth apart given are_two six in record {
+        on_turn = λ slot plan history begun at has.
+            let event = TurnBegan slot (map plan.radio_of given.stations) in record {
+              controls = kept.on_turn slot plan history begun at has.controls;
+              left = left_same given (history ++ event ∷ []) AllUnsent AllUnsent (λ one. packet_received one history) (λ one. packet_received one (history ++ event ∷ []))
+                  (λ one in_one. refl) (λ one in_one. received_event one history event)
+                  (left_event given history event AllUnsent (λ one. packet_received one history) (λ one. refl)
+                  (λ number side. turn_still number side history slot (map plan.radio_of given.stations)) (λ one handle. number_quiet one handle history event (λ links. refl)) has.left);
+              each = each_event (LeftBefore given) history event has.each (all_left given history has, all_stay given history has);
+            };
+        on_feed = λ plan done left station history are some now has.
+            let octets = take (plan.feed_of station) (octets_left given station history) in
+            let in_it = among given.stations done left station are in
+            let after = after_feed given station octets history in
+            let place = AtFeeds (done ++ station ∷ []) left in
+            let controls = kept.on_feed plan done left station history are some now has.controls in
+            let hears = has.controls.seen.holds.hearing.hears in
+            let front = front_at given place after controls.seen.known.front in
+            let fed = feed_fed station octets history front.rest in_it front.at (lined_at understood taken given are_two six place after controls.seen.known) (record {
+              rests = (phased_at given (AtFeeds done (station ∷ left)) history has.controls.seen.holds.hearing.stand station in_it).phase;
+              left = left_same given history AllUnsent AllUnsent (λ one. packet_received one history) NoneReceived (λ one in_one. refl) (λ one in_one. sym (hears one in_one)) has.left;
+              each = has.each;
+            }) in record {
+              controls = controls;
+              left = left_same given after AllUnsent AllUnsent NoneReceived (λ one. packet_received one after) (λ one in_one. refl)
+                  (λ one in_one. controls.seen.holds.hearing.hears one in_one) fed.left;
+              each = fed.each;
+            };
+        on_fed = λ history has. record { controls = kept.on_fed history has.controls; left = has.left; each = has.each };
+        on_begin = λ slot plan done left station history are due has.
+            let on = plan.radio_of station in
+            let step = TurnBegins slot on in
+            let in_it = among given.stations done left station are in
+            let setup = setup_at given station in
+            let facts = facts_at given station history in
+            let after = after_call given station step history in
+            let notes = map (Noted station) (notes_after setup facts step) in
+            let controls = kept.on_begin slot plan done left station history are due has.controls in
+            let place = AtBegins (done ++ station ∷ []) left in
+            let front = front_at given place after controls.seen.known.front in
+            let lined = lined_at understood taken given are_two six (AtBegins done (station ∷ left)) history has.controls.seen.known in
+            let lined_after = lined_at understood taken given are_two six place after controls.seen.known in
+            let none = has.controls.seen.holds.hearing.hears station in_it in
+            let phased = subst (λ b. PhasedBy given history station (if b then at_stage (Within 0) (turns_begun history) else at_stage Between (turns_begun history - 1)))
+            (not_before given.stations done left station distinct are) (phased_at given (AtBegins done (station ∷ left)) history has.controls.seen.holds.hearing.stand station in_it) in
+            let before = control_in history notes front.rest station step front.at in record {
+              controls = controls;
+              left = left_call given station step history AllUnsent AllUnsent (λ one. packet_received one history) (λ one. packet_received one after) lined lined_after (λ handle link at.
+                  let number = number_at station handle history in
+                  let side = side_of station in
+                  let withheld = withholds_at side history in
+                  let sends = sends_under handle (facts_after setup facts step).turn.doing in
+                  let leaves = begin_leaves side number withheld slot setup facts on handle link (held_at given station step history in_it lined lined_after handle link at) in
+                  let c = (facts_in leaves.base).control in
+                  let l = (facts_in leaves.base).leaving in
+                  leaves_own given station step history in_it lined lined_after handle link at (packet_received station after) (controls.seen.holds.hearing.hears station in_it)
+                  (number_called given station step history handle (begin_noted (OpensNone handle) (opening_none handle) setup slot on facts)) leaves.base leaves.was
+                  sends c l (subst (λ n. LeavesTo side number withheld n leaves.base link sends c l) (sym (turn_is history slot due.slot_is)) (leaves.is c))
+                  (ap (λ (f : Facts). sends_under handle f.turn.doing) (own_facts given station step history))
+                  (before in_it handle leaves.base leaves.was)
+                  (whole_at given history AllUnsent (λ one. packet_received one history) station handle leaves.base in_it leaves.was (ap (sends_under handle) phased.phase) (λ listens. none) has.left))
+                  (λ other is_too differs. refl) (λ other is_too differs. received_by given other station step history false differs) has.left;
+              each = call_each given station step history has.each
+                  (λ handle link at. begun_at given are_two (AtBegins done (station ∷ left)) history has.controls.seen.known station handle link at)
+                  (whole_before given history AllUnsent (λ one. packet_received one history) station step (λ handle held link. refl) (λ handle. ap (sends_under handle) phased.phase) none has.left);
+            };
+        on_begun = λ history has. record { controls = kept.on_begun history has.controls; left = has.left; each = has.each };
+        on_phase = λ phases history few has. record { controls = kept.on_phase phases history few has.controls; left = has.left; each = has.each };
+        on_silence = λ phases done left station history are none has. record {
+          controls = kept.on_silence phases done left station history are none has.controls;
+          left = silence_left phases done left station history are none has;
+          each = has.each;
+        };
+        on_packet = λ phases plan done left station channel octets history are some due has.
+            let controls = kept.on_packet phases plan done left station channel octets history are some due has.controls in record {
+              controls = controls;
+              left = packet_left phases done left station channel octets plan.fates history are due.is_wanted has controls.seen controls.lined;
+              each = each_event (LeftBefore given) history (Transmitted station channel octets (hearings_of given plan.fates station channel octets history)) has.each tt;
+            };
+        on_air = λ phases history has. record {
+          controls = kept.on_air phases history has.controls;
+          left = left_same given history (λ one. not (is_in one given.stations)) (λ one. is_in one []) (λ one. packet_received one history) (λ one. packet_received one history)
+              (λ one in_one. sym (ap not in_one)) (λ one in_one. refl) has.left;
+          each = has.each;
+        };
+        on_hearing = λ phases done left station history are some has.
+            let received = packet_received station history in
+            let step = step_of received in
+            let in_it = among given.stations done left station are in
+            let after = after_call given station step history in
+            let facts = facts_at given station history in
+            let place = AtListening phases (done ++ station ∷ []) left in
+            let out = not_before given.stations done left station distinct are in
+            let controls = kept.on_hearing phases done left station history are some has.controls in
+            let lined = lined_at understood taken given are_two six (AtListening phases done (station ∷ left)) history has.controls.seen.known in
+            let lined_after = lined_at understood taken given are_two six place after controls.seen.known in
+            let front = front_at given place after controls.seen.known.front in
+            let notes = map (Noted station) (notes_after (setup_at given station) facts step) in
+            let phased =
+            subst (λ b. PhasedBy given history station (if b then at_stage (Within (suc phases)) (turns_begun history) else at_stage (Within phases) (turns_begun history)))
+            out (phased_at given (AtListening phases done (station ∷ left)) history has.controls.seen.holds.hearing.stand station in_it) in
+            let held = ap withholds_requests (sym (ap (λ n. view_masks (facts_at given n history).view) (sym (there_and_back station (of_two_stations given are_two station in_it)))
+            ∙ line_masks given are_two (side_of station) history (notes ++ front.rest) (Called station step) (front.at ∙ append_assoc history (Called station step ∷ notes) front.rest)
+            (no_octet received))) in record {
+              controls = controls;
+              left = left_call given station step history (λ one. is_in one done) (λ one. is_in one (done ++ station ∷ [])) (λ one. packet_received one history) (λ one. packet_received one after)
+                  lined lined_after
+                  (λ handle link at. subst (λ b. IsLeftAt b (packet_received station after) handle (facts_at given station after).turn link (number_at station handle after) (side_of station) after)
+                  (sym (in_more_same station station done (same_station station)))
+                  (passes_own given station history phases in_it phased lined lined_after controls.seen.seen held
+                  (turn_is history facts.turn.slot (sym phased.uses.in_turn.slot_is)) has.controls.control (λ one. is_in one done) out has.left handle link at))
+                  (λ other is_too differs. in_more_other other station done differs) (λ other is_too differs. received_by given other station step history false differs) has.left;
+              each = call_each given station step history has.each (any_passes given history station received) (λ in_one handle link at.
+                  let left = has.left station handle link in_it at in
+                  left.on ∙ ap Some (ap (λ b. leaving_sent_if b left.leaving) (sym (ap (λ b. b && sends_under handle facts.turn.doing) out)) ∙ left.is ∙ taking_next handle facts received link));
+            };
+        on_heard = λ phases history has. record {
+          controls = kept.on_heard phases history has.controls;
+          left = left_same given history (λ one. is_in one given.stations) AllUnsent (λ one. packet_received one history) (λ one. packet_received one history)
+              (λ one in_one. sym in_one) (λ one in_one. refl) has.left;
+          each = has.each;
+        };
+        on_phases = λ history has. record { controls = kept.on_phases history has.controls; left = has.left; each = has.each };
+        on_end = λ done left station history are some has.
+            let step = TurnEnds in
+            let in_it = among given.stations done left station are in
+            let setup = setup_at given station in
+            let facts = facts_at given station history in
+            let after = after_call given station step history in
+            let notes = map (Noted station) (notes_after setup facts step) in
+            let controls = kept.on_end done left station history are some has.controls in
+            let place = AtEnds (done ++ station ∷ []) left in
+            let front = front_at given place after controls.seen.known.front in
+            let lined = lined_at understood taken given are_two six (AtEnds done (station ∷ left)) history has.controls.seen.known in
+            let lined_after = lined_at understood taken given are_two six place after controls.seen.known in
+            let none = has.controls.seen.holds.hearing.hears station in_it in
+            let phased = subst (λ b. PhasedBy given history station (if b then at_stage Between (turns_begun history) else at_stage (Within 3) (turns_begun history)))
+            (not_before given.stations done left station distinct are) (phased_at given (AtEnds done (station ∷ left)) history has.controls.seen.holds.hearing.stand station in_it) in
+            let silent : (handle : ℕ) → sends_under handle facts.turn.doing ≡ false = λ handle. last_phase facts.links facts.turn.doing handle phased.phase in
+            let before = control_in history notes front.rest station step front.at in record {
+              controls = controls;
+              left = left_call given station step history AllUnsent AllUnsent (λ one. packet_received one history) (λ one. packet_received one after) lined lined_after (λ handle link at.
+                  let number = number_at station handle history in
+                  let side = side_of station in
+                  let leaves = end_leaves side number (withholds_at side history) (turn_at history) setup facts handle link
+                  (held_at given station step history in_it lined lined_after handle link at) in
+                  let c = (facts_in leaves.base).control in
+                  leaves_own given station step history in_it lined lined_after handle link at (packet_received station after) (controls.seen.holds.hearing.hears station in_it)
+                  (number_called given station step history handle (end_noted (OpensNone handle) (opening_none handle).starts.feeds setup facts)) leaves.base leaves.was
+                  false c (facts_in leaves.base).leaving (leaves.is c) (ap (λ (f : Facts). sends_under handle f.turn.doing) (own_facts given station step history)) (before in_it handle leaves.base leaves.was)
+                  (whole_at given history AllUnsent (λ one. packet_received one history) station handle leaves.base in_it leaves.was (silent handle) (λ listens. none) has.left))
+                  (λ other is_too differs. refl) (λ other is_too differs. received_by given other station step history false differs) has.left;
+              each = call_each given station step history has.each tt
+                  (whole_before given history AllUnsent (λ one. packet_received one history) station step (λ handle held link. refl) silent none has.left);
+            };
+        on_ended = λ history has. record { controls = kept.on_ended history has.controls; left = has.left; each = has.each };
+      }
+
+-- as a run begins no link is open
+none_left : (given : Given) → AreLeftSo given [] AllUnsent (λ station. packet_received station [])
+unfolding facts_of
+none_left given = λ station handle link in_it at.
+    absurd (open_has (λ one. ⊥) 0 handle (replicate (setup_at given station).links None) link (none_open (λ one. ⊥) (setup_at given station).links) at)
+
+pub leavings_first : (given : Given) → AreLeftAt given NoTurn []
+leavings_first given = record { controls = controls_first given; left = none_left given; each = tt }

@@ -1,0 +1,205 @@
+-- How each open end is to leave its link by the journal, after each event and each call of a run.
+use Rattle.std.proofs.Common.{◌≡◌, ℕ, ◌==◌, ◌&&◌, Bool, true, false, Option, Some, None, List, [], ◌∷◌, ◌++◌, map, refl, sym, ap, subst, ◌∙◌, append-nil}
+use Rattle.std.proofs.lemmas.Bool.{eqb-true}
+use Rattle.std.proofs.lemmas.List.{map-append}
+use Rattle.ble_base.specs.declared.roles.Side.{Side}
+use Rattle.controller_model.specs.Facts.{Facts}
+use Rattle.controller_model.specs.Since.{notes_opened_on}
+use Rattle.controller_model.specs.Step.{Step as Call}
+use Rattle.controller_model.specs.declared.doing.Turn.{Turn}
+use Rattle.journal_controls.specs.journal_acks.link_calls.Uses.{listens_under, sends_under}
+use Rattle.journal_controls.specs.journal_links.LinkLines.{line_of}
+use Rattle.journal_controls.specs.link_model.End.{notes_from}
+use Rattle.journal_controls.specs.link_model.control_model.Control.{Control}
+use Rattle.journal_controls.specs.link_model.declared.state.Leaving.{Leaving}
+use Rattle.journal_controls.specs.open_links.OpenLinks.{OpenLink, facts_in, link_at}
+use Rattle.journal_controls.specs.run_model.History.{Event, steps_in}
+use Rattle.journal_controls.specs.run_model.Journal.{side_of}
+use Rattle.journal_controls.specs.run_model.Run.{Given, after_call, facts_at, step_of}
+use Rattle.journal_controls.proofs.EndMoves.{steps_later}
+use Rattle.journal_controls.proofs.EventMoves.{control_at, turn_at, withholds_at}
+use Rattle.journal_controls.proofs.journal_ends.EndsKnown.{AreLined}
+use Rattle.journal_controls.proofs.journal_ends.KeptSeen.{listened_as}
+use Rattle.journal_controls.proofs.journal_ends.PastSeen.{notes_more}
+use Rattle.journal_controls.proofs.journal_ends.SeenEvents.{lines_at}
+use Rattle.journal_controls.proofs.journal_acks.Counting.{facts_event}
+use Rattle.journal_controls.proofs.journal_acks.Exchanging.{number_at, number_other}
+use Rattle.journal_controls.proofs.journal_ends.run_laws.Hearings.{other_facts}
+use Rattle.journal_controls.proofs.run_model.Stations.{is_in}
+use Rattle.journal_leaving.specs.Hearing.{leaving_if, leaving_next}
+use Rattle.journal_leaving.specs.Leaving.{leaving_sent_if}
+use Rattle.journal_leaving.specs.Said.{leaving_noted}
+use Rattle.journal_leaving.proofs.EventMoves.{call_moves, call_stays, leaving_at}
+use Rattle.journal_leaving.proofs.LinkLeaves.{LeavesTo}
+
+-- ---- what is expected
+
+-- before the packet that an end is to send is on the air, the journal is one sending late; before the end takes a packet
+-- that was on the air, the journal is one reception ahead
+abbrev pub left_taking : Bool → Option (List ℕ) → ℕ → OpenLink → Leaving
+left_taking true (Some octets) slot link = leaving_if true slot octets link
+left_taking true None slot link = (facts_in link).leaving
+left_taking false received slot link = (facts_in link).leaving
+
+pub record IsLeftAt (unsent : Bool) (received : Option (List ℕ)) (handle : ℕ) (turn : Turn) (link : OpenLink) (number : ℕ) (side : Side) (history : List Event) : Type 0 where
+  pub leaving : Leaving
+  pub on : leaving_at number side history ≡ Some leaving
+  pub is : leaving_sent_if (unsent && sends_under handle turn.doing) leaving ≡ left_taking (listens_under handle turn.doing) received turn.slot link
+
+abbrev pub AreLeftSo : Given → List Event → (ℕ → Bool) → (ℕ → Option (List ℕ)) → Type 0
+AreLeftSo given history unsent received =
+    (station handle : ℕ) (link : OpenLink) → is_in station given.stations ≡ true → link_at handle (facts_at given station history).links ≡ Some link
+    → IsLeftAt (unsent station) (received station) handle (facts_at given station history).turn link (number_at station handle history) (side_of station) history
+
+-- an end that has no packet to take
+pub takes_none : (listens : Bool) (received : Option (List ℕ)) (slot : ℕ) (link : OpenLink) → (listens ≡ true → received ≡ None)
+    → left_taking listens received slot link ≡ (facts_in link).leaving
+takes_none true None slot link none = refl
+takes_none true (Some octets) slot link none = absurd (let h : Some octets ≡ None = none refl in absurd cc)
+takes_none false received slot link none = refl
+
+pub and_none : (b : Bool) → (b && false) ≡ false
+and_none true = refl
+and_none false = refl
+
+-- and none to send
+pub whole : (unsent : Bool) (received : Option (List ℕ)) (handle : ℕ) (turn : Turn) (link : OpenLink) (number : ℕ) (side : Side) (history : List Event)
+    → (unsent && sends_under handle turn.doing) ≡ false → (listens_under handle turn.doing ≡ true → received ≡ None)
+    → IsLeftAt unsent received handle turn link number side history → leaving_at number side history ≡ Some (facts_in link).leaving
+whole unsent received handle turn link number side history sent none is =
+    is.on ∙ ap Some (ap (λ b. leaving_sent_if b is.leaving) (sym sent) ∙ is.is ∙ takes_none (listens_under handle turn.doing) received turn.slot link none)
+
+pub moved : (handle : ℕ) (link : OpenLink) (side : Side) (history : List Event) (unsent unsent_too : Bool) (received received_too : Option (List ℕ)) (turn turn_too : Turn) (number number_too : ℕ)
+    → unsent_too ≡ unsent → received_too ≡ received → turn_too ≡ turn → number_too ≡ number → IsLeftAt unsent received handle turn link number side history
+    → IsLeftAt unsent_too received_too handle turn_too link number_too side history
+moved handle link side history unsent unsent_too received received_too turn turn_too number number_too u r t n is =
+    subst (λ b. IsLeftAt b received_too handle turn_too link number_too side history) (sym u)
+    (subst (λ one. IsLeftAt unsent one handle turn_too link number_too side history) (sym r)
+    (subst (λ now. IsLeftAt unsent received handle now link number_too side history) (sym t)
+    (subst (λ one. IsLeftAt unsent received handle turn link one side history) (sym n) is)))
+
+-- a station that sends nothing on the link
+pub any_sending : (unsent unsent_too : Bool) (received : Option (List ℕ)) (handle : ℕ) (turn : Turn) (link : OpenLink) (number : ℕ) (side : Side) (history : List Event)
+    → sends_under handle turn.doing ≡ false → IsLeftAt unsent received handle turn link number side history → IsLeftAt unsent_too received handle turn link number side history
+any_sending unsent unsent_too received handle turn link number side history none is = record {
+  leaving = is.leaving;
+  on = is.on;
+  is = ap (λ b. leaving_sent_if b is.leaving) (ap (λ b. unsent_too && b) none ∙ and_none unsent_too ∙ sym (ap (λ b. unsent && b) none ∙ and_none unsent)) ∙ is.is;
+}
+
+-- by the call that comes next
+pub taking_next : (handle : ℕ) (facts : Facts) (received : Option (List ℕ)) (link : OpenLink)
+    → left_taking (listens_under handle facts.turn.doing) received facts.turn.slot link ≡ leaving_next handle facts (step_of received) link
+taking_next handle facts None link = takes_none (listens_under handle facts.turn.doing) None facts.turn.slot link (λ on. refl)
+taking_next handle facts (Some octets) link =
+    by (listens_under handle facts.turn.doing) ∙ ap (λ b. leaving_if b facts.turn.slot octets link) (listened_as handle facts.turn.doing)
+  where
+    by : (listens : Bool) → left_taking listens (Some octets) facts.turn.slot link ≡ leaving_if listens facts.turn.slot octets link
+    by true = refl
+    by false = refl
+
+-- ---- events and calls that leave an end as it is
+
+module _ (given : Given) where
+  pub left_same : (history : List Event) (unsent unsent_too : ℕ → Bool) (received received_too : ℕ → Option (List ℕ))
+      → ((station : ℕ) → is_in station given.stations ≡ true → unsent_too station ≡ unsent station)
+      → ((station : ℕ) → is_in station given.stations ≡ true → received_too station ≡ received station)
+      → AreLeftSo given history unsent received → AreLeftSo given history unsent_too received_too
+  left_same history unsent unsent_too received received_too u r are = λ station handle link in_it at.
+      let turn = (facts_at given station history).turn in
+      let number = number_at station handle history in
+      moved handle link (side_of station) history (unsent station) (unsent_too station) (received station) (received_too station) turn turn number number (u station in_it) (r station in_it) refl refl
+      (are station handle link in_it at)
+
+  -- a station with the same links, of the same numbers
+  still_at : (history after : List Event) (unsent : Bool) (received : Option (List ℕ)) (station handle : ℕ) (link : OpenLink)
+      → facts_at given station after ≡ facts_at given station history → number_at station handle after ≡ number_at station handle history
+      → ((l : Leaving) → leaving_at (number_at station handle history) (side_of station) history ≡ Some l → leaving_at (number_at station handle history) (side_of station) after ≡ Some l)
+      → IsLeftAt unsent received handle (facts_at given station history).turn link (number_at station handle history) (side_of station) history
+      → IsLeftAt unsent received handle (facts_at given station after).turn link (number_at station handle after) (side_of station) after
+  still_at history after unsent received station handle link facts number stays is =
+      moved handle link (side_of station) after unsent unsent received received (facts_at given station history).turn (facts_at given station after).turn
+      (number_at station handle history) (number_at station handle after) refl refl (ap (λ (f : Facts). f.turn) facts) number
+      (record { leaving = is.leaving; on = stays is.leaving is.on; is = is.is })
+
+  -- an event that is not a packet
+  pub left_event : (history : List Event) (event : Event) (unsent : ℕ → Bool) (received : ℕ → Option (List ℕ)) → ((station : ℕ) → steps_in station event ≡ [])
+      → ((number : ℕ) (side : Side) → leaving_at number side (history ++ event ∷ []) ≡ leaving_at number side history)
+      → ((station handle : ℕ) → number_at station handle (history ++ event ∷ []) ≡ number_at station handle history)
+      → AreLeftSo given history unsent received → AreLeftSo given (history ++ event ∷ []) unsent received
+  left_event history event unsent received none same number are = λ station handle link in_it at.
+      let facts = facts_event given station history event (none station) in
+      still_at history (history ++ event ∷ []) (unsent station) (received station) station handle link facts (number station handle)
+      (λ l is. same (number_at station handle history) (side_of station) ∙ is)
+      (are station handle link in_it (ap (λ (f : Facts). link_at handle f.links) (sym facts) ∙ at))
+
+  -- a call, by what it does to the ends of its station
+  pub left_call : (station : ℕ) (step : Call) (history : List Event) (unsent unsent_too : ℕ → Bool) (received received_too : ℕ → Option (List ℕ)) → AreLined given history
+      → AreLined given (after_call given station step history)
+      → ((handle : ℕ) (link : OpenLink) → link_at handle (facts_at given station (after_call given station step history)).links ≡ Some link
+      → IsLeftAt (unsent_too station) (received_too station) handle (facts_at given station (after_call given station step history)).turn link
+      (number_at station handle (after_call given station step history)) (side_of station) (after_call given station step history))
+      → ((other : ℕ) → is_in other given.stations ≡ true → (other == station) ≡ false → unsent_too other ≡ unsent other)
+      → ((other : ℕ) → is_in other given.stations ≡ true → (other == station) ≡ false → received_too other ≡ received other)
+      → AreLeftSo given history unsent received → AreLeftSo given (after_call given station step history) unsent_too received_too
+  left_call station step history unsent unsent_too received received_too lined lined_after own u r are = λ other handle link in_it at. by other handle link in_it at (other == station) refl
+    where
+      by : (other handle : ℕ) (link : OpenLink) → is_in other given.stations ≡ true → link_at handle (facts_at given other (after_call given station step history)).links ≡ Some link
+          → (same : Bool) → (other == station) ≡ same
+          → IsLeftAt (unsent_too other) (received_too other) handle (facts_at given other (after_call given station step history)).turn link
+          (number_at other handle (after_call given station step history)) (side_of other) (after_call given station step history)
+      by other handle link in_it at true one =
+          let equal = eqb-true other station one in
+          let next = after_call given station step history in
+          subst (λ n. IsLeftAt (unsent_too n) (received_too n) handle (facts_at given n next).turn link (number_at n handle next) (side_of n) next) (sym equal)
+          (own handle link (subst (λ n. link_at handle (facts_at given n next).links ≡ Some link) equal at))
+      by other handle link in_it at false differs =
+          let next = after_call given station step history in
+          let side = side_of other in
+          let number = number_at other handle history in
+          let facts = other_facts given station step history other differs in
+          let numbers = number_other given station step history other handle differs in
+          let was = ap (λ (f : Facts). link_at handle f.links) (sym facts) ∙ at in
+          let now = subst (λ n. lines_at n side next ≡ map (line_of side n) (notes_opened_on link.setup link.past)) numbers (lined_after other handle link in_it at) in
+          let same = now ∙ sym (lined other handle link in_it was) ∙ sym (append-nil (lines_at number side history)) in
+          let turn = (facts_at given other history).turn in
+          still_at history next (unsent_too other) (received_too other) other handle link facts numbers
+          (λ l is. call_stays given number side station step history same ∙ is)
+          (moved handle link side history (unsent other) (unsent_too other) (received other) (received_too other) turn turn number number (u other in_it differs) (r other in_it differs) refl refl
+          (are other handle link in_it was))
+
+  -- ---- a call, at its own station
+
+  module _ (station : ℕ) (step : Call) (history : List Event) (in_it : is_in station given.stations ≡ true) (lined : AreLined given history)
+      (lined_after : AreLined given (after_call given station step history)) where
+    abbrev after : List Event
+    after = after_call given station step history
+
+    abbrev side : Side
+    side = side_of station
+
+    module _ (handle : ℕ) (link : OpenLink) (at : link_at handle (facts_at given station after).links ≡ Some link) (received : Option (List ℕ)) (none : received ≡ None)
+        (number : number_at station handle after ≡ number_at station handle history) (base : OpenLink) (was : link_at handle (facts_at given station history).links ≡ Some base) where
+      abbrev own : ℕ
+      own = number_at station handle history
+
+      -- what happened to an end moves it by the lines of the call, and a packet that it is to send comes after them
+      pub leaves_own : (sends : Bool) (from : Control) (left : Leaving) → LeavesTo side own (withholds_at side history) (turn_at history) base link sends from left
+          → sends_under handle (facts_at given station after).turn.doing ≡ sends
+          → control_at own side history ≡ Some from → leaving_at own side history ≡ Some left
+          → IsLeftAt true received handle (facts_at given station after).turn link (number_at station handle after) side after
+      leaves_own sends from left leaves doing control is =
+          let notes = notes_from base.setup (facts_in base) leaves.steps in
+          let now = subst (λ n. lines_at n side after ≡ map (line_of side n) (notes_opened_on link.setup link.past)) number (lined_after station handle link in_it at) in
+          let lines : lines_at own side after ≡ lines_at own side history ++ map (line_of side own) notes =
+          now ∙ (λ i. map (line_of side own) (notes_opened_on (leaves.setup_is i) (leaves.past_is i)))
+          ∙ ap (map (line_of side own)) (notes_more base.setup base.past leaves.steps)
+          ∙ map-append (line_of side own) (notes_opened_on base.setup base.past) notes
+          ∙ ap (λ xs. xs ++ map (line_of side own) notes) (sym (lined station handle base in_it was)) in
+          let turn = (facts_at given station after).turn in
+          let later = leaving_noted side own (withholds_at side history) (turn_at history) notes from left in record {
+            leaving = later;
+            on = ap (λ n. leaving_at n side after) number
+                ∙ call_moves given side own station step history (map (line_of side own) notes) from left lines (steps_later side own base.setup (facts_in base) leaves.steps) control is;
+            is = ap (λ b. leaving_sent_if b later) doing ∙ leaves.leaves ∙ sym (takes_none (listens_under handle turn.doing) received turn.slot link (λ on. none));
+          }

@@ -1,0 +1,180 @@
+-- A packet on the air moves the end that sends it and the end that hears it, by what the lines say of these.
+use Rattle.std.proofs.Common.{◌≡◌, ℕ, ◌&&◌, Bool, true, false, Option, Some, None, List, [], ◌∷◌, ◌++◌, length, if◌then◌else◌, refl, sym, ap, subst, ◌∙◌}
+use Rattle.std.proofs.lemmas.List.{append_cancel_left}
+use Rattle.air_frame.specs.declared.Heard.{Heard}
+use Rattle.air_frame.specs.declared.Heard.TheVariants.{NotOurs, Broken as Faulty, Whole}
+use Rattle.ble_base.specs.declared.roles.Role.TheVariants.{Peripheral}
+use Rattle.ble_base.specs.declared.roles.Side.{Side}
+use Rattle.ble_base.specs.declared.verdicts.Verdict.TheVariants.{Broken, Good}
+use Rattle.controller_model.specs.declared.doing.Turn.{Turn}
+use Rattle.journal_controls.specs.LineSteps.{has_next}
+use Rattle.journal_controls.specs.journal_acks.Carried.{pdu_carried}
+use Rattle.journal_controls.specs.journal_acks.Counted.{IsCounted}
+use Rattle.journal_controls.specs.journal_acks.Exchange.{Exchanged}
+use Rattle.journal_controls.specs.journal_acks.link_calls.Uses.{listens_under, sends_under}
+use Rattle.journal_controls.specs.journal_ends.Seen.{heard_in_line, heard_where}
+use Rattle.journal_controls.specs.link_model.Facts.{Facts as EndFacts}
+use Rattle.journal_controls.specs.link_model.Packets.{good_pdu, heard_of, verdict_of}
+use Rattle.journal_controls.specs.link_model.Setup.{Setup}
+use Rattle.journal_controls.specs.link_model.Sending.{leaving_sent}
+use Rattle.journal_controls.specs.link_model.Step.{PacketReceived}
+use Rattle.journal_controls.specs.link_model.Verdicts.{good_in, has_room_for, pdu_by, verdict_by}
+use Rattle.journal_controls.specs.open_links.OpenLinks.{OpenLink, facts_in}
+use Rattle.journal_controls.specs.run_model.History.{Event, Hearing, is_good}
+use Rattle.journal_controls.specs.run_model.Journal.{journal_of}
+use Rattle.journal_controls.proofs.Counted.{told_by}
+use Rattle.journal_controls.proofs.EventMoves.{air_line, aired, turn_at}
+use Rattle.journal_controls.proofs.journal_acks.Counting.{IsEndCounted, ack_taking, ahead_if, plain}
+use Rattle.journal_controls.proofs.journal_acks.Exchanging.{exchange_at}
+use Rattle.journal_controls.proofs.journal_acks.KeptLines.{IsLined}
+use Rattle.journal_controls.proofs.journal_acks.SentLines.{sent_line_at}
+use Rattle.journal_controls.proofs.journal_acks.Standing.{listener_sends}
+use Rattle.journal_controls.proofs.journal_ends.SeenCalls.{seen_in_link, to_hear}
+use Rattle.journal_controls.proofs.journal_ends.SeenEvents.{is_heard_of, packet_seen, seen_at}
+use Rattle.journal_controls.proofs.journal_ends.run_laws.Agreed.{ack_of, step_facts}
+use Rattle.journal_leaving.specs.Hearing.{leaving_hearing}
+use Rattle.journal_leaving.specs.Leaving.{is_own_packet, leaving_sent_if}
+use Rattle.journal_leaving.proofs.EndLeaving.{hearing_told}
+use Rattle.journal_leaving.proofs.EventMoves.{heard_moves, other_still, own_moves}
+use Rattle.journal_leaving.proofs.LeavingEnds.{IsLeftAt, and_none, left_taking, whole}
+
+-- ---- a packet is good where it has a PDU
+
+-- what an end makes of these octets
+data IsPacket (setup : Setup) (facts : EndFacts) (octets : List ℕ) : Type 0 where
+  Bad : is_good (verdict_of setup facts octets) ≡ false → good_pdu setup facts octets ≡ None → IsPacket setup facts octets
+  HasPdu : (pdu : List ℕ) → is_good (verdict_of setup facts octets) ≡ true → good_pdu setup facts octets ≡ Some pdu → IsPacket setup facts octets
+
+packet_of : (setup : Setup) (facts : EndFacts) (octets : List ℕ) → IsPacket setup facts octets
+unfolding good_pdu verdict_of
+packet_of setup facts octets = by (heard_of setup facts octets) refl
+  where
+    by : (heard : Heard) → heard_of setup facts octets ≡ heard → IsPacket setup facts octets
+    by NotOurs is = Bad (ap (λ h. is_good (verdict_by setup.link.max_rx h)) is) (ap (good_in setup.link.max_rx) is)
+    by Faulty is = Bad (ap (λ h. is_good (verdict_by setup.link.max_rx h)) is) (ap (good_in setup.link.max_rx) is)
+    by (Whole pdu) is = fits (has_room_for setup.link.max_rx pdu.items) refl
+      where
+        fits : (room : Bool) → has_room_for setup.link.max_rx pdu.items ≡ room → IsPacket setup facts octets
+        fits true room =
+            HasPdu pdu.items (ap (λ h. is_good (verdict_by setup.link.max_rx h)) is ∙ ap (λ b. is_good (if b then Good else Broken)) room)
+            (ap (good_in setup.link.max_rx) is ∙ ap (λ b. pdu_by b pdu.items) room)
+        fits false room =
+            Bad (ap (λ h. is_good (verdict_by setup.link.max_rx h)) is ∙ ap (λ b. is_good (if b then Good else Broken)) room)
+            (ap (good_in setup.link.max_rx) is ∙ ap (λ b. pdu_by b pdu.items) room)
+
+-- ---- the counts of an end that is to take it
+
+taking_counts : (unsent : Bool) (received : Option (List ℕ)) (octets : List ℕ) (handle : ℕ) (turn : Turn) (link : OpenLink) (end : Exchanged)
+    → listens_under handle turn.doing ≡ true → received ≡ Some octets → IsEndCounted unsent received handle turn link end → IsCounted end (ack_taking true (Some octets) turn.slot link)
+taking_counts unsent received octets handle turn link end on some is =
+    subst (λ may. IsCounted end (ack_taking true may turn.slot link)) some
+    (subst (λ b. IsCounted end (ack_taking b received turn.slot link)) on
+    (subst (λ b. IsCounted (ahead_if b end) (ack_taking (listens_under handle turn.doing) received turn.slot link))
+    (ap (λ b. unsent && b) (listener_sends handle turn.doing on) ∙ and_none unsent) is))
+
+-- who sends does not listen
+sender_deaf : (handle : ℕ) (turn : Turn) → sends_under handle turn.doing ≡ true → (listens : Bool) → listens_under handle turn.doing ≡ listens → listens ≡ false
+sender_deaf handle turn on true is = absurd (let h : true ≡ false = sym on ∙ listener_sends handle turn.doing is in absurd cc)
+sender_deaf handle turn on false is = refl
+
+-- ---- one end
+
+module _ (number : ℕ) (side : Side) (history : List Event) (station channel : ℕ) (octets : List ℕ) (hearing : Hearing)
+    (received received_too : Option (List ℕ)) (handle : ℕ) (turn : Turn) (link : OpenLink) (unsent unsent_too : Bool)
+    (silent : listens_under handle turn.doing ≡ true → received ≡ None) (was : IsLeftAt unsent received handle turn link number side history) where
+  abbrev after : List Event
+  after = aired number side history station channel octets hearing
+
+  -- its own packet
+  pub own_left : is_own_packet side number (journal_of history) (air_line station channel octets hearing) ≡ true → unsent ≡ true → unsent_too ≡ false
+      → sends_under handle turn.doing ≡ true → IsLeftAt unsent_too received_too handle turn link number side after
+  own_left own before now sends =
+      let deaf = sender_deaf handle turn sends (listens_under handle turn.doing) refl in record {
+        leaving = leaving_sent was.leaving;
+        on = own_moves number side history station channel octets hearing was.leaving own was.on;
+        is = ap (λ b. leaving_sent_if (b && sends_under handle turn.doing) (leaving_sent was.leaving)) now
+            ∙ (λ i. leaving_sent_if (sym before i && sym sends i) was.leaving) ∙ was.is
+            ∙ (λ i. left_taking (deaf i) received turn.slot link) ∙ (λ i. left_taking (sym deaf i) received_too turn.slot link);
+      }
+
+  module _ (apart : is_own_packet side number (journal_of history) (air_line station channel octets hearing) ≡ false)
+      (sent : (unsent_too && sends_under handle turn.doing) ≡ (unsent && sends_under handle turn.doing))
+      (seen : seen_at number side history ≡ seen_in_link number side link)
+      (seen_too : seen_at number side (aired number side history station channel octets hearing) ≡ seen_in_link number side link ++ to_hear (listens_under handle turn.doing) received_too turn.slot link)
+      (counted : IsEndCounted unsent received handle turn link (exchange_at number history side))
+      (counted_too : IsEndCounted unsent_too received_too handle turn link (exchange_at number (aired number side history station channel octets hearing) side))
+      (lined : IsLined (sent_line_at number history side) (ack_of link))
+      (fixes : listens_under handle turn.doing ≡ true → link.setup.link.role ≡ Peripheral → (facts_in link).fixes_control ≡ has_next (facts_in link).control) where
+    abbrev listens : Bool
+    listens = listens_under handle turn.doing
+
+    -- the line is heard as the end hears the packet
+    heard_is : heard_in_line side number (journal_of history) (air_line station channel octets hearing) ≡ to_hear listens received_too turn.slot link
+    heard_is =
+        append_cancel_left (seen_in_link number side link) (heard_where (is_heard_of number side history station channel octets hearing) (turn_at history) octets)
+        (to_hear listens received_too turn.slot link)
+        (ap (λ xs. xs ++ heard_where (is_heard_of number side history station channel octets hearing) (turn_at history) octets) (sym seen)
+        ∙ sym (packet_seen number side station channel octets history (hearing ∷ []) hearing refl) ∙ seen_too)
+
+    -- an end that hears nothing new
+    unheard : to_hear listens received_too turn.slot link ≡ [] → left_taking listens received_too turn.slot link ≡ (facts_in link).leaving
+        → left_taking listens received turn.slot link ≡ (facts_in link).leaving → IsLeftAt unsent_too received_too handle turn link number side after
+    unheard none now before = record {
+      leaving = was.leaving;
+      on = other_still number side history station channel octets hearing (heard_is ∙ none) apart ∙ was.on;
+      is = ap (λ b. leaving_sent_if b was.leaving) sent ∙ was.is ∙ before ∙ sym now;
+    }
+
+    module _ (on : listens ≡ true) (got : List ℕ) (some : received_too ≡ Some got) where
+      none_sent : (unsent && sends_under handle turn.doing) ≡ false
+      none_sent = ap (λ b. unsent && b) (listener_sends handle turn.doing on) ∙ and_none unsent
+
+      hears : to_hear listens received_too turn.slot link ≡ heard_where (is_good (verdict_of link.setup (facts_in link) got)) turn.slot got
+      hears = λ i. to_hear (on i) (some i) turn.slot link
+
+      taking_is : left_taking listens received_too turn.slot link ≡ leaving_hearing link.setup.link.role turn.slot (good_pdu link.setup (facts_in link) got) (facts_in link)
+      taking_is = λ i. left_taking (on i) (some i) turn.slot link
+
+      before_is : left_taking listens received turn.slot link ≡ (facts_in link).leaving
+      before_is = λ i. left_taking (on i) (silent on i) turn.slot link
+
+      good_then : (pdu : List ℕ) → is_good (verdict_of link.setup (facts_in link) got) ≡ true → good_pdu link.setup (facts_in link) got ≡ Some pdu
+          → IsLeftAt unsent_too received_too handle turn link number side after
+      good_then pdu is good =
+          let setup = link.setup in
+          let facts = facts_in link in
+          let before = exchange_at number history side in
+          let later = exchange_at number after side in
+          let line = sent_line_at number history side in
+          let counts = plain unsent received handle turn link before (listener_sends handle turn.doing on) silent counted in
+          let counts_too = taking_counts unsent_too received_too got handle turn link later on some counted_too in
+          let now = step_facts link (PacketReceived turn.slot got false) in
+          let told = told_by setup link.past turn.slot got pdu false before later line good counts.acked
+          (counts_too.acked ∙ ap (λ (f : EndFacts). f.acknowledgement.acked) now) (counts_too.sent ∙ ap (λ (f : EndFacts). length f.acknowledgement.sent) now)
+          lined.last (fixes on) in record {
+            leaving = leaving_hearing setup.link.role turn.slot (Some pdu) facts;
+            on = heard_moves number side history station channel octets hearing turn.slot got facts.leaving (heard_is ∙ hears ∙ ap (λ b. heard_where b turn.slot got) is)
+                (whole unsent received handle turn link number side history none_sent silent was)
+                ∙ ap Some (hearing_told turn.slot setup facts before later (pdu_carried line before.acked) pdu told);
+            is = ap (λ b. leaving_sent_if b (leaving_hearing setup.link.role turn.slot (Some pdu) facts)) (sent ∙ none_sent)
+                ∙ ap (λ may. leaving_hearing setup.link.role turn.slot may facts) (sym good) ∙ sym taking_is;
+          }
+
+      taken_then : IsLeftAt unsent_too received_too handle turn link number side after
+      taken_then = by (packet_of link.setup (facts_in link) got)
+        where
+          by : IsPacket link.setup (facts_in link) got → IsLeftAt unsent_too received_too handle turn link number side after
+          by (Bad is bad) =
+              unheard (hears ∙ ap (λ b. heard_where b turn.slot got) is)
+              (taking_is ∙ ap (λ may. leaving_hearing link.setup.link.role turn.slot may (facts_in link)) bad) before_is
+          by (HasPdu pdu is good) = good_then pdu is good
+
+    pub other_left : IsLeftAt unsent_too received_too handle turn link number side after
+    other_left = by listens refl received_too refl
+      where
+        by : (on : Bool) → listens_under handle turn.doing ≡ on → (may : Option (List ℕ)) → received_too ≡ may → IsLeftAt unsent_too received_too handle turn link number side after
+        by false off may is =
+            unheard (ap (λ b. to_hear b received_too turn.slot link) off) (ap (λ b. left_taking b received_too turn.slot link) off) (ap (λ b. left_taking b received turn.slot link) off)
+        by true on None none =
+            unheard (λ i. to_hear (on i) (none i) turn.slot link) (λ i. left_taking (on i) (none i) turn.slot link) (λ i. left_taking (on i) (silent on i) turn.slot link)
+        by true on (Some got) some = taken_then on got some

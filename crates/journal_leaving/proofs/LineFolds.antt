@@ -1,0 +1,173 @@
+-- How an end is to leave its link, by a journal with one line more.
+use Rattle.std.proofs.Common.{◌≡◌, ℕ, ◌==◌, ◌&&◌, Bool, true, false, Option, Some, None, List, [], ◌∷◌, ◌++◌, fold, map, refl, sym, ap, subst, ◌∙◌, append-nil, append_assoc, if◌then◌else◌}
+use Rattle.std.specs.Option.{option_map}
+use Rattle.ble_base.specs.Side.{other_side}
+use Rattle.ble_base.specs.declared.error_codes.ErrCode.{ErrCode}
+use Rattle.ble_base.specs.declared.roles.Role.{Role}
+use Rattle.ble_base.specs.declared.roles.Side.{Side}
+use Rattle.ble_base.specs.declared.roles.Side.TheVariants.{A, B}
+use Rattle.journal.specs.declared.entries.Entry.{Entry}
+use Rattle.journal.specs.declared.entries.Entry.TheVariants.{Air, Opened, Shut}
+use Rattle.journal.specs.declared.entries.Mark.{Mark}
+use Rattle.ble_base.specs.declared.verdicts.Verdict.{Verdict}
+use Rattle.journal_controls.specs.LineSteps.{control_on, is_more_acked, steps_said, turn_now, withholds}
+use Rattle.journal_controls.specs.SaidLines.{NoneOpens, is_opening, moved_by}
+use Rattle.journal_controls.specs.journal_acks.Carried.{carried_of}
+use Rattle.journal_controls.specs.journal_acks.Exchange.{exchange_of}
+use Rattle.journal_controls.specs.journal_acks.Shut.{is_of_link}
+use Rattle.journal_controls.specs.journal_ends.Seen.{Hears, Says, heard_in_line, heard_where, seen_in_line}
+use Rattle.journal_controls.specs.journal_links.LinkLines.{link_named, where_named}
+use Rattle.journal_controls.specs.journal_packets.Belonging.{is_side}
+use Rattle.journal_controls.specs.link_model.Facts.{stays}
+use Rattle.journal_controls.specs.link_model.Receiving.{leaving_acked_if}
+use Rattle.journal_controls.specs.link_model.Sending.{leaving_sent}
+use Rattle.journal_controls.specs.link_model.control_model.Control.{Control, after_all}
+use Rattle.journal_controls.specs.link_model.declared.state.Leaving.{Leaving}
+use Rattle.journal_controls.specs.run_model.History.{is_good}
+use Rattle.journal_controls.specs.run_model.Readers.{of_side}
+use Rattle.journal_controls.proofs.LineFolds.{IsNamed, Others, Own, named_by}
+use Rattle.journal_controls.proofs.journal_acks.TwoStations.{same_number}
+use Rattle.journal_leaving.specs.Leaving.{acks_terminate, is_own_packet, leaving_after, leaving_from, leaving_moved, leaving_on, leaving_saying, leaving_seen, leaving_sent_if}
+use Rattle.journal_leaving.specs.Said.{leaving_said}
+
+-- ---- a line more
+
+from_more : (side : Side) (number : ℕ) (front : List Entry) (before : Option Leaving) (lines : List Entry) (line : Entry)
+    → leaving_from side number front before (lines ++ line ∷ []) ≡ leaving_after side number (front ++ lines) (leaving_from side number front before lines) line
+from_more side number front before [] line = ap (λ xs. leaving_after side number xs before line) (sym (append-nil front))
+from_more side number front before (first ∷ lines) line =
+    from_more side number (front ++ first ∷ []) (leaving_after side number front before first) lines line
+    ∙ ap (λ xs. leaving_after side number xs (leaving_from side number (front ++ first ∷ []) (leaving_after side number front before first) lines) line)
+    (append_assoc front (first ∷ []) lines)
+
+pub leaving_more : (side : Side) (number : ℕ) (journal : List Entry) (line : Entry)
+    → leaving_on side number (journal ++ line ∷ []) ≡ leaving_after side number journal (leaving_on side number journal) line
+unfolding leaving_on
+leaving_more side number journal line = from_more side number [] None journal line
+
+-- ---- a line that neither opens the link at this side nor shuts it
+
+moves : (side : Side) (number : ℕ) (front : List Entry) (before : Option Leaving) (line : Entry) → is_opening line ≡ false
+    → leaving_after side number front before line ≡ option_map (leaving_moved side number front line) before
+moves side number front before (Opened other link handle role) is = absurd cc
+moves side number front before (Shut other link reason) is = absurd cc
+moves side number front before line is = refl
+
+-- of another side, or of another link
+opening_apart : (side other : Side) (same : Bool) (line : Entry) (now before : Option Leaving) → map Says (of_side side other (if same then line ∷ [] else [])) ≡ []
+    → (if is_side other side && same then now else before) ≡ before
+opening_apart A A true line now before none = absurd cc
+opening_apart A A false line now before none = refl
+opening_apart A B same line now before none = refl
+opening_apart B A same line now before none = refl
+opening_apart B B true line now before none = absurd cc
+opening_apart B B false line now before none = refl
+
+same_moved : (before : Option Leaving) (move : Leaving → Leaving) → ((l : Leaving) → move l ≡ l) → option_map move before ≡ before
+same_moved None move same = refl
+same_moved (Some l) move same = ap Some (same l)
+
+-- a line in which the end says and hears nothing, and sends nothing
+pub quiet_line : (side : Side) (number : ℕ) (front : List Entry) (before : Option Leaving) (line : Entry) → seen_in_line side number front line ≡ []
+    → is_own_packet side number front line ≡ false → leaving_after side number front before line ≡ before
+quiet_line side number front before (Opened other link handle role) none own =
+    opening_apart side other (link == number) (Opened other link handle role) (Some stays) before none
+quiet_line side number front before (Shut other link reason) none own = opening_apart side other (link == number) (Shut other link reason) None before none
+quiet_line side number front before line none own =
+    same_moved before (leaving_moved side number front line) (λ l i. fold (leaving_seen side number front line) (leaving_sent_if (own i) l) (none i))
+
+-- an end that stays, and says and hears nothing, stays: it may send
+pub sent_stays : (sends : Bool) → leaving_sent_if sends stays ≡ stays
+sent_stays true = refl
+sent_stays false = refl
+
+pub stays_line : (side : Side) (number : ℕ) (front : List Entry) (line : Entry) → seen_in_line side number front line ≡ []
+    → leaving_after side number front (Some stays) line ≡ Some stays
+stays_line side number front (Opened other link handle role) none =
+    opening_apart side other (link == number) (Opened other link handle role) (Some stays) (Some stays) none
+stays_line side number front (Shut other link reason) none = opening_apart side other (link == number) (Shut other link reason) None (Some stays) none
+stays_line side number front line none =
+    (λ i. Some (fold (leaving_seen side number front line) (leaving_sent_if (is_own_packet side number front line) stays) (none i)))
+    ∙ ap Some (sent_stays (is_own_packet side number front line))
+
+-- ---- lines that an end says
+
+pub said_both : (withheld : Bool) (slot : ℕ) (lines more : List Entry) (c : Control) (l : Leaving)
+    → leaving_said withheld slot (lines ++ more) c l ≡ leaving_said withheld slot more (moved_by withheld slot lines c) (leaving_said withheld slot lines c l)
+said_both withheld slot [] more c l = refl
+said_both withheld slot (line ∷ lines) more c l =
+    said_both withheld slot lines more (after_all (steps_said withheld slot c line) c) (leaving_saying slot (Some c) l line)
+
+module _ (side : Side) (number : ℕ) (front : List Entry) (line : Entry) (c : Control) (l : Leaving) (own : is_own_packet side number front line ≡ false)
+    (control : control_on side number front ≡ Some c) where
+  -- a line of its own
+  said_line : is_opening line ≡ false → seen_in_line side number front line ≡ Says line ∷ []
+      → leaving_after side number front (Some l) line ≡ Some (leaving_said (withholds side front) (turn_now front) (line ∷ []) c l)
+  said_line opens is =
+      moves side number front (Some l) line opens
+      ∙ (λ i. Some (fold (leaving_seen side number front line) (leaving_sent_if (own i) l) (is i)))
+      ∙ ap (λ one. Some (leaving_saying (turn_now front) one l line)) control
+
+-- a line in which the end hears and sends nothing
+pub line_moves : (side : Side) (number : ℕ) (front : List Entry) (line : Entry) (c : Control) (l : Leaving) → heard_in_line side number front line ≡ []
+    → is_own_packet side number front line ≡ false → let named = where_named side number (link_named line) line in NoneOpens named → control_on side number front ≡ Some c
+    → leaving_after side number front (Some l) line ≡ Some (leaving_said (withholds side front) (turn_now front) named c l)
+line_moves side number front line c l deaf own opens control = by (named_by side number (link_named line) line)
+  where
+    by : IsNamed line (where_named side number (link_named line) line)
+        → leaving_after side number front (Some l) line ≡ Some (leaving_said (withholds side front) (turn_now front) (where_named side number (link_named line) line) c l)
+    by (Own is) =
+        said_line side number front line c l own control (subst NoneOpens is opens).0 (λ i. deaf i ++ map Says (is i))
+        ∙ ap (λ lines. Some (leaving_said (withholds side front) (turn_now front) lines c l)) (sym is)
+    by (Others none) =
+        quiet_line side number front (Some l) line (λ i. deaf i ++ map Says (none i)) own ∙ ap (λ lines. Some (leaving_said (withholds side front) (turn_now front) lines c l)) (sym none)
+
+-- ---- a good packet that the end hears, and one that it sends
+
+own_deaf : (is_of good : Bool) (sender side : Side) (slot : ℕ) (octets : List ℕ) → (is_of && is_side sender side) ≡ true
+    → heard_where (is_of && (is_side sender (other_side side) && good)) slot octets ≡ []
+own_deaf false good sender side slot octets own = refl
+own_deaf true good A A slot octets own = refl
+own_deaf true good A B slot octets own = absurd cc
+own_deaf true good B A slot octets own = absurd cc
+own_deaf true good B B slot octets own = refl
+
+heard_apart : (is_of good : Bool) (sender side : Side) (slot now : ℕ) (octets heard : List ℕ)
+    → heard_where (is_of && (is_side sender (other_side side) && good)) slot octets ≡ Hears now heard ∷ [] → (is_of && is_side sender side) ≡ false
+heard_apart false good sender side slot now octets heard is = refl
+heard_apart true good A A slot now octets heard is = absurd cc
+heard_apart true good A B slot now octets heard is = refl
+heard_apart true good B A slot now octets heard is = refl
+heard_apart true good B B slot now octets heard is = absurd cc
+
+module _ (side : Side) (number : ℕ) (front : List Entry) (sender : Side) (channel : ℕ) (octets : List ℕ) (fate : Mark) (verdict : Verdict) where
+  abbrev air : Entry
+  air = Air sender channel octets fate verdict
+
+  -- the end hears it
+  pub heard_line : (l : Leaving) (slot : ℕ) (heard : List ℕ) → heard_in_line side number front air ≡ Hears slot heard ∷ []
+      → leaving_after side number front (Some l) air
+      ≡ Some (leaving_acked_if (acks_terminate (is_more_acked (exchange_of number front side) (exchange_of number (front ++ air ∷ []) side)) (carried_of number front side)) l)
+  heard_line l slot heard is =
+      let own = heard_apart (is_of_link number front sender channel octets) (is_good verdict) sender side (turn_now front) slot octets heard is in
+      λ i. Some (fold (leaving_seen side number front air) (leaving_sent_if (own i) l) (is i ++ []))
+
+  -- the end sends it
+  pub own_line : (l : Leaving) → is_own_packet side number front air ≡ true → leaving_after side number front (Some l) air ≡ Some (leaving_sent l)
+  own_line l own =
+      let deaf = own_deaf (is_of_link number front sender channel octets) (is_good verdict) sender side (turn_now front) octets own in
+      λ i. Some (fold (leaving_seen side number front air) (leaving_sent_if (own i) l) (deaf i ++ []))
+
+-- ---- the lines that open the link and shut it
+
+own_side : (one : Side) → is_side one one ≡ true
+own_side A = refl
+own_side B = refl
+
+pub opened_line : (side : Side) (number handle : ℕ) (role : Role) (front : List Entry) (before : Option Leaving)
+    → leaving_after side number front before (Opened side number handle role) ≡ Some stays
+opened_line side number handle role front before = ap (λ b. if b then Some stays else before) (λ i. own_side side i && same_number number i)
+
+pub shut_line : (side : Side) (number : ℕ) (reason : ErrCode) (front : List Entry) (before : Option Leaving)
+    → leaving_after side number front before (Shut side number reason) ≡ None
+shut_line side number reason front before = ap (λ b. if b then None else before) (λ i. own_side side i && same_number number i)

@@ -1,0 +1,136 @@
+-- A phase passes at a station: how its ends are to leave their links then, by the journal.
+use Rattle.std.proofs.Common.{◌≡◌, ℕ, ◌⊎◌, inl, inr, Bool, true, false, Option, Some, None, List, [], ◌∷◌, sym, ap, subst, ◌∙◌}
+use Rattle.std.specs.Prelude.{◌&&◌, All}
+use Rattle.ble_base.specs.declared.roles.Side.{Side}
+use Rattle.controller_model.specs.Facts.{Facts}
+use Rattle.controller_model.specs.Heard.{has_room}
+use Rattle.controller_model.specs.Links.{note_opened}
+use Rattle.controller_model.specs.Side.{facts_after, notes_after}
+use Rattle.host_masks.specs.Masks.{view_masks, withholds_requests}
+use Rattle.journal_controls.specs.journal_acks.link_calls.Phases.{HasPassed, IsNew, Stays, Takes}
+use Rattle.journal_controls.specs.journal_acks.link_calls.Uses.{listens_under, sends_under}
+use Rattle.journal_controls.specs.journal_ends.Seen.{Says, seen_of}
+use Rattle.journal_controls.specs.journal_links.LinkLines.{line_of}
+use Rattle.journal_controls.specs.link_model.End.{facts_of}
+use Rattle.journal_controls.specs.link_model.Facts.{stays}
+use Rattle.journal_controls.specs.open_links.OpenLinks.{OpenLink, facts_in, link_at}
+use Rattle.journal_controls.specs.run_model.History.{Event, packet_received, turns_begun}
+use Rattle.journal_controls.specs.run_model.Journal.{journal_of, side_of}
+use Rattle.journal_controls.specs.run_model.Run.{Given, after_call, facts_at, setup_at, step_of}
+use Rattle.journal_controls.specs.link_model.Packets.{good_pdu}
+use Rattle.journal_controls.specs.Hearing.{control_hearing}
+use Rattle.journal_controls.proofs.ControlledEnds.{AreControlledSo, control_taking, whole as control_whole}
+use Rattle.journal_controls.proofs.EventMoves.{turn_at, withholds_at}
+use Rattle.journal_controls.proofs.journal_acks.Exchanging.{number_at, number_called}
+use Rattle.journal_controls.proofs.journal_acks.Standing.{PhasedBy}
+use Rattle.journal_controls.proofs.journal_acks.link_calls.CallNotes.{OpensNone}
+use Rattle.journal_controls.proofs.journal_acks.link_calls.LinkCalls.{IsOpenedNow, passes_under, phase_quiet}
+use Rattle.journal_controls.proofs.journal_ends.EndsKnown.{AreLined}
+use Rattle.journal_controls.proofs.journal_ends.SeenCalls.{AreSeenSo, held_at, seen_in_link, whole as seen_whole}
+use Rattle.journal_controls.proofs.journal_ends.run_laws.Hearings.{own_facts}
+use Rattle.journal_controls.proofs.journal_ends.run_laws.TurnPlaces.{Within, at_stage}
+use Rattle.journal_controls.proofs.run_model.Calls.{same_station}
+use Rattle.journal_controls.proofs.run_model.LinkEnds.{received_by}
+use Rattle.journal_controls.proofs.run_model.Stations.{is_in}
+use Rattle.journal_leaving.proofs.LeavingEnds.{AreLeftSo, IsLeftAt, leaves_own, left_taking, takes_none, whole}
+use Rattle.journal_leaving.specs.Hearing.{leaving_hearing}
+use Rattle.journal_leaving.specs.Leaving.{leaving_sent_if}
+use Rattle.journal_leaving.proofs.LineFolds.{sent_stays}
+use Rattle.journal_leaving.proofs.LinkLeaves.{LeavesTo, same_leaves, taken_leaves}
+use Rattle.journal_leaving.proofs.OpenedLeavings.{opened_stays}
+
+-- an end to which nothing happened yet
+first_said : (number station : ℕ) (link : OpenLink) → link.past ≡ []
+    → seen_in_link number (side_of station) link ≡ Says (line_of (side_of station) number (note_opened link.setup.link)) ∷ []
+unfolding seen_of
+first_said number station link none = ap (λ past. seen_of (side_of station) number link.setup past) none
+
+first_leaving : (link : OpenLink) → link.past ≡ [] → stays ≡ (facts_in link).leaving
+unfolding facts_of
+first_leaving link none = ap (λ past. (facts_of link.setup past).leaving) (sym none)
+
+module _ (given : Given) (station : ℕ) (history : List Event) (phases : ℕ) (in_it : is_in station given.stations ≡ true)
+    (phased : PhasedBy given history station (at_stage (Within phases) (turns_begun history)))
+    (lined : AreLined given history) (lined_after : AreLined given (after_call given station (step_of (packet_received station history)) history))
+    (seen : AreSeenSo given (after_call given station (step_of (packet_received station history)) history)
+    (λ one. packet_received one (after_call given station (step_of (packet_received station history)) history)))
+    (held : withholds_at (side_of station) history ≡ withholds_requests (view_masks (facts_at given station history).view))
+    (slot_is : turn_at history ≡ (facts_at given station history).turn.slot) (controls : AreControlledSo given history (λ one. packet_received one history))
+    (unsent : ℕ → Bool) (sent : unsent station ≡ false) (are : AreLeftSo given history unsent (λ one. packet_received one history)) where
+  abbrev received : Option (List ℕ)
+  received = packet_received station history
+
+  abbrev next : List Event
+  next = after_call given station (step_of received) history
+
+  abbrev facts : Facts
+  facts = facts_at given station history
+
+  abbrev side : Side
+  side = side_of station
+
+  abbrev withheld : Bool
+  withheld = withholds_requests (view_masks facts.view)
+
+  abbrev IsNow : ℕ → OpenLink → Type 0
+  IsNow handle link = IsLeftAt true (packet_received station next) handle (facts_at given station next).turn link (number_at station handle next) side next
+
+  none_next : packet_received station next ≡ None
+  none_next = received_by given station station (step_of received) history true (same_station station)
+
+  fresh : (handle : ℕ) (link : OpenLink) → link_at handle (facts_at given station next).links ≡ Some link → link.past ≡ [] → IsNow handle link
+  fresh handle link at none =
+      let number = number_at station handle next in
+      let turn = (facts_at given station next).turn in
+      let said = seen_whole (packet_received station next) handle turn link number side next (λ on. none_next) (seen station handle link in_it at)
+      ∙ first_said number station link none in record {
+        leaving = stays;
+        on = opened_stays side number link.setup.link.handle link.setup.link.role (journal_of next) said;
+        is = sent_stays (sends_under handle turn.doing) ∙ first_leaving link none
+            ∙ sym (takes_none (listens_under handle turn.doing) (packet_received station next) turn.slot link (λ on. none_next));
+      }
+
+  -- where the end sends, in what the controller holds after the call
+  doing_is : (handle : ℕ) → sends_under handle (facts_at given station next).turn.doing ≡ sends_under handle (facts_after (setup_at given station) facts (step_of received)).turn.doing
+  doing_is handle = ap (λ (f : Facts). sends_under handle f.turn.doing) (own_facts given station (step_of received) history)
+
+  none_sent : (handle : ℕ) → (unsent station && sends_under handle facts.turn.doing) ≡ false
+  none_sent handle = ap (λ b. b && sends_under handle facts.turn.doing) sent
+
+  passed : (handle : ℕ) (link : OpenLink) → link_at handle (facts_at given station next).links ≡ Some link → number_at station handle next ≡ number_at station handle history
+      → HasPassed facts (has_room (setup_at given station) facts) received handle (facts_after (setup_at given station) facts (step_of received)).turn.doing link → IsNow handle link
+  passed handle link at number (IsNew end made opened off) = fresh handle link at (ap (λ (l : OpenLink). l.past) made)
+  passed handle link at number (Stays was none nothing listened) =
+      let own = number_at station handle history in
+      let c = (facts_in link).control in
+      leaves_own given station (step_of received) history in_it lined lined_after handle link at (packet_received station next) none_next number link was false c (facts_in link).leaving
+      (same_leaves side own (withholds_at side history) (turn_at history) link c) (doing_is handle ∙ none)
+      (control_whole received handle facts.turn link own side history nothing (controls station handle link in_it was))
+      (whole (unsent station) received handle facts.turn link own side history (none_sent handle) nothing (are station handle link in_it was))
+  passed handle link at number (Takes base octets was some on same) =
+      let own = number_at station handle history in
+      let setup = setup_at given station in
+      let room = has_room setup facts in
+      let sends = sends_under handle (facts_after setup facts (step_of received)).turn.doing in
+      let slot = facts.turn.slot in
+      let may = good_pdu base.setup (facts_in base) octets in
+      let c = control_hearing base.setup.link.role slot may (facts_in base) in
+      let l = leaving_hearing base.setup.link.role slot may (facts_in base) in
+      let left = are station handle base in_it was in
+      let leaves = taken_leaves side own withheld facts handle room octets base sends link same in
+      leaves_own given station (step_of received) history in_it lined lined_after handle link at (packet_received station next) none_next number base was sends c l
+      (subst (λ w. LeavesTo side own w (turn_at history) base link sends c l) (sym held) (subst (λ n. LeavesTo side own withheld n base link sends c l) (sym slot_is) leaves))
+      (doing_is handle)
+      (controls station handle base in_it was ∙ (λ i. Some (control_taking (on i) (some i) slot base)))
+      (left.on ∙ ap Some (ap (λ b. leaving_sent_if b left.leaving) (sym (none_sent handle)) ∙ left.is ∙ (λ i. left_taking (on i) (some i) slot base)))
+
+  pub passes_own : (handle : ℕ) (link : OpenLink) → link_at handle (facts_at given station next).links ≡ Some link → IsNow handle link
+  passes_own handle link at = by (phase_quiet (setup_at given station) facts received handle)
+    where
+      by : All (OpensNone handle) (notes_after (setup_at given station) (facts_at given station history) (step_of (packet_received station history)))
+          ⊎ ((one : OpenLink) → link_at handle (facts_after (setup_at given station) (facts_at given station history) (step_of (packet_received station history))).links ≡ Some one
+          → IsOpenedNow (facts_at given station history).turn.slot one) → IsNow handle link
+      by (inl quiet) =
+          passed handle link at (number_called given station (step_of received) history handle quiet)
+          (passes_under (setup_at given station) facts received handle link phased.uses.in_turn.listens (held_at given station (step_of received) history in_it lined lined_after handle link at))
+      by (inr new) = fresh handle link at (new link (held_at given station (step_of received) history in_it lined lined_after handle link at)).past

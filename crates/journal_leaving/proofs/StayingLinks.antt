@@ -1,0 +1,48 @@
+-- Between two turns no open end is to leave its link.
+use Rattle.std.proofs.Common.{◌≡◌, ℕ, Option, Some, None, refl, sym, ap, ◌∙◌, replicate}
+use Rattle.std.specs.Option.{option_map}
+use Rattle.ble_base.specs.declared.error_codes.ErrCode.{ErrCode}
+use Rattle.controller_model.specs.Data.{facts_handed}
+use Rattle.controller_model.specs.Facts.{Setup, Facts, first_facts}
+use Rattle.controller_model.proofs.Always.{leaving_is}
+use Rattle.journal_controls.specs.journal_acks.link_calls.Hosts.{HasHeardHost, GetsData, Unchanged}
+use Rattle.journal_controls.specs.link_model.Facts.{Facts as EndFacts}
+use Rattle.journal_controls.specs.link_model.Step.{DataGiven}
+use Rattle.journal_controls.specs.link_model.Times.{ending_of}
+use Rattle.journal_controls.specs.open_links.Data.{links_reported}
+use Rattle.journal_controls.specs.open_links.OpenLinks.{Links, OpenLink, link_at}
+use Rattle.journal_controls.specs.open_links.Turns.{ending_in, links_without}
+use Rattle.journal_controls.proofs.journal_acks.link_calls.UnderHandles.{host_under, staying_under}
+use Rattle.journal_controls.proofs.journal_ends.run_laws.Agreed.{step_facts}
+use Rattle.journal_controls.proofs.journal_ends.run_laws.OpenSteps.{none_open, open_has}
+use Rattle.journal_controls.proofs.journal_ends.run_laws.TurnPlaces.{Between, IsTurned, Stage, Within}
+
+abbrev pub AreStaying : Stage → ℕ → Facts → Type 0
+AreStaying Between begun facts = (handle : ℕ) (link : OpenLink) → link_at handle facts.links ≡ Some link → ending_in link ≡ None
+AreStaying (Within phases) begun facts = Unit {0}
+
+given_stays : (links : Links) (handle : ℕ) (after : OpenLink) → HasHeardHost links handle after
+    → ((link : OpenLink) → link_at handle links ≡ Some link → ending_in link ≡ None) → ending_in after ≡ None
+given_stays links handle after (Unchanged same) stays = stays after same
+given_stays links handle after (GetsData link start body was is) stays =
+    ap ending_in is ∙ ap (λ (f : EndFacts). option_map (λ (code : ErrCode). code.0) (ending_of f)) (step_facts link (DataGiven start body)) ∙ stays link was
+
+pub staying_kept : (setup : Setup) → IsTurned setup AreStaying
+staying_kept setup = record {
+  feeds = λ begun octet facts are. λ handle link at. given_stays facts.links handle link (host_under setup facts octet handle link at) (are handle);
+  begins = λ begun on facts are. tt;
+  passes = λ phases begun received facts are. tt;
+  ends = λ begun facts are. λ handle link at.
+      let now : link_at handle (links_without ending_in (links_reported facts.links)) ≡ Some link =
+      ap (λ (left : Facts). link_at handle left.links) (sym (leaving_is (facts_handed facts))) ∙ at in
+      (staying_under ending_in handle (links_reported facts.links) link now).stays;
+}
+
+pub staying_first : (setup : Setup) → AreStaying Between 0 (first_facts setup)
+staying_first setup = λ handle link at.
+    absurd (open_has (λ one. ⊥) 0 handle (replicate setup.links None) link (none_open (λ one. ⊥) setup.links) at)
+
+-- nor has it a code with which it is to end
+pub none_ends : (code : Option ErrCode) → option_map (λ (one : ErrCode). one.0) code ≡ None → code ≡ None
+none_ends None none = refl
+none_ends (Some code) none = absurd cc

@@ -1,0 +1,6 @@
+-- Proof of `ends::a_packet_moves_how_an_end_leaves_by_its_lines`.
+use Rattle.journal_leaving.proofs.EndLeaving.{packet_leaves}
+use Rattle.journal_leaving.proofs.ends.a_packet_moves_how_an_end_leaves_by_its_lines.Goals as goal
+
+pub returns : goal.returns
+returns c = λ side number slot withheld room setup facts octets. packet_leaves side number withheld slot room setup facts octets

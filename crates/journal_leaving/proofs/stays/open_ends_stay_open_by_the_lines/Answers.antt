@@ -1,0 +1,24 @@
+-- Proof of `stays::open_ends_stay_open_by_the_lines`.
+use Rattle.journal_controls.proofs.run_model.Stations.{contains_in}
+use Rattle.journal_leaving.proofs.InTime.{none_overdue_at_end, none_overdue_before_turn}
+use Rattle.journal_leaving.proofs.RunLeavings.{none_leaves_at_end, none_leaves_before_turn}
+use Rattle.journal_leaving.proofs.stays.open_ends_stay_open_by_the_lines.Goals as goal
+
+pub returns : goal.returns
+returns c =
+    let whole = c.packet_tells_its_pdu.ensures.heard in
+    let understood = c.a_pdu_is_understood.ensures.says in
+    let taken = c.connections_are_taken.ensures.taken in
+    let nth = c.searches_give_each_valid_address.ensures.valid in
+    let apart = c.searches_give_each_valid_address.ensures.distinct in record {
+      before_a_turn = λ given before rest slot radios station handle link are six contains at is_open.
+          let in_it = contains_in given.stations station contains in record {
+            not_overdue = none_overdue_before_turn whole understood taken nth apart given are six before rest slot radios at station in_it handle link is_open;
+            not_leaving = none_leaves_before_turn whole understood taken nth apart given are six before rest slot radios at station in_it handle link is_open;
+          };
+      at_the_end = λ given history station handle link are six contains goes is_open.
+          let in_it = contains_in given.stations station contains in record {
+            not_overdue = none_overdue_at_end whole understood taken nth apart given are six history goes station in_it handle link is_open;
+            not_leaving = none_leaves_at_end whole understood taken nth apart given are six history goes station in_it handle link is_open;
+          };
+    }

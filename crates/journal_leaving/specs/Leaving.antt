@@ -1,0 +1,91 @@
+-- How the end of a link is to leave it, from the lines of a journal alone (Core 5.2, volume 6 part B, section 5.1.6):
+-- whether its host ended it, whether LL_TERMINATE_IND of this end is acknowledged, the code of the peer's, and whether a
+-- packet was sent since that was taken.
+use Rattle.std.specs.Prelude.{ℕ, ◌==◌, ◌&&◌, Bool, true, false, List, [], ◌∷◌, ◌++◌, fold, Option, Some, None, if◌then◌else◌}
+use Rattle.std.specs.Option.{option_map}
+use Rattle.ble_base.specs.declared.roles.Side.{Side}
+use Rattle.journal.specs.declared.entries.Entry.{Entry}
+use Rattle.journal.specs.declared.entries.Entry.TheVariants.{Air, Opened, Shut, Took}
+use Rattle.journal_controls.specs.LineSteps.{control_on, is_more_acked, turn_now}
+use Rattle.journal_controls.specs.journal_acks.Carried.{carried_of}
+use Rattle.journal_controls.specs.journal_acks.Exchange.{exchange_of}
+use Rattle.journal_controls.specs.journal_acks.Shut.{is_of_link}
+use Rattle.journal_controls.specs.journal_ends.Seen.{Hears, Says, Seen, seen_in_line}
+use Rattle.journal_controls.specs.journal_packets.Belonging.{is_side}
+use Rattle.journal_controls.specs.link_model.Acknowledgement.{Pdu}
+use Rattle.journal_controls.specs.link_model.Controls.{is_procedure_pdu, is_terminate, read_of}
+use Rattle.journal_controls.specs.link_model.Facts.{stays}
+use Rattle.journal_controls.specs.link_model.Receiving.{code_of, leaving_acked_if, leaving_by}
+use Rattle.journal_controls.specs.link_model.Sending.{leaving_sent}
+use Rattle.journal_controls.specs.link_model.control_end.Answers.{taken_of}
+use Rattle.journal_controls.specs.link_model.control_end.Held.{held_of}
+use Rattle.journal_controls.specs.link_model.control_model.Control.{Control}
+use Rattle.journal_controls.specs.link_model.declared.state.Leaving.{Leaving}
+
+-- ---- it sends a packet
+
+-- the packet in a line that comes after these is one of this side on the link with this number
+abbrev pub is_own_packet : Side → ℕ → List Entry → Entry → Bool
+is_own_packet side number front (Air sender channel octets fate verdict) =
+    is_of_link number front sender channel octets && is_side sender side
+is_own_packet side number front line = false
+
+abbrev pub leaving_sent_if : Bool → Leaving → Leaving
+leaving_sent_if sends leaving = if sends then leaving_sent leaving else leaving
+
+-- ---- it says a line
+
+-- a control PDU that is taken, with the control part as it is then: LL_TERMINATE_IND of the peer ends the link
+abbrev pub leaving_taking : ℕ → Pdu → Option Control → Leaving → Leaving
+leaving_taking slot pdu None leaving = leaving
+leaving_taking slot pdu (Some control) leaving =
+    if is_procedure_pdu pdu
+    then leaving_by (code_of (taken_of (read_of pdu) slot true (held_of control)).effect) leaving
+    else leaving
+
+-- no line says yet that the host ended the link: the controller refuses HCI_Disconnect (our choice)
+abbrev pub leaving_saying : ℕ → Option Control → Leaving → Entry → Leaving
+leaving_saying slot control leaving (Took side link count llid body) =
+    leaving_taking slot (record { llid = llid; body = body }) control leaving
+leaving_saying slot control leaving line = leaving
+
+-- ---- it hears a good packet of the other end
+
+-- that packet acknowledges the last PDU, and this is LL_TERMINATE_IND
+abbrev pub acks_terminate : Bool → Pdu → Bool
+acks_terminate acks last = acks && is_terminate last
+
+-- ---- all that it says and hears in a line that comes after these
+
+abbrev pub leaving_seen : Side → ℕ → List Entry → Entry → Leaving → Seen → Leaving
+leaving_seen side number front line leaving (Says own) =
+    leaving_saying (turn_now front) (control_on side number front) leaving own
+leaving_seen side number front line leaving (Hears slot octets) =
+    leaving_acked_if
+    (acks_terminate (is_more_acked (exchange_of number front side) (exchange_of number (front ++ line ∷ []) side))
+    (carried_of number front side))
+    leaving
+
+-- ---- line by line
+
+-- a packet is of one sender: what the end sends in a line, and what it hears in it, are not both something
+abbrev pub leaving_moved : Side → ℕ → List Entry → Entry → Leaving → Leaving
+leaving_moved side number front line leaving =
+    fold (leaving_seen side number front line) (leaving_sent_if (is_own_packet side number front line) leaving)
+    (seen_in_line side number front line)
+
+abbrev pub leaving_after : Side → ℕ → List Entry → Option Leaving → Entry → Option Leaving
+leaving_after side number front before (Opened other link handle role) =
+    if is_side other side && link == number then Some stays else before
+leaving_after side number front before (Shut other link reason) =
+    if is_side other side && link == number then None else before
+leaving_after side number front before line = option_map (leaving_moved side number front line) before
+
+abbrev pub leaving_from : Side → ℕ → List Entry → Option Leaving → List Entry → Option Leaving
+leaving_from side number front before [] = before
+leaving_from side number front before (line ∷ lines) =
+    leaving_from side number (front ++ line ∷ []) (leaving_after side number front before line) lines
+
+-- how the end of a side on the link with this number is to leave it, while the link is open at that side
+unfoldable pub leaving_on : Side → ℕ → List Entry → Option Leaving
+leaving_on side number journal = leaving_from side number [] None journal

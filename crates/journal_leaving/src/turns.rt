@@ -1,0 +1,40 @@
+//! Laws of how one end leaves its link, in a turn. The bodies are empty: the contracts are the laws.
+ghost use Rattle.std.specs.Prelude.{◌≡◌, ℕ, Bool, List, fold};
+ghost use Rattle.ble_base.specs.declared.roles.Side.{Side};
+ghost use Rattle.journal_controls.specs.TurnSteps.{steps_begun, steps_taken};
+ghost use Rattle.journal_controls.specs.link_model.End.{facts_after, notes_from};
+ghost use Rattle.journal_controls.specs.link_model.Facts.{Facts};
+ghost use Rattle.journal_controls.specs.link_model.Packets.{good_pdu};
+ghost use Rattle.journal_controls.specs.link_model.Setup.{Setup};
+ghost use Rattle.journal_controls.specs.link_model.control_model.Control.{Control};
+ghost use Rattle.journal_controls.specs.Hearing.{control_hearing};
+ghost use Rattle.journal_leaving.specs.Hearing.{leaving_hearing};
+ghost use Rattle.journal_leaving.specs.Leaving.{leaving_sent_if};
+ghost use Rattle.journal_leaving.specs.Said.{leaving_noted};
+
+/// As a turn begins, an end may enter an event, fix its next PDU, and send: it moves by the lines
+/// that it says in these, with any control part, and then by its packet, if it sends one (Core 5.2,
+/// volume 6 part B, section 4.5.1).
+pub fn a_turn_that_begins_moves_how_an_end_leaves_by_its_lines()
+    ensures { (side : Side) (number slot : ℕ) (setup : Setup) (facts : Facts)
+        (withheld enters fixes sends : Bool) (control : Control)
+        → let steps = steps_begun enters fixes sends slot in
+        (fold (facts_after setup) facts steps).leaving
+        ≡ leaving_sent_if sends
+        (leaving_noted side number withheld slot (notes_from setup facts steps) control facts.leaving) }
+{}
+
+/// As a packet reaches an end, and it may answer it, it moves by the lines that it says, from what
+/// it was as the packet reached it, and then by its own packet, if it answers (Core 5.2, volume 6
+/// part B, sections 4.5.9 and 5.1.6).
+pub fn a_packet_that_is_taken_moves_how_an_end_leaves_by_its_lines()
+    ensures { (side : Side) (number slot : ℕ) (octets : List ℕ) (withheld room answers : Bool)
+        (setup : Setup) (facts : Facts)
+        → let steps = steps_taken slot octets room answers in
+        let heard = good_pdu setup facts octets in
+        (fold (facts_after setup) facts steps).leaving
+        ≡ leaving_sent_if answers
+        (leaving_noted side number withheld slot (notes_from setup facts steps)
+        (control_hearing setup.link.role slot heard facts)
+        (leaving_hearing setup.link.role slot heard facts)) }
+{}
