@@ -1,0 +1,171 @@
+-- What an event or a call does to the control part as the next PDU is fixed, and as it goes.
+use Rattle.std.proofs.Common.{◌≡◌, ℕ, ◌&&◌, ◌||◌, Bool, true, false, Some, List, [], ◌∷◌, ◌++◌, refl, sym, ap, subst, ◌∙◌, append-nil}
+use Rattle.std.specs.Option.{option_map}
+use Rattle.std.proofs.lemmas.List.{append_cancel_left}
+use Rattle.std.proofs.lemmas.Bool.{or_right}
+use Rattle.ble_base.specs.declared.roles.Side.{Side}
+use Rattle.controller_model.specs.Step.{Step as Call}
+use Rattle.journal.specs.declared.entries.Entry.{Entry}
+use Rattle.journal.specs.declared.entries.Entry.TheVariants.{Air, Fed, Turn}
+use Rattle.journal_controls.specs.LineSteps.{control_on, is_more_acked, turn_now, withholds}
+use Rattle.journal_controls.specs.SaidLines.{NoneOpens, moved_by}
+use Rattle.journal_controls.specs.journal_acks.Carried.{carried_of}
+use Rattle.journal_controls.specs.journal_acks.Exchange.{exchange_of}
+use Rattle.journal_controls.specs.journal_ends.Seen.{Hears, heard_in_line}
+use Rattle.journal_controls.specs.journal_links.LinkLines.{lines_of}
+use Rattle.journal_controls.specs.link_model.Data.{is_control}
+use Rattle.journal_controls.specs.link_model.Receiving.{control_acked_if}
+use Rattle.journal_controls.specs.link_model.control_model.Control.{Control}
+use Rattle.journal_controls.specs.run_model.History.{Event, Hearing, HostFed, Transmitted, TurnBegan}
+use Rattle.journal_controls.specs.run_model.Journal.{journal_of, mark_of, radio_in, side_of}
+use Rattle.journal_controls.specs.run_model.Run.{Given, after_call}
+use Rattle.journal_controls.proofs.journal_links.LinkLines.{lines_append}
+use Rattle.journal_controls.proofs.run_model.Parts.{call_adds, journal_event}
+use Rattle.journal_fixing.specs.OnLines.{acks_control_at, before_sending, control_fixing, control_going, has_heard, is_fixed, is_some_seen}
+use Rattle.journal_fixing.proofs.ControlKept.{fixed_is, fixing_begins, fixing_quiet, fixing_stays, going_answers, going_begins, going_now, going_quiet, heard_is, unfixed_begins, unheard_begins}
+use Rattle.journal_fixing.proofs.NotedLines.{notes_fix, notes_fixed, notes_fixing, notes_going, notes_heard, notes_still, notes_unheard}
+
+module _ (side : Side) (number : ℕ) (history : List Event) where
+  abbrev before : List Entry
+  before = journal_of history
+
+  -- ---- a turn begins
+
+  module _ (slot : ℕ) (radios : List Bool) where
+    abbrev begun : List Event
+    begun = history ++ TurnBegan slot radios ∷ []
+
+    journal_begun : journal_of begun ≡ before ++ Turn slot (radio_in 0 radios) (Some (radio_in 1 radios)) ∷ []
+    journal_begun = journal_event history (TurnBegan slot radios)
+
+    pub turn_fixing : control_fixing side number (journal_of begun) ≡ control_on side number before
+    turn_fixing = ap (control_fixing side number) journal_begun ∙ fixing_begins side number before slot (radio_in 0 radios) (Some (radio_in 1 radios))
+
+    pub turn_going : control_going side number (journal_of begun) ≡ control_on side number before
+    turn_going = ap (control_going side number) journal_begun ∙ going_begins side number before slot (radio_in 0 radios) (Some (radio_in 1 radios))
+
+    pub turn_unfixed : is_fixed side number (journal_of begun) ≡ false
+    turn_unfixed = ap (is_fixed side number) journal_begun ∙ unfixed_begins side number before slot (radio_in 0 radios) (Some (radio_in 1 radios))
+
+    pub turn_unheard : has_heard side number (journal_of begun) ≡ false
+    turn_unheard = ap (has_heard side number) journal_begun ∙ unheard_begins side number before slot (radio_in 0 radios) (Some (radio_in 1 radios))
+
+  -- ---- a host sends
+
+  module _ (station : ℕ) (octets : List ℕ) where
+    abbrev fed : List Event
+    fed = history ++ HostFed station octets ∷ []
+
+    pub feed_fixing : control_fixing side number (journal_of fed) ≡ control_fixing side number before
+    feed_fixing =
+        ap (control_fixing side number) (journal_event history (HostFed station octets))
+        ∙ fixing_quiet side number before (Fed (side_of station) octets) refl refl
+
+    pub feed_going : control_going side number (journal_of fed) ≡ control_going side number before
+    feed_going =
+        ap (control_going side number) (journal_event history (HostFed station octets))
+        ∙ going_quiet side number before (Fed (side_of station) octets) refl refl refl
+
+    pub feed_unheard : has_heard side number before ≡ false → has_heard side number (journal_of fed) ≡ false
+    feed_unheard none =
+        ap (has_heard side number) (journal_event history (HostFed station octets))
+        ∙ heard_is side number before (Fed (side_of station) octets) refl ∙ ap (λ b. b || false) none
+
+  -- ---- a packet is on the air
+
+  module _ (station channel : ℕ) (octets : List ℕ) (hearing : Hearing) where
+    abbrev line : Entry
+    line = Air (side_of station) channel octets (mark_of hearing.fate) hearing.verdict
+
+    abbrev aired : List Event
+    aired = history ++ Transmitted station channel octets (hearing ∷ []) ∷ []
+
+    journal_aired : journal_of aired ≡ before ++ line ∷ []
+    journal_aired = journal_event history (Transmitted station channel octets (hearing ∷ []))
+
+    pub packet_fixed : is_fixed side number (journal_of aired) ≡ true
+    packet_fixed =
+        ap (is_fixed side number) journal_aired ∙ fixed_is side number before line refl ∙ or_right (is_fixed side number before) true refl
+
+    pub packet_fixing : control_fixing side number (journal_of aired) ≡ control_fixing side number before
+    packet_fixing = ap (control_fixing side number) journal_aired ∙ fixing_stays side number before line refl (or_right (is_fixed side number before) true refl)
+
+    pub packet_unheard : heard_in_line side number before line ≡ [] → control_going side number (journal_of aired) ≡ control_going side number before
+    packet_unheard none =
+        ap (control_going side number) journal_aired
+        ∙ going_quiet side number before line refl (ap is_some_seen none) (ap (λ xs. xs ++ []) none)
+
+    pub packet_heard : (slot : ℕ) (heard : List ℕ) (control : Control) → has_heard side number before ≡ false
+        → heard_in_line side number before line ≡ Hears slot heard ∷ [] → control_on side number before ≡ Some control
+        → let after = journal_of aired in control_going side number after
+        ≡ Some (control_acked_if (is_more_acked (exchange_of number before side) (exchange_of number after side) && is_control (carried_of number before side)) control)
+    packet_heard slot heard control none is was =
+        ap (control_going side number) journal_aired
+        ∙ going_answers side number before line refl none (ap is_some_seen is)
+        ∙ ap (option_map (control_acked_if (acks_control_at side number before line))) was
+        ∙ ap (λ xs. Some (control_acked_if (is_more_acked (exchange_of number before side) (exchange_of number xs side) && is_control (carried_of number before side)) control))
+        (sym journal_aired)
+
+    pub packet_hears : (slot : ℕ) (heard : List ℕ) → heard_in_line side number before line ≡ Hears slot heard ∷ [] → has_heard side number (journal_of aired) ≡ true
+    packet_hears slot heard is =
+        ap (has_heard side number) journal_aired ∙ heard_is side number before line refl
+        ∙ ap (λ seen. has_heard side number before || is_some_seen seen) is ∙ or_right (has_heard side number before) true refl
+
+    pub packet_deaf : heard_in_line side number before line ≡ [] → has_heard side number before ≡ false → has_heard side number (journal_of aired) ≡ false
+    packet_deaf none unheard =
+        ap (has_heard side number) journal_aired ∙ heard_is side number before line refl ∙ (λ i. unheard i || is_some_seen (none i))
+
+  -- ---- a call
+
+  module _ (given : Given) (station : ℕ) (call : Call) where
+    abbrev called : List Event
+    called = after_call given station call history
+
+    pub call_fixing : is_fixed side number before ≡ true → control_fixing side number (journal_of called) ≡ control_fixing side number before
+    call_fixing is =
+        let adds = call_adds given station call history in
+        ap (control_fixing side number) adds.journal_is ∙ notes_fixing (side_of station) side number before adds.entries adds.are_notes is
+
+    pub call_fixed : is_fixed side number before ≡ true → is_fixed side number (journal_of called) ≡ true
+    call_fixed is =
+        let adds = call_adds given station call history in
+        ap (is_fixed side number) adds.journal_is ∙ notes_fixed (side_of station) side number before adds.entries adds.are_notes is
+
+    pub call_fixes : (more : List Entry) (control : Control) → lines_of side number (journal_of called) ≡ lines_of side number before ++ more → NoneOpens more
+        → is_fixed side number before ≡ false → control_on side number before ≡ Some control
+        → control_fixing side number (journal_of called) ≡ Some (moved_by (withholds side before) (turn_now before) (before_sending more) control)
+    call_fixes more control lines opens none was =
+        let adds = call_adds given station call history in
+        let same : lines_of side number adds.entries ≡ more =
+        append_cancel_left (lines_of side number before) (lines_of side number adds.entries) more
+        (sym (lines_append side number before adds.entries) ∙ ap (lines_of side number) (sym adds.journal_is) ∙ lines) in
+        ap (control_fixing side number) adds.journal_is
+        ∙ notes_fix (side_of station) side number before adds.entries control adds.are_notes (subst NoneOpens (sym same) opens) none was
+        ∙ ap (λ xs. Some (moved_by (withholds side before) (turn_now before) (before_sending xs) control)) same
+
+    -- a call in which the end says nothing
+    pub call_still : lines_of side number (journal_of called) ≡ lines_of side number before → control_fixing side number (journal_of called) ≡ control_fixing side number before
+    call_still same =
+        let adds = call_adds given station call history in
+        let none : lines_of side number adds.entries ≡ [] =
+        append_cancel_left (lines_of side number before) (lines_of side number adds.entries) []
+        (sym (lines_append side number before adds.entries) ∙ ap (lines_of side number) (sym adds.journal_is) ∙ same ∙ sym (append-nil (lines_of side number before))) in
+        ap (control_fixing side number) adds.journal_is ∙ notes_still (side_of station) side number before adds.entries adds.are_notes none
+
+    pub call_going : has_heard side number before ≡ true → control_going side number (journal_of called) ≡ control_going side number before
+    call_going is =
+        let adds = call_adds given station call history in
+        ap (control_going side number) adds.journal_is ∙ notes_going (side_of station) side number before adds.entries adds.are_notes is
+
+    pub call_heard : has_heard side number before ≡ true → has_heard side number (journal_of called) ≡ true
+    call_heard is =
+        let adds = call_adds given station call history in
+        ap (has_heard side number) adds.journal_is ∙ notes_heard (side_of station) side number before adds.entries adds.are_notes is
+
+    pub call_unheard : has_heard side number before ≡ false → has_heard side number (journal_of called) ≡ false
+    call_unheard none =
+        let adds = call_adds given station call history in
+        ap (has_heard side number) adds.journal_is ∙ notes_unheard (side_of station) side number before adds.entries adds.are_notes none
+
+    pub call_goes : has_heard side number before ≡ false → control_going side number (journal_of called) ≡ control_on side number (journal_of called)
+    call_goes none = going_now side number (journal_of called) (call_unheard none)

@@ -1,0 +1,136 @@
+-- A packet on the air keeps the control part with which the answer of the end goes that hears it, as it has acknowledged
+-- the last control PDU of that end.
+use Rattle.std.proofs.Common.{◌≡◌, ℕ, ◌&&◌, Bool, true, false, Option, Some, None, List, [], ◌∷◌, ◌++◌, length, refl, sym, ap, subst, ◌∙◌, if◌then◌else◌}
+use Rattle.std.proofs.lemmas.List.{append_cancel_left}
+use Rattle.air_frame.specs.declared.Heard.{Heard}
+use Rattle.air_frame.specs.declared.Heard.TheVariants.{NotOurs, Broken as Faulty, Whole}
+use Rattle.ble_base.specs.declared.roles.Role.TheVariants.{Peripheral}
+use Rattle.ble_base.specs.declared.roles.Side.{Side}
+use Rattle.ble_base.specs.declared.verdicts.Verdict.TheVariants.{Broken, Good}
+use Rattle.controller_model.specs.declared.doing.Turn.{Turn}
+use Rattle.data_pdu.specs.Header.{header_in}
+use Rattle.journal_controls.specs.LineSteps.{has_next}
+use Rattle.journal_controls.specs.journal_acks.Carried.{pdu_carried}
+use Rattle.journal_controls.specs.journal_acks.Counted.{IsCounted}
+use Rattle.journal_controls.specs.journal_acks.Exchange.{Exchanged}
+use Rattle.journal_controls.specs.journal_acks.link_calls.Uses.{listens_under}
+use Rattle.journal_controls.specs.journal_ends.Seen.{heard_in_line, heard_where}
+use Rattle.journal_controls.specs.journal_ends.open_links.OpenLinks.{OpenLink, facts_in}
+use Rattle.journal_controls.specs.link_model.Facts.{Facts as EndFacts}
+use Rattle.journal_controls.specs.link_model.Packets.{good_pdu, heard_of, verdict_of}
+use Rattle.journal_controls.specs.link_model.Receiving.{control_acked_if}
+use Rattle.journal_controls.specs.link_model.Setup.{Setup}
+use Rattle.journal_controls.specs.link_model.Step.{PacketReceived}
+use Rattle.journal_controls.specs.link_model.Verdicts.{good_in, has_room_for, pdu_by, verdict_by}
+use Rattle.journal_controls.specs.run_model.History.{Event, Hearing, is_good}
+use Rattle.journal_controls.specs.run_model.Journal.{journal_of}
+use Rattle.journal_controls.proofs.Counted.{told_by}
+use Rattle.journal_controls.proofs.EventMoves.{air_line, aired, control_at, turn_at}
+use Rattle.journal_controls.proofs.journal_acks.Counting.{IsEndCounted, ack_taking, ahead_if, plain}
+use Rattle.journal_controls.proofs.journal_acks.Exchanging.{exchange_at}
+use Rattle.journal_controls.proofs.journal_acks.KeptLines.{IsLined}
+use Rattle.journal_controls.proofs.journal_acks.SentLines.{sent_line_at}
+use Rattle.journal_controls.proofs.journal_acks.Standing.{listener_sends}
+use Rattle.journal_controls.proofs.journal_ends.SeenCalls.{seen_in_link, to_hear}
+use Rattle.journal_controls.proofs.journal_ends.SeenEvents.{is_heard_of, packet_seen, seen_at}
+use Rattle.journal_controls.proofs.journal_ends.run_laws.Agreed.{ack_of, step_facts}
+use Rattle.journal_fixing.specs.OnLines.{has_heard}
+use Rattle.journal_fixing.proofs.AnsweredPdus.{acks_told}
+use Rattle.journal_fixing.proofs.FixingEvents.{packet_deaf, packet_heard, packet_hears}
+use Rattle.journal_fixing.proofs.GoingLinks.{IsGoing, awaits_under, control_acking, listens_awaits}
+
+-- ---- a packet with a PDU is good
+
+good_fits : (room : Bool) (octets pdu : List ℕ) → pdu_by room octets ≡ Some pdu → is_good (if room then Good else Broken) ≡ true
+good_fits true octets pdu is = refl
+good_fits false octets pdu is = absurd (let h : None ≡ Some pdu = is in absurd cc)
+
+good_verdict : (max : ℕ) (heard : Heard) (pdu : List ℕ) → good_in max heard ≡ Some pdu → is_good (verdict_by max heard) ≡ true
+good_verdict max NotOurs pdu is = absurd (let h : None ≡ Some pdu = is in absurd cc)
+good_verdict max Faulty pdu is = absurd (let h : None ≡ Some pdu = is in absurd cc)
+good_verdict max (Whole got) pdu is = good_fits (has_room_for max got.items) got.items pdu is
+
+good_packet : (setup : Setup) (facts : EndFacts) (octets pdu : List ℕ) → good_pdu setup facts octets ≡ Some pdu → is_good (verdict_of setup facts octets) ≡ true
+unfolding good_pdu verdict_of
+good_packet setup facts octets pdu is = good_verdict setup.link.max_rx (heard_of setup facts octets) pdu is
+
+-- ---- the counts of an end that is to take it
+
+taking_counts : (unsent : Bool) (received : Option (List ℕ)) (octets : List ℕ) (handle : ℕ) (turn : Turn) (link : OpenLink) (end : Exchanged)
+    → listens_under handle turn.doing ≡ true → received ≡ Some octets → IsEndCounted unsent received handle turn link end → IsCounted end (ack_taking true (Some octets) turn.slot link)
+taking_counts unsent received octets handle turn link end on some is =
+    subst (λ may. IsCounted end (ack_taking true may turn.slot link)) some
+    (subst (λ b. IsCounted end (ack_taking b received turn.slot link)) on
+    (subst (λ b. IsCounted (ahead_if b end) (ack_taking (listens_under handle turn.doing) received turn.slot link))
+    (ap (λ b. unsent && b) (listener_sends handle turn.doing on) ∙ none unsent) is))
+  where
+    none : (b : Bool) → (b && false) ≡ false
+    none true = refl
+    none false = refl
+
+-- ---- what is kept of an end
+
+abbrev pub IsUnheardAt : Option (List ℕ) → ℕ → Turn → ℕ → Side → List Event → Type 0
+IsUnheardAt received handle turn number side history =
+    awaits_under handle turn.doing ≡ true → (listens_under handle turn.doing ≡ true → received ≡ None) → has_heard side number (journal_of history) ≡ false
+
+abbrev pub IsGoingAt : Option (List ℕ) → ℕ → Turn → OpenLink → ℕ → Side → List Event → Type 0
+IsGoingAt received handle turn link number side history =
+    (octets pdu : List ℕ) → listens_under handle turn.doing ≡ true → received ≡ Some octets → good_pdu link.setup (facts_in link) octets ≡ Some pdu
+    → IsGoing number side history (control_acking (facts_in link) pdu)
+
+-- ---- one end
+
+module _ (number : ℕ) (side : Side) (history : List Event) (station channel : ℕ) (octets : List ℕ) (hearing : Hearing)
+    (received received_too : Option (List ℕ)) (handle : ℕ) (turn : Turn) (link : OpenLink) (unsent unsent_too : Bool)
+    (silent : listens_under handle turn.doing ≡ true → received ≡ None) (was : control_at number side history ≡ Some (facts_in link).control)
+    (seen : seen_at number side history ≡ seen_in_link number side link)
+    (seen_too : seen_at number side (aired number side history station channel octets hearing) ≡ seen_in_link number side link ++ to_hear (listens_under handle turn.doing) received_too turn.slot link)
+    (counted : IsEndCounted unsent received handle turn link (exchange_at number history side))
+    (counted_too : IsEndCounted unsent_too received_too handle turn link (exchange_at number (aired number side history station channel octets hearing) side))
+    (lined : IsLined (sent_line_at number history side) (ack_of link))
+    (fixes : listens_under handle turn.doing ≡ true → link.setup.link.role ≡ Peripheral → (facts_in link).fixes_control ≡ has_next (facts_in link).control)
+    (unheard : awaits_under handle turn.doing ≡ true → has_heard side number (journal_of history) ≡ false) where
+  abbrev after : List Event
+  after = aired number side history station channel octets hearing
+
+  abbrev listens : Bool
+  listens = listens_under handle turn.doing
+
+  -- the line is heard as the end hears the packet
+  heard_is : heard_in_line side number (journal_of history) (air_line station channel octets hearing) ≡ to_hear listens received_too turn.slot link
+  heard_is =
+      append_cancel_left (seen_in_link number side link) (heard_where (is_heard_of number side history station channel octets hearing) (turn_at history) octets)
+      (to_hear listens received_too turn.slot link)
+      (ap (λ xs. xs ++ heard_where (is_heard_of number side history station channel octets hearing) (turn_at history) octets) (sym seen)
+      ∙ sym (packet_seen number side station channel octets history (hearing ∷ []) hearing refl) ∙ seen_too)
+
+  pub packet_awaited : IsUnheardAt received_too handle turn number side after
+  packet_awaited awaits none =
+      packet_deaf side number history station channel octets hearing (heard_is ∙ deaf listens refl received_too refl none) (unheard awaits)
+    where
+      deaf : (on : Bool) → listens_under handle turn.doing ≡ on → (may : Option (List ℕ)) → received_too ≡ may → (listens_under handle turn.doing ≡ true → received_too ≡ None)
+          → to_hear on may turn.slot link ≡ []
+      deaf false off may is none = refl
+      deaf true on None is none = refl
+      deaf true on (Some got) is none = absurd (let h : Some got ≡ None = sym is ∙ none on in absurd cc)
+
+  pub packet_goes : IsGoingAt received_too handle turn link number side after
+  packet_goes got pdu on some good =
+      let setup = link.setup in
+      let facts = facts_in link in
+      let before = exchange_at number history side in
+      let then_on = exchange_at number after side in
+      let line = sent_line_at number history side in
+      let counts = plain unsent received handle turn link before (listener_sends handle turn.doing on) silent counted in
+      let counts_too = taking_counts unsent_too received_too got handle turn link then_on on some counted_too in
+      let now = step_facts link (PacketReceived turn.slot got false) in
+      let told = told_by setup link.past turn.slot got pdu false before then_on line good counts.acked
+      (counts_too.acked ∙ ap (λ (f : EndFacts). f.acknowledgement.acked) now) (counts_too.sent ∙ ap (λ (f : EndFacts). length f.acknowledgement.sent) now)
+      lined.last (fixes on) in
+      let hears = heard_is ∙ (λ i. to_hear (on i) (some i) turn.slot link) ∙ ap (λ b. heard_where b turn.slot got) (good_packet setup facts got pdu good) in record {
+        heard = packet_hears side number history station channel octets hearing turn.slot got hears;
+        going = packet_heard side number history station channel octets hearing turn.slot got facts.control (unheard (listens_awaits handle turn.doing on)) hears was
+            ∙ ap (λ b. Some (control_acked_if b facts.control))
+            (acks_told setup.link.role facts (header_in pdu) before then_on (pdu_carried line before.acked) told);
+      }

@@ -1,0 +1,209 @@
+-- The control part as the next PDU is fixed, and as it goes, by a journal with the lines of notes more.
+use Rattle.std.proofs.Common.{◌≡◌, ℕ, ◌-◌, ◌==◌, ◌&&◌, ◌||◌, Bool, true, false, Option, Some, None, List, [], ◌∷◌, ◌++◌, length, map, refl, sym, ap, ◌∙◌, append-nil, append_assoc, if◌then◌else◌}
+use Rattle.std.proofs.lemmas.Grind.{flat_map-append}
+use Rattle.ble_base.specs.declared.roles.Side.{Side}
+use Rattle.ble_base.specs.declared.roles.Side.TheVariants.{A, B}
+use Rattle.host_masks.specs.Masks.{masks_of, withholds_requests}
+use Rattle.journal.specs.declared.entries.Entry.{Entry}
+use Rattle.journal.specs.declared.entries.Entry.TheVariants.{Air, Fed, Sent, Turn}
+use Rattle.journal_controls.specs.LineSteps.{control_after, control_on, turn_now, withholds}
+use Rattle.journal_controls.specs.SaidLines.{NoneOpens, moved_by}
+use Rattle.journal_controls.specs.journal_ends.Seen.{Says, heard_in_line}
+use Rattle.journal_controls.specs.journal_links.LinkLines.{lines_of, link_named, where_named}
+use Rattle.journal_controls.specs.journal_packets.Belonging.{is_side}
+use Rattle.journal_controls.specs.link_model.control_model.Control.{Control}
+use Rattle.journal_controls.specs.run_model.Order.{AreNotes, side_of_note}
+use Rattle.journal_controls.specs.run_model.Readers.{PairOpening, fed_in, fed_to_side, of_side, pair_openings_in, turns_of}
+use Rattle.journal_controls.proofs.LineFolds.{control_more, line_moves, moved_both}
+use Rattle.journal_fixing.specs.OnLines.{before_sending, begins_turn, control_fixing, control_going, has_heard, is_fixed, is_fixed_from, is_heard_at, is_sending, is_some_seen}
+use Rattle.journal_fixing.proofs.ControlKept.{fixed_is, fixing_now, fixing_quiet, fixing_stays, going_stays, heard_is}
+
+-- ---- the line of a note
+
+note_goes : (line : Entry) (side : Side) → side_of_note line ≡ Some side → begins_turn line ≡ false
+note_goes (Turn slot a_on b_on) side is = absurd cc
+note_goes line side is = refl
+
+note_deaf : (line : Entry) (own side : Side) (number : ℕ) (front : List Entry) → side_of_note line ≡ Some own → heard_in_line side number front line ≡ []
+note_deaf (Air sender channel octets fate verdict) own side number front is = absurd cc
+note_deaf line own side number front is = refl
+
+none_begins : (line : Entry) → begins_turn line ≡ false → pair_openings_in line ≡ []
+none_begins (Turn slot a_on b_on) is = absurd cc
+none_begins line is = refl
+
+turn_stays : (front : List Entry) (line : Entry) → begins_turn line ≡ false → turn_now (front ++ line ∷ []) ≡ turn_now front
+turn_stays front line goes =
+    ap (λ (turns : List PairOpening). length turns - 1)
+    (flat_map-append pair_openings_in front (line ∷ []) ∙ (λ i. turns_of front ++ (none_begins line goes i ++ [])) ∙ append-nil (turns_of front))
+
+none_fed : (line : Entry) (own side : Side) → side_of_note line ≡ Some own → fed_in side line ≡ []
+none_fed (Fed other octets) own side is = absurd cc
+none_fed line own side is = refl
+
+withholds_stay : (own side : Side) (front : List Entry) (line : Entry) → side_of_note line ≡ Some own → withholds side (front ++ line ∷ []) ≡ withholds side front
+withholds_stay own side front line is =
+    ap (λ octets. withholds_requests (masks_of octets))
+    (flat_map-append (fed_in side) front (line ∷ []) ∙ (λ i. fed_to_side side front ++ (none_fed line own side is i ++ [])) ∙ append-nil (fed_to_side side front))
+
+none_both : (lines more : List Entry) → lines ++ more ≡ [] → (lines ≡ []) × (more ≡ [])
+none_both [] more none = (refl, none)
+none_both (line ∷ lines) more none = absurd cc
+
+-- ---- lines of notes
+
+module _ (own side : Side) (number : ℕ) where
+  pub notes_fixing : (journal lines : List Entry) → AreNotes own lines → is_fixed side number journal ≡ true
+      → control_fixing side number (journal ++ lines) ≡ control_fixing side number journal
+  notes_fixing journal [] are is = ap (control_fixing side number) (append-nil journal)
+  notes_fixing journal (line ∷ lines) are is =
+      let next = journal ++ line ∷ [] in
+      let goes = note_goes line own are.0 in
+      let fixed = ap (λ b. b || is_fixed_from side number line) is in
+      ap (control_fixing side number) (sym (append_assoc journal (line ∷ []) lines))
+      ∙ notes_fixing next lines are.1 (fixed_is side number journal line goes ∙ fixed)
+      ∙ fixing_stays side number journal line goes fixed
+
+  pub notes_fixed : (journal lines : List Entry) → AreNotes own lines → is_fixed side number journal ≡ true → is_fixed side number (journal ++ lines) ≡ true
+  notes_fixed journal [] are is = ap (is_fixed side number) (append-nil journal) ∙ is
+  notes_fixed journal (line ∷ lines) are is =
+      let goes = note_goes line own are.0 in
+      ap (is_fixed side number) (sym (append_assoc journal (line ∷ []) lines))
+      ∙ notes_fixed (journal ++ line ∷ []) lines are.1 (fixed_is side number journal line goes ∙ ap (λ b. b || is_fixed_from side number line) is)
+
+  pub notes_heard : (journal lines : List Entry) → AreNotes own lines → has_heard side number journal ≡ true → has_heard side number (journal ++ lines) ≡ true
+  notes_heard journal [] are is = ap (has_heard side number) (append-nil journal) ∙ is
+  notes_heard journal (line ∷ lines) are is =
+      let goes = note_goes line own are.0 in
+      ap (has_heard side number) (sym (append_assoc journal (line ∷ []) lines))
+      ∙ notes_heard (journal ++ line ∷ []) lines are.1 (heard_is side number journal line goes ∙ ap (λ b. b || is_heard_at side number journal line) is)
+
+  pub notes_going : (journal lines : List Entry) → AreNotes own lines → has_heard side number journal ≡ true
+      → control_going side number (journal ++ lines) ≡ control_going side number journal
+  notes_going journal [] are is = ap (control_going side number) (append-nil journal)
+  notes_going journal (line ∷ lines) are is =
+      let next = journal ++ line ∷ [] in
+      let goes = note_goes line own are.0 in
+      ap (control_going side number) (sym (append_assoc journal (line ∷ []) lines))
+      ∙ notes_going next lines are.1 (heard_is side number journal line goes ∙ ap (λ b. b || is_heard_at side number journal line) is)
+      ∙ going_stays side number journal line goes is
+
+  -- notes of another end
+  pub notes_still : (journal lines : List Entry) → AreNotes own lines → lines_of side number lines ≡ [] → control_fixing side number (journal ++ lines) ≡ control_fixing side number journal
+  notes_still journal [] are none = ap (control_fixing side number) (append-nil journal)
+  notes_still journal (line ∷ lines) are none =
+      let goes = note_goes line own are.0 in
+      let parts = none_both (where_named side number (link_named line) line) (lines_of side number lines) none in
+      ap (control_fixing side number) (sym (append_assoc journal (line ∷ []) lines))
+      ∙ notes_still (journal ++ line ∷ []) lines are.1 parts.1
+      ∙ fixing_quiet side number journal line goes (λ i. note_deaf line own side number journal are.0 i ++ map Says (parts.0 i))
+
+  -- notes are no packets
+  pub notes_unheard : (journal lines : List Entry) → AreNotes own lines → has_heard side number journal ≡ false → has_heard side number (journal ++ lines) ≡ false
+  notes_unheard journal [] are none = ap (has_heard side number) (append-nil journal) ∙ none
+  notes_unheard journal (line ∷ lines) are none =
+      let next = journal ++ line ∷ [] in
+      let goes = note_goes line own are.0 in
+      ap (has_heard side number) (sym (append_assoc journal (line ∷ []) lines))
+      ∙ notes_unheard next lines are.1
+      (heard_is side number journal line goes ∙ (λ i. none i || is_some_seen (note_deaf line own side number journal are.0 i)))
+
+  -- ---- up to the line of a new PDU
+
+  first_none : (lines more : List Entry) → NoneOpens (lines ++ more) → NoneOpens lines
+  first_none [] more none = tt
+  first_none (line ∷ lines) more none = (none.0, first_none lines more none.1)
+
+  last_none : (lines more : List Entry) → NoneOpens (lines ++ more) → NoneOpens more
+  last_none [] more none = none
+  last_none (line ∷ lines) more none = last_none lines more none.1
+
+  module _ (rest : List Entry) where
+    abbrev said : Side → Side → Bool → Entry → List Entry
+    said one other same line = of_side one other (if same then line ∷ [] else [])
+
+    -- the line of a new PDU of the end
+    sent_if : (one other : Side) (same : Bool) (line : Entry) → (is_side other one && same) ≡ true → is_sending line ≡ true
+        → before_sending (said one other same line ++ rest) ≡ []
+    sent_if A A true line is sends = ap (λ b. if b then [] else line ∷ before_sending rest) sends
+    sent_if A A false line is sends = absurd cc
+    sent_if A B same line is sends = absurd cc
+    sent_if B A same line is sends = absurd cc
+    sent_if B B true line is sends = ap (λ b. if b then [] else line ∷ before_sending rest) sends
+    sent_if B B false line is sends = absurd cc
+
+    sent_here : (line : Entry) → side_of_note line ≡ Some own → is_fixed_from side number line ≡ true
+        → before_sending (where_named side number (link_named line) line ++ rest) ≡ []
+    sent_here (Air sender channel octets fate verdict) note is = absurd cc
+    sent_here (Sent other link count llid body) note is = sent_if side other (link == number) (Sent other link count llid body) is refl
+    sent_here line note is = absurd cc
+
+    -- another line
+    unsent_if : (one other : Side) (same : Bool) (line : Entry) → is_sending line ≡ false
+        → before_sending (said one other same line ++ rest) ≡ said one other same line ++ before_sending rest
+    unsent_if A A true line is = ap (λ b. if b then [] else line ∷ before_sending rest) is
+    unsent_if A A false line is = refl
+    unsent_if A B same line is = refl
+    unsent_if B A same line is = refl
+    unsent_if B B true line is = ap (λ b. if b then [] else line ∷ before_sending rest) is
+    unsent_if B B false line is = refl
+
+    unsent_named : (names : Option (Side × ℕ)) (line : Entry) → is_sending line ≡ false
+        → before_sending (where_named side number names line ++ rest) ≡ where_named side number names line ++ before_sending rest
+    unsent_named None line is = refl
+    unsent_named (Some named) line is = unsent_if side named.0 (named.1 == number) line is
+
+    -- the line of a new PDU of another end
+    apart_if : (one other : Side) (same : Bool) (line : Entry) → (is_side other one && same) ≡ false → said one other same line ≡ []
+    apart_if A A true line is = absurd cc
+    apart_if A A false line is = refl
+    apart_if A B same line is = refl
+    apart_if B A same line is = refl
+    apart_if B B true line is = absurd cc
+    apart_if B B false line is = refl
+
+    unsent_here : (line : Entry) → is_fixed_from side number line ≡ false
+        → before_sending (where_named side number (link_named line) line ++ rest) ≡ where_named side number (link_named line) line ++ before_sending rest
+    unsent_here (Sent other link count llid body) is =
+        let none = apart_if side other (link == number) (Sent other link count llid body) is in
+        ap (λ named. before_sending (named ++ rest)) none ∙ sym (ap (λ named. named ++ before_sending rest) none)
+    unsent_here line is = unsent_named (link_named line) line refl
+
+  pub notes_fix : (journal lines : List Entry) (control : Control) → AreNotes own lines → NoneOpens (lines_of side number lines)
+      → is_fixed side number journal ≡ false → control_on side number journal ≡ Some control
+      → control_fixing side number (journal ++ lines) ≡ Some (moved_by (withholds side journal) (turn_now journal) (before_sending (lines_of side number lines)) control)
+  notes_fix journal [] control are opens none was = ap (control_fixing side number) (append-nil journal) ∙ fixing_now side number journal none ∙ was
+  notes_fix journal (line ∷ lines) control are opens none was =
+      by (is_fixed_from side number line) refl (λ moved none_yet now.
+      notes_fix (journal ++ line ∷ []) lines moved are.1 (last_none (where_named side number (link_named line) line) (lines_of side number lines) opens) none_yet now)
+    where
+      by : (from : Bool) → is_fixed_from side number line ≡ from
+          → ((moved : Control) → is_fixed side number (journal ++ line ∷ []) ≡ false → control_on side number (journal ++ line ∷ []) ≡ Some moved
+          → control_fixing side number ((journal ++ line ∷ []) ++ lines) ≡ Some (moved_by (withholds side (journal ++ line ∷ [])) (turn_now (journal ++ line ∷ [])) (before_sending (lines_of side number lines)) moved))
+          → control_fixing side number (journal ++ line ∷ lines)
+          ≡ Some (moved_by (withholds side journal) (turn_now journal) (before_sending (where_named side number (link_named line) line ++ lines_of side number lines)) control)
+      by true from later =
+          let next = journal ++ line ∷ [] in
+          let rest = lines_of side number lines in
+          let goes = note_goes line own are.0 in
+          let fixed : (is_fixed side number journal || is_fixed_from side number line) ≡ true = λ i. none i || from i in
+          ap (control_fixing side number) (sym (append_assoc journal (line ∷ []) lines))
+          ∙ notes_fixing next lines are.1 (fixed_is side number journal line goes ∙ fixed)
+          ∙ fixing_stays side number journal line goes fixed ∙ fixing_now side number journal none ∙ was
+          ∙ ap (λ xs. Some (moved_by (withholds side journal) (turn_now journal) xs control)) (sym (sent_here rest line are.0 from))
+      by false from later =
+          let next = journal ++ line ∷ [] in
+          let named = where_named side number (link_named line) line in
+          let rest = lines_of side number lines in
+          let slot = turn_now journal in
+          let held = withholds side journal in
+          let goes = note_goes line own are.0 in
+          let unfixed : (is_fixed side number journal || is_fixed_from side number line) ≡ false = λ i. none i || from i in
+          let moves : control_on side number next ≡ Some (moved_by held slot named control) =
+          control_more side number journal line ∙ ap (λ before. control_after side number journal before line) was
+          ∙ line_moves side number journal line control (note_deaf line own side number journal are.0) (first_none named rest opens) in
+          ap (control_fixing side number) (sym (append_assoc journal (line ∷ []) lines))
+          ∙ later (moved_by held slot named control) (fixed_is side number journal line goes ∙ unfixed) moves
+          ∙ (λ i. Some (moved_by (withholds_stay own side journal line are.0 i) (turn_stays journal line goes i) (before_sending rest) (moved_by held slot named control)))
+          ∙ ap Some (sym (moved_both held slot named (before_sending rest) control))
+          ∙ ap (λ xs. Some (moved_by held slot xs control)) (sym (unsent_here rest line from))

@@ -1,0 +1,194 @@
+-- As a turn begins, the lines of an end before that of a new PDU move its control part to the one by which it fixes.
+use Rattle.std.proofs.Common.{◌≡◌, ℕ, ◌&&◌, not, Bool, true, false, Option, Some, None, List, [], ◌∷◌, ◌++◌, fold, map, refl, sym, ap, subst, ◌∙◌, append-nil, if◌then◌else◌}
+use Rattle.std.specs.List.{AllByRecursion}
+use Rattle.std.proofs.lemmas.List.{map-append}
+use Rattle.ble_base.specs.declared.notes.Note.{Note}
+use Rattle.ble_base.specs.declared.notes.Note.TheVariants.{Enter}
+use Rattle.ble_base.specs.declared.procedure_kinds.Kind.{Kind}
+use Rattle.ble_base.specs.declared.roles.Side.{Side}
+use Rattle.controller_model.specs.Step.{Step as Call}
+use Rattle.journal.specs.declared.entries.Entry.{Entry}
+use Rattle.journal_controls.specs.LineSteps.{control_on, turn_now, withholds}
+use Rattle.journal_controls.specs.SaidLines.{moved_by}
+use Rattle.journal_controls.specs.TurnSteps.{first_if, steps_begun}
+use Rattle.journal_controls.specs.journal_links.LinkLines.{line_of, lines_of}
+use Rattle.journal_controls.specs.link_model.Acknowledgement.{Pdu, is_acked}
+use Rattle.journal_controls.specs.link_model.Controls.{goes_on, pdu_fixed}
+use Rattle.journal_controls.specs.link_model.Data.{is_empty, numbered}
+use Rattle.journal_controls.specs.link_model.End.{facts_after, notes_after, notes_from}
+use Rattle.journal_controls.specs.link_model.Entering.{began_notes, done_notes, event_notes, facts_entered}
+use Rattle.journal_controls.specs.link_model.Events.{applied_notes}
+use Rattle.journal_controls.specs.link_model.Facts.{Facts}
+use Rattle.journal_controls.specs.link_model.Sending.{sent_notes_if}
+use Rattle.journal_controls.specs.link_model.Setup.{Setup}
+use Rattle.journal_controls.specs.link_model.Step.{EventEntered, PacketSent, PduFixed}
+use Rattle.journal_controls.specs.link_model.control_end.Answers.{entry_of}
+use Rattle.journal_controls.specs.link_model.control_end.Held.{held_of}
+use Rattle.journal_controls.specs.link_model.control_end.declared.answers.Entry.{Entry as Entered}
+use Rattle.journal_controls.specs.link_model.control_model.Control.{Control, Enters, after}
+use Rattle.journal_controls.specs.link_model.declared.events.ConnectionEvent.{ConnectionEvent}
+use Rattle.journal_controls.specs.run_model.History.{Event}
+use Rattle.journal_controls.specs.run_model.Journal.{journal_of}
+use Rattle.journal_controls.specs.run_model.Run.{Given, after_call}
+use Rattle.journal_controls.proofs.EndMoves.{steps_later}
+use Rattle.journal_controls.proofs.LineFolds.{moved_both}
+use Rattle.journal_fixing.specs.OnLines.{before_sending, control_fixing, is_fixed, is_sending}
+use Rattle.journal_fixing.proofs.FixingEvents.{call_fixes}
+use Rattle.journal_fixing.proofs.SaidPdus.{AreUnsent, IsSaidBy, all_both, sent_said, unsent_said}
+
+-- the lines of no new PDU come whole
+before_unsent : (lines more : List Entry) → AreUnsent lines → before_sending (lines ++ more) ≡ lines ++ before_sending more
+before_unsent [] more none = refl
+before_unsent (line ∷ lines) more none =
+    ap (λ b. if b then [] else line ∷ before_sending (lines ++ more)) none.0 ∙ ap (λ xs. line ∷ xs) (before_unsent lines more none.1)
+
+unsent_both : (lines more : List Entry) → AreUnsent lines → AreUnsent more → AreUnsent (lines ++ more)
+unsent_both lines more here there = all_both (λ line. is_sending line ≡ false) lines more here there
+
+module _ (side : Side) (number : ℕ) (withheld : Bool) (slot : ℕ) where
+  abbrev said : List Note → List Entry
+  said notes = map (line_of side number) notes
+
+  said_both : (notes more : List Note) → said (notes ++ more) ≡ said notes ++ said more
+  said_both notes more = map-append (line_of side number) notes more
+
+  -- ---- an event is entered
+
+  done_unsent : (handle : ℕ) (kind : Option Kind) → AreUnsent (said (done_notes handle kind))
+  done_unsent handle None = tt
+  done_unsent handle (Some kind) = (refl, tt)
+
+  began_unsent : (handle : ℕ) (kind : Option Kind) → AreUnsent (said (began_notes handle kind))
+  began_unsent handle None = tt
+  began_unsent handle (Some kind) = (refl, tt)
+
+  applied_unsent : (handle event : ℕ) (applied : Option ℕ) → AreUnsent (said (applied_notes handle event applied))
+  applied_unsent handle event None = tt
+  applied_unsent handle event (Some change) = (refl, tt)
+
+  -- the notes come in four parts
+  event_said : (handle : ℕ) (event : ConnectionEvent) (entry : Entered)
+      → said (event_notes handle event entry)
+      ≡ ((said (applied_notes handle event.number entry.applied) ++ said (Enter handle (record { 0 = event.number }) event.channel ∷ []))
+      ++ said (done_notes handle entry.done)) ++ said (began_notes handle entry.began)
+  event_said handle event entry =
+      let applied = applied_notes handle event.number entry.applied in
+      let enter = Enter handle (record { 0 = event.number }) event.channel ∷ [] in
+      let done = done_notes handle entry.done in
+      let began = began_notes handle entry.began in
+      said_both ((applied ++ enter) ++ done) began
+      ∙ ap (λ xs. xs ++ said began) (said_both (applied ++ enter) done ∙ ap (λ xs. xs ++ said done) (said_both applied enter))
+
+  event_unsent : (handle : ℕ) (event : ConnectionEvent) (entry : Entered) → AreUnsent (said (event_notes handle event entry))
+  event_unsent handle event entry =
+      let applied = said (applied_notes handle event.number entry.applied) in
+      let enter = said (Enter handle (record { 0 = event.number }) event.channel ∷ []) in
+      let done = said (done_notes handle entry.done) in
+      let began = said (began_notes handle entry.began) in
+      subst AreUnsent (sym (event_said handle event entry))
+      (unsent_both ((applied ++ enter) ++ done) began
+      (unsent_both (applied ++ enter) done (unsent_both applied enter (applied_unsent handle event.number entry.applied) (refl, tt)) (done_unsent handle entry.done))
+      (began_unsent handle entry.began))
+
+  done_still : (handle : ℕ) (kind : Option Kind) (c : Control) → moved_by withheld slot (said (done_notes handle kind)) c ≡ c
+  done_still handle None c = refl
+  done_still handle (Some kind) c = refl
+
+  began_still : (handle : ℕ) (kind : Option Kind) (c : Control) → moved_by withheld slot (said (began_notes handle kind)) c ≡ c
+  began_still handle None c = refl
+  began_still handle (Some kind) c = refl
+
+  applied_still : (handle event : ℕ) (applied : Option ℕ) (c : Control) → moved_by withheld slot (said (applied_notes handle event applied)) c ≡ c
+  applied_still handle event None c = refl
+  applied_still handle event (Some change) c = refl
+
+  event_moves : (handle : ℕ) (event : ConnectionEvent) (entry : Entered) (c : Control)
+      → moved_by withheld slot (said (event_notes handle event entry)) c ≡ after (Enters slot true) c
+  event_moves handle event entry c =
+      let applied = said (applied_notes handle event.number entry.applied) in
+      let enter = said (Enter handle (record { 0 = event.number }) event.channel ∷ []) in
+      let done = said (done_notes handle entry.done) in
+      let began = said (began_notes handle entry.began) in
+      ap (λ xs. moved_by withheld slot xs c) (event_said handle event entry)
+      ∙ moved_both withheld slot ((applied ++ enter) ++ done) began c ∙ began_still handle entry.began (moved_by withheld slot ((applied ++ enter) ++ done) c)
+      ∙ moved_both withheld slot (applied ++ enter) done c ∙ done_still handle entry.done (moved_by withheld slot (applied ++ enter) c)
+      ∙ moved_both withheld slot applied enter c ∙ ap (moved_by withheld slot enter) (applied_still handle event.number entry.applied c)
+
+  entry_if_unsent : (goes : Bool) (setup : Setup) (facts : Facts) → AreUnsent (said (if goes then event_notes setup.link.handle (facts_entered setup slot facts).event (entry_of slot true (held_of facts.control)) else []))
+  entry_if_unsent false setup facts = tt
+  entry_if_unsent true setup facts = event_unsent setup.link.handle (facts_entered setup slot facts).event (entry_of slot true (held_of facts.control))
+
+  entry_if_moves : (goes : Bool) (setup : Setup) (facts : Facts)
+      → moved_by withheld slot (said (if goes then event_notes setup.link.handle (facts_entered setup slot facts).event (entry_of slot true (held_of facts.control)) else [])) facts.control
+      ≡ (if goes then facts_entered setup slot facts else facts).control
+  entry_if_moves false setup facts = refl
+  entry_if_moves true setup facts = event_moves setup.link.handle (facts_entered setup slot facts).event (entry_of slot true (held_of facts.control)) facts.control
+
+  -- ---- the PDU is fixed, and the packet sent
+
+  none_before : (noted : Bool) (handle count : ℕ) (pdu : Pdu) → before_sending (said (sent_notes_if noted handle count pdu ++ [])) ≡ []
+  none_before true handle count pdu = refl
+  none_before false handle count pdu = refl
+
+  sent_before : (setup : Setup) (facts : Facts) (sends : Bool) → before_sending (said (notes_from setup facts (first_if sends (PacketSent slot) []))) ≡ []
+  sent_before setup facts false = refl
+  sent_before setup facts true =
+      none_before (is_acked facts.acknowledgement && not (is_empty (pdu_fixed facts))) setup.link.handle (numbered facts.acknowledgement.sent) (pdu_fixed facts)
+
+  fixed_before : (setup : Setup) (facts : Facts) (fixes sends : Bool)
+      → before_sending (said (notes_from setup facts (first_if fixes PduFixed (first_if sends (PacketSent slot) [])))) ≡ []
+  fixed_before setup facts true sends = sent_before setup (facts_after setup facts PduFixed) sends
+  fixed_before setup facts false sends = sent_before setup facts sends
+
+  -- ---- all of it
+
+  pub begun_before : (setup : Setup) (facts : Facts) (enters fixes sends : Bool)
+      → moved_by withheld slot (before_sending (said (notes_from setup facts (steps_begun enters fixes sends slot)))) facts.control
+      ≡ (fold (facts_after setup) facts (first_if enters (EventEntered slot) [])).control
+  begun_before setup facts false fixes sends = ap (λ xs. moved_by withheld slot xs facts.control) (fixed_before setup facts fixes sends)
+  begun_before setup facts true fixes sends =
+      let now = facts_after setup facts (EventEntered slot) in
+      let here = notes_after setup facts (EventEntered slot) in
+      let later = notes_from setup now (first_if fixes PduFixed (first_if sends (PacketSent slot) [])) in
+      ap (λ xs. moved_by withheld slot (before_sending xs) facts.control) (said_both here later)
+      ∙ ap (λ xs. moved_by withheld slot xs facts.control)
+      (before_unsent (said here) (said later) (entry_if_unsent (goes_on facts) setup facts) ∙ ap (λ xs. said here ++ xs) (fixed_before setup now fixes sends) ∙ append-nil (said here))
+      ∙ entry_if_moves (goes_on facts) setup facts
+
+  -- ---- the line of a new PDU
+
+  begin_said : (setup : Setup) (facts : Facts) (sends : Bool) → AllByRecursion (IsSaidBy sends facts) (said (notes_from setup facts (first_if sends (PacketSent slot) [])))
+  begin_said setup facts false = tt
+  begin_said setup facts true = sent_said side number setup.link.handle (numbered facts.acknowledgement.sent) facts (is_acked facts.acknowledgement && not (is_empty (pdu_fixed facts))) refl
+
+  fixed_said : (setup : Setup) (facts : Facts) (fixes sends : Bool)
+      → AllByRecursion (IsSaidBy sends (fold (facts_after setup) facts (first_if fixes PduFixed []))) (said (notes_from setup facts (first_if fixes PduFixed (first_if sends (PacketSent slot) []))))
+  fixed_said setup facts true sends = begin_said setup (facts_after setup facts PduFixed) sends
+  fixed_said setup facts false sends = begin_said setup facts sends
+
+  pub begun_said : (setup : Setup) (facts : Facts) (enters fixes sends : Bool)
+      → AllByRecursion (IsSaidBy sends (fold (facts_after setup) facts (first_if enters (EventEntered slot) (first_if fixes PduFixed []))))
+      (said (notes_from setup facts (steps_begun enters fixes sends slot)))
+  begun_said setup facts false fixes sends = fixed_said setup facts fixes sends
+  begun_said setup facts true fixes sends =
+      let now = facts_after setup facts (EventEntered slot) in
+      let here = notes_after setup facts (EventEntered slot) in
+      let later = notes_from setup now (first_if fixes PduFixed (first_if sends (PacketSent slot) [])) in
+      let sent = fold (facts_after setup) now (first_if fixes PduFixed []) in
+      subst (AllByRecursion (IsSaidBy sends sent)) (sym (said_both here later))
+      (all_both (IsSaidBy sends sent) (said here) (said later) (unsent_said sends sent (said here) (entry_if_unsent (goes_on facts) setup facts)) (fixed_said setup now fixes sends))
+
+-- a call on the controller of its station
+pub begun_fixes : (side : Side) (number slot : ℕ) (given : Given) (station : ℕ) (call : Call) (history : List Event) (setup : Setup) (facts : Facts) (enters fixes sends : Bool)
+    → lines_of side number (journal_of (after_call given station call history))
+    ≡ lines_of side number (journal_of history) ++ map (line_of side number) (notes_from setup facts (steps_begun enters fixes sends slot))
+    → turn_now (journal_of history) ≡ slot → is_fixed side number (journal_of history) ≡ false → control_on side number (journal_of history) ≡ Some facts.control
+    → control_fixing side number (journal_of (after_call given station call history))
+    ≡ Some (fold (facts_after setup) facts (first_if enters (EventEntered slot) [])).control
+begun_fixes side number slot given station call history setup facts enters fixes sends lines turn none was =
+    let held = withholds side (journal_of history) in
+    let steps = steps_begun enters fixes sends slot in
+    let more = map (line_of side number) (notes_from setup facts steps) in
+    call_fixes side number history given station call more facts.control lines (steps_later side number setup facts steps) none was
+    ∙ ap (λ now. Some (moved_by held now (before_sending more) facts.control)) turn
+    ∙ ap Some (begun_before side number held slot setup facts enters fixes sends)

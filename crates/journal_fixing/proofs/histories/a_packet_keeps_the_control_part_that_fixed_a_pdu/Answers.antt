@@ -1,0 +1,12 @@
+-- Proof of `histories::a_packet_keeps_the_control_part_that_fixed_a_pdu`.
+use Rattle.journal_fixing.proofs.FixingEvents.{packet_fixed, packet_fixing, packet_heard, packet_unheard}
+use Rattle.journal_fixing.proofs.histories.a_packet_keeps_the_control_part_that_fixed_a_pdu.Goals as goal
+
+pub returns : goal.returns
+returns c = record {
+  fixed = λ side number station channel octets hearing history. packet_fixed side number history station channel octets hearing;
+  fixing = λ side number station channel octets hearing history. packet_fixing side number history station channel octets hearing;
+  unheard = λ side number station channel octets hearing history none. packet_unheard side number history station channel octets hearing none;
+  heard = λ side number station channel slot octets heard hearing history control none is was.
+      packet_heard side number history station channel octets hearing slot heard control none is was;
+}

@@ -1,0 +1,105 @@
+-- The control part of an end as its next PDU is fixed, and as that leaves the queue, from the lines of a journal alone
+-- (Core 5.2, volume 6 part B, sections 4.5.6 and 4.5.9; when each is looked at is our choice).
+use Rattle.std.specs.Prelude.{ℕ, ◌==◌, ◌&&◌, Bool, true, false, List, [], ◌∷◌, ◌++◌, Option, Some, None, is_some, if◌then◌else◌}
+use Rattle.std.specs.Option.{option_map}
+use Rattle.ble_base.specs.declared.roles.Side.{Side}
+use Rattle.journal.specs.declared.entries.Entry.{Entry}
+use Rattle.journal.specs.declared.entries.Entry.TheVariants.{Air, Sent, Turn}
+use Rattle.journal_controls.specs.LineSteps.{control_on, is_more_acked}
+use Rattle.journal_controls.specs.journal_acks.Carried.{carried_of}
+use Rattle.journal_controls.specs.journal_acks.Exchange.{exchange_of}
+use Rattle.journal_controls.specs.journal_ends.Seen.{Seen, heard_in_line}
+use Rattle.journal_controls.specs.journal_packets.Belonging.{is_side}
+use Rattle.journal_controls.specs.link_model.Data.{is_control}
+use Rattle.journal_controls.specs.link_model.Receiving.{control_acked_if}
+use Rattle.journal_controls.specs.link_model.control_model.Control.{Control}
+
+-- ---- what is read at the first line of a turn that passes a test, by that line and the entries before it
+
+abbrev pub begins_turn : Entry → Bool
+begins_turn (Turn slot a_on b_on) = true
+begins_turn line = false
+
+abbrev pub first_kept : {A : Type 0} → Option A → Bool → A → Option A
+first_kept (Some kept) passes now = Some kept
+first_kept None passes now = if passes then Some now else None
+
+abbrev pub kept_after : {A : Type 0}
+    → (List Entry → Entry → Bool) → (List Entry → Entry → A) → List Entry → Option A → Entry → Option A
+kept_after passes value front kept line =
+    if begins_turn line then None else first_kept kept (passes front line) (value front line)
+
+abbrev pub kept_from : {A : Type 0}
+    → (List Entry → Entry → Bool) → (List Entry → Entry → A) → List Entry → Option A → List Entry → Option A
+kept_from passes value front kept [] = kept
+kept_from passes value front kept (line ∷ lines) =
+    kept_from passes value (front ++ line ∷ []) (kept_after passes value front kept line) lines
+
+-- what is kept, or else what is now
+abbrev pub kept_or : {A : Type 0} → Option A → A → A
+kept_or None now = now
+kept_or (Some kept) now = kept
+
+-- ---- as the PDU is fixed: after both sides have begun the turn
+
+-- from a packet of the turn on, or from the line of a new PDU of this end, the next PDU is fixed
+abbrev pub is_fixed_from : Side → ℕ → Entry → Bool
+is_fixed_from side number (Air sender channel octets fate verdict) = true
+is_fixed_from side number (Sent other link count llid body) = is_side other side && link == number
+is_fixed_from side number line = false
+
+unfoldable pub fixing_kept : Side → ℕ → List Entry → Option (Option Control)
+fixing_kept side number journal =
+    kept_from (λ front line. is_fixed_from side number line) (λ front line. control_on side number front) [] None journal
+
+-- its next PDU is fixed in this turn
+abbrev pub is_fixed : Side → ℕ → List Entry → Bool
+is_fixed side number journal = is_some (fixing_kept side number journal)
+
+-- the control part of the end of a side on the link with this number, as it fixed its next PDU in this turn, or else now
+abbrev pub control_fixing : Side → ℕ → List Entry → Option Control
+control_fixing side number journal = kept_or (fixing_kept side number journal) (control_on side number journal)
+
+-- ---- as a control PDU leaves the queue: a central sends it as the turn begins, and a peripheral as it hears the packet
+-- of the central, which may acknowledge the last one
+
+abbrev pub is_some_seen : List Seen → Bool
+is_some_seen [] = false
+is_some_seen (one ∷ seen) = true
+
+-- it hears a good packet of the other end in this line
+abbrev pub is_heard_at : Side → ℕ → List Entry → Entry → Bool
+is_heard_at side number front line = is_some_seen (heard_in_line side number front line)
+
+-- the packet in this line acknowledges a control PDU of the end
+abbrev pub acks_control_at : Side → ℕ → List Entry → Entry → Bool
+acks_control_at side number front line =
+    is_more_acked (exchange_of number front side) (exchange_of number (front ++ line ∷ []) side)
+    && is_control (carried_of number front side)
+
+-- the control part of the end once that is done, and before it takes the PDU of the packet
+abbrev pub control_answering : Side → ℕ → List Entry → Entry → Option Control
+control_answering side number front line =
+    option_map (control_acked_if (acks_control_at side number front line)) (control_on side number front)
+
+unfoldable pub going_kept : Side → ℕ → List Entry → Option (Option Control)
+going_kept side number journal =
+    kept_from (is_heard_at side number) (control_answering side number) [] None journal
+
+-- it heard a good packet of the other end in this turn
+abbrev pub has_heard : Side → ℕ → List Entry → Bool
+has_heard side number journal = is_some (going_kept side number journal)
+
+-- the control part of that end as its next control PDU leaves the queue in this turn, or else now
+abbrev pub control_going : Side → ℕ → List Entry → Option Control
+control_going side number journal = kept_or (going_kept side number journal) (control_on side number journal)
+
+-- ---- the lines of an end before the first of them that says a new PDU
+
+abbrev pub is_sending : Entry → Bool
+is_sending (Sent side link count llid body) = true
+is_sending line = false
+
+abbrev pub before_sending : List Entry → List Entry
+before_sending [] = []
+before_sending (line ∷ lines) = if is_sending line then [] else line ∷ before_sending lines

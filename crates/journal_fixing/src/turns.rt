@@ -1,0 +1,44 @@
+//! Laws of an end in a turn that begins: by its lines it fixes its next PDU with the control part
+//! that it has as it does so. The bodies are empty: the contracts are the laws.
+ghost use Rattle.std.specs.Prelude.{◌≡◌, ◌++◌, [], ℕ, Bool, List, Some, false, fold, map};
+ghost use Rattle.ble_base.specs.declared.roles.Side.{Side};
+ghost use Rattle.controller_model.specs.Step.{Step as Call};
+ghost use Rattle.journal_controls.specs.LineSteps.{control_on, turn_now};
+ghost use Rattle.journal_controls.specs.SaidLines.{moved_by};
+ghost use Rattle.journal_controls.specs.TurnSteps.{first_if, steps_begun};
+ghost use Rattle.journal_controls.specs.journal_links.LinkLines.{line_of, lines_of};
+ghost use Rattle.journal_controls.specs.link_model.End.{facts_after, notes_from};
+ghost use Rattle.journal_controls.specs.link_model.Facts.{Facts};
+ghost use Rattle.journal_controls.specs.link_model.Setup.{Setup};
+ghost use Rattle.journal_controls.specs.link_model.Step.{EventEntered};
+ghost use Rattle.journal_controls.specs.run_model.History.{Event};
+ghost use Rattle.journal_controls.specs.run_model.Journal.{journal_of};
+ghost use Rattle.journal_controls.specs.run_model.Run.{Given, after_call};
+ghost use Rattle.journal_fixing.specs.OnLines.{before_sending, control_fixing, is_fixed};
+
+/// As a turn begins, an end may enter an event, fix its next PDU, and send as a central: whichever
+/// of these it does, the lines that it says before that of a new PDU move its control part to the
+/// one that it has as it fixes its PDU (Core 5.2, volume 6 part B, sections 4.5.1 and 4.5.9).
+pub fn the_lines_before_a_new_pdu_move_the_control_part_that_fixes_it()
+    ensures { (side : Side) (number slot : ℕ) (withheld : Bool) (setup : Setup) (facts : Facts)
+        (enters fixes sends : Bool)
+        → moved_by withheld slot (before_sending (map (line_of side number)
+        (notes_from setup facts (steps_begun enters fixes sends slot)))) facts.control
+        ≡ (fold (facts_after setup) facts (first_if enters (EventEntered slot) [])).control }
+{}
+
+/// After any history in which the next PDU of an end is not fixed in this turn, and in which the
+/// control part by its lines is what the end holds, a call that begins the turn of the end leaves
+/// the control part by which it fixed its next PDU in the lines.
+pub fn a_call_that_begins_a_turn_keeps_the_control_part_that_fixes()
+    ensures { (given : Given) (side : Side) (number station slot : ℕ) (call : Call)
+        (history : List Event) (setup : Setup) (facts : Facts) (enters fixes sends : Bool)
+        → lines_of side number (journal_of (after_call given station call history))
+        ≡ lines_of side number (journal_of history) ++ map (line_of side number)
+        (notes_from setup facts (steps_begun enters fixes sends slot))
+        → turn_now (journal_of history) ≡ slot
+        → is_fixed side number (journal_of history) ≡ false
+        → control_on side number (journal_of history) ≡ Some facts.control
+        → control_fixing side number (journal_of (after_call given station call history))
+        ≡ Some (fold (facts_after setup) facts (first_if enters (EventEntered slot) [])).control }
+{}
