@@ -1,18 +1,12 @@
 -- In every run of two stations, each answer on a link that passes is judged good.
-use Rattle.std.proofs.Common.{◌≡◌, ℕ, zero, suc, ◌==◌, ◌≤◌, true, false, Some, List, [], ◌∷◌, ◌++◌, take, refl, sym, ap, subst, ◌∙◌, arith}
+use Rattle.std.proofs.Common.{◌≡◌, ℕ, zero, suc, ◌==◌, true, false, Some, List, [], ◌∷◌, ◌++◌, take, refl, sym, ap, subst, ◌∙◌, arith}
 use Rattle.std.specs.Prelude.{⊤}
 use Rattle.ble_base.specs.declared.roles.Role.{Role}
 use Rattle.ble_base.specs.declared.roles.Role.TheVariants.{Central, Peripheral}
 use Rattle.ble_base.specs.declared.verdicts.Verdict.TheVariants.{Good}
 use Rattle.journal.specs.declared.entries.Mark.TheVariants.{Pass as Passed}
-use Rattle.journal_data.specs.link_model.Facts.{Facts as EndFacts}
 use Rattle.journal_data.specs.link_model.Packets.{verdict_of as end_verdict}
-use Rattle.journal_data.specs.link_model.OneLink.{AreOneLink}
 use Rattle.journal_data.specs.link_model.Step.{PacketSent}
-use Rattle.journal_data.proofs.plain_links.InEvents.{pasts_agree}
-use Rattle.journal_data.proofs.plain_links.Growing.{plain_front}
-use Rattle.journal_data.proofs.plain_links.Payloads.{past_understood}
-use Rattle.journal_data.specs.link_model.declared.events.ConnectionEvent.{ConnectionEvent}
 use Rattle.journal_data.proofs.link_model.Hearing.{IsHeardWhole}
 use Rattle.journal_data.proofs.link_model.Received.{judged_good}
 use Rattle.journal_data.specs.open_links.OpenLinks.{Links, OpenLink, facts_in, link_after, link_at}
@@ -29,7 +23,7 @@ use Rattle.run_model.specs.History.{Event, Hearing, Transmitted, packet_received
 use Rattle.run_model.specs.Journal.{journal_of, mark_of, side_of}
 use Rattle.run_model.specs.LinkEnds.{HaveAddresses}
 use Rattle.run_model.specs.Links.{is_advertising}
-use Rattle.run_model.specs.Run.{Given, facts_at, hearing_at, history_of, reaches, run_of, setup_at, use_at, verdict_where}
+use Rattle.run_model.specs.Run.{Given, facts_at, hearing_at, history_of, reaches, run_of, use_at, verdict_where}
 use Rattle.run_model.proofs.EntryEvents.{is_aired}
 use Rattle.run_model.proofs.LinkEnds.{AreTaken, IsUnderstood}
 use Rattle.run_model.proofs.OfStations.{OfStations, run_of_stations}
@@ -37,19 +31,10 @@ use Rattle.run_model.proofs.Places.{each_at}
 use Rattle.run_model.proofs.Stations.{is_in, among}
 use Rattle.run_model.proofs.Walk.{AtPackets}
 use Rattle.journal_data.specs.run_laws.Ends.{HaveOneConnectInd}
-use Rattle.journal_data.specs.run_laws.OnTime.{IsOnTime}
-use Rattle.journal_data.specs.run_laws.Plainness.{IsPlainLink}
-use Rattle.journal_data.proofs.run_laws.Agreed.{step_facts}
-use Rattle.journal_data.proofs.run_laws.ByCalls.{always_by_calls}
-use Rattle.journal_data.proofs.run_laws.ChSel.{link_two}
 use Rattle.journal_data.proofs.run_laws.DistinctAccess.{AreApart}
-use Rattle.journal_data.proofs.run_laws.Entering.{entering_in_run, same_number as same_entries}
 use Rattle.journal_data.proofs.run_laws.Hearings.{sends_deaf, wanted_is}
-use Rattle.journal_data.proofs.run_laws.InAgreement.{AreStations, TakesShort, first_station, stations_kept}
 use Rattle.journal_data.proofs.run_laws.LinkPhases.{HasRole, IsInPhase}
-use Rattle.journal_data.proofs.run_laws.OpenSteps.{open_has}
 use Rattle.journal_data.proofs.run_laws.OwnLinks.{sent_begins}
-use Rattle.journal_data.proofs.run_laws.PlainLinks.{links_plain}
 use Rattle.journal_data.proofs.run_laws.TurnPlaces.{Within, at_stage}
 use Rattle.journal_data.proofs.run_laws.TurnSteps.{IsListening}
 use Rattle.journal_links.specs.Begun.{links_begun}
@@ -62,7 +47,8 @@ use Rattle.journal_packets.proofs.Asked.{is_asked}
 use Rattle.journal_packets.proofs.SoFar.{IsBelongingSoFar}
 use Rattle.journal_acks.proofs.Counting.{AreKnown, one_begun}
 use Rattle.journal_acks.proofs.Exchanging.{number_at}
-use Rattle.journal_acks.proofs.link_calls.HeardSteps.{sent_in}
+use Rattle.journal_acks.proofs.link_calls.InRange.{ranges_in, sent_ranges}
+use Rattle.journal_acks.proofs.link_calls.Pieces.{ranged_understand}
 use Rattle.journal_acks.proofs.Known.{known_of}
 use Rattle.journal_acks.proofs.Seen.{IsSeen, seen_packet}
 use Rattle.journal_acks.proofs.Standing.{PhasedBy, phased_at}
@@ -92,10 +78,10 @@ role_at role handle links link has is = subst (HasRole role) is has
 -- the end that answers, and the one that listens for it
 record IsAwaited (given : Given) (history : List Event) (station channel : ℕ) (octets : List ℕ) : Type 0 where
   sent : IsOfSendersLink given history station channel octets
-  asker : IsAsker (facts_at given (other_of station) history) octets
+  asker : IsAsker (facts_at given (other_of station) history) true (use_at given station history) octets
   listens : (facts_at given (other_of station) history).turn.doing ≡ CentralListens asker.handle
   wants : IsListening (facts_at given (other_of station) history) (facts_at given (other_of station) history).turn.doing
-  turns : (facts_at given station history).turn.begun ≡ (facts_at given (other_of station) history).turn.begun
+  channel_is : channel ≡ (facts_in asker.far).event.channel
   one : HaveOneConnectInd sent.link.setup asker.far.setup
 
 abbrev IsAwaitedAnswer : Given → List Event → ℕ → ℕ → List ℕ → Type 0
@@ -135,7 +121,7 @@ module _ (whole : IsHeardWhole) (understood : IsUnderstood) (taken : AreTaken) (
 
   module _ (phases : ℕ) (done left : List ℕ) (station channel : ℕ) (octets : List ℕ) (history : List Event) (are : given.stations ≡ done ++ station ∷ left)
       (wanted : use_at given station history ≡ Sends channel octets) (so_far : IsBelongingSoFar given (AtPackets (suc phases) done (station ∷ left)) history)
-      (asker : IsAsker (facts_at given (other_of station) history) octets) (off : is_advertising channel ≡ false) where
+      (asker : IsAsker (facts_at given (other_of station) history) true (use_at given station history) octets) (off : is_advertising channel ≡ false) where
     abbrev other : ℕ
     other = other_of station
 
@@ -184,7 +170,7 @@ module _ (whole : IsHeardWhole) (understood : IsUnderstood) (taken : AreTaken) (
       asker = asker;
       listens = listens;
       wants = (phased other too).uses.in_turn.listens;
-      turns = (phased station in_it).uses.in_turn.begun_is ∙ sym (phased other too).uses.in_turn.begun_is;
+      channel_is = asker.answers channel octets wanted off;
       one =
           let here = AtPackets (suc phases) done (station ∷ left) in
           one_begun history (number_at station sent.handle history) (number_at other asker.handle history) station other (link_after (PacketSent sent.slot) sent.link) asker.far numbers
@@ -226,56 +212,23 @@ module _ (whole : IsHeardWhole) (understood : IsUnderstood) (taken : AreTaken) (
     far_in : is_in far_side given.stations ≡ true
     far_in = other_in given pair station in_it
 
-    abbrev own : OpenLink
-    own = link_after (PacketSent awaited.sent.slot) awaited.sent.link
-
     abbrev far : OpenLink
     far = awaited.asker.far
 
-    own_plain : IsPlainLink own
-    own_plain = links_plain given six distinct before rest at station in_it awaited.sent.handle own awaited.sent.is_open
-
-    far_plain : IsPlainLink far
-    far_plain = links_plain given six distinct before rest at far_side far_in awaited.asker.handle far awaited.asker.is_open
-
-    on_time : IsOnTime (facts_at given far_side before).turn.begun own
-    on_time =
-        subst (λ n. IsOnTime n own) awaited.turns
-        (entering_in_run taken given before rest station awaited.sent.handle own distinct in_it at awaited.sent.is_open own_plain)
-
-    one_link : AreOneLink own.setup far.setup
-    one_link = record {
-      fields = awaited.one.fields;
-      two = link_two understood given before rest station awaited.sent.handle own distinct six in_it at awaited.sent.is_open
-          ∙ sym (link_two understood given before rest far_side awaited.asker.handle far distinct six far_in at awaited.asker.is_open);
-      opened = awaited.one.opened;
-    }
-
-    sent_channel : (facts_in awaited.sent.link).event.channel ≡ (facts_in far).event.channel
-    sent_channel =
-        let entries = same_entries (facts_at given far_side before).turn.begun own far awaited.one on_time
-        (entering_in_run taken given before rest far_side awaited.asker.handle far distinct far_in at awaited.asker.is_open far_plain) in
-        sym (ap (λ (f : EndFacts). f.event.channel) (step_facts awaited.sent.link (PacketSent awaited.sent.slot))
-        ∙ ap (λ (event : ConnectionEvent). event.channel) (sent_in awaited.sent.slot (facts_in awaited.sent.link)).event)
-        ∙ (pasts_agree own.setup far.setup own.past far.past one_link own_plain far_plain entries).channel
-
-    short : 27 ≤ far.setup.link.max_rx
-    short =
-        let stations = always_by_calls given (AreStations given) (stations_kept given) six distinct
-        (record { each = λ one is. first_station (setup_at given one) }) before rest at in
-        open_has TakesShort 0 awaited.asker.handle (facts_at given far_side before).links far (stations.each far_side far_in).short awaited.asker.is_open
-
     good : end_verdict far.setup (facts_in far) octets ≡ Good
     good =
+        let sender = awaited.sent.link in
+        let ranges = sent_ranges true awaited.sent.slot sender
+        (ranges_in given before rest station awaited.sent.handle (link_after (PacketSent awaited.sent.slot) sender) distinct in_it at awaited.sent.is_open) in
+        let far_ranges = ranges_in given before rest far_side awaited.asker.handle far distinct far_in at awaited.asker.is_open in
         ap (end_verdict far.setup (facts_in far)) awaited.sent.packet
-        ∙ judged_good whole awaited.sent.link.setup far.setup (facts_in awaited.sent.link) (facts_in far)
-        (past_understood awaited.sent.link.setup awaited.sent.link.past far.setup (facts_in far)
-        (plain_front awaited.sent.link.setup awaited.sent.link.past (PacketSent awaited.sent.slot ∷ []) own_plain) one_link short sent_channel)
+        ∙ judged_good whole sender.setup far.setup (facts_in sender) (facts_in far)
+        (ranged_understand sender far ranges far_ranges awaited.one.fields (sym awaited.sent.channel_is ∙ awaited.channel_is))
 
     is_heard : ListensFor (facts_at given far_side before) channel octets
     is_heard =
         listens_for (facts_at given far_side before) awaited.asker.handle far channel octets awaited.listens awaited.wants awaited.asker.is_open
-        (awaited.sent.channel_is ∙ sent_channel) good
+        awaited.channel_is good
 
   -- ---- each line
 

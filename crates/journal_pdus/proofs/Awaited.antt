@@ -1,41 +1,52 @@
--- In every run of two stations, a central whose packet was heard listens in the next phase.
+-- In every run of two stations, a central whose packet was heard listens in the next phase, on the channel on which the
+-- answer is sent.
 use Rattle.std.proofs.Common.{◌≡◌, ℕ, zero, suc, ◌==◌, inl, inr, ◌&&◌, ◌||◌, not, Bool, true, false, Option, Some, None, List, [], ◌∷◌, ◌++◌, take, refl, sym, ap, subst, ◌∙◌, arith}
 use Rattle.std.specs.Prelude.{⊤, if◌then◌else◌}
 use Rattle.std.proofs.lemmas.Bool.{eqb-true}
 use Rattle.std.proofs.lemmas.Slice.Eq.{bytes_eq-Decides}
 use Rattle.air_frame.specs.Packet.{access_octets}
+use Rattle.journal_data.specs.link_model.declared.events.ConnectionEvent.{ConnectionEvent}
+use Rattle.journal_data.specs.link_model.Packets.{good_pdu}
 use Rattle.journal_data.specs.link_model.Step.{PacketSent}
 use Rattle.journal_data.specs.open_links.OpenLinks.{Links, OpenLink, facts_in, link_after, link_at}
 use Rattle.radio_replay.specs.declared.fates.Fate.{Fate}
 use Rattle.controller_model.specs.declared.doing.Doing.{Doing}
 use Rattle.controller_model.specs.declared.doing.Doing.TheVariants.{Advertises, CentralSends, CentralListens, PeripheralSends}
-use Rattle.controller_model.specs.Facts.{Setup, Facts, Sends, Listens}
-use Rattle.controller_model.specs.Heard.{heard, unheard}
+use Rattle.controller_model.specs.Facts.{Setup, Facts, Use, Sends, Listens}
+use Rattle.controller_model.specs.Heard.{has_room, heard, unheard}
 use Rattle.controller_model.specs.Outcome.{facts_passed}
 use Rattle.controller_model.specs.Sent.{SendsOn}
 use Rattle.controller_model.specs.Side.{facts_after, facts_of}
 use Rattle.controller_model.specs.Step.{Step}
+use Rattle.controller_model.proofs.Places.{link_receiving}
 use Rattle.run_model.specs.Feeding.{AreDistinct}
 use Rattle.run_model.specs.History.{Event, Hearing, Transmitted, has_received, packet_received, turns_begun}
 use Rattle.run_model.specs.LinkEnds.{HaveAddresses}
 use Rattle.run_model.specs.Links.{is_advertising}
 use Rattle.run_model.specs.Run.{Given, after_call, facts_at, hearings_of, setup_at, step_of, use_at}
 use Rattle.run_model.proofs.LinkEnds.{AreTaken, IsUnderstood, is_listener}
-use Rattle.run_model.proofs.Stations.{is_in, among, not_before}
+use Rattle.run_model.proofs.Stations.{is_in, among, in_more_other, in_more_same, not_before}
 use Rattle.run_model.proofs.Walk.{Place, NoTurn, AtFeeds, AtBegins, AfterPhases, AtPackets, AtListening, AtEnds, IsKept}
 use Rattle.journal_data.proofs.run_laws.ConnectInds.{on_channel}
-use Rattle.journal_data.proofs.run_laws.Hearings.{other_facts, own_facts, use_same, use_sent_at}
+use Rattle.journal_data.proofs.run_laws.Hearings.{other_facts, own_facts, use_same, use_sent_at, wanted_is}
 use Rattle.journal_data.proofs.run_laws.InAgreement.{differs_back}
 use Rattle.journal_data.proofs.run_laws.LinkPhases.{IsInPhase}
 use Rattle.journal_data.proofs.run_laws.OwnLinks.{sent_begins}
 use Rattle.journal_data.proofs.run_laws.SentPackets.{IsUseSent}
 use Rattle.journal_data.proofs.run_laws.TurnPlaces.{Within, at_stage, event_past}
+use Rattle.journal_data.proofs.run_laws.TurnSteps.{IsListening}
 use Rattle.journal_links.proofs.OfTwo.{of_two_stations}
 use Rattle.journal_packets.specs.Belonging.{have_one_access}
 use Rattle.journal_packets.proofs.Asked.{asked_called, asked_packet, asks_in, is_asked}
 use Rattle.journal_packets.proofs.SoFar.{IsBelongingSoFar, belonging_first, belonging_kept}
-use Rattle.journal_acks.proofs.Standing.{PhasedBy, phased_at}
+use Rattle.journal_acks.proofs.Standing.{PhasedBy, listens_wanted, phased_at, sends_on}
 use Rattle.journal_acks.proofs.TwoStations.{IsOfTwo, other_is, other_of}
+use Rattle.journal_acks.specs.link_calls.Phases.{HasPassed, IsNew, Stays, Takes}
+use Rattle.journal_acks.specs.link_calls.Turns.{sent_if}
+use Rattle.journal_acks.specs.link_calls.Uses.{sends_under}
+use Rattle.journal_acks.proofs.link_calls.LinkCalls.{off_sends, phase_under, receiving_event}
+use Rattle.journal_acks.proofs.link_calls.UnderHandles.{same_base}
+use Rattle.journal_slots.proofs.ExchangeSlots.{event_after_receiving, event_after_sending, event_received}
 use Rattle.journal_slots.proofs.OnAir.{either}
 
 -- ---- a central that asked
@@ -46,17 +57,26 @@ IsAsking handle (CentralSends other) = other ≡ handle
 IsAsking handle (CentralListens other) = other ≡ handle
 IsAsking handle other = ⊥
 
--- it does so on a link with the access address of these octets
-pub record IsAsker (facts : Facts) (octets : List ℕ) : Type 0 where
+-- a station hears on this channel: it wants to listen on it, and once it was called, to send on no other data channel
+abbrev pub Answers : Bool → ℕ → Use → Type 0
+Answers false channel want = want ≡ Listens channel
+Answers true channel want = (other : ℕ) (octets : List ℕ) → want ≡ Sends other octets → is_advertising other ≡ false → other ≡ channel
+
+-- it does so on a link with the access address of these octets, on the channel on which the other station, which wants
+-- this, hears it
+pub record IsAsker (facts : Facts) (called : Bool) (want : Use) (octets : List ℕ) : Type 0 where
   pub handle : ℕ
   pub far : OpenLink
   pub is_open : link_at handle facts.links ≡ Some far
   pub asks : IsAsking handle facts.turn.doing
   pub begins : take 4 octets ≡ access_octets far.setup.link.fields.access
+  pub answers : Answers called (facts_in far).event.channel want
 
 -- a packet of it was heard
-abbrev pub HasAsker : Given → List Event → ℕ → Type 0
-HasAsker given history station = (octets : List ℕ) → is_asked history station octets ≡ true → IsAsker (facts_at given (other_of station) history) octets
+abbrev pub HasAsker : Given → Bool → List Event → ℕ → Type 0
+HasAsker given called history station =
+    (octets : List ℕ) → is_asked history station octets ≡ true
+    → IsAsker (facts_at given (other_of station) history) called (use_at given station history) octets
 
 -- it is so from the first packet on, and up to the answer
 abbrev pub AskedWell : Given → Place → List Event → ℕ → Type 0
@@ -64,12 +84,13 @@ AskedWell given NoTurn history station = ⊤
 AskedWell given (AtFeeds done left) history station = ⊤
 AskedWell given (AtBegins done left) history station = ⊤
 AskedWell given (AfterPhases zero) history station = ⊤
-AskedWell given (AfterPhases (suc zero)) history station = HasAsker given history station
+AskedWell given (AfterPhases (suc zero)) history station = HasAsker given true history station
 AskedWell given (AfterPhases (suc (suc phases))) history station = ⊤
-AskedWell given (AtPackets zero done left) history station = HasAsker given history station
-AskedWell given (AtPackets (suc zero) done left) history station = (channel : ℕ) (octets : List ℕ) → use_at given station history ≡ Sends channel octets → HasAsker given history station
+AskedWell given (AtPackets zero done left) history station = HasAsker given false history station
+AskedWell given (AtPackets (suc zero) done left) history station =
+    (channel : ℕ) (octets : List ℕ) → use_at given station history ≡ Sends channel octets → HasAsker given true history station
 AskedWell given (AtPackets (suc (suc phases)) done left) history station = ⊤
-AskedWell given (AtListening zero done left) history station = HasAsker given history station
+AskedWell given (AtListening zero done left) history station = HasAsker given (is_in station done) history station
 AskedWell given (AtListening (suc phases) done left) history station = ⊤
 AskedWell given (AtEnds done left) history station = ⊤
 
@@ -77,8 +98,11 @@ pub record AreAskedWell (given : Given) (place : Place) (history : List Event) :
   pub so_far : IsBelongingSoFar given place history
   pub asked : (station : ℕ) → is_in station given.stations ≡ true → AskedWell given place history station
 
-asker_same : (one after : Facts) (octets : List ℕ) → after ≡ one → IsAsker one octets → IsAsker after octets
-asker_same one after octets same is = subst (λ f. IsAsker f octets) (sym same) is
+asker_same : (one after : Facts) (called called_too : Bool) (want want_too : Use) (octets : List ℕ) → after ≡ one → called_too ≡ called → want_too ≡ want
+    → IsAsker one called want octets → IsAsker after called_too want_too octets
+asker_same one after called called_too want want_too octets same calls uses is =
+    subst (λ f. IsAsker f called_too want_too octets) (sym same)
+    (subst (λ b. IsAsker one b want_too octets) (sym calls) (subst (λ u. IsAsker one called u octets) (sym uses) is))
 
 -- ---- the central takes that it heard nothing
 
@@ -107,16 +131,54 @@ listens_next : (setup : Setup) (received : Option (List ℕ)) (handle : ℕ) (fa
 listens_next setup None handle facts phase asks = goes_on handle facts facts.turn.doing phase asks
 listens_next setup (Some octets) handle facts phase asks = deaf_goes_on setup octets handle facts facts.turn.doing phase asks
 
-asker_next : (setup : Setup) (received : Option (List ℕ)) (facts : Facts) (octets : List ℕ) → IsInPhase 0 facts.links facts.turn.doing → IsAsker facts octets
-    → IsAsker (facts_after setup facts (step_of received)) octets
-asker_next setup received facts octets phase asker =
+asker_next : (setup : Setup) (received : Option (List ℕ)) (facts : Facts) (called : Bool) (want : Use) (octets : List ℕ) → IsInPhase 0 facts.links facts.turn.doing
+    → IsAsker facts called want octets → IsAsker (facts_after setup facts (step_of received)) called want octets
+asker_next setup received facts called want octets phase asker =
     let next = listens_next setup received asker.handle facts phase asker.asks in record {
       handle = asker.handle;
       far = asker.far;
       is_open = ap (link_at asker.handle) next.links ∙ asker.is_open;
       asks = next.asks;
       begins = asker.begins;
+      answers = asker.answers;
     }
+
+-- ---- an answer goes out on the channel on which its packet was heard
+
+received_channel : (slot : ℕ) (found : Option (List ℕ)) (event : ConnectionEvent) → (event_received slot found event).channel ≡ event.channel
+received_channel slot None event = refl
+received_channel slot (Some pdu) event = refl
+
+taken_channel : (handle : ℕ) (room : Bool) (octets : List ℕ) (facts : Facts) (link : OpenLink)
+    → (facts_in (link_receiving handle room octets facts link)).event.channel ≡ (facts_in link).event.channel
+taken_channel handle room octets facts link =
+    let slot = facts.turn.slot in
+    ap (λ (e : ConnectionEvent). e.channel) (receiving_event handle room octets facts link ∙ event_after_receiving slot octets room link)
+    ∙ received_channel slot (good_pdu link.setup (facts_in link) octets) (facts_in link).event
+
+module _ (setup : Setup) (received : Option (List ℕ)) (facts : Facts) (listens : IsListening facts facts.turn.doing) (channel : ℕ) (wants : facts.wanted ≡ Listens channel) where
+  abbrev passed : Facts
+  passed = facts_after setup facts (step_of received)
+
+  passed_on : (handle slot : ℕ) (link : OpenLink) → sends_under handle passed.turn.doing ≡ true
+      → HasPassed facts (has_room setup facts) received handle passed.turn.doing (link_after (PacketSent slot) link) → (facts_in link).event.channel ≡ channel
+  passed_on handle slot link sends (IsNew end made opened off) = absurd (let h : true ≡ false = sym sends ∙ off_sends handle passed.turn.doing off in absurd cc)
+  passed_on handle slot link sends (Stays was none nothing listened) = absurd (let h : true ≡ false = sym sends ∙ none in absurd cc)
+  passed_on handle slot link sends (Takes base octets was some on same) =
+      let taken = link_receiving handle (has_room setup facts) octets facts base in
+      let sent : link_after (PacketSent slot) link ≡ link_after (PacketSent facts.turn.slot) taken =
+      same ∙ ap (λ b. sent_if b facts.turn.slot taken) sends in
+      let one : Listens (facts_in base).event.channel ≡ Listens channel = sym (listens_wanted facts handle base facts.turn.doing on listens was) ∙ wants in
+      let heard_on : (facts_in base).event.channel ≡ channel = cc in
+      ap (λ (l : OpenLink). (facts_in l).event.channel) (same_base slot facts.turn.slot link taken sent)
+      ∙ taken_channel handle (has_room setup facts) octets facts base ∙ heard_on
+
+  answers_there : (other : ℕ) (octets : List ℕ) → IsUseSent passed (Sends other octets) → is_advertising other ≡ false → other ≡ channel
+  answers_there other octets (inl advertises) off = absurd (let h : true ≡ false = sym (on_channel other advertises.on_channel) ∙ off in absurd cc)
+  answers_there other octets (inr link) off =
+      link.channel_is
+      ∙ passed_on link.handle passed.turn.slot link.link (sends_on link.handle passed.turn.doing link.sends)
+      (phase_under setup facts received link.handle (link_after (PacketSent passed.turn.slot) link.link) link.is_open)
 
 -- ---- a packet
 
@@ -127,16 +189,18 @@ asks_first handle links (Advertises channel) phase sends = absurd sends
 asks_first handle links doing phase sends = absurd sends
 
 -- what is sent on a data channel in the first phase is sent by a central
-asker_sends : (facts : Facts) (channel : ℕ) (sent octets : List ℕ) → IsUseSent facts (Sends channel sent) → IsInPhase 0 facts.links facts.turn.doing
-    → is_advertising channel ≡ false → have_one_access sent octets ≡ true → IsAsker facts octets
-asker_sends facts channel sent octets (inl advertises) phase off same =
+asker_sends : (facts : Facts) (channel : ℕ) (sent octets : List ℕ) (want : Use) → IsUseSent facts (Sends channel sent) → IsInPhase 0 facts.links facts.turn.doing
+    → is_advertising channel ≡ false → have_one_access sent octets ≡ true → want ≡ Listens channel → IsAsker facts false want octets
+asker_sends facts channel sent octets want (inl advertises) phase off same listens =
     absurd (let h : true ≡ false = sym (on_channel channel advertises.on_channel) ∙ off in absurd cc)
-asker_sends facts channel sent octets (inr link) phase off same = record {
+asker_sends facts channel sent octets want (inr link) phase off same listens = record {
   handle = link.handle;
   far = link_after (PacketSent facts.turn.slot) link.link;
   is_open = link.is_open;
   asks = asks_first link.handle facts.links facts.turn.doing phase link.sends;
   begins = sym ((bytes_eq-Decides (take 4 sent) (take 4 octets)).0 same) ∙ ap (take 4) link.packet ∙ sent_begins link.link.setup (facts_in link.link);
+  answers = listens
+      ∙ ap Listens (link.channel_is ∙ sym (ap (λ (e : ConnectionEvent). e.channel) (event_after_sending facts.turn.slot link.link)));
 }
 
 -- it was received, on a data channel, with the same access address
@@ -175,36 +239,40 @@ module _ (given : Given) (pair : IsOfTwo given) (six : HaveAddresses given) wher
     asked_is octets =
         asked_packet given pair fates sender channel sent history station octets (of_two_stations given pair sender sender_in) (of_two_stations given pair station in_it)
 
-    old_asker : (octets : List ℕ) → IsAsker (facts_at given (other_of station) history) octets → IsAsker (facts_at given (other_of station) after) octets
-    old_asker octets is = asker_same _ _ octets (same_facts (other_of station)) is
+    same_use : use_at given station after ≡ use_at given station history
+    same_use = use_same given station history after (event_past station history (Transmitted sender channel sent hearings) refl)
+
+    old_asker : (called : Bool) (octets : List ℕ) → IsAsker (facts_at given (other_of station) history) called (use_at given station history) octets
+        → IsAsker (facts_at given (other_of station) after) called (use_at given station after) octets
+    old_asker called octets is = asker_same _ _ called called _ _ octets (same_facts (other_of station)) refl same_use is
 
     -- in the first phase
-    new_asker : phases ≡ 0 → (octets : List ℕ) → asks_in station channel sent hearings octets ≡ true → IsAsker (facts_at given (other_of station) history) octets
+    new_asker : phases ≡ 0 → (octets : List ℕ) → asks_in station channel sent hearings octets ≡ true
+        → IsAsker (facts_at given (other_of station) history) false (use_at given station history) octets
     new_asker first octets asks =
         let parts = not_advertising (has_received station hearings) (is_advertising channel) (have_one_access sent octets) asks in
         let listener = is_listener given fates channel sent history sender station parts.received_is in
         let one = other_is given pair station sender in_it sender_in (differs_back station sender listener.differs) in
         let uses = use_sent_at given six (AtPackets phases done (sender ∷ left)) history so_far.asked.hearing.stand sender sender_in channel sent wanted in
         let phase = (stands phases done (sender ∷ left) history so_far sender sender_in).phase in
-        subst (λ n. IsAsker (facts_at given n history) octets) one
-        (asker_sends (facts_at given sender history) channel sent octets uses
-        (subst (λ n. IsInPhase n (facts_at given sender history).links (facts_at given sender history).turn.doing) first phase) parts.off_is parts.same_is)
+        subst (λ n. IsAsker (facts_at given n history) false (use_at given station history) octets) one
+        (asker_sends (facts_at given sender history) channel sent octets (use_at given station history) uses
+        (subst (λ n. IsInPhase n (facts_at given sender history).links (facts_at given sender history).turn.doing) first phase) parts.off_is parts.same_is listener.listens)
 
-    first_packet : phases ≡ 0 → HasAsker given history station → HasAsker given after station
+    first_packet : phases ≡ 0 → HasAsker given false history station → HasAsker given false after station
     first_packet first has = λ octets asked. elim (either _ _ (sym (asked_is octets) ∙ asked)) [
-      | inl before ↦ old_asker octets (has octets before)
-      | inr now ↦ old_asker octets (new_asker first octets now)
+      | inl before ↦ old_asker false octets (has octets before)
+      | inr now ↦ old_asker false octets (new_asker first octets now)
     ]
 
     -- who sends an answer hears nothing meanwhile
-    second_packet : (on : ℕ) (own : List ℕ) → use_at given station after ≡ Sends on own → HasAsker given history station → HasAsker given after station
+    second_packet : (on : ℕ) (own : List ℕ) → use_at given station after ≡ Sends on own → HasAsker given true history station → HasAsker given true after station
     second_packet on own wants has = λ octets asked. elim (either _ _ (sym (asked_is octets) ∙ asked)) [
-      | inl before ↦ old_asker octets (has octets before)
+      | inl before ↦ old_asker true octets (has octets before)
       | inr now ↦
           let parts = not_advertising (has_received station hearings) (is_advertising channel) (have_one_access sent octets) now in
           let listener = is_listener given fates channel sent history sender station parts.received_is in
-          let own_use = use_same given station history after (event_past station history (Transmitted sender channel sent hearings) refl) in
-          let h : Sends on own ≡ Listens channel = sym wants ∙ own_use ∙ listener.listens in absurd cc
+          let h : Sends on own ≡ Listens channel = sym wants ∙ same_use ∙ listener.listens in absurd cc
     ]
 
   packet_asked : (phases : ℕ) (fates : List Fate) (done left : List ℕ) (sender channel : ℕ) (sent : List ℕ) (history : List Event) → given.stations ≡ done ++ sender ∷ left
@@ -237,41 +305,85 @@ module _ (given : Given) (pair : IsOfTwo given) (six : HaveAddresses given) wher
   phase_asked (suc zero) history so_far station in_it has = λ channel octets wanted. has
   phase_asked (suc (suc phases)) history so_far station in_it has = tt
 
-  heard_asked : (phases : ℕ) (history : List Event) (station : ℕ) → AskedWell given (AtListening phases given.stations []) history station
-      → AskedWell given (AfterPhases (suc phases)) history station
-  heard_asked zero history station has = has
-  heard_asked (suc phases) history station has = tt
+  heard_asked : (phases : ℕ) (history : List Event) (station : ℕ) → is_in station given.stations ≡ true
+      → AskedWell given (AtListening phases given.stations []) history station → AskedWell given (AfterPhases (suc phases)) history station
+  heard_asked zero history station in_it has = subst (λ b. HasAsker given b history station) in_it has
+  heard_asked (suc phases) history station in_it has = tt
 
   -- ---- a call
 
+  module _ (distinct : AreDistinct given.stations) (done left : List ℕ) (caller : ℕ) (history : List Event) (are : given.stations ≡ done ++ caller ∷ left)
+      (so_far : IsBelongingSoFar given (AtListening 0 done (caller ∷ left)) history)
+      (so_far_called : IsBelongingSoFar given (AtListening 0 (done ++ caller ∷ []) left) (after_call given caller (step_of (packet_received caller history)) history)) where
+    abbrev step : Step
+    step = step_of (packet_received caller history)
+
+    abbrev history_called : List Event
+    history_called = after_call given caller step history
+
+    out : is_in caller done ≡ false
+    out = not_before given.stations done left caller distinct are
+
+    phased : PhasedBy given history caller (at_stage (Within 0) (turns_begun history))
+    phased =
+        subst (λ b. PhasedBy given history caller (if b then at_stage (Within 1) (turns_begun history) else at_stage (Within 0) (turns_begun history))) out
+        (phased_at given (AtListening 0 done (caller ∷ left)) history so_far.asked.hearing.stand caller (among given.stations done left caller are))
+
+    -- the central may be called
+    far_called : (far : ℕ) (called : Bool) (want : Use) (octets : List ℕ) → IsAsker (facts_at given far history) called want octets → (same : Bool) → (far == caller) ≡ same
+        → IsAsker (facts_at given far history_called) called want octets
+    far_called far called want octets asker false differs =
+        asker_same _ _ called called want want octets (other_facts given caller step history far differs) refl refl asker
+    far_called far called want octets asker true is =
+        let equal = eqb-true far caller is in
+        let now = subst (λ n. IsAsker (facts_at given n history) called want octets) equal asker in
+        subst (λ n. IsAsker (facts_at given n history_called) called want octets) (sym equal)
+        (asker_same _ _ called called want want octets (own_facts given caller step history) refl refl
+        (asker_next (setup_at given caller) (packet_received caller history) (facts_at given caller history) called want octets phased.phase now))
+
+    -- or the station that heard it, which may answer
+    caller_answers : (channel : ℕ) → use_at given caller history ≡ Listens channel → Answers true channel (use_at given caller history_called)
+    caller_answers channel listens = λ other octets wanted off.
+        let own = own_facts given caller step history in
+        let uses = use_sent_at given six (AtListening 0 (done ++ caller ∷ []) left) history_called so_far_called.asked.hearing.stand caller (among given.stations done left caller are) other octets wanted in
+        answers_there (setup_at given caller) (packet_received caller history) (facts_at given caller history) phased.uses.in_turn.listens channel
+        (wanted_is given caller history ∙ listens) other octets (subst (λ (f : Facts). IsUseSent f (Sends other octets)) own uses) off
+
+    own_called : (station : ℕ) (far : Facts) (octets : List ℕ) → IsAsker far (is_in station done) (use_at given station history) octets → (same : Bool) → (station == caller) ≡ same
+        → IsAsker far (is_in station (done ++ caller ∷ [])) (use_at given station history_called) octets
+    own_called station far octets asker false differs =
+        let facts_same = other_facts given caller step history station differs in
+        asker_same far far (is_in station done) (is_in station (done ++ caller ∷ [])) (use_at given station history) (use_at given station history_called) octets refl
+        (in_more_other station caller done differs)
+        (sym (wanted_is given station history_called) ∙ ap (λ (f : Facts). f.wanted) facts_same ∙ wanted_is given station history) asker
+    own_called station far octets asker true is =
+        let equal = eqb-true station caller is in
+        let channel = (facts_in asker.far).event.channel in
+        let was = subst (λ b. Answers b channel (use_at given station history)) (ap (λ n. is_in n done) equal ∙ out) asker.answers in
+        let now = caller_answers channel (ap (λ n. use_at given n history) (sym equal) ∙ was) in record {
+          handle = asker.handle;
+          far = asker.far;
+          is_open = asker.is_open;
+          asks = asker.asks;
+          begins = asker.begins;
+          answers = subst (λ b. Answers b channel (use_at given station history_called)) (sym (in_more_same station caller done is))
+              (subst (λ n. Answers true channel (use_at given n history_called)) (sym equal) now);
+        }
+
+    first_called : (station : ℕ) → HasAsker given (is_in station done) history station → HasAsker given (is_in station (done ++ caller ∷ [])) history_called station
+    first_called station has = λ octets asked.
+        own_called station (facts_at given (other_of station) history_called) octets
+        (far_called (other_of station) (is_in station done) (use_at given station history) octets
+        (has octets (sym (asked_called given caller step history station octets) ∙ asked)) (other_of station == caller) refl)
+        (station == caller) refl
+
   call_asked : AreDistinct given.stations → (phases : ℕ) (done left : List ℕ) (caller : ℕ) (history : List Event) → given.stations ≡ done ++ caller ∷ left
-      → IsBelongingSoFar given (AtListening phases done (caller ∷ left)) history → (station : ℕ) → is_in station given.stations ≡ true
-      → AskedWell given (AtListening phases done (caller ∷ left)) history station
+      → IsBelongingSoFar given (AtListening phases done (caller ∷ left)) history
+      → IsBelongingSoFar given (AtListening phases (done ++ caller ∷ []) left) (after_call given caller (step_of (packet_received caller history)) history)
+      → (station : ℕ) → AskedWell given (AtListening phases done (caller ∷ left)) history station
       → AskedWell given (AtListening phases (done ++ caller ∷ []) left) (after_call given caller (step_of (packet_received caller history)) history) station
-  call_asked distinct (suc phases) done left caller history are so_far station in_it has = tt
-  call_asked distinct zero done left caller history are so_far station in_it has = λ octets asked.
-      by octets (has octets (sym (asked_called given caller step history station octets) ∙ asked)) (other_of station == caller) refl
-    where
-      step : Step
-      step = step_of (packet_received caller history)
-
-      is_one : is_in caller given.stations ≡ true
-      is_one = among given.stations done left caller are
-
-      phase : IsInPhase 0 (facts_at given caller history).links (facts_at given caller history).turn.doing
-      phase = (subst (λ b. PhasedBy given history caller (if b then at_stage (Within 1) (turns_begun history) else at_stage (Within 0) (turns_begun history)))
-          (not_before given.stations done left caller distinct are)
-          (phased_at given (AtListening 0 done (caller ∷ left)) history so_far.asked.hearing.stand caller is_one)).phase
-
-      by : (octets : List ℕ) → IsAsker (facts_at given (other_of station) history) octets → (same : Bool) → (other_of station == caller) ≡ same
-          → IsAsker (facts_at given (other_of station) (after_call given caller step history)) octets
-      by octets asker false differs = asker_same _ _ octets (other_facts given caller step history (other_of station) differs) asker
-      by octets asker true is =
-          let equal = eqb-true (other_of station) caller is in
-          let now = subst (λ n. IsAsker (facts_at given n history) octets) equal asker in
-          subst (λ n. IsAsker (facts_at given n (after_call given caller step history)) octets) (sym equal)
-          (asker_same _ _ octets (own_facts given caller step history)
-          (asker_next (setup_at given caller) (packet_received caller history) (facts_at given caller history) octets phase now))
+  call_asked distinct (suc phases) done left caller history are so_far next station has = tt
+  call_asked distinct zero done left caller history are so_far next station has = first_called distinct done left caller history are so_far next station has
 
   -- ---- along a run
 
@@ -298,13 +410,14 @@ module _ (given : Given) (pair : IsOfTwo given) (six : HaveAddresses given) wher
       so_far = kept.on_air phases history is.so_far;
       asked = λ station in_it. air_asked phases history station (is.asked station in_it);
     };
-    on_hearing = λ phases done left station history are some is. record {
-      so_far = kept.on_hearing phases done left station history are some is.so_far;
-      asked = λ one in_it. call_asked distinct phases done left station history are is.so_far one in_it (is.asked one in_it);
-    };
+    on_hearing = λ phases done left station history are some is.
+        let next = kept.on_hearing phases done left station history are some is.so_far in record {
+          so_far = next;
+          asked = λ one in_it. call_asked distinct phases done left station history are is.so_far next one (is.asked one in_it);
+        };
     on_heard = λ phases history is. record {
       so_far = kept.on_heard phases history is.so_far;
-      asked = λ station in_it. heard_asked phases history station (is.asked station in_it);
+      asked = λ station in_it. heard_asked phases history station in_it (is.asked station in_it);
     };
     on_phases = λ history is. record { so_far = kept.on_phases history is.so_far; asked = λ station in_it. tt };
     on_end = λ done left station history are some is. record { so_far = kept.on_end done left station history are some is.so_far; asked = λ one in_it. tt };

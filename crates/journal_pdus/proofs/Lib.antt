@@ -2,11 +2,13 @@
 mod Together
 mod NextPieces
 mod FixedNow
+mod FixedData
 mod SettledEnds
 mod SettledRuns
 mod SettledEarly
 mod EndingLater
 mod PendingLines
+mod TakenNotes
 mod TakenPdus
 mod TakenInRuns
 mod SendingEnd
@@ -24,7 +26,6 @@ mod Law
 mod Awaited
 mod AnswersHeard
 mod CentralsOpen
-mod EventSlots
 mod PacketTurns
 mod ResetAnswers
 mod ResetsLeaveNone

@@ -19,8 +19,6 @@ use Rattle.journal_data.proofs.link_model.Hearing.{IsHeardWhole}
 use Rattle.journal_data.specs.open_links.OpenLinks.{OpenLink, facts_in, link_after, link_at}
 use Rattle.journal_data.proofs.open_links.Handles.{handle_is}
 use Rattle.journal_data.proofs.plain_links.Growing.{plain_front}
-use Rattle.journal_data.proofs.plain_links.Idle.{past_idle}
-use Rattle.journal_data.proofs.plain_links.Steps.{pdu_plain}
 use Rattle.controller_model.specs.declared.doing.Doing.TheVariants.{PeripheralSends}
 use Rattle.controller_model.specs.Step.{Step, HostOctet, TurnBegins, TurnEnds}
 use Rattle.controller_model.specs.Facts.{Facts}
@@ -44,11 +42,10 @@ use Rattle.run_model.proofs.NoteLines.{line_in_call, to_line}
 use Rattle.run_model.proofs.Places.{each_at}
 use Rattle.run_model.proofs.Stations.{among, is_in}
 use Rattle.run_model.proofs.Walk.{Place, AtBegins, AtListening}
-use Rattle.journal_data.specs.run_laws.Plainness.{IsPlainLink}
 use Rattle.journal_data.proofs.run_laws.Agreed.{ack_of}
 use Rattle.journal_data.proofs.run_laws.DistinctAccess.{AreApart}
 use Rattle.journal_data.proofs.run_laws.Hearings.{own_facts}
-use Rattle.journal_data.proofs.run_laws.TurnPlaces.{AllStand, stands_at, turned}
+use Rattle.journal_data.proofs.run_laws.TurnPlaces.{stands_at, turned}
 use Rattle.journal_packets.proofs.AccessOrder.{AreNth}
 use Rattle.journal_packets.proofs.SoFar.{IsBelongingSoFar}
 use Rattle.journal_acks.proofs.link_calls.CallNotes.{HasNoData, SendsNone, all_more, end_noted, is_sending, no_data, notes_starting, octet_noted, start_noted}
@@ -77,8 +74,8 @@ use Rattle.journal_data.proofs.SameGiven.{WasGiven, given_in, own_same, turn_giv
 use Rattle.journal_data.proofs.Submitting.{call_submits}
 use Rattle.journal_pdus.specs.Exchanged.{AllAreNext}
 use Rattle.journal_pdus.specs.Waiting.{IsNextPdu, data_of_lines, next_pdu, octets_sent}
-use Rattle.journal_pdus.proofs.FixedNow.{AllSendFixed, FixedIfPlain, IsFixed, fixed_first, fixed_kept}
-use Rattle.journal_pdus.proofs.NextPieces.{IsFixedNow, piece_is_next}
+use Rattle.journal_pdus.proofs.FixedNow.{AllSendFixed, HasFixedNow, IsFixed, fixed_first, fixed_kept}
+use Rattle.journal_pdus.proofs.FixedData.{HasDataFixed, next_is, plain_data}
 
 -- ---- a new PDU is noted last in its call
 
@@ -179,8 +176,7 @@ record IsSendingIn (given : Given) (station handle : ℕ) (history : List Event)
   slot : ℕ
   now : link_at handle (facts_after (setup_at given station) (facts_at given station history) step).links ≡ Some (link_after (PacketSent slot) base)
   sent : (ack_of base).sent ≡ (ack_of old).sent
-  plain : IsPlainLink base
-  fixed : IsFixedNow (facts_in base).outgoing
+  fixed : HasDataFixed (facts_in base)
 
 next_at : (given : Given) (station handle : ℕ) (history : List Event) (step : Step) (base : OpenLink) → (setup_at given station).links ≤ 4096
     → (setup_at given station).host_buffers ≡ 8 → IsWell given station history → IsSendingIn given station handle history step base
@@ -205,8 +201,7 @@ next_at given station handle history step base few eight well sending =
     ap length (sym (data_nonempty (ack_of base).sent) ∙ sym (lines_data number 1 (nonempty is_empty (ack_of base).sent)))
     ∙ ap (λ (all : List PduLine). length (data_of_lines all)) lines_are in
     record {
-      next = pdu_plain base.setup (facts_in base) (past_idle base.setup base.past sending.plain) ∙ sending.fixed.next
-          ∙ piece_is_next base.setup base.past sending.plain ∙ (λ i. next_pdu [] 27 (given_is i) (sent_is i));
+      next = next_is base.setup base.past sending.fixed ∙ (λ i. next_pdu [] 27 (given_is i) (sent_is i));
       numbered = ap (λ n. n + 1) (sym (lines_length number 1 (nonempty is_empty (ack_of base).sent)) ∙ ap length lines_are);
     }
 
@@ -234,25 +229,18 @@ end_next given history station =
     let plain = end_noted HasNoData no_data.feeds setup facts in
     record { last = SendsNoNew (plain_sent (notes_after setup facts TurnEnds) plain); of = OfNone plain }
 
--- what a station sends as it is to do something, its end fixed
-sends_fixed : (given : Given) (place : Place) (history : List Event) → AllStand given place history → (station : ℕ) → is_in station given.stations ≡ true
-    → AllSendFixed (facts_at given station history)
-sends_fixed given place history stand station is =
-    let setup = setup_at given station in
-    let at = stands_at place station (turns_begun history) in
-    (turned setup (IsFixed setup) (fixed_kept setup) (past_of station history) at (fixed_first setup) (stand station is)).sends
+-- the end that is to send has fixed no control PDU, in this turn
+abbrev AllSendData : Facts → Type 0
+AllSendData facts = (handle slot : ℕ) (base : OpenLink) → sends_under handle facts.turn.doing ≡ true → link_at handle facts.links ≡ Some (link_after (PacketSent slot) base)
+    → HasDataFixed (facts_in base)
 
--- the end that sends after a step
-fixed_base : (facts : Facts) (other slot : ℕ) (base : OpenLink) → AllSendFixed facts → sends_under other facts.turn.doing ≡ true
-    → link_at other facts.links ≡ Some (link_after (PacketSent slot) base) → FixedIfPlain base
-fixed_base facts other slot base all sends at =
-    let sending = all other (link_after (PacketSent slot) base) sends at in
-    subst FixedIfPlain (sym (same_base slot facts.turn.slot base sending.link sending.after_is)) sending.fixed
-
--- and it was plain as it sent
-base_plain : (facts : Facts) (other slot : ℕ) (base : OpenLink) → AllPlain facts.links → link_at other facts.links ≡ Some (link_after (PacketSent slot) base)
-    → IsPlainLink base
-base_plain facts other slot base plain at = plain_front base.setup base.past (PacketSent slot ∷ []) (plain other (link_after (PacketSent slot) base) at)
+-- where its links are plain
+plain_sends : (facts : Facts) → AllSendFixed facts → AllPlain facts.links → AllSendData facts
+plain_sends facts all plain = λ handle slot base sends at.
+    let after = link_after (PacketSent slot) base in
+    let sending = all handle after sends at in
+    plain_data base.setup base.past (plain_front base.setup base.past (PacketSent slot ∷ []) (plain handle after at))
+    (subst (λ (l : OpenLink). HasFixedNow l.past) (sym (same_base slot facts.turn.slot base sending.link sending.after_is)) sending.fixed)
 
 -- the note of it is under the handle of its link
 under_own : (history : List Event) (station own handle count : ℕ) (pdu : Pdu) → own ≡ handle → IsNextNote history station handle count pdu
@@ -264,10 +252,9 @@ module _ (given : Given) (few_links : HaveFewLinks given) (eight : (station : �
   abbrev facts : Facts
   facts = facts_at given station history
 
-  begin_last : (slot : ℕ) (on : Bool) → AllSendFixed (facts_after (setup_at given station) facts (TurnBegins slot on))
-      → AllPlain (facts_after (setup_at given station) facts (TurnBegins slot on)).links
+  begin_last : (slot : ℕ) (on : Bool) → AllSendData (facts_after (setup_at given station) facts (TurnBegins slot on))
       → IsSentLast (IsNextNote history station) (notes_after (setup_at given station) facts (TurnBegins slot on))
-  begin_last slot on all plain = by (sends_from (outcome_begun slot on facts).next (outcome_begun slot on facts).facts)
+  begin_last slot on all = by (sends_from (outcome_begun slot on facts).next (outcome_begun slot on facts).facts)
     where
       none : AreNot is_sending (notes_starting slot (facts_at given station history))
       none = plain_sent (notes_starting slot facts) (start_noted HasNoData no_data slot facts)
@@ -283,13 +270,11 @@ module _ (given : Given) (few_links : HaveFewLinks given) (eight : (station : �
           let outcome = outcome_begun slot on facts in
           let now = outcome.facts.turn.slot in
           let after = link_after (PacketSent now) base in
-          let next = facts_after setup facts (TurnBegins slot on) in
           let sent = sent_at now other outcome.next outcome.facts.links base sends found in
           let begun = begins_under setup facts slot on other after sent in
           let own = handle_is 0 other outcome.facts.links base (own_begun setup slot on facts (own_handles setup (past_of station history))).handles found in
           let base_is : begun.base ≡ base = let some : Some begun.base ≡ Some base = sym begun.found ∙ found in cc in
           let ack = base_ack facts slot on other _ after begun in
-          let is_plain = base_plain next other now base plain sent in
           subst (λ (more : List Note). IsSentLast (IsNextNote history station) (start ++ more)) (sym noted)
           (sent_by (IsNextNote history station) start base none
           (under_own history station base.setup.link.handle other (numbered (ack_of base).sent + 1) (pdu_fixed (facts_in base)) own
@@ -300,32 +285,28 @@ module _ (given : Given) (few_links : HaveFewLinks given) (eight : (station : �
             slot = now;
             now = sent;
             sent = ap (λ (l : OpenLink). (ack_of l).sent) (sym base_is) ∙ ap (λ a. a.sent) ack;
-            plain = is_plain;
-            fixed = fixed_base next other now base all sends sent is_plain;
+            fixed = all other now base sends sent;
           }))))
 
   reply_last : (other : ℕ) (octets : List ℕ) (base : OpenLink) (starts : List Note) (replies : Bool) → link_at other facts.links ≡ Some base → AreNot is_sending starts
       → IsInTurn (step_of (Some octets))
       → facts_after (setup_at given station) facts (step_of (Some octets))
       ≡ facts_doing (reply_if replies other) (link_received other (has_room (setup_at given station) facts) octets facts)
-      → AllSendFixed (facts_after (setup_at given station) facts (step_of (Some octets)))
-      → AllPlain (facts_after (setup_at given station) facts (step_of (Some octets))).links
+      → AllSendData (facts_after (setup_at given station) facts (step_of (Some octets)))
       → IsSentLast (IsNextNote history station) (starts ++ notes_doing (reply_if replies other) (link_received other (has_room (setup_at given station) facts) octets facts))
-  reply_last other octets base starts false was none in_turn after_is all plain =
+  reply_last other octets base starts false was none in_turn after_is all =
       SendsNoNew (subst (AreNot is_sending) (sym (append-nil starts)) none)
-  reply_last other octets base starts true was none in_turn after_is all plain =
+  reply_last other octets base starts true was none in_turn after_is all =
       let setup = setup_at given station in
       let room = has_room setup facts in
       let slot = facts.turn.slot in
       let taken = link_receiving other room octets facts base in
       let links = (link_received other room octets facts).links in
-      let next = facts_doing (PeripheralSends other) (link_received other room octets facts) in
       let here = received_at other octets room facts base was in
       let sends = same_number other in
       let sent = sent_at slot other (PeripheralSends other) links taken sends here in
       let own = ap (λ (s : EndSetup). s.link.handle) (receiving_setup other room octets facts base)
       ∙ handle_is 0 other facts.links base (own_handles setup (past_of station history)).handles was in
-      let is_plain = base_plain next other slot taken (subst (λ (f : Facts). AllPlain f.links) after_is plain) sent in
       subst (λ (more : List Note). IsSentLast (IsNextNote history station) (starts ++ more)) (sym (ap (notes_sent slot) here))
       (sent_by (IsNextNote history station) starts taken none
       (under_own history station taken.setup.link.handle other (numbered (ack_of taken).sent + 1) (pdu_fixed (facts_in taken)) own
@@ -336,14 +317,12 @@ module _ (given : Given) (few_links : HaveFewLinks given) (eight : (station : �
         slot = slot;
         now = ap (λ (f : Facts). link_at other f.links) after_is ∙ sent;
         sent = ap (λ (a : Acknowledgement). a.sent) (receiving_ack other room octets facts base) ∙ (sent_same slot octets room base).sent;
-        plain = is_plain;
-        fixed = fixed_base next other slot taken (subst AllSendFixed after_is all) sends sent is_plain;
+        fixed = subst AllSendData after_is all other slot taken sends sent;
       }))))
 
-  phase_last : (received : Option (List ℕ)) → AllSendFixed (facts_after (setup_at given station) facts (step_of received))
-      → AllPlain (facts_after (setup_at given station) facts (step_of received)).links
+  phase_last : (received : Option (List ℕ)) → AllSendData (facts_after (setup_at given station) facts (step_of received))
       → IsSentLast (IsNextNote history station) (notes_after (setup_at given station) facts (step_of received))
-  phase_last received all plain = by (phase_of (setup_at given station) facts received)
+  phase_last received all = by (phase_of (setup_at given station) facts received)
     where
       found_last_in : (other : ℕ) (octets : List ℕ) → received ≡ Some octets → facts_after (setup_at given station) (facts_at given station history) (step_of (Some octets))
           ≡ facts_passed (link_heard (setup_at given station) other octets (facts_at given station history))
@@ -356,8 +335,7 @@ module _ (given : Given) (few_links : HaveFewLinks given) (eight : (station : �
           let taken = (link_heard (setup_at given station) other octets facts).notes in
           reply_last other octets base taken (replies_in facts.turn.slot room (link_at other facts.links) octets) was
           (none_sent taken (received_noted SendsNone taking_sends (setup_at given station) other octets facts))
-          (pass_in_turn (Some octets)) after_is (subst (λ may. AllSendFixed (facts_after (setup_at given station) facts (step_of may))) some all)
-          (subst (λ may. AllPlain (facts_after (setup_at given station) facts (step_of may)).links) some plain)
+          (pass_in_turn (Some octets)) after_is (subst (λ may. AllSendData (facts_after (setup_at given station) facts (step_of may))) some all)
 
       by : IsPhaseOf (setup_at given station) (facts_at given station history) received
           → IsSentLast (IsNextNote history station) (notes_after (setup_at given station) (facts_at given station history) (step_of received))
@@ -371,18 +349,15 @@ module _ (given : Given) (few_links : HaveFewLinks given) (eight : (station : �
 module _ (whole : IsHeardWhole) (given : Given) (Q : Place → List Event → Type 0) (known : AreKnown given Q) (are_two : IsOfTwo given) (few_links : HaveFewLinks given) (six : HaveAddresses given)
     (distinct : AreDistinct given.stations) (eight : (station : ℕ) → (setup_at given station).host_buffers ≡ 8) where
   -- what a station sends after a call
-  own_fixed : (place : Place) (station : ℕ) (step : Step) (history : List Event) → is_in station given.stations ≡ true → IsDataAt given Q place (after_call given station step history)
-      → AllSendFixed (facts_after (setup_at given station) (facts_at given station history) step)
-  own_fixed place station step history in_it after =
-      subst AllSendFixed (own_facts given station step history)
-      (sends_fixed given place (after_call given station step history) after.counted.holds.hearing.stand station in_it)
-
-  -- its links are plain then
-  own_plain : (place : Place) (station : ℕ) (step : Step) (history : List Event) → is_in station given.stations ≡ true → IsDataAt given Q place (after_call given station step history)
-      → AllPlain (facts_after (setup_at given station) (facts_at given station history) step).links
-  own_plain place station step history in_it after =
-      subst (λ (f : Facts). AllPlain f.links) (own_facts given station step history)
-      (known.plain place (after_call given station step history) after.counted.known station in_it)
+  own_data : (place : Place) (station : ℕ) (step : Step) (history : List Event) → is_in station given.stations ≡ true → IsDataAt given Q place (after_call given station step history)
+      → AllSendData (facts_after (setup_at given station) (facts_at given station history) step)
+  own_data place station step history in_it after =
+      let setup = setup_at given station in
+      let called = after_call given station step history in
+      let at = stands_at place station (turns_begun called) in
+      let fixed = turned setup (IsFixed setup) (fixed_kept setup) (past_of station called) at (fixed_first setup) (after.counted.holds.hearing.stand station in_it) in
+      subst AllSendData (own_facts given station step history)
+      (plain_sends (facts_at given station called) fixed.sends (known.plain place called after.counted.known station in_it))
 
   have_next : HaveCalls given (IsNextCall given) (IsDataAt given Q)
   have_next = record {
@@ -391,8 +366,7 @@ module _ (whole : IsHeardWhole) (given : Given) (Q : Place → List Event → Ty
         let on = plan.radio_of station in
         let in_it = among given.stations done left station are in record {
           last = begin_last given few_links eight station history in_it (is.are.well station in_it) slot on
-              (own_fixed (AtBegins (done ++ station ∷ []) left) station (TurnBegins slot on) history in_it next)
-              (own_plain (AtBegins (done ++ station ∷ []) left) station (TurnBegins slot on) history in_it next);
+              (own_data (AtBegins (done ++ station ∷ []) left) station (TurnBegins slot on) history in_it next);
           of = begun_call whole given Q known are_two six distinct done left station slot on history are
               (between_turns given Q distinct done left station history are is.counted).uses.in_turn is.counted;
         };
@@ -400,8 +374,7 @@ module _ (whole : IsHeardWhole) (given : Given) (Q : Place → List Event → Ty
         let received = packet_received station history in
         let in_it = among given.stations done left station are in record {
           last = phase_last given few_links eight station history in_it (is.are.well station in_it) received
-              (own_fixed (AtListening phases (done ++ station ∷ []) left) station (step_of received) history in_it next)
-              (own_plain (AtListening phases (done ++ station ∷ []) left) station (step_of received) history in_it next);
+              (own_data (AtListening phases (done ++ station ∷ []) left) station (step_of received) history in_it next);
           of = call_is given Q known distinct phases done left station history are is.counted next.counted.known next.counted.holds;
         };
     ends = λ station history. end_next given history station;

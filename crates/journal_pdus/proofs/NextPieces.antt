@@ -1,4 +1,5 @@
--- What a plain end sends next is the next piece of what its host gave it, and MD tells whether more waits.
+-- Where no control PDU is fixed, what an end sends next is the next piece of what its host gave it, and MD says whether
+-- more waits.
 use Rattle.std.proofs.Common.{◌≡◌, ℕ, ◌+◌, ◌-◌, ◌<◌, ◌≤◌, ◌==◌, ◌&&◌, nat_lt, not, Bool, true, false, cond, List, [], ◌∷◌, ◌++◌, length, map, take, drop, Option, Some, None, refl, sym, ap, subst, ◌∙◌, arith, length-append, if◌then◌else◌}
 use Rattle.std.specs.List.{find, flat_map}
 use Rattle.std.specs.Option.{option_map}
@@ -10,22 +11,15 @@ use Rattle.acl_banks.specs.History.{HostData, Past, octets_of}
 use Rattle.acl_banks.specs.Packets.{AreFresh, AreInOrder, DataPacket, Marked, is_all_sent, marked_octets, octets_out, packet_after_acked, piece_of, sent_length, unsent_octets, with_first, without_first}
 use Rattle.acl_banks.proofs.Octets.{length-marked_octets, length-piece_of, length-unsent_octets}
 use Rattle.acl_banks.proofs.OneLink.{IsKept, outs}
-use Rattle.journal_data.specs.link_model.Acknowledgement.{Pdu, after_sending, is_acked, next_sent}
+use Rattle.journal_data.specs.link_model.Acknowledgement.{Pdu, next_sent}
 use Rattle.journal_data.specs.link_model.Data.{Data, data_acked_if, data_completed, data_fixed, data_in, data_of, is_completed, is_empty, is_out, is_unsent, llid_of, next_piece, pdu_with, unsent_of}
 use Rattle.journal_data.specs.link_model.Data.{sent_data}
 use Rattle.journal_data.specs.link_model.End.{facts_of}
 use Rattle.journal_data.specs.link_model.Facts.{Facts}
-use Rattle.journal_data.specs.link_model.Packets.{more_sent}
 use Rattle.journal_data.specs.link_model.Setup.{Setup}
 use Rattle.journal_data.specs.link_model.Step.{Step}
 use Rattle.journal_data.proofs.link_model.Outgoing.{data-push}
-use Rattle.journal_data.proofs.link_model.Sending.{past_of}
-use Rattle.journal_data.specs.plain_links.Plain.{ArePlain}
-use Rattle.journal_data.specs.plain_links.Steps.{plain_received}
-use Rattle.journal_data.proofs.plain_links.Idle.{past_idle}
-use Rattle.journal_data.proofs.plain_links.Sending.{Holds, in_order, past_holds}
-use Rattle.journal_data.proofs.plain_links.Steps.{more_plain, pdu_plain}
-use Rattle.journal_data.proofs.run_laws.Agreed.{sent_ack}
+use Rattle.journal_data.proofs.link_model.Sending.{IsTogether, in_order, past_of, past_together}
 use Rattle.journal_pdus.specs.Waiting.{next_pdu, piece_after}
 
 abbrev given : DataPacket → HostData
@@ -111,19 +105,17 @@ sent_count (packet ∷ packets) count past kept =
     let acked = ap length kept.acknowledged ∙ length-append (octets_of kept.complete) (take packet.acknowledged whole) in
     omega (arith, sent, acked, outs_are, none, out, begun)
 
-pub piece_is_next : (setup : Setup) (past : List Step) → ArePlain setup past → let facts = facts_of setup past in
-    pdu_with (next_piece facts.outgoing) ≡ next_pdu [] 27 facts.outgoing.given (length (sent_data facts.acknowledgement))
-piece_is_next setup past plain =
+pub piece_is_next : (setup : Setup) (past : List Step) → let facts = facts_of setup past in
+    pdu_with (next_piece facts.outgoing) ≡ next_pdu [] facts.outgoing.limit facts.outgoing.given (length (sent_data facts.acknowledgement))
+piece_is_next setup past =
     let facts = facts_of setup past in
     let outgoing = facts.outgoing in
-    let are = past_holds setup past plain in
-    let kept = are.kept in
+    let kept = (past_together setup past).kept in
     let count = sent_count outgoing.packets outgoing.complete (past_of facts.acknowledgement outgoing) kept in
-    ap (λ n. pdu_with (option_map (piece_of n) (find is_unsent outgoing.packets))) are.limit
-    ∙ ap pdu_with
-    (sym (next_in_order 27 outgoing.packets kept.in_order)
-    ∙ sym (next_past 27 kept.complete (map given outgoing.packets) (sent_first outgoing.packets))
-    ∙ (λ i. piece_after 27 (sym kept.taken i) (sym count i)))
+    ap pdu_with
+    (sym (next_in_order outgoing.limit outgoing.packets kept.in_order)
+    ∙ sym (next_past outgoing.limit kept.complete (map given outgoing.packets) (sent_first outgoing.packets))
+    ∙ (λ i. piece_after outgoing.limit (sym kept.taken i) (sym count i)))
 
 -- ---- the PDU that is fixed is the next piece still
 
@@ -229,14 +221,9 @@ completed_now outgoing (Some packet) found is = by (is_all_sent packet) refl
       more = is.more ∙ ap (λ octets. nat_lt (length outgoing.fixed.body) (length octets)) (sym (acked_unsent outgoing.packets));
     }
 
-acked_now : (acked : Bool) (outgoing : Data) → IsFixedNow outgoing → IsFixedNow (data_acked_if acked outgoing)
+pub acked_now : (acked : Bool) (outgoing : Data) → IsFixedNow outgoing → IsFixedNow (data_acked_if acked outgoing)
 acked_now true outgoing is = completed_now outgoing (find is_out outgoing.packets) refl is
 acked_now false outgoing is = is
-
-pub received_now : (slot : ℕ) (room : Bool) (pdu : Option (List ℕ)) (facts : Facts) → IsFixedNow facts.outgoing
-    → IsFixedNow (plain_received slot room pdu facts).outgoing
-received_now slot room None facts is = is
-received_now slot room (Some pdu) facts is = acked_now _ facts.outgoing is
 
 -- ---- what waits after it is sent
 
@@ -297,24 +284,25 @@ some_left (one ∷ packets) packet found = by (is_unsent one) refl found (some_l
         record { some = some; all = omega (arith, all, length-append (unsent_octets one) (flat_map unsent_octets packets)) }
 
 -- the next piece is empty exactly where nothing is left
-piece_waits : (packets : List DataPacket) (found : Option DataPacket) → find is_unsent packets ≡ found
-    → not (is_empty (pdu_with (option_map (piece_of 27) found))) ≡ nat_lt 0 (length (flat_map unsent_octets packets))
-piece_waits packets None found =
-    let none = none_left packets found in
-    sym (ap (λ (octets : List Marked). nat_lt 0 (length octets)) none)
-piece_waits packets (Some packet) found =
-    let left = some_left packets packet found in
-    let some = left.some in
-    let all = left.all in
-    let piece = piece_of 27 packet in
-    let size = length-piece_of 27 packet in
-    let full : 0 < length piece.body.items = omega (arith, size, some) in
-    let has : not (length piece.body.items == 0) ≡ true = grind (arith, nat_tests) in
-    let more : nat_lt 0 (length (flat_map unsent_octets packets)) ≡ true = grind (arith, nat_tests) in
-    ap not (empty_at piece.start piece.body.items) ∙ has ∙ sym more
+module _ (limit : ℕ) (some_fits : 1 ≤ limit) where
+  piece_waits : (packets : List DataPacket) (found : Option DataPacket) → find is_unsent packets ≡ found
+      → not (is_empty (pdu_with (option_map (piece_of limit) found))) ≡ nat_lt 0 (length (flat_map unsent_octets packets))
+  piece_waits packets None found =
+      let none = none_left packets found in
+      sym (ap (λ (octets : List Marked). nat_lt 0 (length octets)) none)
+  piece_waits packets (Some packet) found =
+      let left = some_left packets packet found in
+      let some = left.some in
+      let all = left.all in
+      let piece = piece_of limit packet in
+      let size = length-piece_of limit packet in
+      let full : 0 < length piece.body.items = omega (arith, size, some, some_fits) in
+      let has : not (length piece.body.items == 0) ≡ true = grind (arith, nat_tests) in
+      let more : nat_lt 0 (length (flat_map unsent_octets packets)) ≡ true = grind (arith, nat_tests) in
+      ap not (empty_at piece.start piece.body.items) ∙ has ∙ sym more
 
-nothing_left : (packets : List DataPacket) → is_empty (pdu_with (piece_in 27 packets)) ≡ true → nat_lt 0 (length (flat_map unsent_octets packets)) ≡ false
-nothing_left packets empty = sym (piece_waits packets (find is_unsent packets) refl) ∙ ap not empty
+  nothing_left : (packets : List DataPacket) → is_empty (pdu_with (piece_in limit packets)) ≡ true → nat_lt 0 (length (flat_map unsent_octets packets)) ≡ false
+  nothing_left packets empty = sym (piece_waits packets (find is_unsent packets) refl) ∙ ap not empty
 
 shift_less : (count few many : ℕ) → nat_lt few many ≡ nat_lt (count + few) (count + many)
 shift_less count few many = by (nat_lt few many) refl
@@ -324,15 +312,12 @@ shift_less count few many = by (nat_lt few many) refl
     by false is = grind (arith, nat_tests)
 
 -- what the next piece is, by these facts
-module _ (facts : Facts) (are : Holds facts) (is : IsFixedNow facts.outgoing) where
+module _ (facts : Facts) (are : IsTogether facts.acknowledgement facts.outgoing) (some_fits : 1 ≤ facts.outgoing.limit) (is : IsFixedNow facts.outgoing) where
   abbrev sent : ℕ
   sent = length (sent_data facts.acknowledgement)
 
   abbrev left : ℕ
   left = length (unsent_of facts.outgoing)
-
-  fixed_is : facts.outgoing.fixed ≡ pdu_with (piece_in 27 facts.outgoing.packets)
-  fixed_is = is.next ∙ ap (λ n. pdu_with (option_map (piece_of n) (find is_unsent facts.outgoing.packets))) are.limit
 
   all_given : length (octets_of facts.outgoing.given) ≡ sent + left
   all_given = ap length (sym (in_order facts are).sent) ∙ length-append (sent_data facts.acknowledgement) (unsent_of facts.outgoing)
@@ -343,45 +328,22 @@ module _ (facts : Facts) (are : Holds facts) (is : IsFixedNow facts.outgoing) wh
       ∙ length-append (sent_data facts.acknowledgement) (data_in facts.outgoing.fixed)
       ∙ ap (λ n. sent + n) (ap (λ pdu. length (data_in pdu)) is.next ∙ data_length (next_piece facts.outgoing) ∙ ap (λ (pdu : Pdu). length pdu.body) (sym is.next))
 
-  waits_by : (acked : Bool) → (if acked then facts.outgoing.more else not (is_empty facts.outgoing.fixed))
+  pub waits_by : (acked : Bool) → (if acked then facts.outgoing.more else not (is_empty facts.outgoing.fixed))
       ≡ nat_lt (length (data_of (next_sent acked facts.outgoing.fixed facts.acknowledgement).sent)) (length (octets_of facts.outgoing.given))
   waits_by true =
       is.more ∙ shift_less sent (length facts.outgoing.fixed.body) left
       ∙ (λ i. nat_lt (sym after_fixed i) (sym all_given i))
   waits_by false =
       let none : sent + 0 ≡ sent = omega arith in
-      ap (λ pdu. not (is_empty pdu)) fixed_is ∙ piece_waits facts.outgoing.packets (find is_unsent facts.outgoing.packets) refl
+      ap (λ pdu. not (is_empty pdu)) is.next ∙ piece_waits facts.outgoing.limit some_fits facts.outgoing.packets (find is_unsent facts.outgoing.packets) refl
       ∙ shift_less sent 0 left ∙ (λ i. nat_lt (none i) (sym all_given i))
 
-  last_by : (acked : Bool) → acked ≡ true → is_empty facts.outgoing.fixed ≡ true
+  pub last_by : (acked : Bool) → acked ≡ true → is_empty facts.outgoing.fixed ≡ true
       → nat_lt (length (data_of (next_sent acked facts.outgoing.fixed facts.acknowledgement).sent)) (length (octets_of facts.outgoing.given)) ≡ false
   last_by true acked empty =
-      let none = nothing_left facts.outgoing.packets (sym (ap is_empty fixed_is) ∙ empty) in
+      let none = nothing_left facts.outgoing.limit some_fits facts.outgoing.packets (sym (ap is_empty is.next) ∙ empty) in
       let out : left ≡ 0 = grind (arith, nat_tests) in
       let all = all_given in
       let after = after_fixed in
       grind (arith, nat_tests)
   last_by false acked empty = absurd cc
-
--- what is sent with the PDU that an end sends next, where that is not a control PDU
-plain_count : (setup : Setup) (past : List Step) → ArePlain setup past → let facts = facts_of setup past in
-    nat_lt (length (data_of (after_sending facts.outgoing.fixed facts.acknowledgement).sent)) (length (octets_of facts.outgoing.given))
-    ≡ nat_lt (length (data_of (sent_ack facts).sent)) (length (octets_of facts.outgoing.given))
-plain_count setup past plain =
-    let facts = facts_of setup past in
-    ap (λ pdu. nat_lt (length (data_of (after_sending pdu facts.acknowledgement).sent)) (length (octets_of facts.outgoing.given)))
-    (sym (pdu_plain setup facts (past_idle setup past plain)))
-
-pub more_waits : (setup : Setup) (past : List Step) → ArePlain setup past → let facts = facts_of setup past in IsFixedNow facts.outgoing
-    → more_sent facts ≡ nat_lt (length (data_of (sent_ack facts).sent)) (length (octets_of facts.outgoing.given))
-more_waits setup past plain is =
-    let facts = facts_of setup past in
-    more_plain setup facts (past_idle setup past plain) ∙ waits_by facts (past_holds setup past plain) is (is_acked facts.acknowledgement)
-    ∙ plain_count setup past plain
-
-pub empty_is_last : (setup : Setup) (past : List Step) → ArePlain setup past → let facts = facts_of setup past in IsFixedNow facts.outgoing
-    → is_acked facts.acknowledgement ≡ true → is_empty facts.outgoing.fixed ≡ true
-    → nat_lt (length (data_of (sent_ack facts).sent)) (length (octets_of facts.outgoing.given)) ≡ false
-empty_is_last setup past plain is acked empty =
-    let facts = facts_of setup past in
-    sym (plain_count setup past plain) ∙ last_by facts (past_holds setup past plain) is (is_acked facts.acknowledgement) acked empty

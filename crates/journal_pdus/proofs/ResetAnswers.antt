@@ -44,6 +44,7 @@ use Rattle.controller_model.proofs.OpenPlaces.{is_reset}
 use Rattle.controller_model.proofs.TurnNotes.{EachNote, IsOfTurn, event_noted, turn_noted}
 use Rattle.journal_data.proofs.Openness.{all_append}
 use Rattle.journal_pdus.specs.Resetting.{answers_reset}
+use Rattle.controller_model.proofs.Unasked.{both_unasked}
 
 -- ---- what is no such answer
 
@@ -250,8 +251,9 @@ command_so setup facts opcode octets BadLength is = Quiet (short_quiet (has_stat
 command_so setup facts opcode octets (Known command) is =
     let status = status_of facts.view command in
     let accepted = status == 0x00 in
-    subst (λ notes. IsAnsweredSo facts notes (facts_known accepted setup facts command).links) (noted_is accepted setup facts opcode command)
-    (known_so accepted accepted ((status == 0x01) || has_status_answer opcode) setup facts opcode status command refl refl (known_only opcode octets command is))
+    both_unasked setup facts command opcode (λ (after : Facts) (notes : List Note). IsAnsweredSo facts notes after.links)
+    (subst (λ notes. IsAnsweredSo facts notes (facts_known accepted setup facts command).links) (noted_is accepted setup facts opcode command)
+    (known_so accepted accepted ((status == 0x01) || has_status_answer opcode) setup facts opcode status command refl refl (known_only opcode octets command is)))
 
 overflow_quiet : (passed : Bool) → AllByRecursion IsQuiet (map (λ event. Up (record { items = written event })) (cond passed (BufferOverflow 1 ∷ []) []))
 unfolding little_endian

@@ -45,7 +45,7 @@ use Rattle.journal_data.proofs.HeldLinks.{HoldsLinks, nothing_in}
 use Rattle.journal_data.proofs.KeptData.{IsDataAt, data_kept, own_numbers, pass_in_turn}
 use Rattle.journal_data.proofs.Law.{first_data}
 use Rattle.journal_data.proofs.Openness.{is_open}
-use Rattle.journal_data.proofs.StationLines.{IsStationBooked, call_booked, event_booked, event_own, octet_own, octet_stays, octet_unused}
+use Rattle.journal_data.proofs.StationLines.{IsStationBooked, call_booked, event_booked, event_own, octet_own, octet_unused}
 use Rattle.journal_pdus.specs.Resetting.{ResetsLeaveNoLink, answers_reset}
 use Rattle.journal_pdus.proofs.ResetAnswers.{IsAnsweredSo, IsQuiet, Quiet, Resets, octet_so, turn_calls_quiet}
 
@@ -156,8 +156,7 @@ module _ (given : Given) (station : ℕ) where
     octets_none [] history own booked each = each
     octets_none (octet ∷ octets) history own booked each =
         let own_next = octet_own given station octet history own in
-        let booked_next = call_booked given station (HostOctet octet) history few own own_next (octet_unused given station octet history)
-        (octet_stays given station octet history) booked in
+        let booked_next = call_booked given station (HostOctet octet) history few own own_next (octet_unused given station octet history) booked in
         let notes = notes_after (setup_at given station) (facts_at given station history) (HostOctet octet) in
         octets_none octets (after_call given station (HostOctet octet) history) own_next booked_next
         (each_append LeavesNone [] history (Called station (HostOctet octet) ∷ map (Noted station) notes) each

@@ -8,8 +8,9 @@ use Rattle.ble_base.specs.declared.notes.Note.{Note}
 use Rattle.ble_base.specs.declared.notes.Note.TheVariants.{Up}
 use Rattle.ble_base.specs.declared.roles.Side.{Side}
 use Rattle.journal.specs.declared.entries.Entry.{Entry}
-use Rattle.journal_data.specs.link_model.Acknowledgement.{Acknowledgement}
-use Rattle.journal_data.specs.link_model.Data.{is_empty, numbered}
+use Rattle.journal_data.specs.link_model.declared.state.Leaving.{Leaving}
+use Rattle.journal_data.specs.link_model.Acknowledgement.{Acknowledgement, Pdu, is_acked}
+use Rattle.journal_data.specs.link_model.Data.{is_control, is_empty, numbered}
 use Rattle.journal_data.specs.link_model.Packets.{pdu_sent}
 use Rattle.journal_data.specs.link_model.OneLink.{AreInAgreement}
 use Rattle.journal_data.specs.link_model.Step.{PacketSent}
@@ -17,7 +18,9 @@ use Rattle.journal_data.proofs.link_model.Hearing.{IsHeardWhole}
 use Rattle.journal_data.specs.open_links.OpenLinks.{OpenLink, facts_in, link_after}
 use Rattle.journal_data.proofs.open_links.Handles.{handle_is}
 use Rattle.journal_data.proofs.plain_links.Growing.{plain_front}
-use Rattle.controller_model.specs.Facts.{Facts, Sends, Listens}
+use Rattle.journal_data.proofs.plain_links.Idle.{past_idle}
+use Rattle.journal_data.proofs.plain_links.Steps.{sent_pdu_plain}
+use Rattle.controller_model.specs.Facts.{Facts, Setup, Sends, Listens}
 use Rattle.controller_model.specs.Heard.{has_room}
 use Rattle.controller_model.specs.Packets.{verdict_of}
 use Rattle.controller_model.specs.Plain.{AllPlain}
@@ -42,10 +45,11 @@ use Rattle.run_model.proofs.Places.{each_at, each_event}
 use Rattle.run_model.proofs.Stations.{is_in, among, in_more_other, in_more_same, not_before}
 use Rattle.run_model.proofs.Walk.{Place, NoTurn, AtFeeds, AtBegins, AfterPhases, AtPackets, AtListening, AtEnds, IsKept, IsStopped, IsWhole, ends_with, run_kept}
 use Rattle.journal_data.specs.run_laws.Ends.{HaveOneConnectInd}
+use Rattle.journal_data.specs.run_laws.Plainness.{IsPlainLink}
 use Rattle.journal_data.proofs.run_laws.Agreed.{Agree, ack_of, ack_sent, sent_ack}
 use Rattle.journal_data.proofs.run_laws.DistinctAccess.{AreApart}
-use Rattle.journal_data.proofs.run_laws.Hearings.{other_facts, own_facts, wanted_is}
-use Rattle.journal_data.proofs.run_laws.InAgreement.{TakesShort, WithAll, differs_back}
+use Rattle.journal_data.proofs.run_laws.Hearings.{other_facts, wanted_is}
+use Rattle.journal_data.proofs.run_laws.InAgreement.{WithAll, differs_back}
 use Rattle.journal_data.proofs.run_laws.OpenSteps.{open_has}
 use Rattle.journal_data.proofs.run_laws.TurnPlaces.{Within, turned}
 use Rattle.journal_packets.specs.Belonging.{is_side, link_of_packet}
@@ -56,6 +60,7 @@ use Rattle.journal_acks.specs.Carried.{carried_of}
 use Rattle.journal_acks.specs.Counted.{IsCounted}
 use Rattle.journal_acks.specs.Exchange.{with_sent}
 use Rattle.journal_acks.proofs.AirCounts.{sender_counted, one_number}
+use Rattle.journal_acks.proofs.link_calls.InRange.{sent_ranges}
 use Rattle.journal_acks.proofs.link_calls.CallNotes.{TakesNone, begin_noted, end_noted, none_taken, octet_noted}
 use Rattle.journal_acks.proofs.Counting.{AreKnown, facts_event, one_begun}
 use Rattle.journal_acks.proofs.Exchanging.{exchange_at, number_at, number_other, number_sent as sent_number}
@@ -75,7 +80,7 @@ use Rattle.journal_pdus.specs.Announced.{last_number_sent, pdu_line_if, side_of_
 use Rattle.journal_pdus.specs.Exchanged.{AllAreTakenAtOnce}
 use Rattle.journal_pdus.specs.Pending.{last_number_taken, pending_pdu, taken_pdu, untaken_pdu}
 use Rattle.journal_pdus.proofs.PendingLines.{IsSpent, IsTakenEvent, air_pending, call_other, call_own, call_taken, fed_other, fed_own, first_taken, pending_at, same_taken, spends_none, turn_pending}
-use Rattle.journal_pdus.proofs.TakenPdus.{IsEmptyAt, empty_first, empty_kept, listener_room, phase_later, taken_as, unheard_none}
+use Rattle.journal_pdus.proofs.TakenPdus.{HaveSentData, IsEmptyAt, IsOfData, empty_first, empty_kept, listener_room, phase_later, taken_as, unheard_none}
 use Rattle.journal_pdus.proofs.Together.{IsKnownAt, known_first, known_kept}
 
 -- ---- what a station is to take
@@ -94,6 +99,26 @@ same_to_take given station history after received facts heard numbers =
     (λ i. first_taken ((links_of after).link_of station) (notes_after (setup_at given station) (facts i) (step_of (heard i))))
     ∙ same_taken ((links_of after).link_of station) ((links_of history).link_of station)
     (notes_after (setup_at given station) (facts_at given station history) (step_of received)) numbers
+
+-- ---- on plain links there is no control PDU
+
+neither : (acked : Bool) (fixed last : Pdu) → is_control fixed ≡ false → is_control last ≡ false → is_control (if acked then fixed else last) ≡ false
+neither true fixed last is is_too = is
+neither false fixed last is is_too = is_too
+
+plain_of_data : (link from : OpenLink) → IsPlainLink link → IsPlainLink from → IsOfData (facts_in link) (facts_in from)
+plain_of_data link from plain from_plain =
+    let idle = past_idle link.setup link.past plain in
+    let sender = facts_in from in
+    let from_idle = past_idle from.setup from.past from_plain in record {
+      last = idle.last;
+      stays = ap (λ (l : Leaving). l.acknowledged) idle.leaving;
+      sent = ap is_control (sent_pdu_plain from.setup sender from_idle)
+          ∙ neither (is_acked sender.acknowledgement) sender.outgoing.fixed sender.acknowledgement.last from_idle.fixed from_idle.last;
+    }
+
+plain_sent_data : (setup : Setup) (facts : Facts) → AllPlain facts.links → HaveSentData setup facts
+plain_sent_data setup facts plain = λ handle link at. (past_idle link.setup link.past (plain handle link at)).last
 
 -- ---- a packet is on the air
 
@@ -292,13 +317,14 @@ module _ (whole : IsHeardWhole) (given : Given) (Q : Place → List Event → Ty
 
     brought : untaken_pdu (link_of_packet front (side_of station) octets) front (side_of station) ≡ to_take given other after
     brought =
-        let short = open_has TakesShort 0 listening.handle (facts other).links link (counted.holds.so_far.last.each other is_too).short listening.is_open in
+        let ranges = known.ranges here history counted.known other listening.handle link is_too listening.is_open in
+        let sender_ranges = sent_ranges true sent.slot sent.link (known.ranges here history counted.known station sent.handle sender in_it sent.is_open) in
         let plain = known.plain here history counted.known other is_too listening.handle link listening.is_open in
-        let sender_plain = known.plain here history counted.known station in_it sent.handle sender sent.is_open in
+        let sender_plain = plain_front sent.link.setup sent.link.past (PacketSent sent.slot ∷ []) (known.plain here history counted.known station in_it sent.handle sender sent.is_open) in
         ap (λ may. untaken_pdu may front (side_of station)) sent.belongs
         ∙ (λ i. pdu_line_if (nat_lt (taken_is i) (sent_is i) && not (is_empty (carried_is i))) number (sent_is i) (carried_is i))
         ∙ taken_as whole ((links_of history).link_of other) (setup_at given other) (facts other) octets listening.handle number link sent.link room listening.is_open listening.on
-        number_is plain (plain_front sent.link.setup sent.link.past (PacketSent sent.slot ∷ []) sender_plain) short (sym connect_ind.fields) sent.packet (sym sent.channel_is ∙ listening.channel_is) agreed
+        number_is ranges sender_ranges (plain_of_data link sent.link plain sender_plain) (sym connect_ind.fields) sent.packet (sym sent.channel_is ∙ listening.channel_is) agreed
         ∙ sym (other_to_take true good)
 
   -- ---- both
@@ -384,7 +410,7 @@ module _ (given : Given) (are_two : IsOfTwo given) where
 
   -- the call of a phase
   module _ (done : List ℕ) (station : ℕ) (history : List Event) (is : is_in station given.stations ≡ true) (out : is_in station done ≡ false)
-      (plain : AllPlain (facts_at given station (after_call given station (step_of (packet_received station history)) history)).links)
+      (sent_data : HaveSentData (setup_at given station) (facts_at given station history))
       (pending_pdu : (one : ℕ) → is_in one given.stations ≡ true → pending_at one history ≡ (if is_in one done then None else to_take given one history)) where
     abbrev step : Step
     step = step_of (packet_received station history)
@@ -395,8 +421,7 @@ module _ (given : Given) (are_two : IsOfTwo given) where
     spends : IsSpent given history station step
     spends = record {
       first = pending_pdu station is ∙ ap (λ b. if b then None else to_take given station history) out;
-      later = phase_later (setup_at given station) (facts_at given station history) (packet_received station history)
-          (subst (λ (f : Facts). AllPlain f.links) (own_facts given station step history) plain);
+      later = phase_later (setup_at given station) (facts_at given station history) (packet_received station history) sent_data;
     }
 
     still : (one : ℕ) → (one == station) ≡ false → to_take given one called ≡ to_take given one history
@@ -466,11 +491,11 @@ module _ (whole : IsHeardWhole) (given : Given) (Q : Place → List Event → Ty
         let in_it = among given.stations done left station are in
         let out = not_before given.stations done left station distinct are in
         let next = kept.on_hearing phases done left station history are begun has.is in
-        let plain = known.plain (AtListening phases (done ++ station ∷ []) left) (after_call given station (step_of (packet_received station history)) history)
-        next.lined.counts.known station in_it in record {
+        let sent_data = plain_sent_data (setup_at given station) (facts_at given station history)
+        (known.plain (AtListening phases done (station ∷ left)) history has.is.lined.counts.known station in_it) in record {
           is = next;
-          pending_pdu = λ one is_one. hearing_pending given are_two done station history in_it out plain has.pending_pdu one is_one (one == station) refl;
-          each = call_taken given station (step_of (packet_received station history)) history (spends given are_two done station history in_it out plain has.pending_pdu) has.each;
+          pending_pdu = λ one is_one. hearing_pending given are_two done station history in_it out sent_data has.pending_pdu one is_one (one == station) refl;
+          each = call_taken given station (step_of (packet_received station history)) history (spends given are_two done station history in_it out sent_data has.pending_pdu) has.each;
         };
     on_heard = λ phases history has. record {
       is = kept.on_heard phases history has.is;

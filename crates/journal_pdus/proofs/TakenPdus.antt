@@ -22,26 +22,19 @@ use Rattle.hci_cmd.specs.declared.command.CmdRead.TheVariants.{Known, UnknownOpc
 use Rattle.hci_cmd.specs.Command.{command_of}
 use Rattle.host_view.specs.Unbuilt.{status_of}
 use Rattle.journal_data.specs.link_model.Acknowledgement.{Acknowledgement, Pdu, bits_of, end_of, is_acked}
-use Rattle.journal_data.specs.link_model.Data.{is_empty, numbered}
-use Rattle.journal_data.specs.link_model.Data.{is_accepted}
+use Rattle.journal_data.specs.link_model.Data.{is_accepted, is_control, is_empty, numbered}
 use Rattle.journal_data.specs.link_model.Verdicts.{pdu_of}
 use Rattle.journal_data.specs.link_model.Controls.{pdu_fixed}
-use Rattle.journal_data.specs.link_model.Hearing.{IsUnderstood, pdu_octets}
-use Rattle.journal_data.specs.link_model.Receiving.{has_new_pdu, received_notes, took_notes_if}
-use Rattle.journal_data.specs.link_model.Step.{PacketReceived}
+use Rattle.journal_data.specs.link_model.Hearing.{pdu_octets}
+use Rattle.journal_data.specs.link_model.Receiving.{has_new_pdu, notes_hearing, received_notes, took_notes_if}
 use Rattle.journal_data.specs.link_model.Facts.{Facts as EndFacts}
 use Rattle.journal_data.specs.link_model.Packets.{good_pdu, header_sent, packet_sent, pdu_sent}
 use Rattle.journal_data.specs.link_model.OneLink.{AreInAgreement}
 use Rattle.journal_data.proofs.link_model.Hearing.{IsHeardWhole}
 use Rattle.journal_data.proofs.link_model.Received.{header_read, heard_good, pdu_read}
-use Rattle.journal_data.specs.plain_links.Steps.{plain_took, plain_took_by}
-use Rattle.journal_data.proofs.plain_links.Growing.{plain_less}
-use Rattle.journal_data.proofs.plain_links.Idle.{past_idle}
-use Rattle.journal_data.proofs.plain_links.Payloads.{past_fits, past_form}
-use Rattle.journal_data.proofs.plain_links.Steps.{received_notes_plain}
 use Rattle.journal_data.specs.open_links.declared.offers.Offer.{Offer}
 use Rattle.journal_data.specs.open_links.declared.offers.Offer.TheVariants.{NoLink, Empty, Overflow, Kept}
-use Rattle.journal_data.specs.open_links.OpenLinks.{OpenLink, facts_in, link_after, link_at}
+use Rattle.journal_data.specs.open_links.OpenLinks.{OpenLink, facts_in, link_at}
 use Rattle.journal_data.specs.open_links.Turns.{ending_in}
 use Rattle.scan_init.specs.Reports.{does_ask, scan_answer}
 use Rattle.controller_model.specs.declared.doing.Doing.{Doing}
@@ -53,25 +46,25 @@ use Rattle.controller_model.specs.Facts.{Facts, Setup, first_facts}
 use Rattle.controller_model.specs.Heard.{asks_if, events_received, has_room, heard, link_heard, link_received, link_taken, notes_taken, replies_in, reply_if}
 use Rattle.controller_model.specs.Outcome.{facts_passed, notes_passed}
 use Rattle.controller_model.specs.Packets.{notes_doing}
-use Rattle.controller_model.specs.Plain.{AllPlain}
 use Rattle.controller_model.specs.Side.{facts_after, facts_fed, notes_after, result_of}
 use Rattle.controller_model.proofs.Always.{leaving_is, opening_passes, start_keeps}
 use Rattle.controller_model.proofs.Phases.{EachOutcome, heard_is, unheard_is}
 use Rattle.run_model.specs.Run.{step_of}
-use Rattle.journal_data.specs.run_laws.Plainness.{IsPlainLink}
 use Rattle.journal_data.proofs.run_laws.Agreed.{ack_of, out_after, packet_of, sent_ack}
-use Rattle.journal_data.proofs.run_laws.PlainLinks.{no_control_sent}
 use Rattle.journal_data.proofs.run_laws.TurnPlaces.{Between, IsTurned, Stage, Within}
 use Rattle.journal_acks.proofs.Acks.{sent_again}
 use Rattle.journal_acks.proofs.link_calls.CallNotes.{HasNoData, TakesNone, all_more, doing_noted, events_noted, no_data}
-use Rattle.journal_acks.proofs.DataCalls.{on_link_facts, on_link_notes, unfound}
-use Rattle.journal_acks.proofs.PlainCalls.{plain_heard}
+use Rattle.journal_acks.proofs.DataCalls.{on_link_notes, unfound}
+use Rattle.journal_acks.specs.link_calls.Ranges.{HasRanges}
 use Rattle.journal_acks.specs.link_calls.Uses.{listens_under}
+use Rattle.journal_acks.proofs.link_calls.Pieces.{ranged_understand, sent_readable}
 use Rattle.journal_acks.proofs.PhaseNotes.{IsOnLink, IsPhaseOf, IsPlainPhase, phase_of}
 use Rattle.journal_acks.proofs.TwoStations.{same_number}
 use Rattle.journal_hosts.proofs.Calm.{received_none}
 use Rattle.journal_pdus.specs.Announced.{pdu_line_if}
 use Rattle.journal_pdus.proofs.PendingLines.{first_none, first_taken, later_none, later_notes}
+use Rattle.journal_pdus.proofs.TakenNotes.{data_notes, later_link}
+use Rattle.controller_model.proofs.Unasked.{of_unasked}
 
 -- ---- nothing waits for the host while a link is still to receive
 
@@ -101,7 +94,7 @@ known_none true setup facts command none = command_none command facts.received n
 known_none false setup facts command none = none
 
 read_none : (setup : Setup) (facts : Facts) (read : CmdRead) → HasNone facts → HasNone (facts_commanded setup facts read)
-read_none setup facts (Known command) none = known_none (status_of facts.view command == 0) setup facts command none
+read_none setup facts (Known command) none = of_unasked setup facts command HasNone (known_none (status_of facts.view command == 0) setup facts command none)
 read_none setup facts UnknownOpcode none = none
 read_none setup facts BadLength none = none
 
@@ -187,29 +180,6 @@ first_of : (link_of : ℕ → ℕ) (noted : Bool) (handle : ℕ) (pdu : Pdu) (fa
 first_of link_of true handle pdu facts later none = refl
 first_of link_of false handle pdu facts later none = first_none link_of later none
 
-later_if : (noted : Bool) (handle : ℕ) (pdu : Pdu) (facts : EndFacts) (later : List Note) → All TakesNone later
-    → All TakesNone (later_notes (took_notes_if noted handle pdu facts ++ later))
-later_if true handle pdu facts later none = none
-later_if false handle pdu facts later none = later_none later none
-
-later_took : (handle : ℕ) (room : Bool) (found : Option (List ℕ)) (facts : EndFacts) (later : List Note) → All TakesNone later
-    → All TakesNone (later_notes (plain_took handle room found facts ++ later))
-later_took handle room None facts later none = later_none later none
-later_took handle room (Some pdu) facts later none = later_if _ handle _ facts later none
-
--- a plain link notes at most that it takes a PDU
-took_plain : (slot : ℕ) (room : Bool) (octets : List ℕ) (link : OpenLink) → IsPlainLink (link_after (PacketReceived slot octets room) link)
-    → notes_taken slot room (Some link) octets ≡ plain_took link.setup.link.handle room (good_pdu link.setup (facts_in link) octets) (facts_in link)
-took_plain slot room octets link plain =
-    let less = plain_less link.setup link.past (PacketReceived slot octets room) plain in
-    received_notes_plain link.setup (facts_in link) (past_idle link.setup link.past less.0) slot room (good_pdu link.setup (facts_in link) octets) less.1
-
-later_link : (slot : ℕ) (room : Bool) (octets : List ℕ) (link : OpenLink) (later : List Note) → IsPlainLink (link_after (PacketReceived slot octets room) link)
-    → All TakesNone later → All TakesNone (later_notes (notes_taken slot room (Some link) octets ++ later))
-later_link slot room octets link later plain none =
-    subst (λ notes. All TakesNone (later_notes (notes ++ later))) (sym (took_plain slot room octets link plain))
-    (later_took link.setup.link.handle room (good_pdu link.setup (facts_in link) octets) (facts_in link) later none)
-
 module _ (setup : Setup) (facts : Facts) where
   -- after what a link notes of a packet come the events for its host, and what it notes as it replies
   abbrev events_then : ℕ → List ℕ → List Note
@@ -233,10 +203,13 @@ module _ (setup : Setup) (facts : Facts) where
       (doing_noted TakesNone (λ one number llid body. refl) (reply_if (replies_in slot room (link_at other facts.links) octets) other)
       (link_received other room octets facts))
 
-  -- only the first note of a phase takes a PDU
-  pub phase_later : (received : Option (List ℕ)) → AllPlain (facts_after setup facts (step_of received)).links
-      → All TakesNone (later_notes (notes_after setup facts (step_of received)))
-  phase_later received all_plain = by (phase_of setup facts received)
+  -- the last PDU of no open link is a control PDU
+  abbrev pub HaveSentData : Type 0
+  HaveSentData = (handle : ℕ) (link : OpenLink) → link_at handle facts.links ≡ Some link → is_control (ack_of link).last ≡ false
+
+  -- so only the first note of a phase takes a PDU
+  pub phase_later : (received : Option (List ℕ)) → HaveSentData → All TakesNone (later_notes (notes_after setup facts (step_of received)))
+  phase_later received sent_data = by (phase_of setup facts received)
     where
       on_link : (other : ℕ) (octets : List ℕ) → received ≡ Some octets → heard setup facts.turn.doing octets facts ≡ link_heard setup other octets facts
           → (found : Option OpenLink) → link_at other facts.links ≡ found → All TakesNone (later_notes (notes_after setup facts (step_of received)))
@@ -246,12 +219,10 @@ module _ (setup : Setup) (facts : Facts) where
       on_link other octets some heard_is (Some link) is =
           let slot = facts.turn.slot in
           let room = has_room setup facts in
-          let plain = plain_heard setup facts other octets link is
-          (subst (λ (after : Facts). AllPlain after.links) (on_link_facts setup facts received other octets some (ap facts_passed heard_is)) all_plain) in
           subst (λ notes. All TakesNone (later_notes notes))
           (sym (on_link_notes setup facts received other octets some (ap notes_passed heard_is) ∙ on_link_parts other octets))
           (subst (λ found. All TakesNone (later_notes (notes_taken slot room found octets ++ events_then other octets))) (sym is)
-          (later_link slot room octets link (events_then other octets) plain (events_none other octets)))
+          (later_link slot room octets link (events_then other octets) (sent_data other link is) (events_none other octets)))
 
       by : IsPhaseOf setup facts received → All TakesNone (later_notes (notes_after setup facts (step_of received)))
       by (IsPlainPhase none plain) =
@@ -304,26 +275,25 @@ abbrev noted_of : OpenLink → OpenLink → Bool
 noted_of link from =
     is_accepted true (has_new_pdu (facts_in link) (header_sent (facts_in from))) (pdu_sent (facts_in from)) && not (is_empty (pdu_sent (facts_in from)))
 
-took_as : IsHeardWhole → (slot : ℕ) (link from : OpenLink) (octets : List ℕ) → IsPlainLink link → IsPlainLink from → 27 ≤ link.setup.link.max_rx
+-- neither the PDU that is sent nor the last one of the listener is a control PDU, and the listener still takes PDUs
+pub record IsOfData (listener sender : EndFacts) : Type 0 where
+  pub last : is_control listener.acknowledgement.last ≡ false
+  pub stays : listener.leaving.acknowledged ≡ false
+  pub sent : is_control (pdu_sent sender) ≡ false
+
+took_as : IsHeardWhole → (slot : ℕ) (link from : OpenLink) (octets : List ℕ) → HasRanges link → HasRanges from → IsOfData (facts_in link) (facts_in from)
     → link.setup.link.fields ≡ from.setup.link.fields → octets ≡ packet_sent from.setup (facts_in from) → (facts_in from).event.channel ≡ (facts_in link).event.channel
     → notes_taken slot true (Some link) octets ≡ took_notes_if (noted_of link from) link.setup.link.handle (pdu_sent (facts_in from)) (facts_in link)
-took_as whole slot link from octets plain from_plain fits fields packet channel =
+took_as whole slot link from octets ranges from_ranges of fields packet channel =
     let sender = facts_in from in
-    let handle = link.setup.link.handle in
-    let form = past_form from.setup from.past from_plain in
-    let understood : IsUnderstood from.setup sender link.setup (facts_in link) = record {
-      fields = sym fields;
-      channel = channel;
-      llid = form.low;
-      octets = form.short;
-      fits = past_fits from.setup from.past link.setup (facts_in link) from_plain fits;
-    } in
+    let form = sent_readable from from_ranges in
+    let understood = ranged_understand from link from_ranges ranges (sym fields) channel in
     let pdu : pdu_of (pdu_octets sender) ≡ pdu_sent sender =
-    pdu_read sender form.low ∙ (λ i. record { llid = (pdu_sent sender).llid; body = form.opened i }) in
+    pdu_read sender form.llid ∙ (λ i. record { llid = (pdu_sent sender).llid; body = form.opened i }) in
     ap (λ found. received_notes link.setup slot true found (facts_in link))
     (ap (good_pdu link.setup (facts_in link)) packet ∙ heard_good whole from.setup link.setup sender (facts_in link) understood)
-    ∙ received_notes_plain link.setup (facts_in link) (past_idle link.setup link.past plain) slot true (Some (pdu_octets sender)) (no_control_sent from from_plain)
-    ∙ (λ i. plain_took_by handle true (header_read sender form.low i) (pdu i) (facts_in link))
+    ∙ (λ i. notes_hearing link.setup slot true (header_read sender form.llid i) (pdu i) (facts_in link))
+    ∙ data_notes link.setup (facts_in link) slot true (header_sent sender) (pdu_sent sender) of.last of.stays of.sent
 
 module _ (sender : EndFacts) (one : Acknowledgement) (agreed : AreInAgreement (sent_ack sender) one) where
   abbrev fresh : Bool
@@ -366,17 +336,17 @@ same_line false false sent accepted number pdu more same =
 -- a station that receives the packet of the other end of its link takes the last PDU that was sent, where it has not yet
 pub taken_as : IsHeardWhole → (link_of : ℕ → ℕ) (setup : Setup) (facts : Facts) (octets : List ℕ) (handle number : ℕ) (link from : OpenLink)
     → has_room setup facts ≡ true → link_at handle facts.links ≡ Some link → listens_under handle facts.turn.doing ≡ true
-    → link_of link.setup.link.handle ≡ number → IsPlainLink link → IsPlainLink from → 27 ≤ link.setup.link.max_rx → link.setup.link.fields ≡ from.setup.link.fields
+    → link_of link.setup.link.handle ≡ number → HasRanges link → HasRanges from → IsOfData (facts_in link) (facts_in from) → link.setup.link.fields ≡ from.setup.link.fields
     → octets ≡ packet_sent from.setup (facts_in from) → (facts_in from).event.channel ≡ (facts_in link).event.channel
     → AreInAgreement (sent_ack (facts_in from)) (ack_of link)
     → pdu_line_if (nat_lt (numbered (ack_of link).accepted) (numbered (sent_ack (facts_in from)).sent) && not (is_empty (pdu_sent (facts_in from)))) number
     (numbered (sent_ack (facts_in from)).sent) (pdu_sent (facts_in from))
     ≡ first_taken link_of (notes_after setup facts (step_of (Some octets)))
-taken_as whole link_of setup facts octets handle number link from room is_open on number_is plain from_plain fits fields packet channel agreed =
+taken_as whole link_of setup facts octets handle number link from room is_open on number_is ranges from_ranges of fields packet channel agreed =
     let sender = facts_in from in
     let accepted = numbered (ack_of link).accepted in
     same_line (fresh sender (ack_of link) agreed) (is_empty (pdu_sent sender)) (numbered (sent_ack sender).sent) accepted number (pdu_sent sender)
     (fresh_more sender (ack_of link) agreed) (old_same sender (ack_of link) agreed)
     ∙ ap (λ n. pdu_line_if (noted_of link from) n (accepted + 1) (pdu_sent sender)) (sym number_is)
     ∙ sym (heard_taken setup facts octets handle link room is_open on (noted_of link from) (pdu_sent sender)
-    (took_as whole facts.turn.slot link from octets plain from_plain fits fields packet channel) link_of)
+    (took_as whole facts.turn.slot link from octets ranges from_ranges of fields packet channel) link_of)

@@ -11,8 +11,6 @@ use Rattle.journal_data.specs.link_model.Facts.{Facts as EndFacts}
 use Rattle.journal_data.specs.link_model.Step.{PacketSent}
 use Rattle.journal_data.specs.open_links.OpenLinks.{facts_in, link_after}
 use Rattle.journal_data.proofs.plain_links.Growing.{plain_front}
-use Rattle.journal_data.proofs.plain_links.Idle.{past_idle}
-use Rattle.journal_data.proofs.plain_links.Steps.{pdu_plain}
 use Rattle.controller_model.specs.Facts.{Sends}
 use Rattle.controller_model.specs.Since.{data_waiting}
 use Rattle.ble_base.specs.declared.roles.Side.{Side}
@@ -49,8 +47,8 @@ use Rattle.journal_data.proofs.EachLine.{lines_at}
 use Rattle.journal_data.proofs.FewLinks.{HaveFewLinks}
 use Rattle.journal_pdus.specs.Exchanged.{AllTellWhatWaits}
 use Rattle.journal_pdus.specs.Waiting.{TellsWhatWaits, data_waits}
+use Rattle.journal_pdus.proofs.FixedData.{HasDataFixed, empty_is_last, fixed_is, more_waits, plain_data}
 use Rattle.journal_pdus.proofs.FixedNow.{IsFixed, fixed_first, fixed_kept, sender_fixed}
-use Rattle.journal_pdus.proofs.NextPieces.{IsFixedNow, empty_is_last, more_waits}
 use Rattle.journal_pdus.proofs.SendingEnd.{acked_is, booked_is, carried_is, from, sends_on}
 use Rattle.journal_pdus.proofs.Together.{IsKnownAt}
 use Rattle.journal_pdus.proofs.Told.{IsTold}
@@ -95,13 +93,14 @@ module _ (whole : IsHeardWhole) (given : Given) (Q : Place → List Event → Ty
       plain_front sending.link.setup sending.link.past (PacketSent sending.slot ∷ [])
       (known.plain (AtPackets phases done (station ∷ left)) history has.lined.counts.known station (among given.stations done left station are) sending.handle sent_on sending.is_open)
 
-  fixed : IsFixedNow base.outgoing
+  fixed : HasDataFixed base
   fixed =
       let setup = setup_at given station in
       let stands = turned setup (IsFixed setup) (fixed_kept setup) (past_of station history) (record { stage = Within phases; begun = turns_begun history }) (fixed_first setup)
       (has.lined.counts.holds.hearing.stand station (among given.stations done left station are)) in
-      sender_fixed given history station channel octets sending plain stands.sends
-      (sends_on whole given Q known are_two few_links six distinct eight phases done left station channel octets history are wanted has off)
+      plain_data sending.link.setup sending.link.past plain
+      (sender_fixed given history station channel octets sending stands.sends
+      (sends_on whole given Q known are_two few_links six distinct eight phases done left station channel octets history are wanted has off))
 
   -- of the packet, whatever says that it is one of this link
   tells : (packet : IsPacketOf given history station channel octets sending) → TellsWhatWaits (journal_of history) (side_of station) channel octets
@@ -109,14 +108,14 @@ module _ (whole : IsHeardWhole) (given : Given) (Q : Place → List Event → Ty
       let is = packet.number_is in
       let waits_it = ap (λ n. data_waits n (lines_at station history)) is ∙ waits in record {
         packet = packet.packet;
-        more = packet.more_is ∙ more_waits sending.link.setup sending.link.past plain fixed ∙ sym waits_it;
+        more = packet.more_is ∙ more_waits sending.link.setup sending.link.past fixed ∙ sym waits_it;
         empty_last = λ all empty.
             let acked = all_acked end base.acknowledgement
             (acked_is whole given Q known are_two few_links six distinct eight phases done left station channel octets history are wanted has off)
             (tells_of whole given Q known are_two few_links six distinct eight phases done left station channel octets history are wanted has told_is off).sent
             (subst (λ n. (exchange_at n history (side_of station)).acked ≡ (exchange_at n history (side_of station)).sent) is all) in
-            waits_it ∙ empty_is_last sending.link.setup sending.link.past plain fixed acked
-            (ap is_empty (sym (pdu_plain sending.link.setup base (past_idle sending.link.setup sending.link.past plain))
+            waits_it ∙ empty_is_last sending.link.setup sending.link.past fixed acked
+            (ap is_empty (sym (fixed_is sending.link.setup sending.link.past fixed)
             ∙ sym (last_fixed (is_acked base.acknowledgement) (pdu_fixed base) base.acknowledgement.last acked)
             ∙ sym (carried_is whole given Q known are_two few_links six distinct eight phases done left station channel octets history are wanted has off))
             ∙ subst (λ n. is_empty (carried_of n (journal_of history) (side_of station)) ≡ true) is empty);

@@ -2,26 +2,16 @@
 use Rattle.std.specs.Prelude.{ℕ, ◌==◌, ◌&&◌, not, Bool, true, false, List, fold, length, Option, Some, None, if◌then◌else◌}
 use Rattle.ble_base.specs.declared.roles.Side.{Side}
 use Rattle.journal.specs.declared.entries.Entry.{Entry}
-use Rattle.journal.specs.declared.entries.Entry.TheVariants.{Fed, Air, Sent}
+use Rattle.journal.specs.declared.entries.Entry.TheVariants.{Air, Sent}
 use Rattle.journal_data.specs.link_model.Acknowledgement.{Pdu}
 use Rattle.journal_data.specs.link_model.Data.{is_empty}
 use Rattle.run_model.specs.Links.{is_advertising}
-use Rattle.run_model.specs.Order.{side_of_note}
-use Rattle.journal_packets.specs.Belonging.{is_side, link_of_packet}
+use Rattle.journal_packets.specs.Belonging.{link_of_packet}
 use Rattle.journal_acks.specs.Carried.{carried_of}
 use Rattle.journal_acks.specs.Exchange.{Exchanged, exchange_of}
 use Rattle.journal_data.specs.Delivered.{host_buffers}
 use Rattle.journal_data.specs.Lines.{PduLine, lines_of, pdus_on}
-
--- the side of a line, and of none for a turn
-abbrev pub side_of_line : Entry → Option Side
-side_of_line (Fed side octets) = Some side
-side_of_line (Air side channel octets fate verdict) = Some side
-side_of_line entry = side_of_note entry
-
-abbrev pub is_same_side : Option Side → Side → Bool
-is_same_side None side = false
-is_same_side (Some other) side = is_side other side
+pub use Rattle.journal_due.specs.ProcedureLines.{is_same_side, side_of_line}
 
 abbrev pub is_line_of : Side → Entry → Bool
 is_line_of side entry = is_same_side (side_of_line entry) side

@@ -14,6 +14,7 @@ use Rattle.journal_acks.specs.EventOrder.{AllAreInOrder}
 use Rattle.journal_acks.specs.Shut.{IsShutWithReason}
 use Rattle.journal_data.specs.Delivered.{AllDataArrives}
 use Rattle.journal_data.specs.Held.{LinesAreOfOpenLinks}
+use Rattle.journal_due.specs.ProcedureLines.{AllIndicationsAreDue, AllProceduresAreDue, NoneIsDue, NoneIsLeftOut}
 use Rattle.journal_hearings.specs.Openings.{AllHeardLinksAreOpened, HeardLinksAreOpened, OpenedLinksWereToOpen}
 use Rattle.journal_hearings.specs.Requests.{AllRequestsAreHeard}
 use Rattle.journal_hosts.specs.Answered.{AllAreAnswered}
@@ -56,6 +57,15 @@ pub record CreditsAreInOrder (journal : List Entry) : Type 0 where
   pub ascend : AllCreditsAscend journal
   pub late : AllLateCreditsComeLast journal
 
+-- a line of a control procedure comes exactly where it is due by the lines before
+pub record ProcedureLinesAreDue (journal : List Entry) : Type 0 where
+  -- that a procedure begins, is done or is refused
+  pub procedures : AllProceduresAreDue journal
+  -- that an indication comes into force
+  pub indications : AllIndicationsAreDue journal
+  -- before each packet and each turn nothing of the kind is due
+  pub none_left_out : NoneIsLeftOut journal
+
 -- a journal of a run of these streams by this script, up to its end or to some place in a turn
 pub record IsLawful (a b : List ℕ) (script : Script) (journal : List Entry) : Type 0 where
   -- its turns, what is fed in them, and the fates of packets are those of the script
@@ -83,6 +93,8 @@ pub record IsLawful (a b : List ℕ) (script : Script) (journal : List Entry) : 
   pub resets : ResetsLeaveNoLink journal
   -- no line is of a control procedure
   pub procedures : NoneNamesAProcedure journal
+  -- where there is one, it is due, and each that is due is there
+  pub procedure_lines : ProcedureLinesAreDue journal
   -- an answer on a link that passes is heard, and so are requests and responses on the advertising channels
   pub answered : AllAnswersAreHeard journal
   pub requested : AllRequestsAreHeard journal
@@ -96,11 +108,12 @@ pub record IsLawful (a b : List ℕ) (script : Script) (journal : List Entry) : 
   pub arrives : AllDataArrives journal
 
 -- the journal of a whole run: all turns of the script begin, and at the end nothing is under way, nothing waits for a
--- host, no link was to end, and each CONNECT_IND has opened its link at both sides
+-- host, no link was to end, no line of a procedure is due, and each CONNECT_IND has opened its link at both sides
 pub record IsWhole (script : Script) (journal : List Entry) : Type 0 where
   pub turns : AreAllTurns script journal
   pub at_rest : IsAtRest journal
   pub settled : AreSettled journal
   pub in_time : NoneIsOverdue journal
+  pub procedure_lines : NoneIsDue journal
   pub begun : AreOpened journal
   pub taken : HeardLinksAreOpened journal

@@ -22,7 +22,8 @@ use crate::links::{
 /// only in the turn of the last one, or in the next turn where MD says that more waits; lines name
 /// links that are open at their side; each link that is shut has its reason, none that is to end
 /// stays open after that turn, and a Reset leaves none; no line is of a control procedure, since no
-/// host can ask for one yet; an answer on a link that passes is heard, and so are requests on the
+/// host can ask for one yet, and a line of one comes where it is due by the lines before and nowhere
+/// else (`journal_due`); an answer on a link that passes is heard, and so are requests on the
 /// advertising channels; a side opens a link as its peripheral exactly where it heard the
 /// CONNECT_IND and is to open it (`journal_hearings`); each command is answered once, and complete
 /// packets are reported in their order (`journal_hosts`); and data arrives in order
@@ -73,6 +74,7 @@ pub fn each_journal_is_lawful()
     journal_acks::each_shut_line_has_its_reason();
     journal_data::lines_are_of_open_links_in_every_journal();
     journal_data::data_arrives_in_order_in_every_journal();
+    journal_due::each_line_of_a_procedure_is_where_it_is_due();
     journal_slots::each_second_slot_has_its_reason();
     journal_hosts::each_command_is_answered();
     journal_hosts::each_credit_is_of_some_packets();

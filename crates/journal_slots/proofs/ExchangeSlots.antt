@@ -1,15 +1,20 @@
 -- A link sends or listens only in the slot of the anchor of the event that it entered last, or where this event has a
--- second exchange.
-use Rattle.std.proofs.Common.{◌≡◌, ℕ, ◌+◌, ◌==◌, ◌&&◌, ◌||◌, ◌⊎◌, inl, inr, Bool, true, false, not, Option, Some, None, List, [], ◌∷◌, refl, sym, ap, subst, ◌∙◌, arith}
+-- second exchange; and the slot of that event is the anchor that the link has.
+use Rattle.std.proofs.Common.{◌≡◌, ℕ, ◌≤◌, ◌==◌, ◌&&◌, ◌||◌, ◌⊎◌, inl, inr, Bool, true, false, not, Option, Some, None, List, [], ◌∷◌, ◌++◌, is_none, refl, sym, ap, subst, ◌∙◌, arith, if◌then◌else◌}
+use Rattle.std.specs.Prelude.{Err}
+use Rattle.std.specs.List.{AllByRecursion}
 use Rattle.std.specs.Option.{option_map}
 use Rattle.std.proofs.lemmas.Bool.{and_parts, eqb-true}
+use Rattle.ble_base.specs.declared.error_codes.ErrCode.{ErrCode}
 use Rattle.ble_base.specs.declared.roles.Role.{Role}
 use Rattle.data_pdu.specs.Header.{header_in}
-use Rattle.instants.specs.Track.{next_anchor_of}
+use Rattle.instants.specs.Track.{TrackFacts, is_due, next_anchor_of, track_after_enter, track_changed, track_in_next, track_unchanged}
+use Rattle.instants.specs.declared.track.Change.{Change}
+use Rattle.link_changes.specs.InForce.{AsksMap}
 use Rattle.journal_acks.specs.link_model.declared.events.ConnectionEvent.{ConnectionEvent}
 use Rattle.journal_acks.specs.link_model.Events.{event_heard, event_sent}
 use Rattle.journal_acks.specs.link_model.Setup.{Setup as EndSetup}
-use Rattle.journal_acks.specs.link_model.Controls.{goes_on}
+use Rattle.journal_acks.specs.link_model.Controls.{goes_on, is_quiet_now}
 use Rattle.journal_acks.specs.link_model.End.{facts_after as end_facts_after, facts_of as end_facts}
 use Rattle.journal_acks.specs.link_model.Entering.{facts_entered_if}
 use Rattle.journal_acks.specs.link_model.Facts.{Facts as EndFacts}
@@ -19,10 +24,9 @@ use Rattle.journal_acks.specs.link_model.Step.{Step as EndStep, DataGiven, DataR
 use Rattle.journal_acks.specs.link_model.Times.{has_second_exchange}
 use Rattle.journal_acks.specs.open_links.OpenLinks.{OpenLink, facts_in, in_event, link_after, link_at, new_link}
 use Rattle.journal_acks.specs.open_links.Turns.{entered_if, enters_in, is_anchor, link_entered, wants_entering, wants_if}
+use Rattle.journal_acks.proofs.open_links.Anchors.{enters, stays_in_place}
 use Rattle.journal_acks.proofs.open_links.Unmoved.{entered_setup}
-use Rattle.journal_acks.specs.plain_links.Events.{anchor_of, entries_in}
-use Rattle.journal_acks.proofs.plain_links.Growing.{plain_front}
-use Rattle.journal_acks.proofs.plain_links.InEvents.{past_in}
+use Rattle.journal_acks.proofs.link_calls.control_model.Moving.{enters_track}
 use Rattle.slot_plan.specs.Holding.{is_held_in, winner_of}
 use Rattle.slot_plan.specs.declared.Activity.{Activity}
 use Rattle.slot_plan.specs.declared.Activity.TheVariants.{Link, Advertise, Scan, Initiate}
@@ -37,7 +41,6 @@ use Rattle.controller_model.specs.Step.{TurnBegins}
 use Rattle.controller_model.proofs.Always.{ending_is}
 use Rattle.controller_model.proofs.Places.{link_receiving}
 use Rattle.journal_acks.specs.run_model.Run.{step_of}
-use Rattle.journal_acks.specs.run_laws.Plainness.{IsPlainLink}
 use Rattle.journal_acks.proofs.run_laws.Agreed.{step_facts}
 use Rattle.journal_acks.proofs.run_laws.OpenSteps.{EachOpen, IsKeptByHosts, IsKeptOpen, IsKeptServed, MayOpen, begin_open, end_open, none_open, octet_open, phase_open}
 use Rattle.journal_acks.proofs.run_laws.TurnPlaces.{Between, IsTurned, Stage}
@@ -50,14 +53,15 @@ use Rattle.journal_acks.specs.link_calls.Turns.{fixed_if}
 use Rattle.journal_acks.proofs.link_calls.LinkPhases.{IsPhased, phased_first, phased_kept}
 use Rattle.journal_acks.specs.link_calls.Uses.{sends_under}
 use Rattle.journal_acks.proofs.link_calls.RadioUses.{Listening, Sending, Uses, advertises_off, exchange_uses, initiates_off, no_link, off_uses, rests_uses, scans_off, winner_wants}
-use Rattle.journal_acks.proofs.link_calls.UnderHandles.{entries_after, map_under}
+use Rattle.journal_acks.proofs.link_calls.UnderHandles.{map_under}
 use Rattle.journal_acks.specs.link_calls.Turns.{sent_if}
 
 -- ---- the event that a link entered last
 
--- its slot is that of its anchor, where no control procedure changes the anchors
-abbrev pub IsAtAnchor : OpenLink → Type 0
-IsAtAnchor link = IsPlainLink link → (event : ℕ) → entries_in link.past ≡ event + 1 → (facts_in link).event.slot ≡ anchor_of link.setup event
+-- its slot is that of its anchor; and each map that the host asked for is a channel map
+pub record IsOnTrack (link : OpenLink) : Type 0 where
+  pub anchor : 1 ≤ (facts_in link).control.track.entered → (facts_in link).event.slot ≡ (facts_in link).control.track.anchor
+  pub maps : AllByRecursion AsksMap link.past
 
 -- a good packet was received in the slot of its anchor, and a packet there says that more waits
 abbrev pub goes_further : ConnectionEvent → Bool
@@ -172,72 +176,101 @@ served_later one other setup past = later_by one other (λ i. (end_facts (setup 
 
 -- ---- the anchor of its event, step by step
 
+one_more_map : (past : List EndStep) (step : EndStep) → AllByRecursion AsksMap past → AsksMap step → AllByRecursion AsksMap (past ++ step ∷ [])
+one_more_map [] step are is = (is, tt)
+one_more_map (first ∷ past) step are is = (are.0, one_more_map past step are.1 is)
+
 -- a step that enters no event leaves the event where it is
-anchor_stays : (link : OpenLink) (step : EndStep) → entries_in (link_after step link).past ≡ entries_in link.past
-    → (facts_in (link_after step link)).event.slot ≡ (facts_in link).event.slot → IsAtAnchor link → IsAtAnchor (link_after step link)
-anchor_stays link step none slot at = λ plain event entered.
-    slot ∙ at (plain_front link.setup link.past (step ∷ []) plain) event (sym none ∙ entered)
+track_stays : (link : OpenLink) (step : EndStep) → enters step ≡ false → (facts_in (link_after step link)).event.slot ≡ (facts_in link).event.slot → AsksMap step
+    → IsOnTrack link → IsOnTrack (link_after step link)
+track_stays link step none slot map is =
+    let same = step_facts link step in
+    let place = stays_in_place link.setup (facts_in link) step none in record {
+      anchor = λ some.
+          slot ∙ is.anchor (subst (λ n. 1 ≤ n) (ap (λ (f : EndFacts). f.control.track.entered) same ∙ place.entered) some)
+          ∙ sym (ap (λ (f : EndFacts). f.control.track.anchor) same ∙ place.anchor);
+      maps = one_more_map link.past step is.maps map;
+    }
 
-anchor_hosts : IsKeptByHosts IsAtAnchor
-anchor_hosts = record {
-  given = λ start body link at.
-      let step = DataGiven start body in
-      anchor_stays link step (entries_after link step) (ap (λ (e : ConnectionEvent). e.slot) (event_after link step)) at;
-  reported = λ link at.
-      anchor_stays link DataReported (entries_after link DataReported) (ap (λ (e : ConnectionEvent). e.slot) (event_after link DataReported)) at;
+slot_after : (link : OpenLink) (step : EndStep) → (end_facts_after link.setup (facts_in link) step).event ≡ (facts_in link).event
+    → (facts_in (link_after step link)).event.slot ≡ (facts_in link).event.slot
+slot_after link step same = ap (λ (e : ConnectionEvent). e.slot) (event_after link step ∙ same)
+
+track_hosts : IsKeptByHosts IsOnTrack
+track_hosts = record {
+  given = λ start body link is. track_stays link (DataGiven start body) refl (slot_after link (DataGiven start body) refl) tt is;
+  reported = λ link is. track_stays link DataReported refl (slot_after link DataReported refl) tt is;
 }
 
-anchor_served : IsKeptServed IsAtAnchor
-anchor_served = record {
-  hosts = anchor_hosts;
-  served = λ slot link at plain. at plain;
-  fixed = λ link at. anchor_stays link PduFixed (entries_after link PduFixed) (ap (λ (e : ConnectionEvent). e.slot) (event_after_fixing link)) at;
-  sent = λ slot link at.
-      let step = PacketSent slot in
-      anchor_stays link step (entries_after link step) (ap (λ (e : ConnectionEvent). e.slot) (event_after_sending slot link)) at;
+track_served : IsKeptServed IsOnTrack
+track_served = record {
+  hosts = track_hosts;
+  served = λ slot link is. record { anchor = is.anchor; maps = is.maps };
+  fixed = λ link is. track_stays link PduFixed refl (ap (λ (e : ConnectionEvent). e.slot) (event_after_fixing link)) tt is;
+  sent = λ slot link is. track_stays link (PacketSent slot) refl (ap (λ (e : ConnectionEvent). e.slot) (event_after_sending slot link)) tt is;
 }
 
-anchor_open : IsKeptOpen IsAtAnchor
-anchor_open = record {
-  serving = anchor_served;
-  received = λ slot octets room link at.
-      let step = PacketReceived slot octets room in
-      anchor_stays link step (entries_after link step)
+track_open : IsKeptOpen IsOnTrack
+track_open = record {
+  serving = track_served;
+  received = λ slot octets room link is.
+      track_stays link (PacketReceived slot octets room) refl
       (ap (λ (e : ConnectionEvent). e.slot) (event_after_receiving slot octets room link)
-      ∙ received_slot slot (good_pdu link.setup (facts_in link) octets) (facts_in link).event) at;
-  answered = λ answer link at.
-      let step = RequestAnswered answer in
-      anchor_stays link step (entries_after link step) (ap (λ (e : ConnectionEvent). e.slot) (event_after link step)) at;
+      ∙ received_slot slot (good_pdu link.setup (facts_in link) octets) (facts_in link).event) tt is;
+  answered = λ code link is.
+      track_stays link (RequestAnswered (Err code)) refl (slot_after link (RequestAnswered (Err code)) refl) tt is;
 }
 
-new_anchor : (end : EndSetup) → IsAtAnchor (new_link end)
-new_anchor end = λ plain event entered. absurd (omega (arith, entered))
+new_track : (end : EndSetup) → IsOnTrack (new_link end)
+unfolding end_facts
+new_track end = record { anchor = λ some. absurd (let none : 1 ≤ 0 = some in omega (arith, none)); maps = tt }
 
 -- ---- a link that enters its event
 
-pub one_entry_more : (slot : ℕ) (link : OpenLink) → entries_in (link_after (EventEntered slot) link).past ≡ entries_in link.past + 1
-one_entry_more slot link = entries_after link (EventEntered slot)
+anchor_entered : (t : TrackFacts) → (track_after_enter t).anchor ≡ next_anchor_of t
+anchor_entered t = by t.waits
+  where
+    in_next : (change : Change) (due : Bool) → (if due then track_changed change t else track_unchanged t).anchor ≡ next_anchor_of t
+    in_next change true = refl
+    in_next change false = refl
 
-entry_slot : (slot : ℕ) (link : OpenLink) → goes_on (facts_in link) ≡ true → (facts_in (link_after (EventEntered slot) link)).event.slot ≡ slot
-entry_slot slot link goes =
-    ap (λ (e : ConnectionEvent). e.slot) (event_after link (EventEntered slot))
-    ∙ ap (λ b. (facts_entered_if b link.setup slot (facts_in link)).event.slot) goes
+    by : (waits : Option Change) → (track_in_next waits t).anchor ≡ next_anchor_of t
+    by None = refl
+    by (Some change) = in_next change (is_due change t.entered)
+
+none_of : (ends : Option ErrCode) → is_none ends ≡ true → ends ≡ None
+none_of None is = refl
+none_of (Some code) is = absurd cc
+
+module _ (slot : ℕ) (link : OpenLink) (goes : goes_on (facts_in link) ≡ true) where
+  entry_is : facts_in (link_after (EventEntered slot) link) ≡ facts_entered_if true link.setup slot (facts_in link)
+  entry_is = step_facts link (EventEntered slot) ∙ ap (λ b. facts_entered_if b link.setup slot (facts_in link)) goes
+
+  entry_slot : (facts_in (link_after (EventEntered slot) link)).event.slot ≡ slot
+  entry_slot = ap (λ (f : EndFacts). f.event.slot) entry_is
+
+  entry_anchor : (facts_in (link_after (EventEntered slot) link)).control.track.anchor ≡ next_anchor_of (facts_in link).control.track
+  entry_anchor =
+      let control = (facts_in link).control in
+      ap (λ (f : EndFacts). f.control.track.anchor) entry_is
+      ∙ ap (λ (t : TrackFacts). t.anchor) (enters_track control slot (is_quiet_now (facts_in link)) (none_of control.ends goes))
+      ∙ anchor_entered control.track
 
 entered_slot : (enters : Bool) (slot : ℕ) (link : OpenLink) → enters_in slot link ≡ enters → enters ≡ true → slot ≡ (facts_in (entered_if enters slot link)).event.slot
 entered_slot true slot link is enters = sym (entry_slot slot link (and_parts (goes_on (facts_in link)) (is_anchor slot link) is).0)
 entered_slot false slot link is enters = absurd cc
 
-entered_anchor : (enters : Bool) (slot : ℕ) (link : OpenLink) → enters_in slot link ≡ enters → IsAtAnchor link → IsAtAnchor (entered_if enters slot link)
-entered_anchor false slot link is at = at
-entered_anchor true slot link is at = λ plain event entered.
-    let both = and_parts (goes_on (facts_in link)) (is_anchor slot link) is in
-    let before = plain_front link.setup link.past (EventEntered slot ∷ []) plain in
-    let more = one_entry_more slot link in
-    let same : entries_in link.past ≡ event = omega (arith, more, entered) in
-    entry_slot slot link both.0
-    ∙ sym (eqb-true (next_anchor_of (facts_in link).control.track) slot both.1) ∙ (past_in link.setup link.past before).next_anchor ∙ ap (anchor_of link.setup) same
+entered_track : (enters : Bool) (slot : ℕ) (link : OpenLink) → enters_in slot link ≡ enters → IsOnTrack link → IsOnTrack (entered_if enters slot link)
+entered_track false slot link is on = on
+entered_track true slot link is on =
+    let both = and_parts (goes_on (facts_in link)) (is_anchor slot link) is in record {
+      anchor = λ some.
+          entry_slot slot link both.0 ∙ sym (eqb-true (next_anchor_of (facts_in link).control.track) slot both.1)
+          ∙ sym (entry_anchor slot link both.0);
+      maps = one_more_map link.past (EventEntered slot) on.maps tt;
+    }
 
-pub wants_anchor : (enters : Bool) (slot : ℕ) (link : OpenLink) → enters_in slot link ≡ enters → wants_entering slot link ≡ true → enters ≡ true
+wants_anchor : (enters : Bool) (slot : ℕ) (link : OpenLink) → enters_in slot link ≡ enters → wants_entering slot link ≡ true → enters ≡ true
 wants_anchor true slot link is wants = refl
 wants_anchor false slot link is wants = absurd (let h : false ≡ true = sym (ap (λ b. wants_if b slot link) is) ∙ wants in absurd cc)
 
@@ -248,7 +281,7 @@ module _ (slot handle : ℕ) (begun : Facts) (link : OpenLink) (at : link_at han
   abbrev now : OpenLink
   now = link_entered slot link
 
-  pub entered_is : (found : Option OpenLink) (other : ℕ) → other ≡ handle → link_at other (facts_entering slot begun).links ≡ found → found ≡ Some now
+  entered_is : (found : Option OpenLink) (other : ℕ) → other ≡ handle → link_at other (facts_entering slot begun).links ≡ found → found ≡ Some now
   entered_is found other same is =
       sym is ∙ ap (λ n. link_at n (all_entered slot begun.links)) same ∙ map_under (option_map (link_entered slot)) refl 0 handle begun.links ∙ ap (option_map (link_entered slot)) at
 
@@ -301,7 +334,7 @@ module _ (slot handle : ℕ) (begun : Facts) (link : OpenLink) (at : link_at han
 
 pub record AreInExchanges (setup : Setup) (stage : Stage) (begun : ℕ) (facts : Facts) : Type 0 where
   pub phased : IsPhased setup stage begun facts
-  pub anchored : EachOpen IsAtAnchor facts.links
+  pub tracks : EachOpen IsOnTrack facts.links
   pub in_exchange : (handle : ℕ) (link : OpenLink) → link_at handle facts.links ≡ Some link → Uses handle facts.turn.doing → IsInExchange facts.turn.slot link
 
 begun_exchange : (setup : Setup) (slot : ℕ) (on : Bool) (facts : Facts) (handle : ℕ) (after : OpenLink)
@@ -343,10 +376,10 @@ passed_exchange setup received facts uses handle link (Takes base octets was som
     λ does. subst (λ n. IsInExchange n link) (sym (phase_turn setup facts received).slot)
     (later_exchange slot base link later (uses handle base was (Listening on)))
 
-anchors_may_open : (facts : Facts) → MayOpen IsAtAnchor anchor_open facts
-anchors_may_open facts = record {
-  made = λ channel link doing. new_anchor (record { link = link; opened = facts.turn.slot });
-  taken = λ pdu on fields handle takes. new_anchor (record { link = link_taken on.params.own pdu fields handle; opened = facts.turn.slot });
+tracks_may_open : (facts : Facts) → MayOpen IsOnTrack track_open facts
+tracks_may_open facts = record {
+  made = λ channel link doing. new_track (record { link = link; opened = facts.turn.slot });
+  taken = λ pdu on fields handle takes. new_track (record { link = link_taken on.params.own pdu fields handle; opened = facts.turn.slot });
 }
 
 pub exchanges_kept : (setup : Setup) → IsTurned setup (AreInExchanges setup)
@@ -354,23 +387,23 @@ exchanges_kept setup = record {
   feeds = λ begun octet facts is.
       let phased = (phased_kept setup).feeds begun octet facts is.phased in record {
         phased = phased;
-        anchored = octet_open IsAtAnchor anchor_hosts setup facts octet is.anchored;
+        tracks = octet_open IsOnTrack track_hosts setup facts octet is.tracks;
         in_exchange = λ handle link at uses. rests_uses handle _ _ phased.phase uses;
       };
   begins = λ begun on facts is. record {
     phased = (phased_kept setup).begins begun on facts is.phased;
-    anchored = begin_open IsAtAnchor IsAtAnchor anchor_served setup begun on facts (λ link at. entered_anchor (enters_in begun link) begun link refl at) is.anchored;
+    tracks = begin_open IsOnTrack IsOnTrack track_served setup begun on facts (λ link on. entered_track (enters_in begun link) begun link refl on) is.tracks;
     in_exchange = begun_exchange setup begun on facts;
   };
   passes = λ phases begun received facts is. record {
     phased = (phased_kept setup).passes phases begun received facts is.phased;
-    anchored = phase_open IsAtAnchor anchor_open setup facts received (anchors_may_open facts) is.anchored;
+    tracks = phase_open IsOnTrack track_open setup facts received (tracks_may_open facts) is.tracks;
     in_exchange = λ handle link at.
         passed_exchange setup received facts is.in_exchange handle link (passes_under setup facts received handle link is.phased.uses.in_turn.listens at);
   };
   ends = λ begun facts is. record {
     phased = (phased_kept setup).ends begun facts is.phased;
-    anchored = end_open IsAtAnchor anchor_hosts setup facts is.anchored;
+    tracks = end_open IsOnTrack track_hosts setup facts is.tracks;
     in_exchange = λ handle link at uses. rests_uses handle Rests _ refl uses;
   };
 }
@@ -378,6 +411,6 @@ exchanges_kept setup = record {
 pub exchanges_first : (setup : Setup) → AreInExchanges setup Between 0 (first_facts setup)
 exchanges_first setup = record {
   phased = phased_first setup;
-  anchored = none_open IsAtAnchor setup.links;
+  tracks = none_open IsOnTrack setup.links;
   in_exchange = λ handle link at uses. no_link setup handle link _ at;
 }

@@ -1,5 +1,6 @@
 -- The lemmas of this crate.
 pub mod ExchangeSlots
+pub mod LastEvents
 pub mod OnAir
 mod OnAirCalls
 mod OnAirPackets

@@ -1,8 +1,9 @@
 -- What the events of open ends hold was on the air, after a packet on the air.
-use Rattle.std.proofs.Common.{◌≡◌, ℕ, zero, suc, ◌+◌, ◌==◌, ◌&&◌, Bool, true, false, not, Option, Some, None, List, [], ◌∷◌, ◌++◌, length, take, refl, sym, ap, subst, ◌∙◌, append-nil}
+use Rattle.std.proofs.Common.{◌≡◌, ℕ, zero, suc, ◌+◌, ◌≤◌, ◌==◌, nat_le, ◌&&◌, Bool, true, false, not, Option, Some, None, List, [], ◌∷◌, ◌++◌, length, take, refl, sym, ap, subst, ◌∙◌, append-nil, arith}
 use Rattle.std.specs.Prelude.{if◌then◌else◌}
 use Rattle.std.specs.Str.{bytes_eq}
 use Rattle.std.proofs.lemmas.Bool.{eqb-true, false_from_ne_true, and_right}
+use Rattle.std.proofs.lemmas.Bool.Decides.{nat_tests}
 use Rattle.ble_base.specs.Side.{other_side}
 use Rattle.ble_base.specs.declared.roles.Side.{Side}
 use Rattle.air_frame.specs.declared.Heard.{Heard}
@@ -19,8 +20,6 @@ use Rattle.journal_acks.specs.link_model.Setup.{Setup as EndSetup}
 use Rattle.journal_acks.specs.link_model.Step.{PacketReceived, PacketSent}
 use Rattle.journal_acks.proofs.link_model.Hearing.{IsHeardWhole}
 use Rattle.journal_acks.proofs.link_model.Received.{header_read}
-use Rattle.journal_acks.proofs.plain_links.Growing.{plain_front}
-use Rattle.journal_acks.proofs.plain_links.Payloads.{IsInForm, past_form}
 use Rattle.journal_acks.specs.open_links.OpenLinks.{OpenLink, facts_in, link_after, link_at}
 use Rattle.controller_model.specs.declared.doing.Turn.{Turn}
 use Rattle.controller_model.specs.Facts.{Facts, Sends}
@@ -38,7 +37,6 @@ use Rattle.journal_acks.proofs.run_model.Parts.{journal_event}
 use Rattle.journal_acks.proofs.run_model.Stations.{among, in_more_other, in_more_same, is_in, not_before}
 use Rattle.journal_acks.proofs.run_model.Unseen.{good_is}
 use Rattle.journal_acks.proofs.run_model.Walk.{AtPackets, Place}
-use Rattle.journal_acks.specs.run_laws.Plainness.{IsPlainLink}
 use Rattle.journal_acks.proofs.run_laws.Hearings.{wanted_is}
 use Rattle.journal_acks.proofs.run_laws.TurnPlaces.{Within, at_stage}
 use Rattle.journal_acks.specs.journal_packets.Belonging.{link_of_packet}
@@ -47,9 +45,12 @@ use Rattle.journal_acks.proofs.AirCounts.{heard_it, listening, one as same_link,
 use Rattle.journal_acks.proofs.Counting.{AreKnown, facts_event, taking_if}
 use Rattle.journal_acks.proofs.Exchanging.{number_at, number_sent}
 use Rattle.journal_acks.proofs.KeptCounts.{AreCountedAt}
+use Rattle.journal_acks.specs.link_calls.Ranges.{IsReadable}
 use Rattle.journal_acks.specs.link_calls.Uses.{listens_under, sends_under}
+use Rattle.journal_acks.proofs.link_calls.InRange.{sent_ranges}
+use Rattle.journal_acks.proofs.link_calls.Pieces.{sent_readable}
 use Rattle.journal_acks.proofs.Standing.{PhasedBy, listener_sends, other_listens, other_sends, phased_at, sends_on, sends_other}
-use Rattle.journal_acks.proofs.TwoStations.{IsOfTwo, hearing_of, one_hearing, other_is, other_of, own_differs, own_received, same_number, sent_in_form}
+use Rattle.journal_acks.proofs.TwoStations.{IsOfTwo, hearing_of, one_hearing, other_is, other_of, own_differs, own_received, same_number}
 use Rattle.journal_acks.proofs.link_calls.UnderHandles.{same_base}
 use Rattle.journal_slots.specs.SecondSlot.{PacketInSlot, has_more}
 use Rattle.journal_slots.proofs.OnAir.{IsEndOnAir, IsOnAir, WasOnAir, moved, on_air_stays, plain, received_on_air, sent_on_air}
@@ -71,14 +72,17 @@ whole_pdu channel access init octets pdu is = by (bytes_eq (take 4 octets) (acce
     by true false found same = absurd cc
     by false whole found same = absurd cc
 
-packet_says_more : IsHeardWhole → (setup : EndSetup) (facts : EndFacts) → IsInForm facts → has_more facts.event.channel (packet_sent setup facts) ≡ more_sent facts
+in_form : (count : ℕ) → count ≤ 251 → (nat_le 2 (suc (suc count)) && nat_le (suc (suc count)) 257 && (suc (suc count) == 2 + count)) ≡ true
+in_form count short = grind (arith, nat_tests)
+
+packet_says_more : IsHeardWhole → (setup : EndSetup) (facts : EndFacts) → IsReadable facts → has_more facts.event.channel (packet_sent setup facts) ≡ more_sent facts
 unfolding packet_sent
 packet_says_more whole setup facts form =
     let pdu = octets_of (header_sent facts) ++ payload_sent facts in
     ap (λ xs. (header_in xs).md)
     (whole_pdu facts.event.channel setup.link.fields.access setup.link.fields.crc_init (packet_sent setup facts) pdu
-    (whole facts.event.channel setup.link.fields.access setup.link.fields.crc_init pdu (sent_in_form facts form)))
-    ∙ ap (λ (h : DataHeader). h.md) (header_read facts form.low)
+    (whole facts.event.channel setup.link.fields.access setup.link.fields.crc_init pdu (in_form (length (payload_sent facts)) form.short)))
+    ∙ ap (λ (h : DataHeader). h.md) (header_read facts form.llid)
 
 -- ---- the line of the packet
 
@@ -236,13 +240,11 @@ module _ (whole : IsHeardWhole) (given : Given) (Q : Place → List Event → Ty
     sends_it : sends_under sent.handle (facts station).turn.doing ≡ true
     sends_it = sends_on sent.handle (facts station).turn.doing sent.sends
 
-    plain_sender : IsPlainLink sent.link
-    plain_sender = plain_front sent.link.setup sent.link.past (PacketSent sent.slot ∷ []) (known.plain here history has.known station in_it sent.handle _ sent.is_open)
-
     -- it says whether more waits at the end that sent it
     says : has_more channel octets ≡ more_sent (facts_in sent.link)
     says =
-        (λ i. has_more (sent.channel_is i) (sent.packet i)) ∙ packet_says_more whole sent.link.setup (facts_in sent.link) (past_form sent.link.setup sent.link.past plain_sender)
+        (λ i. has_more (sent.channel_is i) (sent.packet i)) ∙ packet_says_more whole sent.link.setup (facts_in sent.link) (sent_readable sent.link (sent_ranges true sent.slot sent.link
+        (known.ranges here history has.known station sent.handle (link_after (PacketSent sent.slot) sent.link) in_it sent.is_open)))
 
     own_sent : (link : OpenLink) → link_at sent.handle (facts station).links ≡ Some link → IsOwnThen sent.handle link
     own_sent link at =

@@ -1,27 +1,22 @@
 -- In every run of two stations, a side sends on a link in the turn after that of the anchor of an event only where a packet
 -- in the turn of the anchor said that more waits.
-use Rattle.std.proofs.Common.{◌≡◌, ℕ, ◌+◌, ◌-◌, ◌*◌, ◌==◌, ◌&&◌, ◌||◌, inl, inr, Bool, true, false, not, Option, Some, None, List, [], ◌∷◌, ◌++◌, length, replicate, refl, sym, ap, subst, ◌∙◌, arith}
-use Rattle.std.specs.Prelude.{⊤, fold, map, take, if◌then◌else◌}
+use Rattle.std.proofs.Common.{◌≡◌, ℕ, ◌+◌, ◌-◌, ◌==◌, ◌&&◌, ◌||◌, inl, inr, Bool, true, false, not, Option, Some, None, List, [], ◌∷◌, ◌++◌, length, replicate, refl, sym, ap, subst, ◌∙◌, arith}
+use Rattle.std.specs.Prelude.{⊤, map, take, if◌then◌else◌}
 use Rattle.std.proofs.lemmas.Bool.{and_parts, eqb-true, false_from_ne_true}
 use Rattle.ble_base.specs.declared.roles.Side.{Side}
-use Rattle.adv_pdu.specs.declared.pdu.ConnectFields.{ConnectFields}
 use Rattle.journal.specs.declared.entries.Entry.{Entry}
-use Rattle.journal_acks.specs.plain_links.Events.{anchor_of, entries_in}
-use Rattle.journal_acks.specs.plain_links.Plain.{ArePlain}
 use Rattle.journal_acks.specs.link_model.declared.events.ConnectionEvent.{ConnectionEvent}
 use Rattle.journal_acks.specs.link_model.Packets.{more_sent}
-use Rattle.journal_acks.specs.link_model.Setup.{Setup as EndSetup}
-use Rattle.journal_acks.specs.link_model.Step.{PacketSent, Step as EndStep}
+use Rattle.journal_acks.specs.link_model.Step.{PacketSent}
 use Rattle.journal_acks.proofs.link_model.Hearing.{IsHeardWhole}
 use Rattle.journal_acks.specs.open_links.OpenLinks.{OpenLink, facts_in, link_after, link_at}
 use Rattle.controller_model.specs.declared.doing.Turn.{Turn}
 use Rattle.controller_model.specs.Facts.{Sends}
-use Rattle.controller_model.specs.Since.{notes_opened_on}
 use Rattle.controller_model.specs.Side.{facts_of}
 use Rattle.controller_model.specs.Step.{TurnBegins, TurnEnds}
 use Rattle.journal_acks.specs.run_model.Due.{packet_in}
 use Rattle.journal_acks.specs.run_model.Feeding.{AreDistinct}
-use Rattle.journal_acks.specs.run_model.History.{Transmitted, Event, TurnBegan, packet_received, past_of, turns_begun}
+use Rattle.journal_acks.specs.run_model.History.{Event, TurnBegan, packet_received, past_of, turns_begun}
 use Rattle.journal_acks.specs.run_model.Journal.{journal_of, side_of}
 use Rattle.journal_acks.specs.run_model.LinkEnds.{HaveAddresses}
 use Rattle.journal_acks.specs.run_model.Links.{is_advertising}
@@ -29,6 +24,7 @@ use Rattle.journal_acks.specs.run_model.Readers.{turns_of}
 use Rattle.journal_acks.specs.run_model.Run.{Given, after_call, after_feed, facts_at, history_of, octets_left, run_of, setup_at, step_of, use_at}
 use Rattle.journal_acks.proofs.run_model.EntryEvents.{is_aired}
 use Rattle.journal_acks.proofs.run_model.Fates.{turns_are}
+use Rattle.journal_acks.proofs.run_model.Fronts.{front_at}
 use Rattle.journal_acks.proofs.run_model.LinkEnds.{AreTaken, IsUnderstood, received_by, received_event}
 use Rattle.journal_acks.proofs.run_model.Calls.{same_station}
 use Rattle.journal_acks.proofs.run_model.Stations.{among, in_more_other, in_more_same, is_in, not_before}
@@ -37,18 +33,15 @@ use Rattle.journal_acks.proofs.run_laws.DistinctAccess.{AreApart}
 use Rattle.journal_acks.proofs.run_laws.OpenSteps.{none_open, open_has}
 use Rattle.journal_acks.proofs.run_laws.Hearings.{wanted_is}
 use Rattle.journal_acks.proofs.run_laws.TurnPlaces.{Between, Within, at_stage, turned}
-use Rattle.journal_acks.specs.journal_links.Begun.{LinkBegun, link_numbered}
+use Rattle.journal_acks.specs.journal_links.Begun.{link_numbered}
+use Rattle.journal_acks.specs.journal_links.Changes.{changes_of}
 use Rattle.journal_acks.specs.journal_links.Entered.{anchor_in}
-use Rattle.journal_acks.proofs.journal_links.EnterLines.{plain_anchors}
-use Rattle.journal_acks.proofs.journal_links.NoChanges.{no_changes_at}
 use Rattle.journal_acks.proofs.journal_links.OfTwo.{are_distinct}
 use Rattle.journal_acks.specs.journal_packets.Senders.{IsOfSendersLink}
 use Rattle.journal_acks.proofs.journal_packets.AccessOrder.{AreNth}
 use Rattle.journal_acks.proofs.journal_packets.SoFar.{IsBelongingSoFar}
 use Rattle.journal_acks.specs.EventOrder.{entered_on}
 use Rattle.journal_acks.proofs.Counting.{AreKnown, IsBegun, taking_if}
-use Rattle.journal_acks.proofs.EntryLines.{count_read}
-use Rattle.journal_acks.proofs.EntryNotes.{count_note, past_entered}
 use Rattle.journal_acks.proofs.Exchanging.{number_at, number_quiet}
 use Rattle.journal_acks.proofs.KeptCounts.{AreCountedAt, counts_kept, unsent}
 use Rattle.journal_acks.proofs.Known.{known_of}
@@ -59,7 +52,8 @@ use Rattle.journal_acks.proofs.Seen.{IsSeen, seen_packet}
 use Rattle.journal_acks.proofs.Standing.{PhasedBy, last_phase, phased_at, sends_on, silent_sends}
 use Rattle.journal_acks.proofs.TwoStations.{IsOfTwo}
 use Rattle.journal_slots.specs.SecondSlot.{AllAreContinued, HasToContinue, IsContinued}
-use Rattle.journal_slots.proofs.ExchangeSlots.{AreInExchanges, IsAtAnchor, IsInExchange, event_after_sending, exchanges_first, exchanges_kept, goes_further}
+use Rattle.journal_slots.proofs.ExchangeSlots.{AreInExchanges, IsInExchange, event_after_sending, exchanges_first, exchanges_kept, goes_further}
+use Rattle.journal_slots.proofs.LastEvents.{IsInItsEvent, begun_as, sender_in_event}
 use Rattle.journal_slots.proofs.OnAir.{IsEndOnAir, WasOnAir, continues}
 use Rattle.journal_slots.proofs.OnAirCalls.{AreOnAirSo, begin_on_air, end_on_air, feed_on_air, on_air_call, on_air_event, on_air_same, passes_on_air}
 use Rattle.journal_slots.proofs.OnAirPackets.{any_sending, listener_off, packet_on_air}
@@ -187,19 +181,13 @@ on_air_first given = record { is = counts_first given; on_air = none_open_yet gi
 record IsInExchangeOf (given : Given) (history : List Event) (station channel : ℕ) (octets : List ℕ) : Type 0 where
   sent : IsOfSendersLink given history station channel octets
   begun : IsBegun history (number_at station sent.handle history) station sent.link.setup
-  count : entered_on (side_of station) (number_at station sent.handle history) (journal_of history) ≡ entries_in (link_after (PacketSent sent.slot) sent.link).past
-  anchored : (event : ℕ) → entries_in (link_after (PacketSent sent.slot) sent.link).past ≡ event + 1
-      → (facts_in (link_after (PacketSent sent.slot) sent.link)).event.slot ≡ anchor_of sent.link.setup event
+  in_event : IsInItsEvent (journal_of history) (number_at station sent.handle history) (side_of station) begun.link (facts_in (link_after (PacketSent sent.slot) sent.link))
   in_exchange : IsInExchange (facts_at given station history).turn.slot (link_after (PacketSent sent.slot) sent.link)
   on_air : WasOnAir true (facts_at given station history).turn.slot (link_after (PacketSent sent.slot) sent.link) (number_at station sent.handle history) (side_of station) (journal_of history)
   turns : length (turns_of (journal_of history)) ≡ (facts_at given station history).turn.slot + 1
 
 abbrev IsInExchangeOn : Given → List Event → ℕ → ℕ → List ℕ → Type 0
 IsInExchangeOn given history station channel octets = is_advertising channel ≡ false → IsInExchangeOf given history station channel octets
-
--- a plain end has noted as many events as it has entered
-pub entered_noted : (setup : EndSetup) (past : List EndStep) → ArePlain setup past → fold count_note 0 (notes_opened_on setup past) ≡ entries_in past
-entered_noted setup past plain = (past_entered setup past plain).count
 
 -- an event goes further by what was sent and heard in the slot of its anchor
 further_before : (slot : ℕ) (base : OpenLink) → (slot == (facts_in base).event.slot) ≡ false → goes_further (facts_in (link_after (PacketSent slot) base)).event ≡ true
@@ -251,15 +239,13 @@ module _ (whole : IsHeardWhole) (understood : IsUnderstood) (taken : AreTaken) (
       let own = link_after (PacketSent sent.slot) sent.link in
       let number = number_at station sent.handle history in
       let turn = (facts_at given station history).turn in
+      let front = front_at given place history has.is.known.front in
       let on = sends_on sent.handle turn.doing sent.sends in
       let exchanges = turned setup (AreInExchanges setup) (exchanges_kept setup) (past_of station history) (at_stage (Within phases) (turns_begun history)) (exchanges_first setup)
       (has.is.holds.hearing.stand station in_it) in record {
         sent = sent;
-        begun = known.begun place history has.is.known station sent.handle own in_it sent.is_open;
-        count = count_read (journal_of history) station number (notes_opened_on own.setup own.past) (known.lines place history has.is.known station sent.handle own in_it sent.is_open)
-            ∙ entered_noted own.setup own.past (known.plain place history has.is.known station in_it sent.handle own sent.is_open);
-        anchored = open_has IsAtAnchor 0 sent.handle (facts_at given station history).links own exchanges.anchored sent.is_open
-            (known.plain place history has.is.known station in_it sent.handle own sent.is_open);
+        begun = begun_as taken given (IsBelongingSoFar given) known distinct place history front.rest front.at has.is.known station channel octets in_it sent;
+        in_event = sender_in_event taken given (IsBelongingSoFar given) known distinct place history front.rest front.at has.is.known station channel octets in_it sent;
         in_exchange = exchanges.in_exchange sent.handle own sent.is_open (Sending on);
         on_air = late (packet_received station history) sent.handle turn own number (side_of station) (journal_of history) on
             (subst (λ b. IsEndOnAir (not b) (packet_received station history) sent.handle turn own number (side_of station) (journal_of history))
@@ -270,30 +256,25 @@ module _ (whole : IsHeardWhole) (understood : IsUnderstood) (taken : AreTaken) (
   sees : IsSeen given P (λ history. ⊤) (IsInExchangeOn given)
   sees = record { turn = λ history is. tt; packet = sees_packet }
 
-  continued_at : (history rest : List Event) (station channel : ℕ) (octets : List ℕ) → history_of (run_of given) ≡ history ++ rest → IsInExchangeOf given history station channel octets → IsContinued (journal_of history) (side_of station) octets
-  continued_at history rest station channel octets at_front is = λ number event link belongs is_link entered in_turn.
+  continued_at : (history : List Event) (station channel : ℕ) (octets : List ℕ) → IsInExchangeOf given history station channel octets → IsContinued (journal_of history) (side_of station) octets
+  continued_at history station channel octets is = λ number event link belongs is_link entered in_turn.
       let own = link_after (PacketSent is.sent.slot) is.sent.link in
       let slot = (facts_at given station history).turn.slot in
       let side = side_of station in
-      let numbers : Some (number_at station is.sent.handle history) ≡ Some number = sym is.sent.belongs ∙ belongs in
-      let same : number_at station is.sent.handle history ≡ number = cc in
+      let own_number = number_at station is.sent.handle history in
+      let numbers : Some own_number ≡ Some number = sym is.sent.belongs ∙ belongs in
+      let same : own_number ≡ number = cc in
       let links : Some is.begun.link ≡ Some link = sym is.begun.is_link ∙ ap (λ n. link_numbered n (journal_of history)) same ∙ is_link in
       let one : is.begun.link ≡ link = cc in
-      let count : entries_in own.past ≡ event + 1 = sym is.count ∙ ap (λ n. entered_on side n (journal_of history)) same ∙ entered in
-      let anchor : anchor_in link [] event ≡ anchor_of own.setup event =
-      plain_anchors link event
-      ∙ ap (λ (l : LinkBegun). l.slot + 2 + l.fields.win_offset + event * l.fields.interval) (sym one)
-      ∙ ap (λ (fields : ConnectFields). is.begun.link.slot + 2 + fields.win_offset + event * fields.interval) is.begun.fields
-      ∙ ap (λ n. n + 2 + own.setup.link.fields.win_offset + event * own.setup.link.fields.interval) is.begun.slot in
-      let at = is.anchored event count in
+      let count = sym is.in_event.entered ∙ ap (λ n. entered_on side n (journal_of history)) same ∙ entered in
+      let last : is.in_event.event ≡ event = omega (arith, count) in
+      let anchor : (facts_in own).event.slot ≡ anchor_in link (changes_of number link side (journal_of history)) event =
+      is.in_event.anchor ∙ (λ i. anchor_in (one i) (changes_of (same i) (one i) side (journal_of history)) (last i)) in
       let turns = is.turns in
-      let none = no_changes_at given six distinct history rest at_front number link side in
-      let now = in_turn ∙ ap (λ changes. anchor_in link changes event + 2) none in
-      let later : slot ≡ (facts_in own).event.slot + 1 = omega (arith, turns, now, anchor, at) in
-      subst (λ changes. HasToContinue number (anchor_in link changes event) side (journal_of history)) (sym none)
-      (subst (λ n. HasToContinue n (anchor_in link [] event) side (journal_of history)) same
-      (subst (λ n. HasToContinue (number_at station is.sent.handle history) n side (journal_of history)) (at ∙ sym anchor)
-      (continued_by slot own (number_at station is.sent.handle history) side (journal_of history) later is.in_exchange is.on_air)))
+      let later : slot ≡ (facts_in own).event.slot + 1 = omega (arith, turns, in_turn, anchor) in
+      subst (λ n. HasToContinue number n side (journal_of history)) anchor
+      (subst (λ n. HasToContinue n (facts_in own).event.slot side (journal_of history)) same
+      (continued_by slot own own_number side (journal_of history) later is.in_exchange is.on_air))
 
   pub packets_continued : AllAreContinued (journal_of (history_of (run_of given)))
   packets_continued = λ front rest side channel octets fate verdict is off.
@@ -301,4 +282,4 @@ module _ (whole : IsHeardWhole) (understood : IsUnderstood) (taken : AreTaken) (
       let seen = seen_packet given P (on_air_kept whole given (IsBelongingSoFar given) known pair six distinct) (λ history. ⊤) (IsInExchangeOn given) sees
       (on_air_first given) aired.before aired.after aired.station channel octets (aired.hearing ∷ aired.others) aired.is_at off in
       subst (λ xs. IsContinued xs side octets) (sym aired.front_is)
-      (subst (λ s. IsContinued (journal_of aired.before) s octets) (sym aired.side_is) (continued_at aired.before (Transmitted aired.station channel octets (aired.hearing ∷ aired.others) ∷ aired.after) aired.station channel octets aired.is_at seen))
+      (subst (λ s. IsContinued (journal_of aired.before) s octets) (sym aired.side_is) (continued_at aired.before aired.station channel octets seen))

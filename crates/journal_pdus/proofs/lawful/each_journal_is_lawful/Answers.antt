@@ -1,12 +1,14 @@
 -- Proof of `lawful::each_journal_is_lawful`.
-use Rattle.std.proofs.Common.{◌≤◌, ℕ, zero, suc, List, refl, arith}
+use Rattle.std.proofs.Common.{◌≤◌, ℕ, zero, suc, List, refl, arith, subst}
 use Rattle.host_view.specs.declared.view.TheConstants.{MOST_LINKS}
 use Rattle.radio_replay.specs.Script.{Script}
-use Rattle.run_model.specs.Run.{setup_at}
+use Rattle.run_model.specs.Run.{history_of, setup_at}
+use Rattle.run_model.specs.Journal.{journal_of}
 use Rattle.run_model.specs.Pair.{given_of}
 use Rattle.run_model.proofs.LinkEnds.{pair_addresses}
 use Rattle.journal_data.proofs.FewLinks.{pair_links}
 use Rattle.journal_data.proofs.Law.{eight_of}
+use Rattle.journal_due.specs.ProcedureLines.{NoneIsDue}
 use Rattle.journal_pdus.proofs.Law.{journal_at_rest, journal_due, journal_ends_in_time, journal_in_time, journal_settled, journal_undelivered}
 use Rattle.journal_pdus.proofs.lawful.each_journal_is_lawful.Goals as goal
 
@@ -36,6 +38,11 @@ returns-clause-lawful c = λ a b script six six_too. record {
       c.searches_give_each_valid_address.ensures.valid c.searches_give_each_valid_address.ensures.distinct a b script six six_too;
   resets = c.a_reset_leaves_no_link.ensures (given_of a b script) refl (pair_addresses a b script six six_too) (pair_links a b script).links (eight_of a b script);
   procedures = c.no_line_names_a_procedure.ensures a b script six six_too;
+  procedure_lines = record {
+    procedures = c.each_line_of_a_procedure_is_where_it_is_due.ensures.procedures (given_of a b script) refl (pair_addresses a b script six six_too);
+    indications = c.each_line_of_a_procedure_is_where_it_is_due.ensures.indications (given_of a b script) refl (pair_addresses a b script six six_too);
+    none_left_out = c.each_line_of_a_procedure_is_where_it_is_due.ensures.none_left_out (given_of a b script) refl (pair_addresses a b script six six_too);
+  };
   answered = c.each_answer_on_a_link_is_heard.ensures (given_of a b script) refl (pair_addresses a b script six six_too);
   requested = c.each_request_is_heard.ensures (given_of a b script) refl (pair_addresses a b script six six_too);
   commands = c.each_command_is_answered.ensures a b script;
@@ -46,7 +53,7 @@ returns-clause-lawful c = λ a b script six six_too. record {
     at_once = c.each_complete_packet_is_reported_at_once.ensures (given_of a b script) refl (pair_addresses a b script six six_too)
         (pair_links a b script).links (eight_of a b script);
     ascend = c.credits_of_a_turn_are_in_the_order_of_handles.ensures (given_of a b script) refl (pair_links a b script).links;
-    late = c.each_late_credit_comes_as_its_turn_ends.ensures (given_of a b script) refl (pair_addresses a b script six six_too);
+    late = c.each_late_credit_comes_as_its_turn_ends.ensures (given_of a b script) refl;
   };
   due = journal_due c.packet_tells_its_pdu.ensures.heard c.a_pdu_is_understood.ensures.says c.connections_are_taken.ensures.taken
       c.searches_give_each_valid_address.ensures.valid c.searches_give_each_valid_address.ensures.distinct a b script six six_too
@@ -64,6 +71,8 @@ returns-clause-whole c = λ a b script history six six_too whole. record {
       c.searches_give_each_valid_address.ensures.valid c.searches_give_each_valid_address.ensures.distinct a b script six six_too history whole;
   in_time = journal_ends_in_time c.packet_tells_its_pdu.ensures.heard c.a_pdu_is_understood.ensures.says c.connections_are_taken.ensures.taken
       c.searches_give_each_valid_address.ensures.valid c.searches_give_each_valid_address.ensures.distinct a b script six six_too history whole;
+  procedure_lines = subst (λ run. NoneIsDue (journal_of (history_of run))) whole
+      (c.each_line_of_a_procedure_is_where_it_is_due.ensures.at_the_end (given_of a b script) refl (pair_addresses a b script six six_too));
   begun = c.each_link_is_opened_at_its_central.ensures.at_the_end (given_of a b script) history refl (pair_addresses a b script six six_too) whole;
   taken = c.each_heard_link_is_opened.ensures.at_the_end (given_of a b script) history refl (pair_addresses a b script six six_too) (few_of a b script) (eight_of a b script) whole;
 }
