@@ -8,3 +8,4 @@ pub mod InEvents
 pub mod Opening
 pub mod Unanswering
 pub mod Ordering
+pub mod DueLines

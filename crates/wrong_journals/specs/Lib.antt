@@ -9,6 +9,7 @@ pub mod InEvent
 pub mod Resetting
 pub mod Shuts
 pub mod Orders
+pub mod ProcedureLines
 pub mod Right
 pub mod Turns
 pub mod Unanswered

@@ -9,6 +9,7 @@ mod hearings;
 mod held;
 mod hosts;
 mod orders;
+mod procedure_lines;
 mod resets;
 mod right;
 mod shuts;
@@ -26,6 +27,10 @@ pub use crate::hearings::wrong_hearings_are_refused;
 pub use crate::held::{lines_of_no_link_are_refused, packets_of_no_link_are_refused};
 pub use crate::hosts::{wrong_credits_are_refused, wrong_data_is_refused};
 pub use crate::orders::wrong_orders_of_turns_are_refused;
+pub use crate::procedure_lines::{
+    lines_that_are_due_are_right, lines_that_are_not_due_are_refused,
+    wrong_lines_of_procedures_are_refused,
+};
 pub use crate::resets::links_left_by_a_reset_are_refused;
 pub use crate::right::{right_journals_are_lawful, worked_link_runs};
 pub use crate::shuts::{links_that_stay_open_are_refused, wrong_reasons_are_refused};

@@ -1,0 +1,59 @@
+//! Lines of control procedures that are not due. No host can ask for a procedure yet. So where one
+//! runs, what is said is of the lines that are due by the control part of an end.
+ghost use Rattle.std.specs.Prelude.{◌≡◌, [], ◌∷◌, Some};
+ghost use Rattle.ble_base.specs.declared.procedure_kinds.Kind.{Kind};
+ghost use Rattle.ble_base.specs.declared.roles.Side.TheVariants.{A, B};
+ghost use Rattle.journal.specs.declared.entries.Entry.TheVariants.{Began, Done, Enter, Took};
+ghost use Rattle.journal_controls.specs.LinesDue.{applied_with, due_saying};
+ghost use Rattle.journal_controls.specs.Rows.{version_pdu, version_wanted};
+ghost use Rattle.journal_due.specs.ProcedureLines.{AllIndicationsAreDue};
+ghost use Rattle.journal_due.specs.ProcedureLines.{AllProceduresAreDue, NoneIsLeftOut};
+ghost use Rattle.journal_due.specs.ProcedureLines.{first_of, procedure_line};
+ghost use Rattle.wrong_journals.specs.ProcedureLines.{applied_at_once, applied_early};
+ghost use Rattle.wrong_journals.specs.ProcedureLines.{applied_misnumbered, applied_never};
+ghost use Rattle.wrong_journals.specs.ProcedureLines.{applied_unentered, begun_unasked};
+ghost use Rattle.wrong_journals.specs.ProcedureLines.{done_untaken, map_awaited, map_sent};
+ghost use Rattle.wrong_journals.specs.ProcedureLines.{refused_untaken, version_running};
+
+/// A procedure begins only where a host asked for it, and is done or refused only by a PDU that is
+/// taken. An indication comes into force in the event of its Instant, and not before; that event is
+/// entered (Core 5.2, volume 6 part B, sections 5.1 and 5.5).
+pub fn wrong_lines_of_procedures_are_refused()
+    ensures unasked { AllProceduresAreDue begun_unasked → ⊥ }
+    ensures done { AllProceduresAreDue done_untaken → ⊥ }
+    ensures refused { AllProceduresAreDue refused_untaken → ⊥ }
+    ensures at_once { NoneIsLeftOut applied_at_once → ⊥ }
+    ensures early { AllIndicationsAreDue applied_early → ⊥ }
+    ensures misnumbered { AllIndicationsAreDue applied_misnumbered → ⊥ }
+    ensures never { AllIndicationsAreDue applied_never → ⊥ }
+    ensures unentered { NoneIsLeftOut applied_unentered → ⊥ }
+{}
+
+/// By the control part of an end in which a procedure runs: another one does not begin; an exchange
+/// of versions is done as the PDU of the peer is taken, in the next line of its side; and a new
+/// channel map is done in the event of its Instant, and not before (Core 5.2, volume 6 part B,
+/// sections 5.1.2, 5.1.5 and 5.5).
+pub fn lines_that_are_not_due_are_refused()
+    ensures another_kind { procedure_line 1 (Began B 1 Kind.Features)
+        ≡ first_of (due_saying B 1 2 version_wanted [] (Enter B 1 0 25)) → ⊥ }
+    ensures second { procedure_line 1 (Began B 1 Kind.Features)
+        ≡ first_of (due_saying B 1 26 version_running [] (Enter B 1 1 20)) → ⊥ }
+    ensures missing { procedure_line 1 (Enter B 1 2 20)
+        ≡ first_of (due_saying B 1 26 version_running []
+        (Took B 1 1 version_pdu.llid version_pdu.body)) → ⊥ }
+    ensures twice { procedure_line 1 (Done B 1 Kind.Version)
+        ≡ first_of (due_saying B 1 26 version_running (Done B 1 Kind.Version ∷ [])
+        (Done B 1 Kind.Version)) → ⊥ }
+    ensures before_instant { procedure_line 1 (Done B 1 Kind.Map)
+        ≡ first_of (due_saying B 1 26 map_sent [] (Enter B 1 1 20)) → ⊥ }
+{}
+
+/// The lines that are due in their place are not refused.
+pub fn lines_that_are_due_are_right()
+    ensures begun { procedure_line 1 (Began B 1 Kind.Version)
+        ≡ first_of (due_saying B 1 2 version_wanted [] (Enter B 1 0 25)) }
+    ensures done { procedure_line 1 (Done B 1 Kind.Version)
+        ≡ first_of (due_saying B 1 26 version_running []
+        (Took B 1 1 version_pdu.llid version_pdu.body)) }
+    ensures applied { applied_with 146 (Some map_awaited) ≡ Some 1 }
+{}
