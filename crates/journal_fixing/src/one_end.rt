@@ -33,9 +33,9 @@ pub fn a_pdu_is_fixed_by_the_control_part()
         → IsFixedBy facts.control (data_cut facts) (facts_after setup facts PduFixed) }
 {}
 
-/// An end that fixed its PDU sends it where the last one is acknowledged, and MD tells what waits
-/// behind it; else it sends the last one again, and MD tells whether the fixed one is not empty
-/// (Core 5.2, volume 6 part B, sections 4.5.6 and 4.5.9).
+/// An end that fixed its PDU sends it where the last one is acknowledged, and MD says whether more
+/// waits after it. Otherwise it sends the last one again, and MD says whether the fixed one is not
+/// empty (Core 5.2, volume 6 part B, sections 4.5.6 and 4.5.9).
 pub fn an_end_sends_the_pdu_that_it_fixed()
     ensures pdu { (fixing : Control) (outgoing : Data) (facts : Facts)
         → IsFixedBy fixing outgoing facts → is_acked facts.acknowledgement ≡ true

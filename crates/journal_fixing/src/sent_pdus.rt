@@ -29,9 +29,10 @@ ghost use Rattle.journal_fixing.specs.PastFixing.{facts_fixing};
 /// In a run of two stations, with any number of links each and whatever procedures they carry: as a
 /// peripheral takes a good packet that leaves all its PDUs acknowledged, the PDU with which it
 /// answers is the one that is next by the control parts of the lines, and by its data as it fixed
-/// that PDU. MD tells what waits behind it. Else MD tells whether the PDU that would go now is not
-/// empty. So it is at each line of that call, also before the line of the new PDU (Core 5.2, volume
-/// 6 part B, sections 4.5.6 and 4.5.9; when a PDU is fixed is our choice).
+/// that PDU. MD says whether more waits after it. If a PDU is sent again, MD says whether the one
+/// that would go now is not empty. So it is at each line of that call, also before the line of the
+/// new PDU (Core 5.2, volume 6 part B, sections 4.5.6 and 4.5.9; when a PDU is fixed is our
+/// choice).
 pub fn a_peripheral_answers_with_the_pdu_that_the_lines_fix()
     ensures pdu { (given : Given) (before rest : List Event) (octets pdu : List ℕ)
         (notes : List Note) (station handle : ℕ) (link : OpenLink) (fixing going : Control)
@@ -97,8 +98,9 @@ pub fn a_peripheral_answers_with_the_pdu_that_the_lines_fix()
 
 /// In such a run, before a packet, a central that sends it on a link, and of which all PDUs were
 /// acknowledged, sends the PDU that is next by the control part with which it fixed that PDU by the
-/// lines, and by its data then. MD tells what waits behind it. Else MD tells whether that PDU is not
-/// empty (Core 5.2, volume 6 part B, sections 4.5.6 and 4.5.9; when a PDU is fixed is our choice).
+/// lines, and by its data then. MD says whether more waits after it. If a PDU is sent again, MD
+/// says whether the fixed one is not empty (Core 5.2, volume 6 part B, sections 4.5.6 and 4.5.9;
+/// when a PDU is fixed is our choice).
 pub fn a_central_sends_the_pdu_that_the_lines_fix()
     ensures pdu { (given : Given) (before rest : List Event) (sender channel : ℕ)
         (octets : List ℕ) (hearings : List Hearing) (station handle : ℕ) (link : OpenLink)

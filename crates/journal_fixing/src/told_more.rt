@@ -37,12 +37,12 @@ pub fn each_packet_carries_the_pdu_and_md_of_its_end()
     air_frame::laws::packet_tells_its_pdu();
 }
 
-/// In such a run, MD of
-/// each packet of a link, of a central as of a peripheral, is by the control part with which the
-/// lines before the packet fixed the next PDU of its end, and by the data of the end then. Where all
-/// PDUs of the end were acknowledged, MD tells what waits behind the PDU of the packet. Else MD
-/// tells whether the PDU that would go now is not empty, by the control part of the lines before the
-/// packet (Core 5.2, volume 6 part B, sections 4.5.6 and 4.5.9; when a PDU is fixed is our choice).
+/// In such a run, MD of each packet of a link, at either role, follows from the control part with
+/// which the lines before the packet fixed the next PDU of its end, and from the data of the end
+/// then. Where all PDUs of the end were acknowledged, MD says whether more waits after the PDU of
+/// the packet. If a PDU is sent again, MD says whether the one that would go now is not empty, by
+/// the control part of the lines before the packet (Core 5.2, volume 6 part B, sections 4.5.6 and
+/// 4.5.9; when a PDU is fixed is our choice).
 pub fn each_packet_tells_what_waits_by_the_lines()
     ensures new { (given : Given) (before rest : List Event) (station channel : ℕ)
         (octets : List ℕ) (hearings : List Hearing)
