@@ -2,9 +2,11 @@
 //! where the link may carry control procedures. The definitions are in `specs`; no code is here.
 #![tactic(auto)]
 
+mod entries;
 mod laws;
 mod pairs;
 
+pub use crate::entries::each_end_enters_its_events;
 pub use crate::laws::{
     ends_that_last_are_sound, no_procedure_ends_a_link_but_a_late_one, open_ends_are_linked,
     packets_of_a_link_are_understood,
