@@ -119,7 +119,7 @@ impl Model for LinkEnd {
         × IfSome e.last_good (λ good. (good.slot < 2 ^ 32) × (good.event < 2 ^ 32))
         × (e.last.llid < 4) × (e.fixed.llid < 4) × (e.taken ≤ heard_slots e.last_good)
         × ((if e.is_acked then 1 else 0) + e.sent ≤ heard_slots e.last_good)
-        × IfSome e.leaving.disconnected (λ since. since < 2 ^ 32) × IsSound e.control };
+        × IfSome e.leaving.disconnected (λ since. since ≤ 2 ^ 32) × IsSound e.control };
 }
 
 impl LinkEnd {
@@ -418,7 +418,7 @@ impl LinkEnd {
     /// link is to end already, and no data goes any more (Core 5.2, volume 6 part B, section
     /// 5.1.6).
     pub fn end(&mut self, reason: ErrCode, slot: SlotNo)
-        requires slot { slot.0 < 2 ^ 32 }
+        requires slot { slot.0 ≤ 2 ^ 32 }
         ensures knows { (setup : Setup) (past : List Step) → Knows setup self.old past
             → Knows setup self.new (past ++ Disconnected reason slot.0 ∷ []) }
         ensures holds { (setup : Setup) (past : List Step) (bank : Bank)

@@ -1,5 +1,5 @@
 //! What the host of an end asks for, answers and ends.
-ghost use Rattle.std.specs.Prelude.{◌≡◌, ◌≤◌, ◌<◌, ◌^◌, ◌==◌, ◌&&◌, ◌||◌, not};
+ghost use Rattle.std.specs.Prelude.{◌≡◌, ◌≤◌, ◌^◌, ◌==◌, ◌&&◌, ◌||◌, not};
 ghost use Rattle.std.specs.Result.{ForOk};
 ghost use Rattle.procedures.specs.procedure_values.Wants.{IsAsk};
 ghost use Rattle.link_model.specs.Hosts.{map_indicated, map_queued, map_waiting, map_wanted};
@@ -145,7 +145,7 @@ impl LinkEnd {
 
     /// The host ends the link in this slot.
     pub(crate) fn disconnect(&mut self, reason: ErrCode, slot: u64)
-        requires slot { slot < 2 ^ 32 }
+        requires slot { slot ≤ 2 ^ 32 }
         ensures held { self.new ≡ held_disconnected reason slot self.old }
         ensures entered { 1 ≤ self.old.control.track.entered
             → 1 ≤ self.new.control.track.entered }

@@ -1,6 +1,6 @@
 //! What the host asks for on the link under one handle, answers there and ends, and the map that it
 //! gives to all links.
-ghost use Rattle.std.specs.Prelude.{◌≡◌, ◌<◌, ◌+◌, ◌^◌, Option, length};
+ghost use Rattle.std.specs.Prelude.{◌≡◌, ◌<◌, ◌≤◌, ◌+◌, ◌^◌, Option, length};
 ghost use Rattle.std.specs.Option.{option_map};
 ghost use Rattle.std.specs.Result.{ForOk};
 ghost use Rattle.procedures.specs.procedure_values.Wants.{IsAsk};
@@ -83,7 +83,7 @@ pub(crate) fn end_from(
     slot: SlotNo,
 )
     requires first { first + length places.old < 2 ^ 16 }
-    requires slot { slot.0 < 2 ^ 32 }
+    requires slot { slot.0 ≤ 2 ^ 32 }
     ensures knows { (links : Links) → KnowsPlaces places.old links
         → KnowsPlaces places.new (with_change_from first handle
         (option_map (link_after (Disconnected reason slot.0))) links) }
@@ -100,7 +100,7 @@ pub(crate) fn end_from(
 }
 
 fn end_in(place: &mut Option<OpenEnd>, reason: ErrCode, slot: SlotNo)
-    requires { slot.0 < 2 ^ 32 }
+    requires { slot.0 ≤ 2 ^ 32 }
     ensures { (link : Option OpenLink) → KnowsPlace place.old link
         → KnowsPlace place.new (option_map (link_after (Disconnected reason slot.0)) link) }
 {

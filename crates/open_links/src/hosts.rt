@@ -1,7 +1,7 @@
 //! What the host asks for on the open links of a controller, answers and ends.
 #![tactic(auto, unfolding(crate::specs::Knowing::Knows))]
 
-ghost use Rattle.std.specs.Prelude.{◌≡◌, ◌<◌, ◌^◌, List, ℕ};
+ghost use Rattle.std.specs.Prelude.{◌≡◌, ◌≤◌, ◌^◌, List, ℕ};
 ghost use Rattle.std.specs.Option.{option_map};
 ghost use Rattle.std.specs.Result.{ForOk};
 ghost use Rattle.acl_banks.specs.declared.pieces.Piece.{Piece};
@@ -84,7 +84,7 @@ impl<const L: usize, const T: usize, const R: usize> OpenLinks<L, T, R> {
     /// LL_TERMINATE_IND is queued, unless the link is to end already, and no data goes any more
     /// (Core 5.2, volume 6 part B, section 5.1.6).
     pub fn end(&mut self, handle: u16, reason: ErrCode, slot: SlotNo)
-        requires { slot.0 < 2 ^ 32 }
+        requires { slot.0 ≤ 2 ^ 32 }
         ensures knows { (links : Links) (received : List (ℕ × Piece))
             → Knows self.old links received
             → Knows self.new (links_disconnected handle reason slot.0 links) received }

@@ -1,5 +1,5 @@
 -- Proof of `ends::LinkEnd::new`.
-use Rattle.std.proofs.Common.{◌≡◌, ◌<◌, ◌^◌, IfSome, false, None, refl, arith, ◌∙◌, subst, sym, ap}
+use Rattle.std.proofs.Common.{◌≡◌, ◌≤◌, ◌^◌, IfSome, false, None, refl, arith, ◌∙◌, subst, sym, ap}
 use Rattle.control_end.specs.control_model.Control.{first_control}
 use Rattle.control_end.specs.Held.{held_of as control_held}
 use Rattle.link_model.specs.declared.events.ConnectionEvent.{ConnectionEvent}
@@ -28,7 +28,7 @@ invariant_of-result c =
       omega (arith, fixed),
       omega arith,
       omega arith,
-      subst (λ (l : Leaving). IfSome l.disconnected (λ since. since < 2 ^ 32)) (sym c.stays.ensures) tt,
+      subst (λ (l : Leaving). IfSome l.disconnected (λ since. since ≤ 2 ^ 32)) (sym c.stays.ensures) tt,
       new_sound c.args.setup.role c.args.setup.max_rx c.first_params.result c.first_anchor.result.0 c.args.setup.fields _
           c.requires.max_rx.1 c.requires.fields c.first_params.ensures c.new.ensures,
     )
