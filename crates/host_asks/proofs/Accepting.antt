@@ -46,7 +46,7 @@ use Rattle.host_view.specs.Links.{is_asked, link_in, update_kind}
 use Rattle.host_view.specs.Refusals.{are_parameters, asked_row, count_if, first_refusal, link_rows, parameters_row}
 use Rattle.host_view.specs.Status.{connection_update_rows, data_length_rows, disconnect_rows, is_data_length, is_reason, parameter_request_row, rows_of}
 use Rattle.link_commands.proofs.Ranges.{length_fits, map_fits, not_not, params_fit, passes}
-use Rattle.link_commands.specs.Commands.{FitsReason, answered_if, ask_unless, facts_commanded, host_step_of, is_about, link_commanded, map_by, update_by}
+use Rattle.link_commands.specs.Commands.{FitsReason, answered_if, ask_unless, facts_commanded, host_step_of, is_about, link_commanded, map_by, transmit_maximum, update_by}
 use Rattle.host_asks.specs.Commands.{MayComeIf}
 use Rattle.host_asks.specs.Knowing.{KnowsAsks, KnowsTable}
 use Rattle.host_asks.specs.Noting.{effect_after, is_of_host, link_after_step, link_after_notes, link_with_request}
@@ -300,7 +300,7 @@ carried_out setup view (LeSetDataLength given most time) handle slot link facts 
     (subst (λ (l : Option Link). first_refusal (data_length_rows l most time) ≡ 0) (given_link view given handle link about is) ok)
     in
     let long = passes (not (is_data_length most time)) _ _ rows.1 in
-    asks_out setup link facts (Length most) knows (passes (is_asked length_kind link.asked) _ _ long.1).0
+    asks_out setup link facts (Length (transmit_maximum most time)) knows (passes (is_asked length_kind link.asked) _ _ long.1).0
     (length_fits most time (not_not (is_data_length most time) long.0)) refl refl refl refl refl _
 carried_out setup view (LeConnectionUpdate given min max latency timeout lengths) handle slot link facts ok about is knows =
     let rows =

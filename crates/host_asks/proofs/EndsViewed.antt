@@ -43,7 +43,7 @@ use Rattle.host_asks.proofs.LinksViewed.{about_other, about_own, command_other, 
 
 -- ---- a change that keeps what is known
 
-changed_known : (effect : Effect) (view : View) (given handle : ℕ) (facts : Facts) (change : Link → Link)
+pub changed_known : (effect : Effect) (view : View) (given handle : ℕ) (facts : Facts) (change : Link → Link)
     → ((link : Link) → KnowsAsks (link_with_request effect link) facts → KnowsAsks (link_with_request effect (change link)) facts)
     → KnowsOnceReported effect view handle facts → KnowsOnceReported effect (on_link given change view) handle facts
 changed_known effect view given handle facts change keeps known = by (given == handle) refl
@@ -57,7 +57,7 @@ changed_known effect view given handle facts change keeps known = by (given == h
         }
     by false is = record { link = known.link; is_open = about_other view given handle change is ∙ known.is_open; knows = known.knows }
 
-handed_known : (link : Link) (facts : Facts) (outstanding : ℕ) → KnowsAsks link facts → KnowsAsks (record link { outstanding = outstanding }) facts
+pub handed_known : (link : Link) (facts : Facts) (outstanding : ℕ) → KnowsAsks link facts → KnowsAsks (record link { outstanding = outstanding }) facts
 handed_known link facts outstanding knows =
     record {
       table =
@@ -71,7 +71,7 @@ handed_known link facts outstanding knows =
       disconnecting = knows.disconnecting;
     }
 
-key_known : (link : Link) (facts : Facts) (waits : Bool) → KnowsAsks link facts → KnowsAsks (record link { waits_for_key = waits }) facts
+pub key_known : (link : Link) (facts : Facts) (waits : Bool) → KnowsAsks link facts → KnowsAsks (record link { waits_for_key = waits }) facts
 key_known link facts waits knows =
     record {
       table =

@@ -28,7 +28,7 @@ use Rattle.host_asks.specs.Views.{KnowsAt, KnowsOnceReported}
 use Rattle.host_asks.proofs.EndsViewed.{none_reported, packet_known, request_refused_at_once, request_reported, step_known}
 use Rattle.host_asks.proofs.Lasting.{lasted}
 use Rattle.host_asks.proofs.LinksViewed.{notes_of_step, notes_other, opened_known}
-use Rattle.host_asks.proofs.OpenLinksKnown.{some_is}
+use Rattle.host_asks.proofs.OpenLinksKnown.{IsKnownAt, some_is}
 
 -- ---- the link under a handle, and the others
 
@@ -41,9 +41,6 @@ own_or_other handle other P own others = by (other == handle) refl
     by : (same : Bool) → (other == handle) ≡ same → P other
     by true is = subst P (sym (eqb-true other handle is)) own
     by false is = others (λ same. let h : false ≡ true = sym is ∙ subst (λ (n : ℕ). (other == n) ≡ true) same (self other) in absurd cc)
-
-abbrev IsKnownAt : View → Links → ℕ → Type 0
-IsKnownAt view links handle = (link : OpenLink) → link_at handle links ≡ Some link → (facts_in link).control.ends ≡ None → KnowsAt view handle (facts_in link)
 
 all_known : (handle : ℕ) (effect : Effect) (before view : View) (links : Links) → KnowsOpenEndsOnceReported handle effect before links → IsKnownAt view links handle
     → ((other : ℕ) → (other ≡ handle → ⊥) → IsKnownAt view links other) → KnowsOpenEnds view links

@@ -107,14 +107,18 @@ view_other view (ReadRemoteVersion given) handle links facts about known = answe
 view_other view (LeReadRemoteFeatures given) handle links facts about known = answered_other _ given handle _ facts about known
 view_other view command handle links facts about known = known
 
--- ---- all links
+-- ---- the link under a handle
+
+-- the view knows the end of it, until a procedure ends the link
+abbrev pub IsKnownAt : View → Links → ℕ → Type 0
+IsKnownAt view links handle = (link : OpenLink) → link_at handle links ≡ Some link → (facts_in link).control.ends ≡ None → KnowsAt view handle (facts_in link)
 
 module _ (view : View) (command : Command) (slot : ℕ) (links : Links) (ok : first_refusal (rows_of view command) ≡ 0)
-    (leaves : leaves_other_links command ≡ true) (known : KnowsOpenEnds view links) where
-  own_link : (handle : ℕ) (link : OpenLink) → is_about handle command ≡ true → link_at handle links ≡ Some link
+    (leaves : leaves_other_links command ≡ true) (have : HaveHandles 0 links) (handle : ℕ) (known : IsKnownAt view links handle) where
+  own_link : (link : OpenLink) → is_about handle command ≡ true → link_at handle links ≡ Some link
       → (facts_in (open_link_commanded command slot link)).control.ends ≡ None
       → KnowsAt (view_commanded_on view command links) handle (facts_in (open_link_commanded command slot link))
-  own_link handle link about is lasts =
+  own_link link about is lasts =
       subst (λ (f : Facts). KnowsAt (view_commanded_on view command links) handle f) (sym facts_are)
       (subst (λ (v : View). KnowsAt v handle (facts_commanded link.setup step (facts_in link))) (sym (view_about view command handle links link about is)) own)
     where
@@ -131,13 +135,13 @@ module _ (view : View) (command : Command) (slot : ℕ) (links : Links) (ok : fi
       goes = ap (λ (f : Facts). f.control.ends) (sym facts_are) ∙ lasts
 
       has : link.setup.link.handle ≡ handle
-      has = subst (HasHandle handle) is (has_its_handle 0 handle links known.handles)
+      has = subst (HasHandle handle) is (has_its_handle 0 handle links have)
 
       role : role_of (facts_in link).control.table.progress ≡ link.setup.link.role
       role = keeps_role link.setup link.past
 
       here_known : KnowsAt view handle (facts_in link)
-      here_known = known.each handle link is (lasted_if link.setup (facts_in link) step goes)
+      here_known = known link is (lasted_if link.setup (facts_in link) step goes)
 
       -- by the role of its end
       by_end : (h : ℕ) → link.setup.link.handle ≡ h → is_about h command ≡ true → KnowsAt view h (facts_in link)
@@ -156,29 +160,40 @@ module _ (view : View) (command : Command) (slot : ℕ) (links : Links) (ok : fi
           (by_end handle has about here_known
           (subst (λ (r : Role). (facts_commanded link.setup (step_by r) (facts_in link)).control.ends ≡ None) (sym role) goes))
 
-  one_link : (handle : ℕ) (about : Bool) (place : Option OpenLink) (link : OpenLink) → is_about handle command ≡ about → link_at handle links ≡ place
+  one_link : (about : Bool) (place : Option OpenLink) (link : OpenLink) → is_about handle command ≡ about → link_at handle links ≡ place
       → place_commanded about command slot place ≡ Some link → (facts_in link).control.ends ≡ None
       → KnowsAt (view_commanded_on view command links) handle (facts_in link)
-  one_link handle true None link about found is lasts = absurd (cc)
-  one_link handle true (Some before) link about found is lasts =
+  one_link true None link about found is lasts = absurd (cc)
+  one_link true (Some before) link about found is lasts =
       subst (λ (l : OpenLink). KnowsAt (view_commanded_on view command links) handle (facts_in l)) (some_is (open_link_commanded command slot before) link is)
-      (own_link handle before about found (subst (λ (l : OpenLink). (facts_in l).control.ends ≡ None) (sym (some_is (open_link_commanded command slot before) link is)) lasts))
-  one_link handle false place link about found is lasts =
-      view_other view command handle links (facts_in link) about (other_known view command handle (facts_in link) about leaves (known.each handle link (found ∙ is) lasts))
+      (own_link before about found (subst (λ (l : OpenLink). (facts_in l).control.ends ≡ None) (sym (some_is (open_link_commanded command slot before) link is)) lasts))
+  one_link false place link about found is lasts =
+      view_other view command handle links (facts_in link) about (other_known view command handle (facts_in link) about leaves (known link (found ∙ is) lasts))
 
-  pub links_known : KnowsOpenEnds (view_commanded_on view command links) (links_commanded command slot links)
-  links_known =
-      record {
-        handles = commanded_handles command slot 0 links known.handles;
-        each = λ handle link is lasts.
-            one_link handle (is_about handle command) (link_at handle links) link refl refl (sym (commanded_from command slot 0 handle links) ∙ is) lasts;
-      }
+  pub link_known : IsKnownAt (view_commanded_on view command links) (links_commanded command slot links) handle
+  link_known link is lasts =
+      one_link (is_about handle command) (link_at handle links) link refl refl (sym (commanded_from command slot 0 handle links) ∙ is) lasts
+
+-- ---- all links
+
+pub links_known : (view : View) (command : Command) (slot : ℕ) (links : Links) → first_refusal (rows_of view command) ≡ 0 → leaves_other_links command ≡ true
+    → KnowsOpenEnds view links → KnowsOpenEnds (view_commanded_on view command links) (links_commanded command slot links)
+links_known view command slot links ok leaves known =
+    record {
+      handles = commanded_handles command slot 0 links known.handles;
+      each = λ handle. link_known view command slot links ok leaves known.handles handle (known.each handle);
+    }
 
 -- ---- the step on each link may come
+
+pub end_may : (view : View) (command : Command) (handle slot : ℕ) (link : OpenLink) → first_refusal (rows_of view command) ≡ 0
+    → FitsReason command → is_about handle command ≡ true → KnowsAt view handle (facts_in link)
+    → MayComeIf (host_step_of command slot link.setup.link.role (facts_in link).peer) (facts_in link)
+end_may view command handle slot link ok fits about known =
+    subst (λ (r : Role). MayComeIf (host_step_of command slot r (facts_in link).peer) (facts_in link)) (keeps_role link.setup link.past)
+    (command_may view command handle slot (facts_in link) ok fits about known)
 
 pub step_may : (view : View) (command : Command) (handle slot : ℕ) (links : Links) (link : OpenLink) → first_refusal (rows_of view command) ≡ 0
     → FitsReason command → is_about handle command ≡ true → KnowsOpenEnds view links → link_at handle links ≡ Some link → (facts_in link).control.ends ≡ None
     → MayComeIf (host_step_of command slot link.setup.link.role (facts_in link).peer) (facts_in link)
-step_may view command handle slot links link ok fits about known is lasts =
-    subst (λ (r : Role). MayComeIf (host_step_of command slot r (facts_in link).peer) (facts_in link)) (keeps_role link.setup link.past)
-    (command_may view command handle slot (facts_in link) ok fits about (known.each handle link is lasts))
+step_may view command handle slot links link ok fits about known is lasts = end_may view command handle slot link ok fits about (known.each handle link is lasts)

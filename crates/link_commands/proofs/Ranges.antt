@@ -1,5 +1,5 @@
 -- What an accepted command asks for is in its range.
-use Rattle.std.proofs.Common.{◌≡◌, ℕ, suc, ◌^◌, ◌||◌, Bool, true, false, cond, not, length, nat_le, nat_lt, is_none, refl, sym, arith}
+use Rattle.std.proofs.Common.{◌≡◌, ℕ, suc, ◌^◌, ◌≤◌, ◌||◌, Bool, true, false, cond, not, length, nat_le, nat_lt, is_none, refl, sym, arith}
 use Rattle.std.proofs.lemmas.Bool.Decides.{nat_tests}
 use Rattle.ble_base.specs.ChannelMap.{IsMap, used_channels}
 use Rattle.ble_base.specs.declared.roles.Role.{Role}
@@ -12,7 +12,7 @@ use Rattle.host_view.specs.View.{View}
 use Rattle.host_view.specs.Links.{link_has, link_in}
 use Rattle.host_view.specs.Refusals.{are_parameters, first_refusal}
 use Rattle.host_view.specs.Status.{is_data_length, rows_of}
-use Rattle.link_commands.specs.Commands.{AsksInRange, update_by}
+use Rattle.link_commands.specs.Commands.{AsksInRange, transmit_maximum, update_by}
 
 -- ---- rows that do not hold
 
@@ -41,8 +41,13 @@ params_fit min max latency timeout are =
       timeout_outlasts = grind (arith, nat_tests);
     }
 
-pub length_fits : (most time : ℕ) → is_data_length most time ≡ true → IsPayloadMax most
-length_fits most time is = record { from = grind (arith, nat_tests); to = grind (arith, nat_tests) }
+-- a time of at least 328 us is enough for 27 octets
+pub length_fits : (octets time : ℕ) → is_data_length octets time ≡ true → IsPayloadMax (transmit_maximum octets time)
+length_fits octets time is =
+    let least : 27 ≤ octets = grind (arith, nat_tests) in
+    let most : octets ≤ 251 = grind (arith, nat_tests) in
+    let long : 328 ≤ time = grind (arith, nat_tests) in
+    record { from = omega (arith, least, long); to = omega (arith, most) }
 
 -- ---- by command
 
@@ -55,11 +60,11 @@ pub map_fits : (map : ℕ) → (nat_lt (length (used_channels map)) 2 || nat_le 
 map_fits map ok = record { data_channels_only = grind (arith, nat_tests); two_or_more = grind (arith, nat_tests) }
 
 pub asked_in_range : (view : View) (command : Command) → first_refusal (rows_of view command) ≡ 0 → AsksInRange command
-asked_in_range view (LeSetDataLength handle most time) ok =
+asked_in_range view (LeSetDataLength handle octets time) ok =
     let link = link_in view.links handle in
     let there = passes (is_none link) _ _ ok in
     let going = passes (link_has link (λ l. l.disconnecting)) _ _ there.1 in
-    length_fits most time (not_not (is_data_length most time) (passes (not (is_data_length most time)) _ _ going.1).0)
+    length_fits octets time (not_not (is_data_length octets time) (passes (not (is_data_length octets time)) _ _ going.1).0)
 asked_in_range view (LeConnectionUpdate handle min max latency timeout lengths) ok =
     let link = link_in view.links handle in
     let there = passes (is_none link) _ _ ok in

@@ -1,6 +1,6 @@
 -- Which step of a link an accepted command makes (Core 5.2, volume 4 part E, sections 7.1 and 7.8; volume 6 part B,
 -- section 5.1).
-use Rattle.std.specs.Prelude.{ℕ, ◌+◌, ◌==◌, ◌<◌, Bool, true, false, List, [], ◌∷◌, Option, Some, None, Ok, Err, is_some, if◌then◌else◌, ⊤}
+use Rattle.std.specs.Prelude.{ℕ, ◌+◌, ◌-◌, ◌/◌, ◌==◌, ◌<◌, min, Bool, true, false, List, [], ◌∷◌, Option, Some, None, Ok, Err, is_some, if◌then◌else◌, ⊤}
 use Rattle.ble_base.specs.ChannelMap.{IsMap}
 use Rattle.ble_base.specs.declared.procedure_kinds.Kind.{Kind}
 use Rattle.ble_base.specs.declared.procedure_kinds.Kind.TheVariants.{Features as features_kind, Length as length_kind, Version as version_kind}
@@ -31,6 +31,11 @@ abbrev pub update_by : Role → ℕ → ℕ → ℕ → ℕ → Ask
 update_by Central min max latency timeout = Update max latency timeout
 update_by Peripheral min max latency timeout = Request min max latency timeout
 
+-- the transmit maximum that a host sets: its octets, or those for which its time is enough where they are fewer. A packet
+-- of n octets takes 8 (n + 14) us (volume 6 part B, section 4.5.10; volume 4 part E, section 7.8.33)
+abbrev pub transmit_maximum : (octets time : ℕ) → ℕ
+transmit_maximum octets time = min octets (time / 8 - 14)
+
 -- only a central gives a channel map (section 5.1.2)
 abbrev pub map_by : Role → ℕ → Option Step
 map_by Central map = Some (ProcedureAsked (Map map))
@@ -41,7 +46,8 @@ abbrev pub host_step_of : Command → ℕ → Role → PeerFacts → Option Step
 host_step_of (Disconnect handle reason) slot role peer = Some (Disconnected (record { 0 = reason }) slot)
 host_step_of (ReadRemoteVersion handle) slot role peer = ask_unless (is_some peer.version) Version
 host_step_of (LeReadRemoteFeatures handle) slot role peer = ask_unless (is_some peer.features) Features
-host_step_of (LeSetDataLength handle most time) slot role peer = Some (ProcedureAsked (Length most))
+host_step_of (LeSetDataLength handle octets time) slot role peer =
+    Some (ProcedureAsked (Length (transmit_maximum octets time)))
 host_step_of (LeConnectionUpdate handle min max latency timeout lengths) slot role peer =
     Some (ProcedureAsked (update_by role min max latency timeout))
 host_step_of (LeSetChannels map) slot role peer = map_by role map
@@ -63,7 +69,7 @@ abbrev pub is_about : ℕ → Command → Bool
 is_about handle (Disconnect given reason) = given == handle
 is_about handle (ReadRemoteVersion given) = given == handle
 is_about handle (LeReadRemoteFeatures given) = given == handle
-is_about handle (LeSetDataLength given most time) = given == handle
+is_about handle (LeSetDataLength given octets time) = given == handle
 is_about handle (LeConnectionUpdate given min max latency timeout lengths) = given == handle
 is_about handle (LeSetChannels map) = true
 is_about handle (LeParamReply given min max latency timeout lengths) = given == handle
@@ -101,7 +107,7 @@ abbrev pub link_accepted : Command → Link → Link
 link_accepted (Disconnect handle reason) link = record link { disconnecting = true }
 link_accepted (ReadRemoteVersion handle) link = asking version_kind link
 link_accepted (LeReadRemoteFeatures handle) link = asking features_kind link
-link_accepted (LeSetDataLength handle most time) link = asking length_kind link
+link_accepted (LeSetDataLength handle octets time) link = asking length_kind link
 link_accepted (LeConnectionUpdate handle min max latency timeout lengths) link = asking (update_kind link.role) link
 link_accepted (LeParamReply handle min max latency timeout lengths) link = record link { waits_for_parameters = false }
 link_accepted (LeParamNegative handle reason) link = record link { waits_for_parameters = false }
@@ -134,7 +140,7 @@ FitsReason other = ⊤
 
 -- what it asks for is in its range, whichever the role of the end
 abbrev pub AsksInRange : Command → Type 0
-AsksInRange (LeSetDataLength handle most time) = IsAsk (Length most)
+AsksInRange (LeSetDataLength handle octets time) = IsAsk (Length (transmit_maximum octets time))
 AsksInRange (LeConnectionUpdate handle min max latency timeout lengths) =
     (role : Role) → IsAsk (update_by role min max latency timeout)
 AsksInRange (LeSetChannels map) = IsMap map

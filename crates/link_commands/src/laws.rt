@@ -10,7 +10,7 @@ ghost use Rattle.open_links.specs.OpenLinks.{Links, OpenLink, facts_in, link_at}
 ghost use Rattle.host_view.specs.Refusals.{first_refusal};
 ghost use Rattle.host_view.specs.Status.{rows_of};
 ghost use Rattle.host_view.specs.View.{View};
-ghost use Rattle.link_commands.specs.Commands.{AsksInRange, update_by};
+ghost use Rattle.link_commands.specs.Commands.{AsksInRange, transmit_maximum, update_by};
 ghost use Rattle.link_commands.specs.LinksCommanded.{links_commanded};
 
 /// The links after a command are those after one call on them: the host ends the link, asks for a
@@ -30,9 +30,9 @@ pub fn each_command_is_one_call()
         → links_commanded (Command.LeReadRemoteFeatures handle) slot links
         ≡ (if is_some (facts_in link).peer.features then links
         else links_asked handle Ask.Features links) }
-    ensures length { (handle most time slot : ℕ) (links : Links)
-        → links_commanded (Command.LeSetDataLength handle most time) slot links
-        ≡ links_asked handle (Ask.Length most) links }
+    ensures length { (handle octets time slot : ℕ) (links : Links)
+        → links_commanded (Command.LeSetDataLength handle octets time) slot links
+        ≡ links_asked handle (Ask.Length (transmit_maximum octets time)) links }
     ensures update { (handle slot min max latency timeout : ℕ) (lengths : List ℕ)
         (links : Links) (link : OpenLink) → link_at handle links ≡ Some link
         → links_commanded (Command.LeConnectionUpdate handle min max latency timeout lengths) slot

@@ -14,7 +14,7 @@ pub returns-clause-features : goal.returns-clause-features
 returns-clause-features c = features_asked
 
 pub returns-clause-length : goal.returns-clause-length
-returns-clause-length c = λ handle most time slot links. one_change (LeSetDataLength handle most time) slot handle (λ h. refl) links
+returns-clause-length c = λ handle octets time slot links. one_change (LeSetDataLength handle octets time) slot handle (λ h. refl) links
 
 pub returns-clause-update : goal.returns-clause-update
 returns-clause-update c = update_asked
