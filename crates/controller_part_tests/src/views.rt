@@ -150,8 +150,20 @@ view map = 0000000000000003
 view new
 view central 0
 view status 2014 ffffffff1f = 00
-view status 2014 0300000000 = 0c
+view status 2014 0300000000 = 00
 view status 2014 0100000000 = 12
+# Procedures that a host asks for: one of a kind at a time, and none once it ends the link.
+view command 2013 0000060006000000480000000000 = 00
+view status 2013 0000060006000000480000000000 = 0c
+view status 041d 0000 = 00
+view command 0406 000013 = 00
+view status 041d 0000 = 0c
+view status 0406 000013 = 0c
+# A peripheral does not request other parameters yet.
+view new
+view peripheral 0
+view status 2013 0000060006000000480000000000 = 0c
+view status 2022 00001b004801 = 00
 # The accept list.
 view new
 view command 2011 01010101010101 = 00

@@ -1,6 +1,5 @@
 -- Which commands ask something of the ends of links (Core 5.2, volume 4 part E, sections 7.1 and 7.8).
-use Rattle.std.specs.Prelude.{ℕ, ◌==◌, ◌&&◌, not, Bool, true, false, Option}
-use Rattle.std.specs.List.{list_any}
+use Rattle.std.specs.Prelude.{Bool, true, false, Option}
 use Rattle.hci_cmd.specs.declared.command.Command.{Command}
 use Rattle.hci_cmd.specs.declared.command.Command.TheVariants.{Disconnect, LeConnectionUpdate, LeParamNegative, LeParamReply, LeReadRemoteFeatures, LeSetChannels, LeSetDataLength, ReadRemoteVersion}
 use Rattle.host_view.specs.declared.links.Link.{Link}
@@ -11,20 +10,16 @@ use Rattle.host_view.specs.View.{View}
 abbrev pub is_central_link : Option Link → Bool
 is_central_link link = link_has link (λ l. is_central_role l.role)
 
--- a map that is not the one that the links of a central are to have: each is opened with that of the view, and is asked
--- for each other map that the host sets (section 7.8.19)
-abbrev pub changes_channels : View → ℕ → Bool
-changes_channels view map = list_any is_central_link view.links && not (map == view.map)
-
--- the end of one link, or the ends of all links of a central, are asked for something. What commands on encryption and
--- PHYs ask is not defined yet
+-- the end of one link is asked for something, or the ends of all links of a central for a channel map, which changes
+-- nothing at an end that is to have that map already (section 7.8.19). What commands on encryption and PHYs ask is not
+-- defined yet
 abbrev pub asks_links : View → Command → Bool
 asks_links view (Disconnect handle reason) = true
 asks_links view (ReadRemoteVersion handle) = true
 asks_links view (LeReadRemoteFeatures handle) = true
 asks_links view (LeSetDataLength handle most time) = true
 asks_links view (LeConnectionUpdate handle min max latency timeout lengths) = true
-asks_links view (LeSetChannels map) = changes_channels view map
+asks_links view (LeSetChannels map) = true
 asks_links view (LeParamReply handle min max latency timeout lengths) = true
 asks_links view (LeParamNegative handle reason) = true
 asks_links view other = false

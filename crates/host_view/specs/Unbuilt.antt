@@ -2,20 +2,18 @@
 use Rattle.std.specs.Prelude.{ℕ, ◌==◌, if◌then◌else◌}
 use Rattle.ble_base.specs.ErrorCodes.{command_disallowed, success, unknown_hci_command}
 use Rattle.hci_cmd.specs.declared.command.Command.{Command}
-use Rattle.hci_cmd.specs.declared.command.Command.TheVariants.{Disconnect, ReadRemoteVersion, SetHostFlow, HostBufferSize, HostCompleted, LeConnectionUpdate, LeSetChannels, LeReadRemoteFeatures, LeEncrypt, LeEnableEncryption, LeParamReply, LeParamNegative, LeSetDataLength, LeSetPhy}
+use Rattle.hci_cmd.specs.declared.command.Command.TheVariants.{SetHostFlow, HostBufferSize, HostCompleted, LeConnectionUpdate, LeEncrypt, LeEnableEncryption, LeParamReply, LeParamNegative, LeSetPhy}
 use Rattle.host_view.specs.View.{View}
-use Rattle.host_view.specs.OnLinks.{changes_channels}
+use Rattle.host_view.specs.Links.{link_in}
+use Rattle.host_view.specs.OnLinks.{is_central_link}
 use Rattle.host_view.specs.Refusals.{first_refusal}
 use Rattle.host_view.specs.Status.{rows_of}
 
 -- 01 as an unknown command, 0C as one that is not allowed now; 00 where it is carried out
 abbrev pub unbuilt_status_of : View → Command → ℕ
-unbuilt_status_of view (Disconnect handle reason) = command_disallowed
-unbuilt_status_of view (ReadRemoteVersion handle) = command_disallowed
-unbuilt_status_of view (LeReadRemoteFeatures handle) = command_disallowed
-unbuilt_status_of view (LeSetDataLength handle most time) = command_disallowed
-unbuilt_status_of view (LeConnectionUpdate handle min max latency timeout lengths) = command_disallowed
-unbuilt_status_of view (LeSetChannels map) = if changes_channels view map then command_disallowed else success
+-- only a central changes the parameters: the host of a peripheral does not request that yet
+unbuilt_status_of view (LeConnectionUpdate handle min max latency timeout lengths) =
+    if is_central_link (link_in view.links handle) then success else command_disallowed
 unbuilt_status_of view (LeParamReply handle min max latency timeout lengths) = command_disallowed
 unbuilt_status_of view (LeParamNegative handle reason) = command_disallowed
 unbuilt_status_of view (LeSetPhy handle all tx rx options) = command_disallowed

@@ -1,9 +1,9 @@
 //! Which commands ask something of the ends of links.
 ghost use Rattle.std.specs.Prelude.{◌≡◌};
-ghost use Rattle.std.specs.List.{list_any};
-ghost use Rattle.host_view.specs.OnLinks.{asks_links, changes_channels, is_central_link};
+ghost use Rattle.host_view.specs.Links.{link_in};
+ghost use Rattle.host_view.specs.OnLinks.{asks_links, is_central_link};
 
-use crate::links::{Link, is_central};
+use crate::links::{Link, find_link, is_central};
 use crate::view::HostView;
 use hci_cmd::Command;
 
@@ -17,18 +17,11 @@ fn is_central_link(link: Option<Link>) -> bool
 }
 
 impl HostView {
-    /// Whether this device is the central of a link.
-    fn is_central(&self) -> bool
-        ensures { result ≡ list_any is_central_link self.now.links }
+    /// Whether this device is the central of the link with this handle, if that is open.
+    pub(crate) fn is_central_of(&self, handle: u16) -> bool
+        ensures { result ≡ is_central_link (link_in self.now.links handle) }
     {
-        self.links.iter().any(|link| is_central_link(*link))
-    }
-
-    /// Whether this map of channels is not the one that the links of a central are to have.
-    pub(crate) fn changes_channels(&self, map: u64) -> bool
-        ensures { result ≡ changes_channels self.now map }
-    {
-        self.is_central() && map != self.map.bits()
+        is_central_link(find_link(&self.links, handle))
     }
 
     /// Whether a command asks something of the end of one link, or of the ends of all links of a
@@ -42,9 +35,9 @@ impl HostView {
             | Command::LeReadRemoteFeatures { .. }
             | Command::LeSetDataLength { .. }
             | Command::LeConnectionUpdate { .. }
+            | Command::LeSetChannels { .. }
             | Command::LeParamReply { .. }
             | Command::LeParamNegative { .. } => true,
-            Command::LeSetChannels { map } => self.changes_channels(*map),
             _ => false,
         }
     }

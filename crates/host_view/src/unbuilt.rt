@@ -12,18 +12,13 @@ pub(crate) fn unbuilt_status(view: &HostView, command: &Command) -> ErrCode
     ensures { result.0 ≡ unbuilt_status_of view.now command.now }
 {
     match command {
-        Command::Disconnect { .. }
-        | Command::ReadRemoteVersion { .. }
-        | Command::LeReadRemoteFeatures { .. }
-        | Command::LeSetDataLength { .. }
-        | Command::LeConnectionUpdate { .. }
-        | Command::LeParamReply { .. }
+        Command::LeConnectionUpdate { handle, .. } if !view.is_central_of(*handle) => {
+            ErrCode::COMMAND_DISALLOWED
+        }
+        Command::LeParamReply { .. }
         | Command::LeParamNegative { .. }
         | Command::LeSetPhy { .. }
         | Command::LeEnableEncryption { .. } => ErrCode::COMMAND_DISALLOWED,
-        Command::LeSetChannels { map } if view.changes_channels(*map) => {
-            ErrCode::COMMAND_DISALLOWED
-        }
         Command::LeEncrypt { .. }
         | Command::SetHostFlow { .. }
         | Command::HostBufferSize { .. }
