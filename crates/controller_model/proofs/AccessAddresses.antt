@@ -31,16 +31,17 @@ use Rattle.open_links.specs.declared.offers.Offer.{Offer}
 use Rattle.open_links.specs.declared.offers.Offer.TheVariants.{NoLink, Empty, Overflow, Kept}
 use Rattle.controller_model.specs.Data.{facts_ended_turn, facts_handed, facts_offered, offer_of}
 use Rattle.controller_model.specs.Connecting.{SendsEach, SendsEachFrom, cuts_off}
-use Rattle.controller_model.specs.Heard.{asks_if, has_room, heard, link_received, link_taken, opens, replies_in, reply_if, scanner_after, unheard, with_scanner}
+use Rattle.controller_model.specs.Heard.{asks_if, has_room, heard, link_taken, opens, replies_in, scanner_after, unheard, with_scanner}
 use Rattle.controller_model.specs.Outcome.{Outcome, facts_passed, goes_on}
 use Rattle.controller_model.specs.Side.{facts_after, facts_fed, facts_of, result_of, with_octet}
 use Rattle.controller_model.proofs.Accepted.{same_after_counts}
+use Rattle.controller_model.proofs.Following.{outcome_received, receiving_passes}
 use Rattle.controller_model.proofs.Always.{IsKept, IsKeptAtStarts, always, initiator_stopped, leaving_is, opening_passes, start_keeps}
 use Rattle.controller_model.proofs.FreeHandles.{IsOfCentral}
 use Rattle.controller_model.proofs.ViewRoom.{Makes, asks_makes, begin_makes, reply_makes}
 use Rattle.controller_model.proofs.NoLinks.{MakesNone}
 use Rattle.controller_model.proofs.Phases.{EachOutcome, heard_is, unheard_is}
-use Rattle.controller_model.proofs.Unasked.{of_unasked}
+use Rattle.controller_model.proofs.Asked.{of_asking}
 
 -- ---- the view knows whether there is one
 
@@ -56,6 +57,7 @@ KnowsAddress setup facts = facts.view.has_address ≡ is_some (nth_access setup.
 address_kept : (setup : Setup) → IsKept setup (KnowsAddress setup) (KnowsAddress setup)
 address_kept setup = record {
   accepted = λ facts opcode octets command is accepted knows. address_after facts.view command ∙ knows;
+  asked = λ facts command asks knows left. left;
   given = λ facts handle count start octets is knows. knows;
   octet = λ facts octet knows. knows;
   turns = record {
@@ -81,7 +83,7 @@ address_kept setup = record {
       scanned = λ channel octets pdu on doing is_on hears. knows;
       answered = λ channel octets pdu on doing is_on hears. knows;
       connects = λ channel octets pdu on access handle doing is_on hears answers next free in_range. refl;
-      received = λ handle octets. knows;
+      received = λ handle octets. receiving_passes (KnowsAddress setup) setup handle octets facts knows;
     };
   };
 }
@@ -152,7 +154,8 @@ known_makes false setup facts command is may = may
 
 read_makes : (setup : Setup) (facts : Facts) (read : CmdRead) → MayMake facts → MayMake (facts_commanded setup facts read)
 read_makes setup facts (Known command) may =
-    of_unasked setup facts command MayMake (known_makes (status_of facts.view command == 0) setup facts command refl may)
+    of_asking setup facts command MayMake (known_makes (status_of facts.view command == 0) setup facts command refl may)
+    (λ asks left. record { central = left.central; has_next = left.has_next })
 read_makes setup facts UnknownOpcode may = may
 read_makes setup facts BadLength may = may
 
@@ -228,7 +231,8 @@ phase_makes setup facts makes next = record {
       record { central = refl; has_next = λ makes. absurd makes };
   received = λ handle octets.
       let replies = replies_in facts.turn.slot (has_room setup facts) (link_at handle facts.links) octets in
-      may_make (goes_on (link_received handle (has_room setup facts) octets facts) (reply_if replies handle)) (reply_makes IsOfCentral replies handle) next;
+      receiving_passes MayMake setup handle octets facts
+      (may_make (outcome_received setup handle octets facts) (reply_makes IsOfCentral replies handle) next);
 }
 
 -- a CONNECT_IND that is sent: its controller initiates no more

@@ -23,6 +23,7 @@ use Rattle.controller_model.specs.Heard.{link_taken}
 use Rattle.controller_model.specs.Radio.{served_if_on}
 use Rattle.controller_model.specs.Side.{facts_of}
 use Rattle.controller_model.proofs.Accepted.{same_after_counts, set_while_off}
+use Rattle.controller_model.proofs.Following.{receiving_passes}
 use Rattle.controller_model.proofs.Always.{IsKept, advertiser_stopped, advertiser_won, advertising_noted, always, opening_passes}
 use Rattle.controller_model.proofs.Room.{may_connect}
 
@@ -130,6 +131,7 @@ pub advertisers_kept : (setup : Setup) → IsKept setup AdvertisersKnown Adverti
 advertisers_kept setup = record {
   accepted = λ facts opcode octets command is accepted known.
       knows_after setup facts.view facts.turn.begun command facts.advertising accepted known;
+  asked = λ facts command asks known left. left;
   given = λ facts handle count start octets is known. known;
   octet = λ facts octet known. known;
   turns = record {
@@ -156,7 +158,7 @@ advertisers_kept setup = record {
       scanned = λ channel octets pdu on doing is_on hears. known;
       answered = λ channel octets pdu on doing is_on hears. known;
       connects = λ channel octets pdu on access handle doing is_on hears answers next free in_range. known;
-      received = λ handle octets. known;
+      received = λ handle octets. receiving_passes AdvertisersKnown setup handle octets facts known;
     };
   };
 }

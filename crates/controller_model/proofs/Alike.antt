@@ -1,6 +1,7 @@
 -- Controllers with the same view and links that drew as many words answer a host alike.
 use Rattle.std.proofs.Common.{◌≡◌, ℕ, ◌==◌, Bool, true, false, List, [], ◌∷◌, ◌++◌, cond, refl, ap, sym, ◌∙◌, subst}
 use Rattle.std.specs.Prelude.{◌||◌}
+use Rattle.ble_base.specs.declared.notes.Note.{Note}
 use Rattle.h4_frames.specs.declared.packet.HostPacket.TheVariants.{Command as HostCommand, Acl}
 use Rattle.h4_frames.specs.declared.packet.Fed.{Fed}
 use Rattle.h4_frames.specs.declared.packet.Fed.TheVariants.{More, Packet, LostSync}
@@ -15,16 +16,16 @@ use Rattle.host_view.specs.Changes.{view_after}
 use Rattle.host_view.specs.Unbuilt.{status_of}
 use Rattle.open_links.specs.Data.{buffers_taken, links_given}
 use Rattle.open_links.specs.OpenLinks.{Links, link_at}
+use Rattle.link_commands.specs.LinksCommanded.{links_commanded, view_commanded_on}
 use Rattle.controller_model.specs.Facts.{Setup, Facts, first_facts}
 use Rattle.controller_model.specs.Answers.{accepted_answer, answer_with, complete_answer, has_status_answer, refused_fields, returned, status_answer}
-use Rattle.controller_model.specs.Commands.{drawn_after, events_caused, facts_commanded, facts_known, links_after, notes_before, notes_commanded, notes_known}
+use Rattle.controller_model.specs.Commands.{drawn_after, events_caused, facts_asking, facts_commanded, facts_known, is_asking, links_after, notes_asking, notes_before, notes_commanded, notes_known}
 use Rattle.open_links.specs.declared.offers.Offer.{Offer}
 use Rattle.open_links.specs.declared.offers.Offer.TheVariants.{NoLink, Empty, Overflow, Kept}
 use Rattle.open_links.specs.Data.{offer_by}
 use Rattle.controller_model.specs.Data.{facts_offered, offer_of}
 use Rattle.controller_model.specs.Events.{notes_of_events}
 use Rattle.controller_model.specs.Side.{facts_fed, notes_fed}
-use Rattle.controller_model.proofs.Unasked.{notes_unasked, of_unasked}
 
 pub record Alike (one other : Facts) : Type 0 where
   pub view_is : one.view ≡ other.view
@@ -74,11 +75,17 @@ known_plain true setup facts opcode command =
     ++ notes_of_events facts.view (answer_plain setup facts opcode (status_of facts.view command) command i)
     ++ notes_of_events facts.view (caused_plain setup facts command i)
 
+asking_plain : (asks : Bool) (setup : Setup) (facts : Facts) (command : Command) (notes : List Note)
+    → notes_asking asks facts command notes ≡ notes_asking asks (plain_of setup facts) command notes
+asking_plain true setup facts command notes = refl
+asking_plain false setup facts command notes = refl
+
 read_plain : (setup : Setup) (facts : Facts) (opcode : ℕ) (read : CmdRead)
     → notes_commanded setup facts opcode read ≡ notes_commanded setup (plain_of setup facts) opcode read
 read_plain setup facts opcode (Known command) =
-    notes_unasked setup facts opcode command ∙ known_plain (status_of facts.view command == 0) setup facts opcode command
-    ∙ sym (notes_unasked setup (plain_of setup facts) opcode command)
+    let asks = is_asking facts.view command in
+    ap (notes_asking asks facts command) (known_plain (status_of facts.view command == 0) setup facts opcode command)
+    ∙ asking_plain asks setup facts command (notes_known (status_of facts.view command == 0) setup (plain_of setup facts) opcode command)
 read_plain setup facts opcode UnknownOpcode = refl
 read_plain setup facts opcode BadLength = refl
 
@@ -105,15 +112,30 @@ known_alike true setup one other command alike = record {
 }
 known_alike false setup one other command alike = alike
 
-read_alike : (setup : Setup) (one other : Facts) (read : CmdRead) → Alike one other
+-- commands ask the same of their links
+abbrev AskAlike : Facts → Facts → Type 0
+AskAlike one other =
+    (command : Command) → links_commanded command one.turn.begun one.links ≡ links_commanded command other.turn.begun other.links
+
+asking_alike : (asks : Bool) (one other left right : Facts) (command : Command) → AskAlike one other → Alike one other → Alike left right
+    → Alike (facts_asking asks one command left) (facts_asking asks other command right)
+asking_alike true one other left right command same alike after = record {
+  view_is = λ i. view_commanded_on (alike.view_is i) command (alike.links_are i);
+  drawn_is = after.drawn_is;
+  links_are = same command;
+}
+asking_alike false one other left right command same alike after = after
+
+read_alike : (setup : Setup) (one other : Facts) (read : CmdRead) → AskAlike one other → Alike one other
     → Alike (facts_commanded setup one read) (facts_commanded setup other read)
-read_alike setup one other (Known command) alike =
-    of_unasked setup one command (λ (after : Facts). Alike after (facts_commanded setup other (Known command)))
-    (of_unasked setup other command (Alike (facts_known (status_of one.view command == 0) setup one command))
-    (subst (λ (view : View). Alike (facts_known (status_of one.view command == 0) setup one command) (facts_known (status_of view command == 0) setup other command))
-    alike.view_is (known_alike (status_of one.view command == 0) setup one other command alike)))
-read_alike setup one other UnknownOpcode alike = alike
-read_alike setup one other BadLength alike = alike
+read_alike setup one other (Known command) same alike =
+    subst (λ (view : View). Alike (facts_commanded setup one (Known command))
+    (facts_asking (is_asking view command) other command (facts_known (status_of view command == 0) setup other command)))
+    alike.view_is
+    (asking_alike (is_asking one.view command) one other _ _ command same alike
+    (known_alike (status_of one.view command == 0) setup one other command alike))
+read_alike setup one other UnknownOpcode same alike = alike
+read_alike setup one other BadLength same alike = alike
 
 offer_same : (setup : Setup) (one other : Facts) (handle count : ℕ) → Alike one other
     → offer_of setup one handle count ≡ offer_of setup other handle count
@@ -131,11 +153,12 @@ offered_alike NoLink handle start octets one other alike = alike
 offered_alike Empty handle start octets one other alike = alike
 offered_alike Overflow handle start octets one other alike = alike
 
-pub fed_alike : (setup : Setup) (one other : Facts) (fed : Fed) → Alike one other → Alike (facts_fed setup one fed) (facts_fed setup other fed)
-fed_alike setup one other (Packet (HostCommand opcode body)) alike = read_alike setup one other (command_of opcode body.items) alike
-fed_alike setup one other (Packet (Acl handle start count body)) alike =
+pub fed_alike : (setup : Setup) (one other : Facts) (fed : Fed) → AskAlike one other → Alike one other
+    → Alike (facts_fed setup one fed) (facts_fed setup other fed)
+fed_alike setup one other (Packet (HostCommand opcode body)) same alike = read_alike setup one other (command_of opcode body.items) same alike
+fed_alike setup one other (Packet (Acl handle start count body)) same alike =
     subst (λ (offer : Offer). Alike (facts_offered (offer_of setup one handle count) handle start body.items one)
     (facts_offered offer handle start body.items other)) (offer_same setup one other handle count alike)
     (offered_alike (offer_of setup one handle count) handle start body.items one other alike)
-fed_alike setup one other LostSync alike = alike
-fed_alike setup one other More alike = alike
+fed_alike setup one other LostSync same alike = alike
+fed_alike setup one other More same alike = alike

@@ -19,6 +19,7 @@ use Rattle.hci_cmd.specs.declared.command.CmdRead.TheVariants.{Known, UnknownOpc
 use Rattle.hci_cmd.specs.Command.{command_of}
 use Rattle.hci_evt.specs.Event.{mask_bit_of, written}
 use Rattle.host_view.specs.View.{View}
+use Rattle.host_view.specs.Noted.{view_noted}
 use Rattle.host_view.specs.Unbuilt.{status_of}
 use Rattle.adv_pdu.specs.declared.pdu.AdvPdu.{AdvPdu}
 use Rattle.host_view.specs.scan_init.declared.reports.ReportKind.{ReportKind}
@@ -27,6 +28,7 @@ use Rattle.open_links.specs.OpenLinks.{OpenLink, link_at}
 use Rattle.open_links.specs.Turns.{due_in}
 use Rattle.controller_model.specs.declared.doing.Doing.{Doing}
 use Rattle.controller_model.specs.declared.doing.Doing.TheVariants.{Advertises, AwaitsRequest, Responds, Requests, AwaitsResponse, Connects, CentralSends, CentralListens, Rests}
+use Rattle.link_commands.specs.LinksCommanded.{links_commanded}
 use Rattle.controller_model.specs.Step.{Step, HostOctet, TurnBegins, PacketHeard, NothingHeard, TurnEnds}
 use Rattle.controller_model.specs.Facts.{Setup, Facts, first_facts}
 use Rattle.controller_model.specs.Commands.{facts_commanded, facts_known, received_after}
@@ -43,10 +45,10 @@ use Rattle.controller_model.specs.Notes.{HadNoLink, is_le_note, is_opening, with
 use Rattle.controller_model.proofs.Alike.{Alike, fed_alike, notes_alike}
 use Rattle.controller_model.proofs.Always.{IsKept, begun_doing, ending_is, holds_from, opening_passes, start_keeps}
 use Rattle.controller_model.proofs.Feds.{more_octets}
-use Rattle.controller_model.proofs.NoLinks.{AreNone, HasNone, IsLike, MakesNone, command_none, doing_like, ended_like, first_none, none_at, none_changed, none_end, none_enter, none_kept, none_noted, none_stay, nothing_reported, start_like}
+use Rattle.controller_model.proofs.NoLinks.{AreNone, HasNone, IsLike, MakesNone, command_none, doing_like, ended_like, first_none, none_asked, none_at, none_changed, none_end, none_enter, none_kept, none_noted, none_stay, nothing_reported, start_like}
 use Rattle.controller_model.proofs.Phases.{EachOutcome, heard_is, unheard_is}
 use Rattle.controller_model.proofs.Places.{link_receiving, receiving_is}
-use Rattle.controller_model.proofs.Unasked.{of_unasked}
+use Rattle.controller_model.proofs.Asked.{of_asking}
 
 abbrev host_alone : List Step → List Step
 host_alone past = map HostOctet (host_octets past)
@@ -77,7 +79,8 @@ known_quiet false setup facts command quiet = quiet
 
 read_quiet : (setup : Setup) (facts : Facts) (read : CmdRead) → IsQuiet facts → IsQuiet (facts_commanded setup facts read)
 read_quiet setup facts (Known command) quiet =
-    of_unasked setup facts command IsQuiet (known_quiet (status_of facts.view command == 0) setup facts command quiet)
+    of_asking setup facts command IsQuiet (known_quiet (status_of facts.view command == 0) setup facts command quiet)
+    (λ asks left. (subst AreNone (sym (none_asked command facts.turn.begun 0 facts.links quiet.0)) quiet.0, left.1, left.2))
 read_quiet setup facts UnknownOpcode quiet = quiet
 read_quiet setup facts BadLength quiet = quiet
 
@@ -92,13 +95,20 @@ fed_quiet setup facts More quiet = quiet
 result_same : (other one : Facts) (octet : ℕ) → IsLike other one → result_of one.octets octet ≡ result_of other.octets octet
 result_same other one octet like = ap (λ (octets : List ℕ). result_of octets octet) like.octets_are
 
+-- nothing is asked of no links
+asked_alike : (other one : Facts) → IsLike other one → (command : Command)
+    → links_commanded command one.turn.begun one.links ≡ links_commanded command other.turn.begun other.links
+asked_alike other one like command =
+    none_asked command one.turn.begun 0 one.links like.none ∙ like.alike.links_are
+    ∙ sym (none_asked command other.turn.begun 0 other.links (subst AreNone like.alike.links_are like.none))
+
 octet_like : (setup : Setup) (other one : Facts) (octet : ℕ) → IsLike other one
     → IsLike (facts_after setup other (HostOctet octet)) (facts_after setup one (HostOctet octet))
 octet_like setup other one octet like =
     let fed = result_of one.octets octet in
     let after : Alike (facts_fed setup one fed) (facts_fed setup other (result_of other.octets octet)) =
     subst (λ (other_fed : Fed). Alike (facts_fed setup one fed) (facts_fed setup other other_fed)) (result_same other one octet like)
-    (fed_alike setup one other fed like.alike) in
+    (fed_alike setup one other fed (asked_alike other one like) like.alike) in
     let quiet = fed_quiet setup one fed (like.none, like.makes_none, like.nothing) in
     record {
       octets_are =
@@ -207,11 +217,15 @@ received_like : (other : Facts) (handle : ℕ) (room : Bool) (octets : List ℕ)
     → IsLike other (link_received handle room octets facts)
 received_like other handle room octets facts like =
     let same = receiving_is handle room octets facts ∙ none_changed handle (link_receiving handle room octets facts) facts.links like.none in
+    let slot = facts.turn.slot in
+    let none = none_at handle facts.links like.none in
+    let viewed : (link_received handle room octets facts).view ≡ facts.view =
+    λ i. fold view_noted facts.view (notes_taken slot room (none i) octets ++ notes_of_events facts.view (events_received handle slot room (none i) octets)) in
     record {
       octets_are = like.octets_are;
-      alike = record { view_is = like.alike.view_is; drawn_is = like.alike.drawn_is; links_are = same ∙ like.alike.links_are };
+      alike = record { view_is = viewed ∙ like.alike.view_is; drawn_is = like.alike.drawn_is; links_are = same ∙ like.alike.links_are };
       none = subst AreNone (sym same) like.none;
-      nothing = λ i. like.nothing i ++ piece_taken facts.turn.slot room (none_at handle facts.links like.none i) octets;
+      nothing = λ i. like.nothing i ++ piece_taken slot room (none i) octets;
       makes_none = like.makes_none;
     }
 
@@ -267,6 +281,7 @@ HasMade least facts = least ≤ facts.connections
 grows : (setup : Setup) (least : ℕ) → IsKept setup (HasMade least) (HasMade least)
 grows setup least = record {
   accepted = λ facts opcode octets command is accepted more. more;
+  asked = λ facts command asks more left. left;
   given = λ facts handle count start octets is more. more;
   octet = λ facts octet more. more;
   turns = record {

@@ -34,7 +34,7 @@ use Rattle.controller_model.specs.declared.doing.Doing.{Doing}
 use Rattle.controller_model.specs.declared.doing.Doing.TheVariants.{Advertises, Scans, Initiates, CentralSends, PeripheralListens, Rests}
 use Rattle.controller_model.specs.Step.{Step, HostOctet, TurnBegins, PacketHeard, NothingHeard, TurnEnds}
 use Rattle.controller_model.specs.Facts.{Setup, Facts, Radio, first_facts, free_radio}
-use Rattle.controller_model.specs.Commands.{facts_accepted, facts_commanded, facts_known}
+use Rattle.controller_model.specs.Commands.{facts_accepted, facts_commanded, facts_known, is_asking}
 use Rattle.open_links.specs.declared.offers.Offer.{Offer}
 use Rattle.open_links.specs.declared.offers.Offer.TheVariants.{NoLink, Empty, Overflow, Kept}
 use Rattle.open_links.specs.Ended.{received_without}
@@ -45,9 +45,10 @@ use Rattle.controller_model.specs.Outcome.{Outcome, facts_passed, goes_on}
 use Rattle.controller_model.specs.Packets.{facts_doing}
 use Rattle.controller_model.specs.Radio.{advertises_at, advertises_on, doing_held, doing_won, exchange_begins, exchange_if, facts_entering, facts_won, first_exchange, fixing, initiates_on, initiator_channel, links_fixing, outcome_begun, plan_in, radio_held, radio_served, scanner_channel, scans_on, second_exchange, served, served_if_on, slots_since, span_at, turn_begins, winner_served}
 use Rattle.controller_model.specs.Side.{facts_after, facts_fed, facts_of, result_of, with_octet}
+use Rattle.controller_model.proofs.Following.{entering_is, facts_at_events}
 use Rattle.controller_model.proofs.Phases.{EachOutcome, heard_is, unheard_is}
 use Rattle.open_links.specs.Turns.{due_in, ending_in, links_without}
-use Rattle.controller_model.proofs.Unasked.{of_unasked}
+use Rattle.controller_model.proofs.Asked.{facts_asked, of_asking}
 
 -- ---- links that end
 
@@ -295,7 +296,7 @@ pub record IsKeptAtStarts (weak fact : Facts → Type 0) : Type 0 where
   -- for any reason, at the start of a turn or at its end
   pub ends : (reason : OpenLink → Option ℕ) (facts : Facts) → weak facts → weak (facts_ended reason facts)
   pub begins : (slot : ℕ) (facts : Facts) → weak facts → weak (turn_begins slot facts)
-  pub enters : (slot : ℕ) (facts : Facts) → weak facts → weak (facts_entering slot facts)
+  pub enters : (slot : ℕ) (facts : Facts) → weak facts → weak (facts_at_events slot facts)
   pub wins : (slot : ℕ) (activity : Activity) (facts : Facts) → weak facts → weak (facts_winning slot activity facts)
   pub fixes : (doing : Doing) (facts : Facts) → weak facts → weak (facts_fixing doing facts)
   pub does : (doing : Doing) (facts : Facts) → MayBegin doing → weak facts → fact (facts_doing doing facts)
@@ -314,6 +315,9 @@ facts_given handle start octets facts = record facts { links = links_given handl
 pub record IsKept (setup : Setup) (weak fact : Facts → Type 0) : Type 0 where
   pub accepted : (facts : Facts) (opcode : ℕ) (octets : List ℕ) (command : Command) → command_of opcode octets ≡ Known command
       → status_of facts.view command ≡ 0 → fact facts → fact (facts_accepted setup facts command)
+  -- with what it asks of links
+  pub asked : (facts : Facts) (command : Command) → is_asking facts.view command ≡ true → fact facts → fact (facts_accepted setup facts command)
+      → fact (facts_asked setup facts command)
   pub given : (facts : Facts) (handle count : ℕ) (start : Bool) (octets : List ℕ) → offer_of setup facts handle count ≡ Kept
       → fact facts → fact (facts_given handle start octets facts)
   pub octet : (facts : Facts) (octet : ℕ) → fact facts → fact (with_octet octet facts)
@@ -366,14 +370,14 @@ winner_before_doing slot facts = winner_of (plan_in slot (turn_begins slot (fact
 -- the same of what is left of a fact, without what is done next
 module _ (weak : Facts → Type 0) (ends : (reason : OpenLink → Option ℕ) (facts : Facts) → weak facts → weak (facts_ended reason facts))
     (begins : (slot : ℕ) (facts : Facts) → weak facts → weak (turn_begins slot facts))
-    (enters : (slot : ℕ) (facts : Facts) → weak facts → weak (facts_entering slot facts))
+    (enters : (slot : ℕ) (facts : Facts) → weak facts → weak (facts_at_events slot facts))
     (wins : (slot : ℕ) (activity : Activity) (facts : Facts) → weak facts → weak (facts_winning slot activity facts))
     (fixes : (doing : Doing) (facts : Facts) → weak facts → weak (facts_fixing doing facts)) where
   pub left_entering : (slot : ℕ) (facts : Facts) → weak facts → weak (facts_before_doing slot facts)
   left_entering slot facts holds =
       let ended = subst weak (sym (ending_is slot facts)) (ends (due_in slot) facts holds) in
       let begun = turn_begins slot (facts_ending slot facts) in
-      enters slot begun (begins slot (facts_ending slot facts) ended)
+      subst weak (sym (entering_is slot begun)) (enters slot begun (begins slot (facts_ending slot facts) ended))
 
   pub left_doing : (P : Doing → Facts → Type 0) → ((doing : Doing) (facts : Facts) → MayBegin doing → weak facts → P doing facts)
       → (slot : ℕ) (on : Bool) (facts : Facts) → weak facts → P (outcome_begun slot on facts).next (outcome_begun slot on facts).facts
@@ -417,6 +421,8 @@ module _ (setup : Setup) (weak fact : Facts → Type 0) (kept : IsKeptInTurns se
 module _ (setup : Setup) (fact : Facts → Type 0)
     (accepted : (facts : Facts) (opcode : ℕ) (octets : List ℕ) (command : Command) → command_of opcode octets ≡ Known command
     → status_of facts.view command ≡ 0 → fact facts → fact (facts_accepted setup facts command))
+    (asked : (facts : Facts) (command : Command) → is_asking facts.view command ≡ true → fact facts → fact (facts_accepted setup facts command)
+    → fact (facts_asked setup facts command))
     (given : (facts : Facts) (handle count : ℕ) (start : Bool) (octets : List ℕ) → offer_of setup facts handle count ≡ Kept
     → fact facts → fact (facts_given handle start octets facts))
     (kept : (facts : Facts) (octet : ℕ) → fact facts → fact (with_octet octet facts)) where
@@ -424,8 +430,9 @@ module _ (setup : Setup) (fact : Facts → Type 0)
       → fact (facts_commanded setup facts read)
   holds_read facts opcode octets (Known command) is holds =
       let status = status_of facts.view command in
-      of_unasked setup facts command fact
+      of_asking setup facts command fact
       (holds_by setup fact (status == 0) facts command (λ took. accepted facts opcode octets command is (is_zero status took) holds) holds)
+      (λ asks left. asked facts command asks holds left)
   holds_read facts opcode octets UnknownOpcode is holds = holds
   holds_read facts opcode octets BadLength is holds = holds
 
@@ -461,7 +468,7 @@ module _ (setup : Setup) (fact : Facts → Type 0) (keeps : (facts : Facts) (ste
 
 module _ (setup : Setup) (weak fact : Facts → Type 0) (kept : IsKept setup weak fact) where
   pub holds_step : (facts : Facts) (step : Step) → fact facts → fact (facts_after setup facts step)
-  holds_step facts (HostOctet octet) holds = octet_keeps setup fact kept.accepted kept.given kept.octet facts octet holds
+  holds_step facts (HostOctet octet) holds = octet_keeps setup fact kept.accepted kept.asked kept.given kept.octet facts octet holds
   holds_step facts (TurnBegins slot on) holds = turn_keeps setup weak fact kept.turns facts (TurnBegins slot on) tt holds
   holds_step facts (PacketHeard octets) holds = turn_keeps setup weak fact kept.turns facts (PacketHeard octets) tt holds
   holds_step facts NothingHeard holds = turn_keeps setup weak fact kept.turns facts NothingHeard tt holds

@@ -16,7 +16,7 @@ use Rattle.hci_cmd.specs.Command.{command_of}
 use Rattle.host_view.specs.Unbuilt.{status_of}
 use Rattle.link_model.specs.Data.{Data, data_given}
 use Rattle.link_model.specs.Facts.{Facts as EndFacts}
-use Rattle.link_model.specs.Step.{DataGiven, DataReported}
+use Rattle.link_model.specs.Step.{Step as EndStep, DataGiven, DataReported}
 use Rattle.link_model.proofs.Pasts.{grows}
 use Rattle.open_links.specs.Data.{complete_in, links_reported}
 use Rattle.open_links.specs.OpenLinks.{Links, OpenLink, facts_in, link_after, link_at, link_from, with_change_from, without_links}
@@ -32,7 +32,7 @@ use Rattle.controller_model.specs.Links.{ends_for, facts_leaving}
 use Rattle.controller_model.specs.Side.{facts_after, facts_fed, facts_of, result_of}
 use Rattle.controller_model.specs.Between.{between_after, is_between_turns}
 use Rattle.controller_model.proofs.Always.{leaving_is, received_shut}
-use Rattle.controller_model.proofs.Unasked.{of_unasked}
+use Rattle.controller_model.proofs.Asked.{IsAskedStep, all_asked, asked_leaves_data, of_asking}
 
 -- no complete packet of the link in a place waits to be reported
 abbrev IsReported : Option OpenLink → Type 0
@@ -107,6 +107,11 @@ given_from start octets first handle (place ∷ links) are =
     at true rest = (given_place start octets place are.0, are.1)
     at false rest = (are.0, rest)
 
+asked_reported : (link : OpenLink) (step : EndStep) → IsAskedStep step → IsReported (Some link) → IsReported (Some (link_after step link))
+asked_reported link step asks is =
+    ap (λ (facts : EndFacts). facts.outgoing.complete) (grows link.setup link.past step)
+    ∙ ap (λ (outgoing : Data). outgoing.complete) ((asked_leaves_data step asks).outgoing link.setup (facts_in link)) ∙ is
+
 none_open : (links : Links) → AllByRecursion IsReported (without_links links)
 none_open [] = tt
 none_open (place ∷ links) = (tt, none_open links)
@@ -127,7 +132,11 @@ known_settled false setup facts command settled = settled
 
 read_settled : (setup : Setup) (facts : Facts) (read : CmdRead) → IsSettled facts → IsSettled (facts_commanded setup facts read)
 read_settled setup facts (Known command) settled =
-    of_unasked setup facts command IsSettled (known_settled (status_of facts.view command == 0) setup facts command settled)
+    of_asking setup facts command IsSettled (known_settled (status_of facts.view command == 0) setup facts command settled)
+    (λ asks left. record {
+      received = left.received;
+      reported = all_asked IsReported asked_reported command facts.turn.begun 0 facts.links settled.reported;
+    })
 read_settled setup facts UnknownOpcode settled = settled
 read_settled setup facts BadLength settled = settled
 

@@ -20,7 +20,7 @@ use Rattle.host_view.specs.scan_init.Reports.{ScannerFacts, does_ask, scan_answe
 use Rattle.slot_plan.specs.declared.Activity.{Activity}
 use Rattle.slot_plan.specs.declared.Activity.TheVariants.{Link, Advertise, Scan, Initiate}
 use Rattle.link_model.specs.declared.setup.LinkSetup.{LinkSetup}
-use Rattle.link_model.specs.Step.{DataGiven, PacketReceived}
+use Rattle.link_model.specs.Step.{Step as EndStep, DataGiven, Disconnected, PacketReceived, ProcedureAsked, RequestAnswered}
 use Rattle.open_links.specs.declared.offers.Offer.{Offer}
 use Rattle.open_links.specs.declared.offers.Offer.TheVariants.{Empty, Overflow, Kept}
 use Rattle.open_links.specs.Offered.{buffer_octets}
@@ -30,7 +30,7 @@ use Rattle.open_links.specs.Turns.{due_in, ending_in}
 use Rattle.controller_model.specs.declared.doing.Doing.{Doing}
 use Rattle.controller_model.specs.Step.{Step, HostOctet, TurnBegins, PacketHeard, NothingHeard, TurnEnds}
 use Rattle.controller_model.specs.Facts.{Setup, Facts, first_facts}
-use Rattle.controller_model.specs.Commands.{facts_commanded, facts_known, links_after, notes_commanded, received_after}
+use Rattle.controller_model.specs.Commands.{facts_accepted, facts_commanded, facts_known, is_asking, links_after, notes_commanded, received_after}
 use Rattle.controller_model.specs.Data.{event_completed, facts_ended_turn, facts_handed, facts_offered, note_received, notes_ended_turn, notes_handed, notes_offered, is_full}
 use Rattle.controller_model.specs.Entering.{notes_all_entering}
 use Rattle.controller_model.specs.Events.{notes_of_events}
@@ -43,7 +43,7 @@ use Rattle.controller_model.specs.Side.{facts_after, facts_fed, facts_of, notes_
 use Rattle.controller_model.specs.Since.{count_fed, count_given, count_since, empties_from, empties_of, is_piece_on, note_completed, note_since, since_opened}
 use Rattle.controller_model.proofs.Always.{facts_ended, holds_step, leaving_is, left_doing, links_won, opening_passes}
 use Rattle.controller_model.proofs.BookEnds.{ending_book, handing_book, opening_book, reporting_book}
-use Rattle.controller_model.proofs.Books.{Fact, IsBook, IsBookAfter, IsKeptInBook, and_then, by_handle, is_not, one_more, others_noted}
+use Rattle.controller_model.proofs.Books.{Fact, IsBook, IsBookAfter, IsKeptInBook, IsSilent, and_then, by_handle, is_not, one_more, others_noted, silent_book}
 use Rattle.controller_model.proofs.BookSteps.{doing_at, entering_at, fixing_at, received_at, refusing_at, served_at, silent_at}
 use Rattle.controller_model.proofs.Handles.{HaveOwnHandles, IsNew, free_is_new, handles_kept, receiving_opens}
 use Rattle.controller_model.proofs.OtherNotes.{both_other, command_other, completed_other, ends_other, entering_other, events_other, procedures_other, reporting_other}
@@ -51,7 +51,7 @@ use Rattle.controller_model.proofs.Phases.{EachOutcome, heard_is, unheard_is}
 use Rattle.controller_model.proofs.Places.{refuses_at}
 use Rattle.controller_model.proofs.ProcedureEvents.{reception_events}
 use Rattle.controller_model.proofs.PiecesBelow.{AreBelow, ArePieces, first_pieces, pieces_kept}
-use Rattle.controller_model.proofs.Unasked.{of_unasked}
+use Rattle.controller_model.proofs.Asked.{IsAskedStep, asking_leaves, at_kept, facts_asked, of_asking}
 
 -- a link that is open is in one of the places
 pub within : (first : ℕ) (links : Links) (other : ℕ) (link : OpenLink) → link_from first other links ≡ Some link → other < first + length links
@@ -256,6 +256,12 @@ module _ (handle : ℕ) (fact : Fact) (setup : Setup) (kept : IsKeptInBook setup
 
   -- ---- an octet of the host
 
+  asks_in_silence : (step : EndStep) → IsAskedStep step → IsSilent step
+  asks_in_silence (ProcedureAsked ask) asks = tt
+  asks_in_silence (RequestAnswered answer) asks = tt
+  asks_in_silence (Disconnected reason slot) asks = tt
+  asks_in_silence step asks = absurd asks
+
   none_left : (links : Links) (first : ℕ) → link_from first handle (without_links links) ≡ None
   none_left [] first = refl
   none_left (place ∷ links) first = at (first == handle) (none_left links (first + 1))
@@ -277,11 +283,21 @@ module _ (handle : ℕ) (fact : Fact) (setup : Setup) (kept : IsKeptInBook setup
   known_book false facts command since count book = book
   known_book true facts command since count book = commanded_links command facts since count book
 
+  asked_book : (facts : Facts) (command : Command) (since : List Note) (count : ℕ) → is_asking facts.view command ≡ true
+      → IsBookOf most handle fact (facts_accepted setup facts command) since count → IsBookOf most handle fact (facts_asked setup facts command) since count
+  asked_book facts command since count asks book =
+      let waiting = filter (is_piece_on handle) (received_after command facts.received) in
+      at_kept (λ (place : Option OpenLink). IsBook most handle fact place waiting since count)
+      (λ link step asks book. silent_book most handle fact kept step (Some link) waiting since count (asks_in_silence step asks) book)
+      command facts.turn.begun handle facts.links
+      (subst (λ (links : Links). IsBook most handle fact (link_at handle links) waiting since count) (asking_leaves facts command asks) book)
+
   commanded_book : (read : CmdRead) (facts : Facts) (since : List Note) (count : ℕ) → IsBookOf most handle fact facts since count
       → IsBookOf most handle fact (facts_commanded setup facts read) since count
   commanded_book (Known command) facts since count book =
-      of_unasked setup facts command (λ (after : Facts). IsBookOf most handle fact after since count)
+      of_asking setup facts command (λ (after : Facts). IsBookOf most handle fact after since count)
       (known_book (status_of facts.view command == 0) facts command since count book)
+      (λ asks left. asked_book facts command since count asks left)
   commanded_book UnknownOpcode facts since count book = book
   commanded_book BadLength facts since count book = book
 

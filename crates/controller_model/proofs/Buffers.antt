@@ -38,6 +38,8 @@ use Rattle.open_links.specs.OpenLinks.{Links, OpenLink, facts_in, link_after, li
 use Rattle.open_links.specs.Turns.{entered_if, enters_in, link_entered, links_without, place_without, staying_by}
 use Rattle.controller_model.specs.declared.doing.Doing.{Doing}
 use Rattle.controller_model.specs.declared.doing.Doing.TheVariants.{Advertises, CentralSends, PeripheralListens, PeripheralSends, Rests}
+use Rattle.link_commands.specs.Commands.{is_about}
+use Rattle.link_commands.specs.LinksCommanded.{links_commanded, links_commanded_from, place_commanded}
 use Rattle.controller_model.specs.Step.{Step}
 use Rattle.controller_model.specs.Facts.{Setup, Facts}
 use Rattle.controller_model.specs.Commands.{links_after, received_after}
@@ -49,6 +51,7 @@ use Rattle.controller_model.specs.Heard.{asks_if, has_room, link_received, link_
 use Rattle.controller_model.specs.Packets.{facts_doing, links_sending}
 use Rattle.controller_model.specs.Radio.{links_fixing}
 use Rattle.controller_model.specs.Side.{facts_of}
+use Rattle.controller_model.proofs.Asked.{IsAskedStep, place_asked}
 use Rattle.controller_model.proofs.Always.{IsKept, always, facts_opening, links_won, opening_passes, received_shut}
 use Rattle.controller_model.proofs.Places.{refusal, refuses_at}
 use Rattle.controller_model.specs.Entering.{all_entered}
@@ -204,6 +207,34 @@ step_takes : (step : EndStep) → TakesAtMost (more_in step) (option_map (link_a
 step_takes step None = omega arith
 step_takes step (Some link) = after_waiting step link
 
+-- what a host asks takes none
+asks_none : (step : EndStep) → IsAskedStep step → more_in step ≡ 0
+asks_none (ProcedureAsked ask) asks = refl
+asks_none (RequestAnswered answer) asks = refl
+asks_none (Disconnected reason slot) asks = refl
+asks_none step asks = absurd asks
+
+asked_less : (place : Option OpenLink) (link : OpenLink) (step : EndStep) → place ≡ Some link → IsAskedStep step
+    → buffers_in (Some (link_after step link)) ≤ buffers_in place
+asked_less place link step is asks =
+    let more = after_waiting step link in
+    let none = asks_none step asks in
+    let same : buffers_in place ≡ waiting (facts_in link) = ap buffers_in is in
+    omega (arith, more, none, same)
+
+asked_takes : (command : Command) (slot first : ℕ) (links : Links)
+    → buffers_taken (links_commanded_from first command slot links) ≤ buffers_taken links
+asked_takes command slot first [] = omega arith
+asked_takes command slot first (place ∷ links) =
+    let now = place_commanded (is_about first command) command slot place in
+    let a = sum_by-cons buffers_in now (links_commanded_from (first + 1) command slot links) in
+    let b = sum_by-cons buffers_in place links in
+    let c : buffers_in now ≤ buffers_in place =
+    place_asked (λ (now : Option OpenLink). buffers_in now ≤ buffers_in place) command slot (is_about first command) place (omega arith)
+    (λ link step is asked asks. asked_less place link step is asks) in
+    let rest = asked_takes command slot (first + 1) links in
+    omega (arith, a, b, c, rest)
+
 served_takes : (slot : ℕ) → TakesAtMost 0 (option_map (link_served slot))
 served_takes slot None = omega arith
 served_takes slot (Some link) = omega arith
@@ -326,6 +357,7 @@ opened_fits setup link links fits =
 buffers_kept : (setup : Setup) → IsKept setup (FitsBuffers setup) (FitsBuffers setup)
 buffers_kept setup = record {
   accepted = λ facts opcode octets command is accepted fits. commanded_fits setup command facts.links fits;
+  asked = λ facts command asks fits left. fewer setup facts.links (links_commanded command facts.turn.begun facts.links) (asked_takes command facts.turn.begun 0 facts.links) fits;
   given = λ facts handle count start octets is fits. given_fits setup facts handle count start octets is fits;
   octet = λ facts octet fits. fits;
   turns = record {
@@ -436,6 +468,7 @@ commanded_less other received = omega arith
 pieces_kept : (setup : Setup) → IsKept setup (FitsPieces setup) (FitsPieces setup)
 pieces_kept setup = record {
   accepted = λ facts opcode octets command is accepted fits. let less = commanded_less command facts.received in omega (arith, less, fits);
+  asked = λ facts command asks fits left. left;
   given = λ facts handle count start octets is fits. fits;
   octet = λ facts octet fits. fits;
   turns = record {

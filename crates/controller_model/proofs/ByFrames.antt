@@ -6,12 +6,14 @@ use Rattle.ble_base.specs.declared.notes.Note.{Note}
 use Rattle.h4_frames.specs.declared.packet.Fed.{Fed}
 use Rattle.h4_frames.specs.declared.packet.Fed.TheVariants.{More, Packet, LostSync}
 use Rattle.h4_frames.specs.Frames.{frames, frame_entry}
+use Rattle.hci_cmd.specs.declared.command.Command.{Command}
+use Rattle.link_commands.specs.LinksCommanded.{links_commanded}
 use Rattle.controller_model.specs.Step.{HostOctet}
 use Rattle.controller_model.specs.Facts.{Setup, Facts, first_facts}
 use Rattle.controller_model.specs.Side.{facts_after, facts_fed, notes_after, notes_fed, notes_from, notes_of, result_of}
 use Rattle.controller_model.specs.Notes.{answers_from, answers_of}
 use Rattle.controller_model.proofs.Alike.{Alike, fed_alike, notes_alike}
-use Rattle.controller_model.proofs.Feds.{frames_more, more_octets, no_frames}
+use Rattle.controller_model.proofs.Feds.{fed_begun, frames_more, more_octets, no_frames}
 
 -- what is held after these frames
 abbrev held_from : Setup → Facts → List (ℕ × Fed) → Facts
@@ -42,9 +44,17 @@ answers_entry setup facts place LostSync = append-nil (notes_fed setup facts Los
 
 -- ---- an octet more
 
--- it is alike what is held after the frames of its octets
-abbrev FollowsFrames : Setup → Facts → Facts → Type 0
-FollowsFrames setup start facts = Alike facts (held_from setup start (frames facts.octets))
+-- it is alike what is held after the frames of its octets, in the same turn
+record FollowsFrames (setup : Setup) (start facts : Facts) : Type 0 where
+  alike : Alike facts (held_from setup start (frames facts.octets))
+  begun_is : facts.turn.begun ≡ (held_from setup start (frames facts.octets)).turn.begun
+
+-- so commands ask the same of their links
+asked_alike : (setup : Setup) (start facts : Facts) → FollowsFrames setup start facts → (command : Command)
+    → let other = held_from setup start (frames facts.octets) in
+    links_commanded command facts.turn.begun facts.links ≡ links_commanded command other.turn.begun other.links
+asked_alike setup start facts follows command =
+    λ i. links_commanded command (follows.begun_is i) (follows.alike.links_are i)
 
 follows_more : (setup : Setup) (start facts : Facts) (octet : ℕ) → FollowsFrames setup start facts → FollowsFrames setup start (facts_after setup facts (HostOctet octet))
 follows_more setup start facts octet follows =
@@ -56,8 +66,13 @@ follows_more setup start facts octet follows =
     ∙ ap (held_from setup start) (frames_more facts.octets octet)
     ∙ held-append setup start (frames facts.octets) entry
     ∙ held_entry setup other (length facts.octets + 1) fed) in
-    let after = subst (Alike (facts_fed setup facts fed)) held (fed_alike setup facts other fed follows) in
-    record { view_is = after.view_is; drawn_is = after.drawn_is; links_are = after.links_are }
+    let after = subst (Alike (facts_fed setup facts fed)) held
+    (fed_alike setup facts other fed (asked_alike setup start facts follows) follows.alike) in
+    record {
+      alike = record { view_is = after.view_is; drawn_is = after.drawn_is; links_are = after.links_are };
+      begun_is =
+          fed_begun setup facts fed ∙ follows.begun_is ∙ sym (fed_begun setup other fed) ∙ ap (λ (next : Facts). next.turn.begun) held;
+    }
 
 answers_more : (setup : Setup) (start facts : Facts) (octet : ℕ) → FollowsFrames setup start facts
     → answers_from setup start (frames (facts_after setup facts (HostOctet octet)).octets)
@@ -70,7 +85,7 @@ answers_more setup start facts octet follows =
     ∙ ap (answers_from setup start) (frames_more facts.octets octet)
     ∙ answers-append setup start (frames facts.octets) entry
     ∙ ap (λ (notes : List Note). answers_from setup start (frames facts.octets) ++ notes)
-    (answers_entry setup other (length facts.octets + 1) fed ∙ sym (notes_alike setup facts other fed follows))
+    (answers_entry setup other (length facts.octets + 1) fed ∙ sym (notes_alike setup facts other fed follows.alike))
 
 by_frames_from : (setup : Setup) (start facts : Facts) (octets : List ℕ) → FollowsFrames setup start facts
     → answers_from setup start (frames (facts.octets ++ octets))
@@ -93,5 +108,6 @@ by_frames setup octets =
     let start = first_facts setup in
     let none : start ≡ held_from setup start (frames []) = ap (held_from setup start) (sym no_frames) in
     let alike : Alike start start = record { view_is = refl; drawn_is = refl; links_are = refl } in
-    sym (by_frames_from setup start start octets (subst (Alike start) none alike)
+    sym (by_frames_from setup start start octets
+    (record { alike = subst (Alike start) none alike; begun_is = ap (λ (facts : Facts). facts.turn.begun) none })
     ∙ ap (λ (entries : List (ℕ × Fed)). answers_from setup start entries ++ notes_from setup start (map HostOctet octets)) no_frames)

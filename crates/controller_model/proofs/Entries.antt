@@ -38,6 +38,7 @@ use Rattle.open_links.proofs.Handles.{has_its_handle}
 use Rattle.controller_model.specs.Step.{Step, HostOctet, TurnBegins, PacketHeard, NothingHeard, TurnEnds}
 use Rattle.controller_model.specs.Facts.{Setup, Facts}
 use Rattle.controller_model.specs.Answers.{answer_to}
+use Rattle.link_commands.specs.LinksCommanded.{events_commanded_on}
 use Rattle.controller_model.specs.Commands.{events_caused, notes_before, notes_commanded, notes_known}
 use Rattle.controller_model.specs.Entering.{IsEntered, begins_turn, events_entering, notes_all_entering}
 use Rattle.controller_model.specs.Data.{facts_handed, notes_ended_turn, offer_of}
@@ -51,7 +52,7 @@ use Rattle.controller_model.proofs.EndNotes.{entered_each}
 use Rattle.controller_model.proofs.Handles.{own_handles}
 use Rattle.controller_model.proofs.LinkNotes.{IsOfOthers, all_in, doing_too, ended_turn_too, ends_too, entering_too, events_too, offered_too, phase_too}
 use Rattle.controller_model.proofs.Phases.{heard_is, unheard_is}
-use Rattle.controller_model.proofs.Unasked.{noted_unasked}
+use Rattle.controller_model.proofs.Asked.{noted_asking, notes_at_once}
 
 -- ---- a link that enters an event
 
@@ -136,7 +137,8 @@ module _ (P : Note → Type 0) (of : IsOfOthers P) (shut : (handle reason : ℕ)
 
   read_too : (setup : Setup) (facts : Facts) (opcode : ℕ) (read : CmdRead) → All P (notes_commanded setup facts opcode read)
   read_too setup facts opcode (Known command) =
-      noted_unasked setup facts command opcode (All P) (known_too (status_of facts.view command == 0) setup facts opcode command)
+      noted_asking setup facts command opcode (All P) (known_too (status_of facts.view command == 0) setup facts opcode command)
+      (λ notes asks are. All-append P notes (notes_at_once facts command) are (events_too P of facts.view (events_commanded_on command facts.links)))
   read_too setup facts opcode UnknownOpcode = events_too P of facts.view (answer_to setup facts opcode UnknownOpcode)
   read_too setup facts opcode BadLength = events_too P of facts.view (answer_to setup facts opcode BadLength)
 

@@ -26,6 +26,7 @@ use Rattle.open_links.proofs.OnTime.{stays_entered}
 use Rattle.open_links.proofs.UnderHandles.{map_at}
 use Rattle.controller_model.specs.declared.doing.Doing.{Doing}
 use Rattle.controller_model.specs.declared.doing.Doing.TheVariants.{Advertises, AwaitsRequest, Scans, Requests, AwaitsResponse, Initiates, Connects, CentralSends, CentralListens, PeripheralListens, PeripheralSends, Rests}
+use Rattle.link_commands.specs.LinksCommanded.{links_commanded}
 use Rattle.controller_model.specs.Step.{Step, HostOctet, TurnBegins, PacketHeard, NothingHeard, TurnEnds}
 use Rattle.controller_model.specs.Facts.{Setup, Facts}
 use Rattle.controller_model.specs.Commands.{links_after}
@@ -35,6 +36,7 @@ use Rattle.controller_model.specs.Outcome.{Outcome, facts_passed}
 use Rattle.controller_model.specs.Packets.{facts_doing, links_sending, pdu_heard}
 use Rattle.controller_model.specs.Radio.{advertises_at, advertises_on, doing_held, doing_won, exchange_begins, exchange_if, facts_won, first_exchange, fixing, initiates_on, initiator_channel, links_fixing, outcome_begun, radio_served, scanner_channel, scans_on, second_exchange, served, slots_since, winner_served}
 use Rattle.controller_model.specs.Side.{facts_after, facts_of}
+use Rattle.controller_model.proofs.Asked.{at_kept}
 use Rattle.controller_model.proofs.Always.{facts_before_doing, kept_always, octet_keeps, winner_before_doing}
 use Rattle.controller_model.proofs.Places.{at_changed, refusal, refuses_at}
 
@@ -110,6 +112,9 @@ receiving_stays handle room octets facts other has =
 command_stays : (command : Command) (links : Links) → StayEntered links (links_after command links)
 command_stays Reset links other has = subst HasEntered (sym (map_at (λ place. None) 0 other links refl)) tt
 command_stays command links other has = has
+
+asked_stays : (command : Command) (slot : ℕ) (links : Links) → StayEntered links (links_commanded command slot links)
+asked_stays command slot links other has = at_kept HasEntered (λ link step asks has. stays_entered step link has) command slot other links has
 
 -- what is done next
 pub doing_stays : (doing : Doing) (facts : Facts) → IsInEvent doing facts.links → IsInEvent doing (facts_doing doing facts).links
@@ -311,6 +316,9 @@ step_in_event setup facts (HostOctet octet) is =
     octet_keeps setup FactsInEvent
     (λ facts opcode octets command known accepted is.
     stays_in_event facts.turn.doing facts.links (links_after command facts.links) (command_stays command facts.links) is)
+    (λ facts command asks is left.
+    stays_in_event facts.turn.doing facts.links (links_commanded command facts.turn.begun facts.links)
+    (asked_stays command facts.turn.begun facts.links) is)
     (λ facts handle count start octets kept is.
     stays_in_event facts.turn.doing facts.links _ (step_stays (DataGiven start octets) handle facts.links) is)
     (λ facts octet is. is) facts octet is

@@ -23,7 +23,7 @@ use Rattle.controller_model.specs.Heard.{link_taken}
 use Rattle.controller_model.specs.Side.{facts_after, facts_fed, first_result, result_of}
 use Rattle.controller_model.proofs.Always.{IsInTurn, IsKeptInTurns, opening_passes, turn_keeps}
 use Rattle.controller_model.specs.Host.{commands_from, commands_in, commands_of, host_octets, opcode_in, opcodes_in, opcodes_of}
-use Rattle.controller_model.proofs.Unasked.{of_unasked}
+use Rattle.controller_model.proofs.Asked.{of_asking}
 
 first_entry : (place : ℕ) (fed : Fed) → first_result (frame_entry place fed) ≡ fed
 first_entry place More = refl
@@ -58,7 +58,8 @@ known_octets false setup facts command = refl
 
 commanded_octets : (setup : Setup) (facts : Facts) (read : CmdRead) → (facts_commanded setup facts read).octets ≡ facts.octets
 commanded_octets setup facts (Known command) =
-    of_unasked setup facts command (λ (after : Facts). after.octets ≡ facts.octets) (known_octets (status_of facts.view command == 0) setup facts command)
+    of_asking setup facts command (λ (after : Facts). after.octets ≡ facts.octets) (known_octets (status_of facts.view command == 0) setup facts command)
+    (λ asks same. same)
 commanded_octets setup facts UnknownOpcode = refl
 commanded_octets setup facts BadLength = refl
 
@@ -74,6 +75,33 @@ fed_octets setup facts (Packet (HostCommand opcode body)) = commanded_octets set
 fed_octets setup facts (Packet (Acl handle start count body)) = offered_octets (offer_of setup facts handle count) handle start body.items facts
 fed_octets setup facts LostSync = refl
 fed_octets setup facts More = refl
+
+-- nor the turn
+
+known_begun : (accepted : Bool) (setup : Setup) (facts : Facts) (command : Command)
+    → (facts_known accepted setup facts command).turn.begun ≡ facts.turn.begun
+known_begun true setup facts command = refl
+known_begun false setup facts command = refl
+
+commanded_begun : (setup : Setup) (facts : Facts) (read : CmdRead) → (facts_commanded setup facts read).turn.begun ≡ facts.turn.begun
+commanded_begun setup facts (Known command) =
+    of_asking setup facts command (λ (after : Facts). after.turn.begun ≡ facts.turn.begun) (known_begun (status_of facts.view command == 0) setup facts command)
+    (λ asks same. same)
+commanded_begun setup facts UnknownOpcode = refl
+commanded_begun setup facts BadLength = refl
+
+offered_begun : (offer : Offer) (handle : ℕ) (start : Bool) (octets : List ℕ) (facts : Facts)
+    → (facts_offered offer handle start octets facts).turn.begun ≡ facts.turn.begun
+offered_begun Kept handle start octets facts = refl
+offered_begun NoLink handle start octets facts = refl
+offered_begun Empty handle start octets facts = refl
+offered_begun Overflow handle start octets facts = refl
+
+pub fed_begun : (setup : Setup) (facts : Facts) (fed : Fed) → (facts_fed setup facts fed).turn.begun ≡ facts.turn.begun
+fed_begun setup facts (Packet (HostCommand opcode body)) = commanded_begun setup facts (command_of opcode body.items)
+fed_begun setup facts (Packet (Acl handle start count body)) = offered_begun (offer_of setup facts handle count) handle start body.items facts
+fed_begun setup facts LostSync = refl
+fed_begun setup facts More = refl
 
 pub more_octets : (setup : Setup) (facts : Facts) (octet : ℕ) → (facts_after setup facts (HostOctet octet)).octets ≡ facts.octets ++ octet ∷ []
 more_octets setup facts octet = ap (λ (octets : List ℕ). octets ++ octet ∷ []) (fed_octets setup facts (result_of facts.octets octet))

@@ -54,6 +54,7 @@ module _ (setup : Setup) (few : setup.links ≤ 6) where
     in_turn = (
       octet_known setup few HasRoom (λ initiates. IsOfCentral) (room_left setup) facts octet is.own.0 is.in_turn.0,
       octet_keeps setup (λ facts. Makes IsOfCentral facts.turn.doing) (λ facts opcode octets command is accepted makes. makes)
+          (λ facts command asks makes left. left)
           (λ facts handle count start octets is makes. makes) (λ facts octet makes. makes) facts octet is.in_turn.1,
     );
   }

@@ -24,6 +24,7 @@ use Rattle.open_links.proofs.UnderHandles.{map_at}
 use Rattle.open_links.proofs.Handles.{changed_have, free_is, none_have, opened_has, place_keeps}
 use Rattle.controller_model.specs.declared.doing.Doing.{Doing}
 use Rattle.controller_model.specs.declared.doing.Doing.TheVariants.{Advertises, AwaitsRequest, Responds, Requests, AwaitsResponse, Connects, CentralSends, CentralListens, PeripheralListens, PeripheralSends, Rests}
+use Rattle.link_commands.specs.LinksCommanded.{links_commanded}
 use Rattle.controller_model.specs.Step.{Step}
 use Rattle.controller_model.specs.Facts.{Setup, Facts}
 use Rattle.controller_model.specs.Commands.{links_after}
@@ -34,6 +35,7 @@ use Rattle.controller_model.specs.Packets.{facts_doing, links_sending}
 use Rattle.controller_model.specs.Outcome.{facts_passed}
 use Rattle.controller_model.specs.Radio.{links_fixing}
 use Rattle.controller_model.specs.Side.{facts_of}
+use Rattle.controller_model.proofs.Asked.{asked_handles, asked_many, asked_none}
 use Rattle.controller_model.proofs.Always.{IsKept, MayBegin, always, links_won, opening_passes, without_is}
 use Rattle.controller_model.proofs.Phases.{EachOutcome}
 use Rattle.controller_model.proofs.Places.{link_receiving, receiving_is, refused_if, refuses_at}
@@ -211,6 +213,13 @@ command_opens : (command : Command) (links : Links) → OpensNone links (links_a
 command_opens Reset links = reset_opens links
 command_opens other links = nothing_opens links
 
+asked_opens : (command : Command) (slot : ℕ) (links : Links) → OpensNone links (links_commanded command slot links)
+asked_opens command slot links = record {
+  many = asked_many command slot links;
+  handles = λ have. asked_handles command slot 0 links have;
+  free = λ handle none. asked_none command slot handle links none;
+}
+
 pub won_opens : (slot : ℕ) (activity : Activity) (links : Links) → OpensNone links (links_won slot activity links)
 won_opens slot (Link handle) links = change_opens handle (link_served slot) links (λ link. refl)
 won_opens slot Advertise links = nothing_opens links
@@ -277,6 +286,7 @@ pub handles_kept : (setup : Setup) → IsKept setup (HaveOwnHandles setup) (Have
 handles_kept setup = record {
   accepted = λ facts opcode octets command is accepted fits.
       fits_still setup facts _ (command_opens command facts.links) refl fits;
+  asked = λ facts command asks fits left. fits_still setup facts _ (asked_opens command facts.turn.begun facts.links) refl fits;
   given = λ facts handle count start octets is fits.
       fits_still setup facts _ (change_opens handle (link_after (DataGiven start octets)) facts.links (λ link. refl)) refl fits;
   octet = λ facts octet fits. record { many = fits.many; handles = fits.handles; new = fits.new };

@@ -33,8 +33,7 @@ use Rattle.controller_model.specs.Host.{commands_after, commands_from, commands_
 use Rattle.controller_model.specs.Notes.{answers_among, answers_noted, as_two_octets, one_further}
 use Rattle.controller_model.proofs.Always.{IsInTurn, holds_step}
 use Rattle.controller_model.proofs.Handles.{HaveOwnHandles, handles_kept, own_handles}
-use Rattle.controller_model.proofs.NoAnswers.{IsNoAnswer, IsNoPacket, ReadsAnswers, answer_alone, none_in_loss, none_in_turn, none_of_offers}
-use Rattle.controller_model.proofs.Unasked.{notes_unasked}
+use Rattle.controller_model.proofs.NoAnswers.{IsNoAnswer, IsNoPacket, ReadsAnswers, answer_commanded, none_in_loss, none_in_turn, none_of_offers}
 
 two_octets_hold : (opcode : ℕ) → opcode % 256 + 256 * (opcode / 256 % 256) ≡ opcode % 65536
 two_octets_hold opcode = omega arith
@@ -160,8 +159,7 @@ reads_answers = record { event = event_says; received = λ piece. refl; other = 
 command_says : (setup : Setup) (facts : Facts) (opcode : ℕ) (read : CmdRead) → (has_status_answer opcode ≡ true → completes read ≡ false)
     → answers_among (notes_commanded setup facts opcode read) ≡ said ((opcode, is_answered facts read) ∷ [])
 command_says setup facts opcode (Known command) starter =
-    ap answers_among (notes_unasked setup facts opcode command)
-    ∙ answer_alone (ℕ × ℕ) answers_noted reads_answers (status_of facts.view command == 0) setup facts opcode command
+    answer_commanded (ℕ × ℕ) answers_noted reads_answers setup facts opcode command
     ∙ read_says setup facts facts.view opcode (Known command) starter
 command_says setup facts opcode UnknownOpcode starter = read_says setup facts facts.view opcode UnknownOpcode starter
 command_says setup facts opcode BadLength starter = read_says setup facts facts.view opcode BadLength starter

@@ -1,12 +1,13 @@
 -- An advertiser that is left on begins an event in each interval.
 use Rattle.std.proofs.Common.{◌≡◌, ℕ, zero, suc, ◌+◌, ◌-◌, ◌<◌, ◌≤◌, ◌%◌, true, false, Bool, Option, Some, None, [], ◌∷◌, ◌++◌, inl, inr, cond, refl, ap, sym, subst, ◌∙◌, arith}
-use Rattle.std.specs.Prelude.{nat_le, nat_lt, ◌&&◌, is_some}
+use Rattle.std.specs.Prelude.{fold, nat_le, nat_lt, ◌&&◌, is_some}
 use Rattle.std.specs.List.{list_any}
 use Rattle.std.specs.Option.{option_map}
 use Rattle.std.proofs.Math.Nat.{suc-mod, mod-eq_of_lt, mod-lt, mod-le, mod_self, zero-mod}
 use Rattle.std.proofs.lemmas.Bool.{cases_lt, le-leb, lt-ltb}
 use Rattle.std.proofs.lemmas.Bool.Decides.{nat_tests}
 use Rattle.advertise.specs.Advertising.{AdvertiserFacts}
+use Rattle.host_view.specs.Noted.{view_noted}
 use Rattle.host_view.specs.scan_init.Windows.{slots_of}
 use Rattle.slot_plan.specs.declared.Activity.{Activity}
 use Rattle.slot_plan.specs.declared.Activity.TheVariants.{Advertise, Scan, Initiate}
@@ -21,7 +22,7 @@ use Rattle.controller_model.specs.Outcome.{facts_passed}
 use Rattle.controller_model.specs.Radio.{advertiser_served, advertiser_wants, advertises_at, doing_held, facts_entering, fixing, initiates_on, initiator_channel, plan_in, radio_held, radio_served, scanner_channel, scans_on, served, served_if_on, turn_begins, want_if, wants_in}
 use Rattle.controller_model.specs.Intervals.{IsLeftOn, doing_at, doing_between, facts_in_turn, place_within, scans_or, turns_from}
 use Rattle.controller_model.proofs.Always.{ending_is, radio_shut, received_shut, start_keeps, view_shut}
-use Rattle.controller_model.proofs.NoLinks.{AreNone, HasNone, none_end, none_kept, none_map, none_stay}
+use Rattle.controller_model.proofs.NoLinks.{AreNone, HasNone, none_end, none_enter, none_kept, none_map, none_stay}
 use Rattle.controller_model.specs.Entering.{wants_from}
 
 -- ---- places in an interval
@@ -66,7 +67,10 @@ nothing_ends slot facts none =
     })
 
 nothing_enters : (slot : ℕ) (facts : Facts) → AreNone facts.links → facts_entering slot facts ≡ facts
-nothing_enters slot facts none = λ i. record facts { links = none_map (option_map (link_entered slot)) refl facts.links none i }
+nothing_enters slot facts none = λ i. record facts {
+  view = fold view_noted facts.view (none_enter facts.view slot 0 facts.links none i);
+  links = none_map (option_map (link_entered slot)) refl facts.links none i;
+}
 
 -- what wants the radio beside links
 abbrev wanting : (advertises scans initiates : Bool) → Option Activity

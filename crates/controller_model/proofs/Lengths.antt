@@ -76,6 +76,7 @@ long_kept : (setup : Setup) → IsKept setup IsLong IsLong
 long_kept setup = record {
   accepted = λ facts opcode octets command is accepted long.
       long_accepted setup facts.view facts.turn.begun command facts.advertising accepted long;
+  asked = λ facts command asks long left. left;
   given = λ facts handle count start octets is long. long;
   octet = λ facts octet long. long;
   turns = record {

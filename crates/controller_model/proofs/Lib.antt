@@ -1,6 +1,8 @@
 -- The lemmas of this crate.
 pub mod Pasts
 pub mod Phases
+pub mod Following
+pub mod Asked
 pub mod Always
 pub mod Handles
 pub mod Places
@@ -12,7 +14,6 @@ pub mod EndNotes
 pub mod TurnNotes
 pub mod StepNotes
 pub mod NotedLinks
-pub mod NoProcedures
 pub mod AnsweredOnce
 pub mod Feds
 pub mod NoAnswers
@@ -28,7 +29,6 @@ pub mod SixOctets
 pub mod DataChannels
 pub mod LinkFields
 pub mod Accepted
-pub mod Unasked
 pub mod Sent
 pub mod LeftOn
 pub mod Lengths
@@ -53,7 +53,6 @@ pub mod DataBooks
 pub mod ReportBooks
 pub mod OpenNotes
 pub mod Entries
-pub mod PlainEntries
 pub mod Shuts
 pub mod Resets
 -- what the crates above use of those below

@@ -1,5 +1,5 @@
 -- What is noted as well as answers says nothing to a reader of answers.
-use Rattle.std.proofs.Common.{◌≡◌, ℕ, Bool, true, false, List, [], ◌∷◌, ◌++◌, map, cond, refl, ap, ◌∙◌, append-nil}
+use Rattle.std.proofs.Common.{◌≡◌, ℕ, Bool, true, false, List, [], ◌∷◌, ◌++◌, ◌==◌, map, cond, refl, ap, ◌∙◌, append-nil}
 use Rattle.std.specs.Prelude.{All, flat_map, ⊤}
 use Rattle.std.proofs.lemmas.List.Concat.{flat_map-append}
 use Rattle.std.proofs.lemmas.List.Elements.{All-head, All-tail}
@@ -12,18 +12,23 @@ use Rattle.hci_cmd.specs.declared.command.CmdRead.TheVariants.{Known}
 use Rattle.hci_evt.specs.Event.{mask_bit_of, written}
 use Rattle.hci_evt.specs.declared.event.Event.{Event}
 use Rattle.hci_evt.specs.declared.event.Event.TheVariants.{DisconnectionComplete, CommandComplete, CommandStatus, HardwareError, CompletedPackets, BufferOverflow}
+use Rattle.host_view.specs.Unbuilt.{status_of}
 use Rattle.host_view.specs.View.{View}
 use Rattle.open_links.specs.OpenLinks.{handles_from}
 use Rattle.open_links.specs.declared.offers.Offer.{Offer}
 use Rattle.open_links.specs.declared.offers.Offer.TheVariants.{NoLink, Empty, Overflow, Kept}
+use Rattle.link_commands.specs.LinksCommanded.{events_commanded_on}
 use Rattle.controller_model.specs.Step.{Step}
 use Rattle.controller_model.specs.Facts.{Setup, Facts}
 use Rattle.controller_model.specs.Answers.{answer_to}
-use Rattle.controller_model.specs.Commands.{events_caused, notes_before, notes_known}
+use Rattle.controller_model.specs.Commands.{events_caused, notes_before, notes_commanded, notes_known}
 use Rattle.controller_model.specs.Data.{note_received, notes_offered}
 use Rattle.controller_model.specs.Events.{notes_of_events, passes}
 use Rattle.controller_model.specs.Links.{connection_failed, note_shut, wants_enhanced}
 use Rattle.controller_model.specs.Side.{notes_after}
+use Rattle.controller_model.proofs.Asked.{events_at_once_are, noted_asking, notes_at_once}
+use Rattle.controller_model.proofs.LinkNotes.{procedures_too}
+use Rattle.controller_model.proofs.ProcedureEvents.{IsOfProcedure}
 use Rattle.controller_model.proofs.Always.{IsInTurn}
 use Rattle.controller_model.proofs.Handles.{HaveOwnHandles}
 use Rattle.controller_model.proofs.TurnNotes.{EachNote, IsOfTurn, turn_noted}
@@ -48,6 +53,11 @@ of_turn (CommandComplete number opcode fields) is = absurd is
 of_turn (CommandStatus status number opcode) is = absurd is
 of_turn (DisconnectionComplete status handle reason) is = tt
 of_turn other is = tt
+
+of_procedure : (event : Event) → IsOfProcedure event → IsNoAnswer event
+of_procedure (CommandComplete number opcode fields) is = absurd is
+of_procedure (CommandStatus status number opcode) is = absurd is
+of_procedure other is = tt
 
 failed_is : (enhanced : Bool) (status : ℕ) → IsNoAnswer (connection_failed enhanced status)
 failed_is true status = tt
@@ -117,6 +127,22 @@ module _ (A : Type 0) (noted : Note → List A) (reads : ReadsAnswers A noted) w
       ∙ (λ i. flat_map-append noted (notes_before facts command) answer i ++ none_caused facts command i)
       ∙ (λ i. (none_before facts command i ++ flat_map noted answer) ++ [])
       ∙ append-nil (flat_map noted answer)
+
+  -- with what is answered at once
+  pub answer_commanded : (setup : Setup) (facts : Facts) (opcode : ℕ) (command : Command)
+      → flat_map noted (notes_commanded setup facts opcode (Known command))
+      ≡ flat_map noted (notes_of_events facts.view (answer_to setup facts opcode (Known command)))
+  answer_commanded setup facts opcode command =
+      let answer = flat_map noted (notes_of_events facts.view (answer_to setup facts opcode (Known command))) in
+      noted_asking setup facts command opcode (λ (notes : List Note). flat_map noted notes ≡ answer)
+      (answer_alone (status_of facts.view command == 0) setup facts opcode command)
+      (λ notes asks is.
+      flat_map-append noted notes (notes_at_once facts command)
+      ∙ ap (λ rest. flat_map noted notes ++ rest)
+      (none_among (notes_at_once facts command)
+      (procedures_too (λ (note : Note). noted note ≡ []) (λ event is. reads.event event (of_procedure event is)) facts.view
+      (events_commanded_on command facts.links) (events_at_once_are command facts.links)))
+      ∙ append-nil (flat_map noted notes) ∙ is)
 
   -- a packet of data
   pub none_of_offers : (view : View) (offer : Offer) (handle : ℕ) → flat_map noted (notes_offered view offer handle) ≡ []

@@ -13,6 +13,8 @@ use Rattle.open_links.specs.OpenLinks.{Links, OpenLink, link_after, link_at, lin
 use Rattle.open_links.specs.Turns.{ending_in, ends_by, link_entered, links_without, place_without}
 use Rattle.controller_model.specs.declared.doing.Doing.{Doing}
 use Rattle.controller_model.specs.declared.doing.Doing.TheVariants.{Advertises, Connects, CentralSends, PeripheralListens, PeripheralSends}
+use Rattle.link_commands.specs.LinksCommanded.{links_commanded_from, place_commanded}
+use Rattle.link_commands.specs.Commands.{is_about}
 use Rattle.controller_model.specs.Facts.{Facts}
 use Rattle.controller_model.specs.Commands.{links_after}
 use Rattle.controller_model.specs.Data.{event_completed, facts_ended_turn, facts_handed, note_received, notes_ended_turn}
@@ -22,6 +24,7 @@ use Rattle.controller_model.specs.Links.{notes_ended}
 use Rattle.controller_model.specs.Packets.{facts_doing, links_sending, notes_doing, notes_sent}
 use Rattle.controller_model.specs.Radio.{links_fixing}
 use Rattle.controller_model.proofs.Alike.{Alike}
+use Rattle.controller_model.proofs.Following.{view_followed}
 use Rattle.controller_model.proofs.Always.{IsKeptAtStarts, MayBegin, leaving_is, links_won, received_shut, view_shut}
 
 -- ---- no link
@@ -58,6 +61,16 @@ none_change change is first handle (None ∷ links) none = at (first == handle) 
     at true rest = λ i. is i ∷ links
     at false rest = λ i. None ∷ rest i
 none_change change is first handle (Some link ∷ links) none = absurd none
+
+none_placed : (about : Bool) (command : Command) (slot : ℕ) → place_commanded about command slot None ≡ None
+none_placed true command slot = refl
+none_placed false command slot = refl
+
+pub none_asked : (command : Command) (slot first : ℕ) (links : Links) → AreNone links → links_commanded_from first command slot links ≡ links
+none_asked command slot first [] none = refl
+none_asked command slot first (None ∷ links) none =
+    λ i. none_placed (is_about first command) command slot i ∷ none_asked command slot (first + 1) links none i
+none_asked command slot first (Some link ∷ links) none = absurd none
 
 pub none_end : (reason : OpenLink → Option ℕ) (first : ℕ) (links : Links) → AreNone links → ends_by reason first links ≡ []
 none_end reason first [] none = refl
@@ -195,7 +208,8 @@ start_like other = record {
       (none_stay reason facts.links like.none) (ap (received_shut facts.received) (none_end reason 0 facts.links like.none)) refl like;
   begins = λ slot facts like. links_like other facts _ refl refl refl refl refl refl like;
   enters = λ slot facts like.
-      links_like other facts _ refl refl refl (none_map (option_map (link_entered slot)) refl facts.links like.none) refl refl like;
+      links_like other facts _ refl (ap (view_followed facts.view) (none_enter facts.view slot 0 facts.links like.none)) refl
+      (none_map (option_map (link_entered slot)) refl facts.links like.none) refl refl like;
   wins = λ slot activity facts like. links_like other facts _ refl refl refl (none_won slot activity facts.links like.none) refl refl like;
   fixes = λ doing facts like. links_like other facts _ refl refl refl (none_fixed doing facts.links like.none) refl refl like;
   does = λ doing facts may like. doing_like other doing facts (start_makes doing may) like;

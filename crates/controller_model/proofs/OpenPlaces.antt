@@ -1,24 +1,30 @@
 -- Which handles have open links, to the controller and in the view of its host.
 use Rattle.std.proofs.Common.{◌≡◌, ℕ, zero, suc, ◌+◌, ◌≤◌, ◌==◌, Bool, true, false, Option, Some, None, List, [], ◌∷◌, ◌++◌, length, replicate, map, cond, refl, ap, sym, subst, ◌∙◌, append_assoc, length-append, arith}
-use Rattle.std.specs.Prelude.{count_by, is_some, slice_set, if◌then◌else◌}
+use Rattle.std.specs.Prelude.{count_by, fold, is_some, slice_set, if◌then◌else◌}
 use Rattle.std.specs.Option.{option_map}
 use Rattle.std.proofs.Math.ListN.{set}
 use Rattle.std.proofs.Math.Seq.{map-set_same, set-append_seam}
 use Rattle.std.proofs.lemmas.Bool.{eq-eqb}
 use Rattle.std.proofs.lemmas.List.{map-set}
 use Rattle.std.proofs.lemmas.List.Sums.{sum_by-append}
+use Rattle.ble_base.specs.declared.notes.Note.{Note}
+use Rattle.ble_base.specs.declared.procedure_kinds.Kind.{Kind}
+use Rattle.ble_base.specs.declared.notes.Note.TheVariants.{Up, Opened, Shut, Refused, Done}
 use Rattle.hci_cmd.specs.declared.command.HandleCount.{HandleCount}
 use Rattle.hci_cmd.specs.declared.command.Command.{Command}
 use Rattle.hci_cmd.specs.declared.command.Command.TheVariants.{Disconnect, ReadRemoteVersion, HostCompleted, Reset, LeConnectionUpdate, LeReadRemoteFeatures, LeEnableEncryption, LeKeyReply, LeKeyNegative, LeParamReply, LeParamNegative, LeSetDataLength, LeSetPhy}
 use Rattle.host_view.specs.declared.links.Link.{Link as ViewLink}
 use Rattle.host_view.specs.View.{View}
-use Rattle.host_view.specs.Changes.{after_count, after_counts, changed_at, view_after}
+use Rattle.host_view.specs.Changes.{after_count, after_counts, changed_at, on_link, view_after}
+use Rattle.host_view.specs.Noted.{acl_handle, after_packet, event_handle, is_acl_data, is_le_event, view_noted}
 use Rattle.host_view.specs.Links.{link_in}
 use Rattle.link_model.specs.Step.{PacketSent, PduFixed}
 use Rattle.slot_plan.specs.declared.Activity.{Activity}
 use Rattle.slot_plan.specs.declared.Activity.TheVariants.{Link, Advertise, Scan, Initiate}
-use Rattle.open_links.specs.OpenLinks.{Links, OpenLink, free_from, link_after, link_served, with_change, with_change_from, without_links}
+use Rattle.open_links.specs.OpenLinks.{Links, OpenLink, free_from, link_after, link_at, link_served, with_change, with_change_from, without_links}
 use Rattle.open_links.specs.Ended.{end_by}
+use Rattle.link_commands.specs.LinksCommanded.{known_in, links_commanded, view_known_on}
+use Rattle.link_commands.specs.Views.{view_answered}
 use Rattle.open_links.specs.Turns.{ends_by, links_without, staying_by}
 use Rattle.controller_model.specs.declared.doing.Doing.{Doing}
 use Rattle.controller_model.specs.declared.doing.Doing.TheVariants.{Advertises, CentralSends, PeripheralListens, PeripheralSends}
@@ -26,6 +32,8 @@ use Rattle.controller_model.specs.Facts.{Facts}
 use Rattle.controller_model.specs.Heard.{link_received}
 use Rattle.controller_model.specs.Packets.{links_sending}
 use Rattle.controller_model.specs.Radio.{links_fixing}
+use Rattle.controller_model.proofs.Asked.{asked_same}
+use Rattle.controller_model.proofs.Following.{AreOfOpenLinks, IsOfOpenLink}
 use Rattle.controller_model.proofs.Always.{links_shut, links_won}
 use Rattle.controller_model.proofs.Places.{link_receiving, receiving_is}
 
@@ -133,6 +141,9 @@ pub received_opens : (handle : ℕ) (room : Bool) (octets : List ℕ) (facts : F
 received_opens handle room octets facts =
     ap opens (receiving_is handle room octets facts) ∙ changed_opens (link_receiving handle room octets facts) handle facts.links
 
+pub asked_opens : (command : Command) (slot : ℕ) (links : Links) → opens (links_commanded command slot links) ≡ opens links
+asked_opens command slot links = asked_same is_some (λ link step asks. refl) command slot 0 links
+
 -- a place this much later than the first one is another
 later_than : (first place : ℕ) → (first == first + suc place) ≡ false
 later_than first place = grind arith
@@ -167,6 +178,43 @@ pub view_changed : (change : ViewLink → ViewLink) (handle : ℕ) (links : List
     → opens (changed_at handle change links) ≡ opens links
 view_changed change handle links =
     map-set_same is_some links handle (option_map change (link_in links handle)) None (some_still change (link_in links handle))
+
+packet_opens : (octets : List ℕ) (view : View) → opens (after_packet octets view).links ≡ opens view.links
+packet_opens octets view = by (is_acl_data octets) (is_le_event 0x05 octets) (is_le_event 0x06 octets) view.flow.on _ _ _
+  where
+    by : (acl key request flow : Bool) (one two three : ViewLink → ViewLink)
+        → opens (if acl then (if flow then on_link (acl_handle octets) one view else view)
+        else if key then on_link (event_handle octets) two view else if request then on_link (event_handle octets) three view else view).links
+        ≡ opens view.links
+    by true key request true one two three = view_changed one (acl_handle octets) view.links
+    by true key request false one two three = refl
+    by false true request flow one two three = view_changed two (event_handle octets) view.links
+    by false false true flow one two three = view_changed three (event_handle octets) view.links
+    by false false false flow one two three = refl
+
+note_opens : (view : View) (note : Note) → IsOfOpenLink note → opens (view_noted view note).links ≡ opens view.links
+unfolding view_noted
+note_opens view (Up packet) of = packet_opens packet.items view
+note_opens view (Opened handle role own peer) of = absurd of
+note_opens view (Shut handle reason) of = absurd of
+note_opens view (Refused handle kind code) of = view_changed _ handle view.links
+note_opens view (Done handle kind) of = view_changed _ handle view.links
+note_opens view other of = refl
+
+-- a view that follows notes of open links
+pub followed_opens : (view : View) (notes : List Note) → AreOfOpenLinks notes → opens (fold view_noted view notes).links ≡ opens view.links
+followed_opens view [] of = refl
+followed_opens view (note ∷ notes) of = followed_opens (view_noted view note) notes of.1 ∙ note_opens view note of.0
+
+-- what is answered at once
+answered_opens : (handle : ℕ) (kind : Option Kind) (view : View) → opens (view_answered handle kind view).links ≡ opens view.links
+answered_opens handle None view = refl
+answered_opens handle (Some kind) view = note_opens view (Done handle kind) tt
+
+pub known_opens : (view : View) (command : Command) (links : Links) → opens (view_known_on view command links).links ≡ opens view.links
+known_opens view (ReadRemoteVersion handle) links = answered_opens handle (known_in (ReadRemoteVersion handle) (link_at handle links)) view
+known_opens view (LeReadRemoteFeatures handle) links = answered_opens handle (known_in (LeReadRemoteFeatures handle) (link_at handle links)) view
+known_opens view other links = refl
 
 view_counts : (links : List (Option ViewLink)) (counts : List HandleCount) → opens (after_counts links counts) ≡ opens links
 view_counts links [] = refl

@@ -28,6 +28,7 @@ use Rattle.open_links.specs.declared.ended.LinkEnded.{LinkEnded}
 use Rattle.open_links.specs.OpenLinks.{Links, OpenLink, facts_in, handles_from}
 use Rattle.open_links.specs.Turns.{enters_in, notes_entering, notes_if}
 use Rattle.controller_model.specs.Answers.{AreOneAnswer, HasNoAnswer, IsAnswerTo, answer_to}
+use Rattle.link_commands.specs.LinksCommanded.{events_commanded_on}
 use Rattle.controller_model.specs.Commands.{events_caused, notes_before, notes_commanded, notes_known}
 use Rattle.controller_model.specs.Data.{acl_packet, boundary_of, note_received}
 use Rattle.controller_model.specs.Entering.{events_entering, notes_all_entering}
@@ -39,7 +40,7 @@ use Rattle.controller_model.specs.Since.{is_completed_on, is_handed_up_on, is_se
 use Rattle.controller_model.proofs.AnsweredOnce.{answered_once}
 use Rattle.controller_model.proofs.EndNotes.{entered_each}
 use Rattle.controller_model.proofs.ProcedureEvents.{AreOfProcedures, IsOfProcedure, entering_events}
-use Rattle.controller_model.proofs.Unasked.{noted_unasked}
+use Rattle.controller_model.proofs.Asked.{events_at_once_are, noted_asking, notes_at_once}
 
 pub record IsOther (most handle : ℕ) (note : Note) : Type 0 where
   pub opens_none : opens_under handle note ≡ false
@@ -285,6 +286,8 @@ module _ (most handle : ℕ) where
   pub command_other : (setup : Setup) (facts : Facts) (opcode : ℕ) (read : CmdRead)
       → AreOther most handle (notes_commanded setup facts opcode read)
   command_other setup facts opcode (Known command) =
-      noted_unasked setup facts command opcode (AreOther most handle) (known_other (status_of facts.view command == 0) setup facts opcode command)
+      noted_asking setup facts command opcode (AreOther most handle) (known_other (status_of facts.view command == 0) setup facts opcode command)
+      (λ notes asks are. both_other notes (notes_at_once facts command) are
+      (procedures_other facts.view (events_commanded_on command facts.links) (events_at_once_are command facts.links)))
   command_other setup facts opcode UnknownOpcode = answer_other setup facts opcode UnknownOpcode
   command_other setup facts opcode BadLength = answer_other setup facts opcode BadLength

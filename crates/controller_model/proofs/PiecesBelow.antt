@@ -68,6 +68,7 @@ pieces_kept setup =
         own = handles.accepted facts opcode octets command is accepted are.own;
         below = commanded_below most command facts.received are.below;
       };
+      asked = λ facts command asks are left. record { own = handles.asked facts command asks are.own left.own; below = left.below };
       given = λ facts handle count start octets is are. record { own = handles.given facts handle count start octets is are.own; below = are.below };
       octet = λ facts octet are. record { own = handles.octet facts octet are.own; below = are.below };
       turns = record {

@@ -17,10 +17,10 @@ use Rattle.link_model.specs.declared.state.PeerVersion.{PeerVersion}
 use Rattle.link_model.specs.Facts.{params_of}
 use Rattle.link_model.specs.Receiving.{effect_of}
 use Rattle.link_model.specs.Step.{PacketReceived}
-use Rattle.plain_links.specs.link_end.Answers.{acked_of, given_of}
+use Rattle.link_end.specs.Answers.{acked_of, given_of}
 use Rattle.open_links.specs.OpenLinks.{OpenLink, facts_in, link_after}
 use Rattle.open_links.specs.Turns.{entry_at, link_entered}
-use Rattle.procedure_events.specs.Calls.{event_if_done, event_if_refused, events_of_entry}
+use Rattle.procedure_events.specs.Calls.{event_if_done, event_if_refused, events_known, events_of_entry}
 use Rattle.procedure_events.specs.Events.{event_of_done, event_of_effect, event_of_refusal, features_event, version_event}
 use Rattle.controller_model.specs.Entering.{events_entering, events_of}
 use Rattle.controller_model.specs.Heard.{events_received}
@@ -97,6 +97,15 @@ effect_is : (handle : ℕ) (effect : Effect) → IsIfAny (event_of_effect handle
 effect_is handle (Lengths rx tx) = (tt, tt)
 effect_is handle (AskHost min max latency timeout) = (tt, tt)
 effect_is handle other = tt
+
+-- ---- what is known already is answered at once
+
+pub known_events : (handle : ℕ) (peer : PeerFacts) (kind : Kind) → AreOfProcedures (events_known handle peer kind)
+known_events handle peer Features = features_are handle peer.features
+known_events handle peer Version = version_is handle peer.version
+known_events handle peer other = tt
+
+-- ---- all of a packet
 
 pub reception_events : (handle slot : ℕ) (room : Bool) (place : Option OpenLink) (octets : List ℕ)
     → AreOfProcedures (events_received handle slot room place octets)

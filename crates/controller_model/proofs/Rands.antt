@@ -25,7 +25,7 @@ use Rattle.controller_model.specs.Heard.{link_taken}
 use Rattle.controller_model.specs.Side.{facts_after, facts_fed, facts_of, notes_after, notes_fed, result_of}
 use Rattle.controller_model.proofs.Always.{IsInTurn, IsKeptInTurns, opening_passes, turn_keeps}
 use Rattle.controller_model.specs.Host.{commands_accepted_after, commands_accepted_by, commands_accepted_from, commands_accepted_in, commands_accepted, is_le_rand, le_rand_count}
-use Rattle.controller_model.proofs.Unasked.{of_unasked}
+use Rattle.controller_model.proofs.Asked.{of_asking}
 
 abbrev rands : List Command → ℕ
 rands commands = count_by is_le_rand commands
@@ -58,7 +58,8 @@ drawn_known false setup facts command = grow_by facts.connections facts.drawn fa
 drawn_read : (setup : Setup) (facts : Facts) (read : CmdRead)
     → GrowBy facts (rands (commands_accepted_by facts read)) (facts_commanded setup facts read)
 drawn_read setup facts (Known command) =
-    of_unasked setup facts command (GrowBy facts (rands (commands_accepted_by facts (Known command)))) (drawn_known (status_of facts.view command == 0) setup facts command)
+    of_asking setup facts command (GrowBy facts (rands (commands_accepted_by facts (Known command)))) (drawn_known (status_of facts.view command == 0) setup facts command)
+    (λ asks grow. grow)
 drawn_read setup facts UnknownOpcode = grow_by facts.connections facts.drawn facts.drawn 0 (no_more facts.drawn)
 drawn_read setup facts BadLength = grow_by facts.connections facts.drawn facts.drawn 0 (no_more facts.drawn)
 

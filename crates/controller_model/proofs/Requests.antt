@@ -22,6 +22,7 @@ use Rattle.controller_model.specs.Commands.{initiator_after}
 use Rattle.controller_model.specs.Heard.{fields_sent, link_taken}
 use Rattle.controller_model.specs.Side.{facts_of}
 use Rattle.controller_model.proofs.Accepted.{same_after_counts}
+use Rattle.controller_model.proofs.Following.{receiving_passes}
 use Rattle.controller_model.proofs.Always.{IsKept, always, initiator_stopped, opening_passes}
 use Rattle.controller_model.proofs.LinkFields.{test_of_range}
 
@@ -80,6 +81,7 @@ asks_kept setup = record {
     map_is = map_after facts.view command accepted may.map_is;
     request = asks_after setup facts.view facts.turn.begun command facts.initiator accepted may.request;
   };
+  asked = λ facts command asks may left. record { map_is = left.map_is; request = left.request };
   given = λ facts handle count start octets is may. record { map_is = may.map_is; request = may.request };
   octet = λ facts octet may. record { map_is = may.map_is; request = may.request };
   turns = record {
@@ -111,7 +113,8 @@ asks_kept setup = record {
       answered = λ channel octets pdu on doing is_on hears. record { map_is = may.map_is; request = may.request };
       connects = λ channel octets pdu on access handle doing is_on hears answers next free in_range.
           record { map_is = may.map_is; request = may.request };
-      received = λ handle octets. record { map_is = may.map_is; request = may.request };
+      received = λ handle octets.
+          receiving_passes MayAsk setup handle octets facts (record { map_is = may.map_is; request = may.request });
     };
   };
 }

@@ -1,5 +1,6 @@
 -- What a controller sends is the packet of a PDU on an advertising channel, or that of a link on a data channel.
 use Rattle.std.proofs.Common.{◌≡◌, ℕ, ◌+◌, ◌≤◌, ◌==◌, Bool, true, false, Option, Some, None, inl, inr, List, [], ◌∷◌, ◌++◌, cond, length, refl, sym, ap, subst, ◌∙◌, append-nil, append_assoc, arith}
+use Rattle.std.specs.List.{AllByRecursion}
 use Rattle.std.specs.Prelude.{◌&&◌, ⊤, ◌⊎◌, IfSome}
 use Rattle.std.specs.Option.{option_map}
 use Rattle.std.proofs.lemmas.List.{length-take}
@@ -20,7 +21,7 @@ use Rattle.host_view.specs.scan_init.declared.scanner.ScanParams.{ScanParams}
 use Rattle.host_view.specs.scan_init.Initiating.{InitiatorFacts}
 use Rattle.host_view.specs.scan_init.Reports.{ScannerFacts, does_ask, scan_answer}
 use Rattle.link_model.specs.declared.setup.LinkSetup.{LinkSetup}
-use Rattle.link_model.specs.Step.{Step as EndStep, DataGiven, PduFixed, PacketSent}
+use Rattle.link_model.specs.Step.{Step as EndStep, DataGiven, Disconnected, PacketSent, ProcedureAsked, RequestAnswered}
 use Rattle.slot_plan.specs.declared.Activity.{Activity}
 use Rattle.slot_plan.specs.declared.Activity.TheVariants.{Link, Advertise, Scan, Initiate}
 use Rattle.open_links.specs.Data.{links_given}
@@ -29,16 +30,19 @@ use Rattle.open_links.proofs.Handles.{changed_is}
 use Rattle.controller_model.specs.declared.doing.Doing.{Doing}
 use Rattle.controller_model.specs.declared.doing.Turn.{Turn}
 use Rattle.controller_model.specs.declared.doing.Doing.TheVariants.{Advertises, AwaitsRequest, Responds, Scans, Requests, AwaitsResponse, Initiates, Connects, CentralSends, CentralListens, PeripheralListens, PeripheralSends, Rests}
+use Rattle.link_commands.specs.LinksCommanded.{links_commanded}
 use Rattle.controller_model.specs.Step.{Step}
 use Rattle.controller_model.specs.Facts.{Setup, Facts, Advertising, Scanning, Use, Sends, Listens, Idle}
 use Rattle.controller_model.specs.Commands.{advertiser_enabled, advertiser_turned_on, advertising_after, facts_accepted, initiator_after, links_after, own_address, random_or_public, scanner_enabled, scanner_turned_on, scanning_after}
 use Rattle.controller_model.specs.Data.{facts_handed}
-use Rattle.controller_model.specs.Heard.{asks_if, facts_connecting, fields_sent, has_room, link_made, link_received, link_taken, opens, replies_in, reply_if, scanner_after, with_scanner}
+use Rattle.controller_model.specs.Heard.{asks_if, facts_connecting, fields_sent, has_room, link_made, link_taken, opens, replies_in, reply_if, scanner_after, with_scanner}
 use Rattle.controller_model.specs.Outcome.{facts_passed}
 use Rattle.controller_model.specs.Packets.{advertisement_sent, connect_sent, facts_doing, listens_on, request_sent, response_sent, sends_on, sends_pdu, use_for}
-use Rattle.controller_model.specs.Radio.{facts_entering, served_if_on, turn_begins}
+use Rattle.controller_model.specs.Radio.{served_if_on, turn_begins}
 use Rattle.controller_model.specs.Side.{facts_of, with_octet}
-use Rattle.controller_model.specs.Sent.{AreGiven, HasOnlyBeenGiven, IsAdvertisingPacket, IsLinkPacket, SendsOn}
+use Rattle.controller_model.specs.Sent.{HasOnlyHeardHost, IsAdvertisingPacket, IsHostStep, IsLinkPacket, SendsOn}
+use Rattle.controller_model.proofs.Asked.{IsAskedStep, at_kept, facts_asked}
+use Rattle.controller_model.proofs.Following.{facts_at_events, facts_receiving, receiving_passes}
 use Rattle.controller_model.proofs.Always.{IsAdvertisingChannel, IsKept, MayBegin, advertiser_stopped, advertiser_won, always, facts_ended, facts_fixing, facts_given, facts_opening, initiator_stopped, opening_passes}
 use Rattle.controller_model.proofs.DataChannels.{link_channel}
 use Rattle.controller_model.proofs.LinkFields.{connection_fits}
@@ -173,19 +177,19 @@ pdu_wanted facts channel None is fits = tt
 pdu_wanted facts channel (Some pdu) is fits =
     inl (record { pdu = pdu; is_pdu = fits; packet = refl; channel_from = is.0; channel_to = is.1 })
 
-none_given : (link : OpenLink) → HasOnlyBeenGiven link link
-none_given link = record {
-  given = [];
-  are_given = tt;
+none_heard : (link : OpenLink) → HasOnlyHeardHost link link
+none_heard link = record {
+  steps = [];
+  are_of_host = tt;
   link_is = ap (λ (past : List EndStep). record link { past = past }) (sym (append-nil link.past));
 }
 
 sending_last : (slot handle : ℕ) (links : Links) (link : OpenLink) → link_at handle links ≡ Some link
-    → IfSome (link_at handle (with_change handle (link_after (PacketSent slot)) links)) (HasOnlyBeenGiven (link_after (PacketSent slot) link))
+    → IfSome (link_at handle (with_change handle (link_after (PacketSent slot)) links)) (HasOnlyHeardHost (link_after (PacketSent slot) link))
 sending_last slot handle links link at =
     let change = link_after (PacketSent slot) in
-    subst (λ (found : Option OpenLink). IfSome found (HasOnlyBeenGiven (change link)))
-    (sym (changed_is (option_map change) 0 handle links refl ∙ ap (option_map change) at)) (none_given (change link))
+    subst (λ (found : Option OpenLink). IfSome found (HasOnlyHeardHost (change link)))
+    (sym (changed_is (option_map change) 0 handle links refl ∙ ap (option_map change) at)) (none_heard (change link))
 
 central_wanted : (facts : Facts) (handle : ℕ) (found : Option OpenLink) → link_at handle facts.links ≡ found
     → IsWanted (facts_doing (CentralSends handle) facts) (sends_on found)
@@ -341,8 +345,8 @@ last_after other links handle P last = last
 
 -- what is left of the link on which it sends, of two controllers in one turn
 abbrev StillLast : Links → Links → Type 0
-StillLast before after = (handle : ℕ) (link : OpenLink) → IfSome (link_at handle before) (HasOnlyBeenGiven link)
-    → IfSome (link_at handle after) (HasOnlyBeenGiven link)
+StillLast before after = (handle : ℕ) (link : OpenLink) → IfSome (link_at handle before) (HasOnlyHeardHost link)
+    → IfSome (link_at handle after) (HasOnlyHeardHost link)
 
 wanted_still : (before after : Facts) (wanted : Use) → before.turn ≡ after.turn → StillLast before.links after.links
     → IsWanted before wanted → IsWanted after wanted
@@ -356,34 +360,48 @@ wanted_still before after (Sends channel octets) turn still is = elim is [
     channel_is = packet.channel_is;
     data_channel = packet.data_channel;
     last = still packet.handle (link_after (PacketSent after.turn.slot) packet.link)
-        (subst (λ (of : Turn). IfSome (link_at packet.handle before.links) (HasOnlyBeenGiven (link_after (PacketSent of.slot) packet.link)))
+        (subst (λ (of : Turn). IfSome (link_at packet.handle before.links) (HasOnlyHeardHost (link_after (PacketSent of.slot) packet.link)))
         turn packet.last);
   })
 ]
 wanted_still before after (Listens channel) turn still is = tt
 wanted_still before after Idle turn still is = tt
 
--- the host gives more
-given_more : (given : List EndStep) (start : Bool) (octets : List ℕ) → AreGiven given → AreGiven (given ++ DataGiven start octets ∷ [])
-given_more [] start octets are = tt
-given_more (DataGiven first body ∷ given) start octets are = given_more given start octets are
-given_more (PduFixed ∷ given) start octets are = absurd are
-given_more (other ∷ given) start octets are = absurd are
+-- the host gives more, or asks for more
+one_more : (steps : List EndStep) (step : EndStep) → IsHostStep step → AllByRecursion IsHostStep steps
+    → AllByRecursion IsHostStep (steps ++ step ∷ [])
+one_more [] step of are = (of, tt)
+one_more (first ∷ steps) step of are = (are.0, one_more steps step of are.1)
 
-given_place : (link : OpenLink) (start : Bool) (octets : List ℕ) (found : Option OpenLink) → IfSome found (HasOnlyBeenGiven link)
-    → IfSome (option_map (link_after (DataGiven start octets)) found) (HasOnlyBeenGiven link)
-given_place link start octets None is = tt
-given_place link start octets (Some after) is = record {
-  given = is.given ++ DataGiven start octets ∷ [];
-  are_given = given_more is.given start octets is.are_given;
+heard_more : (link after : OpenLink) (step : EndStep) → IsHostStep step → HasOnlyHeardHost link after
+    → HasOnlyHeardHost link (link_after step after)
+heard_more link after step of is = record {
+  steps = is.steps ++ step ∷ [];
+  are_of_host = one_more is.steps step of is.are_of_host;
   link_is =
-      ap (link_after (DataGiven start octets)) is.link_is
-      ∙ ap (λ (past : List EndStep). record link { past = past }) (append_assoc link.past is.given (DataGiven start octets ∷ []));
+      ap (link_after step) is.link_is
+      ∙ ap (λ (past : List EndStep). record link { past = past }) (append_assoc link.past is.steps (step ∷ []));
 }
+
+given_place : (link : OpenLink) (start : Bool) (octets : List ℕ) (found : Option OpenLink) → IfSome found (HasOnlyHeardHost link)
+    → IfSome (option_map (link_after (DataGiven start octets)) found) (HasOnlyHeardHost link)
+given_place link start octets None is = tt
+given_place link start octets (Some after) is = heard_more link after (DataGiven start octets) tt is
+
+asks_of_host : (step : EndStep) → IsAskedStep step → IsHostStep step
+asks_of_host (ProcedureAsked ask) asks = tt
+asks_of_host (RequestAnswered answer) asks = tt
+asks_of_host (Disconnected reason slot) asks = tt
+asks_of_host step asks = absurd asks
+
+asked_last : (command : Command) (slot : ℕ) (links : Links) → StillLast links (links_commanded command slot links)
+asked_last command slot links other link is =
+    at_kept (λ (found : Option OpenLink). IfSome found (HasOnlyHeardHost link))
+    (λ after step asks is. heard_more link after step (asks_of_host step asks) is) command slot other links is
 
 given_last : (handle : ℕ) (start : Bool) (octets : List ℕ) (links : Links) → StillLast links (links_given handle start octets links)
 given_last handle start octets links other link is =
-    at_changed (λ (found : Option OpenLink). IfSome found (HasOnlyBeenGiven link)) handle other (link_after (DataGiven start octets)) links is
+    at_changed (λ (found : Option OpenLink). IfSome found (HasOnlyHeardHost link)) handle other (link_after (DataGiven start octets)) links is
     (λ same. given_place link start octets (link_at other links) is)
 
 -- ---- each part of a turn
@@ -470,8 +488,9 @@ passes_well setup facts well = record {
   received = λ handle octets.
       let room = has_room setup facts in
       let replies = replies_in facts.turn.slot room (link_at handle facts.links) octets in
-      sends_doing (reply_if replies handle) (link_received handle room octets facts)
-      (can_still facts (link_received handle room octets facts) refl refl refl refl well.can) (reply_fits replies handle);
+      let after = facts_receiving handle room octets facts in
+      receiving_passes SendsWell setup handle octets facts
+      (sends_doing (reply_if replies handle) after (can_still facts after refl refl refl refl well.can) (reply_fits replies handle));
 }
 
 pub well_kept : (setup : Setup) → length setup.public ≡ 6 → IsKept setup CanSend SendsWell
@@ -489,8 +508,15 @@ well_kept setup six = record {
         does = well.does;
         wanted =
             wanted_still facts (facts_accepted setup facts command) facts.wanted refl
-            (λ handle link last. last_after command facts.links handle (HasOnlyBeenGiven link) last) well.wanted;
+            (λ handle link last. last_after command facts.links handle (HasOnlyHeardHost link) last) well.wanted;
       };
+  asked = λ facts command asks well left. record {
+    can = can_still (facts_accepted setup facts command) (facts_asked setup facts command) refl refl refl refl left.can;
+    does = well.does;
+    wanted =
+        wanted_still facts (facts_asked setup facts command) facts.wanted refl
+        (asked_last command facts.turn.begun facts.links) well.wanted;
+  };
   given = λ facts handle count start octets is well. record {
     can = can_still facts (facts_given handle start octets facts) refl refl refl refl well.can;
     does = well.does;
@@ -508,7 +534,7 @@ well_kept setup six = record {
       weakens = λ facts well. well.can;
       ends = λ reason facts can. can_still facts (facts_ended reason facts) refl refl refl refl can;
       begins = λ slot facts can. can_still facts (turn_begins slot facts) refl refl refl refl can;
-      enters = λ slot facts can. can_still facts (facts_entering slot facts) refl refl refl refl can;
+      enters = λ slot facts can. can_still facts (facts_at_events slot facts) refl refl refl refl can;
       wins = λ slot activity facts can. record {
         random = can.random;
         advertising = record {

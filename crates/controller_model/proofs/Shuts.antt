@@ -35,6 +35,7 @@ use Rattle.open_links.proofs.Ends.{due_is_among}
 use Rattle.controller_model.specs.Step.{Step, HostOctet, TurnBegins, PacketHeard, NothingHeard, TurnEnds}
 use Rattle.controller_model.specs.Facts.{Setup, Facts}
 use Rattle.controller_model.specs.Answers.{answer_to}
+use Rattle.link_commands.specs.LinksCommanded.{events_commanded_on}
 use Rattle.controller_model.specs.Commands.{events_caused, notes_before, notes_commanded, notes_known}
 use Rattle.controller_model.specs.Data.{facts_handed, notes_handed, offer_of}
 use Rattle.controller_model.specs.Entering.{notes_all_entering}
@@ -50,7 +51,7 @@ use Rattle.controller_model.proofs.EndNotes.{entered_each}
 use Rattle.controller_model.proofs.Handles.{own_handles}
 use Rattle.controller_model.proofs.LinkNotes.{AreIn, IsOfOthers, all_in, doing_too, ended_turn_too, ends_too, entering_too, events_too, first_in, offered_too, phase_too, rest_in}
 use Rattle.controller_model.proofs.Phases.{heard_is, unheard_is}
-use Rattle.controller_model.proofs.Unasked.{noted_unasked}
+use Rattle.controller_model.proofs.Asked.{noted_asking, notes_at_once}
 
 -- ---- the reason for which a link ends as a turn begins
 
@@ -293,8 +294,11 @@ known_too true setup facts opcode command =
 read_too : (setup : Setup) (facts : Facts) (opcode : ℕ) (read : CmdRead)
     → All (IsOfReset (commands_accepted_by facts read) facts.links) (notes_commanded setup facts opcode read)
 read_too setup facts opcode (Known command) =
-    noted_unasked setup facts command opcode (All (IsOfReset (commands_accepted_by facts (Known command)) facts.links))
-    (known_too (status_of facts.view command == 0) setup facts opcode command)
+    let commands = commands_accepted_by facts (Known command) in
+    let P = IsOfReset commands facts.links in
+    noted_asking setup facts command opcode (All P) (known_too (status_of facts.view command == 0) setup facts opcode command)
+    (λ notes asks are. All-append P notes (notes_at_once facts command) are
+    (events_too P (others_too commands facts.links) facts.view (events_commanded_on command facts.links)))
 read_too setup facts opcode UnknownOpcode =
     events_too (IsOfReset [] facts.links) (others_too [] facts.links) facts.view (answer_to setup facts opcode UnknownOpcode)
 read_too setup facts opcode BadLength =
@@ -414,8 +418,9 @@ module _ (setup : Setup) (facts : Facts) (handle : ℕ) (link : OpenLink) (is_op
   read_noted : (opcode : ℕ) (read : CmdRead)
       → NotesIfReset (commands_accepted_by facts read) (notes_commanded setup facts opcode read) handle
   read_noted opcode (Known command) is =
-      noted_unasked setup facts command opcode (λ (notes : List Note). Contains notes (note_shut handle 0))
+      noted_asking setup facts command opcode (λ (notes : List Note). Contains notes (note_shut handle 0))
       (known_noted (status_of facts.view command == 0) opcode command is)
+      (λ notes asks noted. Contains-append_left notes (notes_at_once facts command) (note_shut handle 0) noted)
   read_noted opcode UnknownOpcode is = absurd cc
   read_noted opcode BadLength is = absurd cc
 

@@ -20,6 +20,7 @@ use Rattle.host_view.specs.Unbuilt.{status_of}
 use Rattle.controller_model.specs.Step.{Step, HostOctet, TurnBegins, PacketHeard, NothingHeard, TurnEnds}
 use Rattle.controller_model.specs.Facts.{Setup, Facts}
 use Rattle.controller_model.specs.Answers.{answer_to}
+use Rattle.link_commands.specs.LinksCommanded.{events_commanded_on}
 use Rattle.controller_model.specs.Commands.{events_caused, notes_before, notes_commanded, notes_known}
 use Rattle.open_links.specs.declared.offers.Offer.{Offer}
 use Rattle.open_links.specs.declared.offers.Offer.TheVariants.{NoLink, Empty, Overflow, Kept}
@@ -28,7 +29,7 @@ use Rattle.controller_model.specs.Events.{notes_of_events, passes}
 use Rattle.controller_model.specs.Side.{notes_after, notes_fed, result_of}
 use Rattle.controller_model.proofs.Handles.{HaveOwnHandles}
 use Rattle.controller_model.proofs.TurnNotes.{EachNote, shut_noted, turn_noted}
-use Rattle.controller_model.proofs.Unasked.{noted_unasked}
+use Rattle.controller_model.proofs.Asked.{noted_asking, notes_at_once}
 
 module _ (setup : Setup) (P : Note → Type 0) (each : EachNote setup.links P) (any : (event : Event) → P (Up (record { items = written event }))) where
   -- ---- a packet of the host
@@ -59,7 +60,8 @@ module _ (setup : Setup) (P : Note → Type 0) (each : EachNote setup.links P) (
   command_noted : (facts : Facts) (opcode : ℕ) (read : CmdRead) → length facts.links ≡ setup.links
       → All P (notes_commanded setup facts opcode read)
   command_noted facts opcode (Known command) many =
-      noted_unasked setup facts command opcode (All P) (known_noted (status_of facts.view command == 0) facts opcode command many)
+      noted_asking setup facts command opcode (All P) (known_noted (status_of facts.view command == 0) facts opcode command many)
+      (λ notes asks are. All-append P notes (notes_at_once facts command) are (events_noted facts.view (events_commanded_on command facts.links)))
   command_noted facts opcode UnknownOpcode many = events_noted facts.view (answer_to setup facts opcode UnknownOpcode)
   command_noted facts opcode BadLength many = events_noted facts.view (answer_to setup facts opcode BadLength)
 

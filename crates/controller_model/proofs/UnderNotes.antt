@@ -49,7 +49,8 @@ use Rattle.controller_model.specs.declared.doing.Doing.TheVariants.{Advertises, 
 use Rattle.controller_model.specs.Step.{Step, HostOctet, TurnBegins, PacketHeard, NothingHeard, TurnEnds}
 use Rattle.controller_model.specs.Facts.{Setup, Facts, first_facts}
 use Rattle.controller_model.specs.Answers.{answer_to}
-use Rattle.controller_model.specs.Commands.{events_caused, facts_commanded, facts_known, links_after, notes_before, notes_commanded, notes_known}
+use Rattle.link_commands.specs.LinksCommanded.{events_commanded_on, links_commanded}
+use Rattle.controller_model.specs.Commands.{events_caused, facts_commanded, facts_known, is_asking, links_after, notes_before, notes_commanded, notes_known}
 use Rattle.controller_model.specs.Data.{event_completed, facts_ended_turn, facts_handed, facts_offered, note_received, notes_ended_turn, notes_handed, notes_offered, offer_of}
 use Rattle.controller_model.specs.Events.{notes_of_events, passes}
 use Rattle.controller_model.specs.Heard.{asks_if, events_received, events_reported, has_room, link_heard, link_received, link_taken, links_refusing, notes_taken, opens, replies_in, reply_if, scanner_after, with_scanner}
@@ -66,7 +67,7 @@ use Rattle.controller_model.proofs.Handles.{HaveOwnHandles, IsNew, free_is_new, 
 use Rattle.controller_model.proofs.Phases.{EachOutcome, heard_is, unheard_is}
 use Rattle.controller_model.proofs.Places.{at_changed, refusal, refuses_at}
 use Rattle.controller_model.specs.Entering.{all_entered, events_entering, notes_all_entering}
-use Rattle.controller_model.proofs.Unasked.{both_unasked}
+use Rattle.controller_model.proofs.Asked.{asked_silent, asking_shuts_none, at_kept, both_asking, notes_at_once}
 
 -- ---- lists of notes
 
@@ -651,11 +652,30 @@ module _ (handle : ℕ) where
             (subst (IsNotedAfter None notes) (reset_are 0 facts.links) (places_noted (λ place. None) reset_notes reset_together 0 facts.links notes own.handles is))
         before_noted other = is
 
+    asked_noted : (facts : Facts) (opcode : ℕ) (command : Command) (notes : List Note) → is_asking facts.view command ≡ true
+        → IsNoted (link_at handle facts.links) notes
+        → IsNotedAfter (link_at handle (links_commanded command facts.turn.begun facts.links)) notes
+        (notes_known true setup facts opcode command ++ notes_at_once facts command)
+    asked_noted facts opcode command notes asks is =
+        let before = notes_before facts command in
+        let answer = notes_of_events facts.view (answer_to setup facts opcode (Known command)) in
+        let caused = notes_of_events facts.view (events_caused facts command) in
+        elsewhere (link_at handle (links_commanded command facts.turn.begun facts.links)) notes ((before ++ answer ++ caused) ++ notes_at_once facts command)
+        (both_else (before ++ answer ++ caused) (notes_at_once facts command)
+        (both_else (before ++ answer) caused
+        (both_else before answer (subst AreElse (sym (asking_shuts_none facts command asks)) tt)
+        (events_else facts.view (answer_to setup facts opcode (Known command))))
+        (events_else facts.view (events_caused facts command)))
+        (events_else facts.view (events_commanded_on command facts.links)))
+        (at_kept (λ place. IsNoted place notes) (λ link step asks is. silent_noted step (Some link) notes (asked_silent step asks) is) command
+        facts.turn.begun handle facts.links is)
+
     read_noted : (read : CmdRead) (facts : Facts) (opcode : ℕ) (notes : List Note) → HaveOwnHandles setup facts → IsNoted (link_at handle facts.links) notes
         → IsNotedAfter (link_at handle (facts_commanded setup facts read).links) notes (notes_commanded setup facts opcode read)
     read_noted (Known command) facts opcode notes own is =
-        both_unasked setup facts command opcode (λ (after : Facts) (noted : List Note). IsNotedAfter (link_at handle after.links) notes noted)
+        both_asking setup facts command opcode (λ (after : Facts) (noted : List Note). IsNotedAfter (link_at handle after.links) notes noted)
         (known_noted (status_of facts.view command == 0) facts opcode command notes own is)
+        (λ asks. asked_noted facts opcode command notes asks is)
     read_noted UnknownOpcode facts opcode notes own is = packets_noted (link_at handle facts.links) notes facts.view (answer_to setup facts opcode UnknownOpcode) is
     read_noted BadLength facts opcode notes own is = packets_noted (link_at handle facts.links) notes facts.view (answer_to setup facts opcode BadLength) is
 

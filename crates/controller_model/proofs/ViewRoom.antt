@@ -1,12 +1,13 @@
 -- The view of a controller knows its limit, its links and whether it initiates. A room for links that each change leaves is left
 -- by each step.
 use Rattle.std.proofs.Common.{◌≡◌, ℕ, ◌+◌, ◌-◌, ◌<◌, ◌≤◌, Bool, true, false, Option, Some, None, List, [], ◌∷◌, ◌++◌, length, replicate, refl, ap, sym, subst, ◌∙◌, arith}
-use Rattle.std.specs.Prelude.{is_some, slice_set, ◌&&◌, ⊤, if◌then◌else◌}
+use Rattle.std.specs.Prelude.{fold, is_some, slice_set, ◌&&◌, ⊤, if◌then◌else◌}
 use Rattle.std.proofs.Math.ListN.{set}
 use Rattle.std.proofs.lemmas.List.{length-map, map-set, replicate-append-replicate, set-append_left}
 use Rattle.ble_base.specs.declared.roles.Role.{Role}
 use Rattle.ble_base.specs.declared.roles.Role.TheVariants.{Central, Peripheral}
 use Rattle.ble_base.specs.declared.addresses.Address.{Address}
+use Rattle.ble_base.specs.declared.notes.Note.{Note}
 use Rattle.adv_pdu.specs.declared.pdu.AdvPdu.{AdvPdu}
 use Rattle.adv_pdu.specs.declared.pdu.AdvPdu.TheVariants.{ScanReq, Connect}
 use Rattle.adv_pdu.specs.declared.pdu.ConnectFields.{ConnectFields}
@@ -16,6 +17,7 @@ use Rattle.host_view.specs.declared.view.Advertising.{Advertising as ViewAdverti
 use Rattle.host_view.specs.declared.links.Link.{Link as ViewLink}
 use Rattle.host_view.specs.View.{View, no_links}
 use Rattle.host_view.specs.Changes.{view_after}
+use Rattle.host_view.specs.Noted.{view_noted}
 use Rattle.host_view.specs.Refusals.{is_connectable}
 use Rattle.host_view.specs.Unbuilt.{status_of}
 use Rattle.advertise.specs.declared.answers.AdvAnswer.TheVariants.{Ignore, Respond, Connect as Takes}
@@ -30,20 +32,24 @@ use Rattle.open_links.specs.declared.ended.LinkEnded.{LinkEnded}
 use Rattle.open_links.specs.Data.{link_reported}
 use Rattle.open_links.specs.OpenLinks.{Links, OpenLink, free_from, link_after, link_at, new_link, with_link}
 use Rattle.open_links.specs.Turns.{ending_in, link_entered}
+use Rattle.link_commands.specs.LinksCommanded.{view_commanded_on}
 use Rattle.controller_model.specs.declared.doing.Doing.{Doing}
 use Rattle.controller_model.specs.declared.doing.Doing.TheVariants.{Advertises, AwaitsRequest, Responds, AwaitsResponse, Connects, CentralListens, Rests}
 use Rattle.controller_model.specs.Step.{Step, HostOctet, TurnBegins, PacketHeard, NothingHeard, TurnEnds}
 use Rattle.controller_model.specs.Facts.{Setup, Facts, first_facts}
-use Rattle.controller_model.specs.Commands.{facts_accepted, initiator_after, links_after}
+use Rattle.controller_model.specs.Commands.{facts_accepted, initiator_after, is_asking, links_after}
 use Rattle.controller_model.specs.Data.{facts_ended_turn, facts_handed}
-use Rattle.controller_model.specs.Heard.{has_room, asks_if, facts_connecting, fields_sent, link_made, link_received, link_taken, replies_in, reply_if, scanner_after, with_scanner}
+use Rattle.controller_model.specs.Heard.{has_room, asks_if, facts_connecting, fields_sent, link_made, link_taken, notes_received, replies_in, reply_if, scanner_after, with_scanner}
 use Rattle.controller_model.specs.Outcome.{facts_passed}
 use Rattle.controller_model.specs.Packets.{facts_doing}
+use Rattle.controller_model.specs.Radio.{notes_entered}
 use Rattle.controller_model.specs.Side.{facts_after, facts_of}
+use Rattle.controller_model.proofs.Asked.{asking_leaves, facts_asked}
+use Rattle.controller_model.proofs.Following.{AreOfOpenLinks, all_entering_are, facts_receiving, received_are, receiving_passes, view_followed}
 use Rattle.controller_model.proofs.Always.{IsInTurn, MayBegin, advertising_noted, facts_ended, facts_opening, holds_step, initiating_noted, initiator_stopped, leaving_is, left_doing, links_shut, octet_keeps, opening_passes}
 use Rattle.controller_model.proofs.AdvertisersKnown.{AdvertisersKnown, advertisers_kept, advertisers_known, connectable_known}
 use Rattle.controller_model.proofs.Handles.{HaveOwnHandles, IsNew, free_is_new, handles_kept, own_handles}
-use Rattle.controller_model.proofs.OpenPlaces.{changed_opens, ended_agree, first_opens, fixed_opens, many, many-append, many_full, many_none, many_opened, many_shut, mapped_opens, opened_opens, opens, received_opens, reset_opens, sent_opens, view_opens, won_opens}
+use Rattle.controller_model.proofs.OpenPlaces.{asked_opens, changed_opens, ended_agree, first_opens, fixed_opens, followed_opens, known_opens, many, many-append, many_full, many_none, many_opened, many_shut, mapped_opens, opened_opens, opens, received_opens, reset_opens, sent_opens, view_opens, won_opens}
 use Rattle.controller_model.proofs.Phases.{EachOutcome, heard_is, unheard_is}
 use Rattle.controller_model.proofs.Room.{initiates_after, limit_after, may_connect}
 use Rattle.controller_model.specs.Links.{ends_for}
@@ -216,6 +222,20 @@ module _ (setup : Setup) (few : setup.links ≤ 6) (Room : Bool → ℕ → View
   still_known : (facts : Facts) (held : List Bool) → held ≡ opens facts.links → IsKnown Room setup facts → Holding Room setup facts held
   still_known facts held same known = subst (Holding Room setup facts) (sym same) known
 
+  -- and in the view
+  seen_known : (facts : Facts) (links : List (Option ViewLink)) (held : List Bool) → opens links ≡ opens facts.view.links → held ≡ opens facts.links
+      → IsKnown Room setup facts → Holding Room setup (record facts { view = record facts.view { links = links } }) held
+  seen_known facts links held seen same known = record {
+    limit_is = known.limit_is;
+    places = seen ∙ known.places ∙ ap (λ (places : List Bool). places ++ spare setup) (sym same);
+    initiates_is = known.initiates_is;
+    room = subst (λ (places : List Bool). Room (is_some facts.initiator) (many places) facts.view.advertising facts.view.limit) (sym seen) known.room;
+  }
+
+  followed_known : (facts : Facts) (notes : List Note) (held : List Bool) → AreOfOpenLinks notes → held ≡ opens facts.links → IsKnown Room setup facts
+      → Holding Room setup (record facts { view = view_followed facts.view notes }) held
+  followed_known facts notes held of same known = seen_known facts (fold view_noted facts.view notes).links held (followed_opens facts.view notes of) same known
+
   accepted_known : (facts : Facts) (command : Command) → length facts.links ≡ setup.links → status_of facts.view command ≡ 0
       → IsKnown Room setup facts → IsKnown Room setup (facts_accepted setup facts command)
   accepted_known facts command long accepted known = record {
@@ -225,6 +245,13 @@ module _ (setup : Setup) (few : setup.links ≤ 6) (Room : Bool → ℕ → View
     room = left.accepted facts.view facts.turn.begun command facts.initiator accepted known.initiates_is known.room;
   }
 
+  asked_known : (facts : Facts) (command : Command) → is_asking facts.view command ≡ true → IsKnown Room setup (facts_accepted setup facts command)
+      → IsKnown Room setup (facts_asked setup facts command)
+  asked_known facts command asks known =
+      seen_known (facts_accepted setup facts command) (view_commanded_on facts.view command facts.links).links _
+      (known_opens (view_after facts.view command) command facts.links)
+      (asked_opens command facts.turn.begun facts.links ∙ sym (ap opens (asking_leaves facts command asks))) known
+
   pub octet_known : (facts : Facts) (octet : ℕ) → HaveOwnHandles setup facts → IsKnown Room setup facts
       → IsKnown Room setup (facts_after setup facts (HostOctet octet))
   octet_known facts octet own known =
@@ -232,6 +259,10 @@ module _ (setup : Setup) (few : setup.links ≤ 6) (Room : Bool → ℕ → View
       (λ facts opcode octets command is accepted both. (
         (handles_kept setup).accepted facts opcode octets command is accepted both.0,
         accepted_known facts command both.0.many accepted both.1,
+      ))
+      (λ facts command asks both left. (
+        (handles_kept setup).asked facts command asks both.0 left.0,
+        asked_known facts command asks left.1,
       ))
       (λ facts handle count start octets is both. (
         (handles_kept setup).given facts handle count start octets is both.0,
@@ -310,9 +341,11 @@ module _ (setup : Setup) (few : setup.links ≤ 6) (Room : Bool → ℕ → View
             );
         received = λ handle octets.
             let room = has_room setup facts in
-            let replies = replies_in facts.turn.slot room (link_at handle facts.links) octets in (
-              doing_known (reply_if replies handle) (link_received handle room octets facts)
-                  (still_known facts _ (received_opens handle room octets facts) known),
+            let replies = replies_in facts.turn.slot room (link_at handle facts.links) octets in
+            receiving_passes InTurn setup handle octets facts (
+              doing_known (reply_if replies handle) (facts_receiving handle room octets facts)
+                  (followed_known facts (notes_received handle room octets facts) _ (received_are handle room octets facts)
+                  (received_opens handle room octets facts) known),
               reply_makes (P (is_some facts.initiator)) replies handle,
             );
       }
@@ -320,7 +353,8 @@ module _ (setup : Setup) (few : setup.links ≤ 6) (Room : Bool → ℕ → View
   begins_known : (slot : ℕ) (on : Bool) (facts : Facts) → IsKnown Room setup facts → InTurn (facts_after setup facts (TurnBegins slot on))
   begins_known slot on facts known =
       left_doing (IsKnown Room setup) ended_known (λ slot facts known. known)
-      (λ slot facts known. still_known facts _ (mapped_opens (link_entered slot) facts.links) known)
+      (λ slot facts known. followed_known facts (notes_entered slot facts) _ (all_entering_are facts.view slot 0 facts.links)
+      (mapped_opens (link_entered slot) facts.links) known)
       (λ slot activity facts known. still_known facts _ (won_opens slot activity facts.links) known)
       (λ doing facts known. still_known facts _ (fixed_opens doing facts.links) known)
       (λ doing facts. InTurn (facts_doing doing facts))

@@ -1,6 +1,6 @@
 -- What a controller makes of a phase: of a packet that it heard, or of none (Core 5.2, volume 6 part B, sections 4.4.2
 -- to 4.4.4 and 4.5, and volume 4 part E, section 7.7.65.2).
-use Rattle.std.specs.Prelude.{ℕ, ◌+◌, ◌&&◌, nat_lt, not, Bool, true, false, List, [], ◌∷◌, ◌++◌, length, Option, Some, None, is_some, Err, if◌then◌else◌}
+use Rattle.std.specs.Prelude.{ℕ, ◌+◌, ◌&&◌, nat_lt, not, Bool, true, false, List, [], ◌∷◌, ◌++◌, fold, length, Option, Some, None, is_some, Err, if◌then◌else◌}
 use Rattle.ble_base.specs.declared.addresses.Address.{Address}
 use Rattle.ble_base.specs.declared.notes.Note.{Note}
 use Rattle.ble_base.specs.declared.roles.Role.TheVariants.{Central, Peripheral}
@@ -19,6 +19,7 @@ use Rattle.hci_evt.specs.declared.event.Event.{Event}
 use Rattle.hci_evt.specs.declared.event.Event.TheVariants.{AdvertisingReport, ParamRequest}
 use Rattle.hci_evt.specs.Event.{mask_bit_of}
 use Rattle.host_view.specs.View.{View}
+use Rattle.host_view.specs.Noted.{view_noted}
 use Rattle.link_model.specs.declared.setup.LinkSetup.{LinkSetup}
 use Rattle.link_model.specs.Step.{PacketReceived}
 use Rattle.link_model.specs.End.{notes_after as end_notes}
@@ -32,7 +33,7 @@ use Rattle.host_view.specs.scan_init.Access.{nth_access}
 use Rattle.host_view.specs.scan_init.Initiating.{InitiatorFacts, connect_fields, is_accepted}
 use Rattle.host_view.specs.scan_init.Reports.{ScannerFacts, does_ask, event_type, kind_of, last_16, reports_after, scan_answer}
 use Rattle.open_links.specs.OpenLinks.{Links, OpenLink, facts_in, free_from, has_link_between, link_after, link_at, with_change}
-use Rattle.plain_links.specs.link_end.Answers.{acked_of, given_of}
+use Rattle.link_end.specs.Answers.{acked_of, given_of}
 use Rattle.open_links.specs.Hosts.{links_answered}
 use Rattle.link_model.specs.procedure_stages.declared.steps.Effect.{Effect}
 use Rattle.link_model.specs.procedure_stages.declared.steps.Effect.TheVariants.{AskHost, Nothing}
@@ -263,8 +264,16 @@ abbrev pub links_refusing : Bool → ℕ → Links → Links
 links_refusing refuses handle links =
     if refuses then links_answered handle (Err (record { 0 = unsupported_remote_feature })) links else links
 
+-- all that is noted of a packet on the link under a handle
+abbrev pub notes_received : ℕ → Bool → List ℕ → Facts → List Note
+notes_received handle room octets facts =
+    notes_taken facts.turn.slot room (link_at handle facts.links) octets
+    ++ notes_of_events facts.view (events_received handle facts.turn.slot room (link_at handle facts.links) octets)
+
+-- the view follows what is noted
 abbrev pub link_received : ℕ → Bool → List ℕ → Facts → Facts
 link_received handle room octets facts = record facts {
+  view = fold view_noted facts.view (notes_received handle room octets facts);
   links =
       links_refusing
       (is_refused facts.view handle (effect_in facts.turn.slot room (link_at handle facts.links) octets)) handle
@@ -275,9 +284,7 @@ link_received handle room octets facts = record facts {
 abbrev pub link_hearing : ℕ → Bool → List ℕ → Facts → Outcome
 link_hearing handle room octets facts = record {
   facts = link_received handle room octets facts;
-  notes =
-      notes_taken facts.turn.slot room (link_at handle facts.links) octets
-      ++ notes_of_events facts.view (events_received handle facts.turn.slot room (link_at handle facts.links) octets);
+  notes = notes_received handle room octets facts;
   next = reply_if (replies_in facts.turn.slot room (link_at handle facts.links) octets) handle;
 }
 

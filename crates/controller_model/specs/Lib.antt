@@ -15,7 +15,6 @@ pub mod Sent
 pub mod Intervals
 pub mod Connecting
 pub mod Host
-pub mod Plain
 pub mod Notes
 pub mod Between
 pub mod Since
@@ -24,7 +23,7 @@ pub mod Entering
 pub mod Shutting
 -- what the crates above use of those below
 pub use Rattle.link_model.specs.control_end as control_end
-pub use Rattle.plain_links.specs.link_end as link_end
+pub use Rattle.link_end.specs as link_end
 pub use Rattle.link_model.specs as link_model
 pub use Rattle.open_links.specs as open_links
 pub use Rattle.link_model.specs.procedure_stages as procedure_stages

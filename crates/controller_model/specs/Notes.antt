@@ -75,14 +75,6 @@ HasHandleBelow links (Began handle kind) = handle < links
 HasHandleBelow links (Refused handle kind code) = handle < links
 HasHandleBelow links (Done handle kind) = handle < links
 
--- no control procedure begins, ends or is refused, and no indication takes effect
-abbrev pub IsOfNoProcedure : Note → Type 0
-IsOfNoProcedure (Applied handle number event) = ⊥
-IsOfNoProcedure (Began handle kind) = ⊥
-IsOfNoProcedure (Refused handle kind code) = ⊥
-IsOfNoProcedure (Done handle kind) = ⊥
-IsOfNoProcedure other = ⊤
-
 abbrev pub is_opening : Note → Bool
 is_opening (Opened handle role own peer) = true
 is_opening other = false

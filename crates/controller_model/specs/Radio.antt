@@ -1,11 +1,12 @@
 -- What wants the radio in a slot, what has it, and what is done in the first phase (Core 5.2, volume 6 part B, sections
 -- 4.4.2 to 4.5.1; who has the radio, and for how many slots, is our choice).
-use Rattle.std.specs.Prelude.{ℕ, ◌+◌, ◌-◌, nat_le, nat_lt, Bool, true, false, List, [], ◌∷◌, ◌++◌, Option, Some, None, is_some, if◌then◌else◌}
+use Rattle.std.specs.Prelude.{ℕ, ◌+◌, ◌-◌, nat_le, nat_lt, Bool, true, false, List, [], ◌∷◌, ◌++◌, fold, Option, Some, None, is_some, if◌then◌else◌}
 use Rattle.ble_base.specs.declared.roles.Role.{Role}
 use Rattle.ble_base.specs.declared.roles.Role.TheVariants.{Central, Peripheral}
 use Rattle.ble_base.specs.declared.notes.Note.{Note}
 use Rattle.advertise.specs.Advertising.{AdvertiserFacts, due_after, event_channel}
 use Rattle.link_model.specs.Times.{has_second_exchange, span_of}
+use Rattle.host_view.specs.Noted.{view_noted}
 use Rattle.host_view.specs.scan_init.Initiating.{InitiatorFacts}
 use Rattle.host_view.specs.scan_init.Reports.{ScannerFacts}
 use Rattle.host_view.specs.scan_init.Windows.{scan_channel}
@@ -158,14 +159,21 @@ abbrev pub served : Bool → ℕ → Option Activity → Facts → Outcome
 served false slot winner facts = goes_on facts Rests
 served true slot winner facts = radio_served (is_held_in facts.radio.hold slot) slot winner facts
 
--- the links enter their events, whether they get the radio or not
+-- what all links note as they enter their events
+abbrev pub notes_entered : ℕ → Facts → List Note
+notes_entered slot facts = notes_all_entering facts.view slot 0 facts.links
+
+-- the links enter their events, whether they get the radio or not, and the view follows what they note
 abbrev pub facts_entering : ℕ → Facts → Facts
-facts_entering slot facts = record facts { links = all_entered slot facts.links }
+facts_entering slot facts = record facts {
+  view = fold view_noted facts.view (notes_entered slot facts);
+  links = all_entered slot facts.links;
+}
 
 abbrev pub entered : Bool → ℕ → Facts → Outcome
 entered on slot facts =
     record (served on slot (winner_of (plan_in slot facts) slot) (facts_entering slot facts)) {
-      notes = notes_all_entering facts.view slot 0 facts.links;
+      notes = notes_entered slot facts;
     }
 
 abbrev pub turn_begins : ℕ → Facts → Facts

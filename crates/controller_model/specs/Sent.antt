@@ -1,9 +1,10 @@
 -- Octets that a controller sends (Core 5.2, volume 6 part B, sections 2.1 to 2.4).
-use Rattle.std.specs.Prelude.{◌≡◌, ℕ, ◌≤◌, ◌<◌, List, [], ◌∷◌, ◌++◌, IfSome, ⊤}
+use Rattle.std.specs.Prelude.{◌≡◌, ℕ, ◌≤◌, ◌<◌, List, ◌++◌, IfSome, ⊤}
+use Rattle.std.specs.List.{AllByRecursion}
 use Rattle.adv_pdu.specs.declared.pdu.AdvPdu.{AdvPdu}
 use Rattle.adv_pdu.specs.Pdu.{IsPdu}
 use Rattle.link_model.specs.Packets.{packet_sent}
-use Rattle.link_model.specs.Step.{Step, DataGiven, PacketSent}
+use Rattle.link_model.specs.Step.{Step, DataGiven, Disconnected, PacketSent, ProcedureAsked, RequestAnswered}
 use Rattle.open_links.specs.OpenLinks.{OpenLink, facts_in, link_after, link_at}
 use Rattle.controller_model.specs.declared.doing.Doing.{Doing}
 use Rattle.controller_model.specs.declared.doing.Doing.TheVariants.{CentralSends, PeripheralSends}
@@ -24,19 +25,22 @@ SendsOn handle (CentralSends other) = other ≡ handle
 SendsOn handle (PeripheralSends other) = other ≡ handle
 SendsOn handle other = ⊥
 
--- its host gave a link these packets of data, and nothing else happened to it
-abbrev pub AreGiven : List Step → Type 0
-AreGiven [] = ⊤
-AreGiven (DataGiven start body ∷ steps) = AreGiven steps
-AreGiven (step ∷ steps) = ⊥
+-- the host of a link gives it data, asks for a procedure on it, answers a request of its peer, or ends it
+abbrev pub IsHostStep : Step → Type 0
+IsHostStep (DataGiven start body) = ⊤
+IsHostStep (ProcedureAsked ask) = ⊤
+IsHostStep (RequestAnswered answer) = ⊤
+IsHostStep (Disconnected reason slot) = ⊤
+IsHostStep step = ⊥
 
-pub record HasOnlyBeenGiven (before after : OpenLink) : Type 0 where
-  pub given : List Step
-  pub are_given : AreGiven given
-  pub link_is : after ≡ record before { past = before.past ++ given }
+-- these steps of its host happened to a link, and nothing else
+pub record HasOnlyHeardHost (before after : OpenLink) : Type 0 where
+  pub steps : List Step
+  pub are_of_host : AllByRecursion IsHostStep steps
+  pub link_is : after ≡ record before { past = before.past ++ steps }
 
 -- they are the packet of the link on which it is to send, on a data channel; to that link, if it is still open, nothing
--- happened after that packet but that its host gave it data
+-- happened after that packet but what its host gave it or asked of it
 pub record IsLinkPacket (facts : Facts) (channel : ℕ) (octets : List ℕ) : Type 0 where
   pub handle : ℕ
   pub sends : SendsOn handle facts.turn.doing
@@ -44,4 +48,4 @@ pub record IsLinkPacket (facts : Facts) (channel : ℕ) (octets : List ℕ) : Ty
   pub packet : octets ≡ packet_sent link.setup (facts_in link)
   pub channel_is : channel ≡ (facts_in link).event.channel
   pub data_channel : channel < 37
-  pub last : IfSome (link_at handle facts.links) (HasOnlyBeenGiven (link_after (PacketSent facts.turn.slot) link))
+  pub last : IfSome (link_at handle facts.links) (HasOnlyHeardHost (link_after (PacketSent facts.turn.slot) link))

@@ -27,8 +27,7 @@ ghost use Rattle.host_view.specs.View.{View};
 ghost use Rattle.host_view.specs.declared.view.TheConstants.{MOST_LINKS};
 ghost use Rattle.advertise.specs.Advertising.{AdvertiserFacts};
 ghost use Rattle.link_model.specs.declared.setup.LinkSetup.{LinkSetup};
-ghost use Rattle.open_links.specs.OpenLinks.{Links, free_from, link_at};
-ghost use Rattle.plain_links.specs.Plain.{ArePlain};
+ghost use Rattle.open_links.specs.OpenLinks.{free_from, link_at};
 ghost use Rattle.host_view.specs.scan_init.Access.{nth_access};
 ghost use Rattle.host_view.specs.scan_init.Initiating.{InitiatorFacts};
 ghost use Rattle.host_view.specs.scan_init.Windows.{slots_of};
@@ -54,8 +53,7 @@ ghost use Rattle.controller_model.specs.Host.{HeardNothing, commands_accepted, c
 ghost use Rattle.controller_model.specs.Host.{commands_of, host_octets};
 ghost use Rattle.controller_model.specs.Host.{is_answered, le_rand_count, opcodes_in, opcodes_of};
 ghost use Rattle.controller_model.specs.Host.{with_answer};
-ghost use Rattle.controller_model.specs.Plain.{AllPlain, IsPlainEntry};
-ghost use Rattle.controller_model.specs.Notes.{HadNoLink, HasHandleBelow, IsOfNoProcedure};
+ghost use Rattle.controller_model.specs.Notes.{HadNoLink, HasHandleBelow};
 ghost use Rattle.controller_model.specs.Notes.{answers_among, answers_of};
 ghost use Rattle.controller_model.specs.Notes.{as_two_octets, one_further, without_le_events};
 
@@ -138,16 +136,6 @@ pub fn notes_name_links_of_the_controller()
         → All (HasHandleBelow setup.links) (notes_of setup past) }
 {}
 
-/// Where each link of a controller is plain before a call on it and after it, no note of the call is
-/// of a control procedure: none begins, is done or is refused, and no indication takes effect. A
-/// link is plain where its host asked for no procedure, and it took no control PDU.
-pub fn plain_links_note_no_procedure()
-    ensures { (setup : Setup) (past : List Step) (step : Step)
-        → AllPlain (facts_of setup past).links
-        → AllPlain (facts_after setup (facts_of setup past) step).links
-        → All IsOfNoProcedure (notes_after setup (facts_of setup past) step) }
-{}
-
 /// Random words are drawn in order, and then again from the first, whatever comes between, a Reset
 /// too: one for each accepted LE Rand, 2018, which returns it, and one for each CONNECT_IND that
 /// the controller sets out to send. After n words the next one is at the place n, modulo the
@@ -185,7 +173,7 @@ pub fn a_pdu_is_understood()
 
 /// What a controller wants to send is the packet of a PDU on one of the advertising channels, or
 /// that of the link on which it is to send, on a data channel; if its public address has six
-/// octets. Nothing happened to that link since, but that its host gave it data.
+/// octets. Nothing happened to that link since, but what its host gave it or asked of it.
 pub fn what_is_sent_is_a_pdu()
     ensures { (setup : Setup) (past : List Step) (channel : ℕ) (octets : List ℕ)
         → length setup.public ≡ 6 → (facts_of setup past).wanted ≡ Sends channel octets
@@ -227,9 +215,7 @@ pub fn a_controller_opens_links_as_it_may()
 /// link does not end in that slot, none of its procedures ended it, and the anchor of its next
 /// event is there, whether the radio is on or not; at no other time does it note so. The events of
 /// a link are numbered from 0 on, and the channel of each event is the one that the end of the link
-/// has then. A plain link that enters event e does so e intervals after its first anchor, on the
-/// channel of that number in the map of its CONNECT_IND (Core 5.2, volume 6 part B, sections 4.5.1
-/// and 4.5.8).
+/// has then (Core 5.2, volume 6 part B, sections 4.5.1 and 4.5.8).
 pub fn events_are_entered_at_their_anchors()
     ensures entered { (setup : Setup) (past : List Step) (slot : ℕ) (on : Bool)
         (handle event channel : ℕ)
@@ -240,10 +226,6 @@ pub fn events_are_entered_at_their_anchors()
         (handle event channel : ℕ)
         → Contains (notes_after setup (facts_of setup past) step)
         (Enter handle (record { 0 = event }) channel) → begins_turn step ≡ true }
-    ensures on_plain_links { (slot : ℕ) (links : Links) (handle event channel : ℕ)
-        (entered : IsEntered slot links handle event channel)
-        → ArePlain entered.link.setup entered.link.past
-        → IsPlainEntry slot entered.link event channel }
 {}
 
 /// A controller sends and receives on a link only once it entered an event: where that is what is

@@ -8,7 +8,7 @@ mod doing;
 mod laws;
 mod rows;
 
-pub use crate::commands::{accepted_commands_ask_in_range, accepted_commands_ask_nothing_of_links};
+pub use crate::commands::accepted_commands_ask_in_range;
 pub use crate::delivery::{
     a_link_notes_its_pdus, a_link_notes_what_its_end_notes, complete_packets_are_reported,
     data_is_handed_up_in_order, no_more_than_its_buffers, nothing_waits_between_turns,
@@ -20,8 +20,7 @@ pub use crate::laws::{
     an_advertiser_keeps_its_interval, commands_are_answered_in_order,
     each_command_is_answered_once, events_are_entered_at_their_anchors, exchanges_are_in_events,
     links_are_shut_with_their_reason, notes_name_links_of_the_controller, past_grows,
-    plain_links_note_no_procedure, random_words_go_round, refused_command_changes_nothing,
-    what_is_sent_is_a_pdu,
+    random_words_go_round, refused_command_changes_nothing, what_is_sent_is_a_pdu,
 };
 pub use crate::rows::{
     worked_advertisement, worked_answers, worked_connection, worked_data, worked_link, worked_rows,

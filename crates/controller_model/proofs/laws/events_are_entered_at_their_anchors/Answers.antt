@@ -1,6 +1,5 @@
 -- Proof of `laws::events_are_entered_at_their_anchors`.
 use Rattle.controller_model.proofs.Entries.{enters_as_turns_begin, enters_at_anchors}
-use Rattle.controller_model.proofs.PlainEntries.{plain_entry}
 use Rattle.controller_model.proofs.laws.events_are_entered_at_their_anchors.Goals as goal
 
 pub returns-clause-entered : goal.returns-clause-entered
@@ -8,6 +7,3 @@ returns-clause-entered c = enters_at_anchors
 
 pub returns-clause-only_as_turns_begin : goal.returns-clause-only_as_turns_begin
 returns-clause-only_as_turns_begin c = enters_as_turns_begin
-
-pub returns-clause-on_plain_links : goal.returns-clause-on_plain_links
-returns-clause-on_plain_links c = plain_entry
