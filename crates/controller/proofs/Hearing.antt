@@ -1,7 +1,9 @@
 -- A link that hears octets in a phase.
-use Rattle.std.proofs.Common.{◌≡◌, ◌⊎◌, inl, inr, ℕ, Bool, List, ◌++◌, length, nat_lt, ap, sym, subst, ◌∙◌, append_assoc}
+use Rattle.std.proofs.Common.{◌≡◌, ◌⊎◌, inl, inr, ℕ, Bool, List, ◌++◌, length, drop, nat_lt, ap, sym, subst, ◌∙◌, append_assoc}
+use Rattle.std.specs.List.{fold}
 use Rattle.acl_banks.specs.declared.pieces.Piece.{Piece}
 use Rattle.ble_base.specs.declared.notes.Note.{Note}
+use Rattle.host_view.specs.Noted.{view_noted}
 use Rattle.host_view.specs.View.{View}
 use Rattle.link_model.specs.Step.{PacketReceived}
 use Rattle.open_links.specs.Knowing.{HeldLinks, Knows as KnowsLinks}
@@ -15,6 +17,7 @@ use Rattle.controller_model.specs.Facts.{Setup, Facts}
 use Rattle.controller_model.specs.Heard.{effect_in, events_received, heard, is_refused, link_heard, links_refusing, notes_taken, piece_taken, replies_in, reply_if}
 use Rattle.controller.specs.Held.{Held}
 use Rattle.controller.specs.Knowing.{IsAt, PassesOn}
+use Rattle.controller.proofs.Following.{view_follows}
 
 -- what a link is after octets, and what is noted and done then, of which it knows the view, the slot and the buffers
 module _ (handle : ℕ) (octets : List ℕ) (known : Links) (received : List (ℕ × Piece)) where
@@ -32,35 +35,49 @@ module _ (handle : ℕ) (octets : List ℕ) (known : Links) (received : List (�
       before ++ notes_taken slot room (link_at handle known) octets
       ++ notes_of_events view (events_received handle slot room (link_at handle known) octets)
 
+  -- what is noted after `before`
+  abbrev notes_added : View → ℕ → ℕ → List Note
+  notes_added view slot air =
+      let room = nat_lt (length received) air in
+      notes_taken slot room (link_at handle known) octets
+      ++ notes_of_events view (events_received handle slot room (link_at handle known) octets)
+
   abbrev replies_hearing : ℕ → ℕ → Bool
   replies_hearing slot air = replies_in slot (nat_lt (length received) air) (link_at handle known) octets
 
-pub hears_is : (has : Setup) (held new : Held) (facts : Facts) (handle : ℕ) (octets : List ℕ) (before noted : List Note) (replies : Bool) (next : Doing)
-    → new ≡ record held { turn = record held.turn { doing = Rests }; links = new.links }
+pub hears_is : (has : Setup) (held new : Held) (facts : Facts) (handle : ℕ) (octets : List ℕ) (place : ℕ) (before noted : List Note)
+    (replies : Bool) (next : Doing)
+    → new ≡ record held { view = new.view; turn = record held.turn { doing = Rests }; links = new.links }
     → Hears handle octets facts.links facts.received new.links held.view held.turn.slot held.setup.air_buffers
     → noted ≡ notes_hearing handle octets facts.links facts.received before held.view held.turn.slot held.setup.air_buffers
+    → place ≡ length before → new.view ≡ fold view_noted held.view (drop place noted)
     → replies ≡ replies_hearing handle octets facts.links facts.received held.turn.slot held.setup.air_buffers
     → next ≡ reply_if replies handle → IsAt has held facts → PassesOn has new before noted next (link_heard has handle octets facts)
-hears_is has held new facts handle octets before noted replies next rest links notes reply does k =
+hears_is has held new facts handle octets place before noted replies next rest links notes at follows reply does k =
     record {
       at = record {
         setup = ap (λ (h : Held). h.setup) rest ∙ k.setup;
-        view = ap (λ (h : Held). h.view) rest ∙ k.view;
+        view = view_follows held.view new.view place before (added held.view held.turn.slot held.setup.air_buffers) noted at told follows
+            ∙ (λ i. fold view_noted (k.view i) (added (k.view i) (k.turn i).slot (k.setup i).air_buffers));
         place = ap (λ (h : Held). h.place) rest ∙ k.place;
         access = ap (λ (h : Held). h.access) rest ∙ k.access;
         turn = ap (λ (h : Held). h.turn) rest ∙ ap (λ (turn : Turn). record turn { doing = Rests }) k.turn;
         activities = ap (λ (h : Held). h.activities) rest ∙ k.activities;
         links = subst (λ (at : View × (ℕ × ℕ)). Hears handle octets facts.links facts.received new.links at.0 at.1.0 at.1.1) is links;
       };
-      notes = notes
-          ∙ (λ i. notes_hearing handle octets facts.links facts.received before (k.view i) (k.turn i).slot (k.setup i).air_buffers)
-          ∙ append_assoc before _ _;
+      notes = told ∙ (λ i. before ++ added (k.view i) (k.turn i).slot (k.setup i).air_buffers);
       doing = does ∙ ap (λ test. reply_if test handle)
           (reply ∙ (λ i. replies_hearing handle octets facts.links facts.received (k.turn i).slot (k.setup i).air_buffers));
     }
   where
     is : ◌≡◌ {A = View × (ℕ × ℕ)} (held.view, (held.turn.slot, held.setup.air_buffers)) (facts.view, (facts.turn.slot, has.air_buffers))
     is = λ i. (k.view i, ((k.turn i).slot, (k.setup i).air_buffers))
+
+    added : View → ℕ → ℕ → List Note
+    added = notes_added handle octets facts.links facts.received
+
+    told : noted ≡ before ++ added held.view held.turn.slot held.setup.air_buffers
+    told = notes ∙ append_assoc before _ _
 
 -- what comes of a phase is known by what was done in it
 module _ (has : Setup) (held new : Held) (facts : Facts) (octets : List ℕ) (before noted : List Note) (next : Doing) (k : IsAt has held facts)

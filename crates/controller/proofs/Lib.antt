@@ -3,6 +3,7 @@ pub mod Accepting
 pub mod Asking
 pub mod Beginning
 pub mod Connecting
+pub mod Following
 pub mod FrameOctets
 pub mod Going
 pub mod Hearing

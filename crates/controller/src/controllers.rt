@@ -55,8 +55,8 @@ impl<const L: usize, const T: usize, const R: usize> Model for Controller<L, T, 
     ghost Value = { Held };
 
     ghost invariant = { λ c. (c.next_word < length c.words.items) × (T ≤ 255) × (L ≤ 6)
-        × (8 * L + R ≤ 56) × (c.turn.slot < 2 ^ 32) × CanDo L c.turn.doing
-        × IsOrdered c.between c.turn c.links };
+        × (8 * L + R ≤ 56) × (c.turn.begun ≤ 2 ^ 32) × (c.turn.slot < 2 ^ 32)
+        × CanDo L c.turn.doing × IsOrdered c.between c.turn c.links };
 
     ghost view = { λ c. record {
       setup = record {

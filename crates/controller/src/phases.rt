@@ -31,7 +31,7 @@ use adv_pdu::{AdvPdu, ConnectFields};
 use advertise::AdvAnswer;
 use ble_base::{Address, Outbox, Role, SlotNo};
 use controller_model::Doing;
-use host_notes::{event_reported, hear_on_link, tell_if};
+use host_notes::{event_reported, follow_from, hear_on_link, tell_if};
 use link_model::LinkSetup;
 use scan_init::{Initiator, ScanAnswer, next_access};
 
@@ -358,8 +358,8 @@ impl<const L: usize, const T: usize, const R: usize> Controller<L, T, R> {
         self.connect(link, channel)
     }
 
-    /// The link under a handle takes octets, after which the phase is over. A peripheral may answer
-    /// them.
+    /// The link under a handle takes octets, after which the phase is over. The view of the host
+    /// follows what is noted. A peripheral may answer the octets.
     fn hear_on_link(&mut self, handle: u16, octets: &[u8], out: &mut Outbox) -> Doing
         requires none { HasNotReceived self.old.between self.old.turn self.old.links }
         requires room { array_vec_len out.old ≤ 50 }
@@ -374,7 +374,9 @@ impl<const L: usize, const T: usize, const R: usize> Controller<L, T, R> {
         ensures between { self.new.between ≡ self.old.between }
     {
         let slot = SlotNo(self.turn.slot);
+        let before = out.len();
         let replies = hear_on_link(&self.view, &mut self.links, handle, octets, slot, out);
+        follow_from(&mut self.view, out, before);
         self.turn.doing = Doing::Rests;
         reply_if(replies, handle)
     }

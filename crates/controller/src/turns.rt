@@ -20,6 +20,7 @@ use crate::controllers::Controller;
 use crate::exchanges::ready;
 use ble_base::{Outbox, Role, SlotNo};
 use controller_model::Doing;
+use host_notes::follow_from;
 use open_links::OpenLinks;
 use slot_plan::Activity;
 
@@ -117,8 +118,8 @@ fn initiates_on(channel: Option<u8>) -> Doing
 }
 
 impl<const L: usize, const T: usize, const R: usize> Controller<L, T, R> {
-    /// All links enter the events whose anchors are in this slot, and the host hears of that. It
-    /// gives what wins the slot.
+    /// All links enter the events whose anchors are in this slot. The host hears of that, and its
+    /// view follows. It gives what wins the slot.
     fn enter_events(&mut self, slot: SlotNo, out: &mut Outbox) -> Option<Activity>
         requires slot { slot.0 < 2 ^ 32 }
         requires room { array_vec_len out.old ≤ 28 }
@@ -132,8 +133,12 @@ impl<const L: usize, const T: usize, const R: usize> Controller<L, T, R> {
         ensures few { array_vec_len out.new ≤ array_vec_len out.old + 36 }
         ensures stays { Stays self.old self.new }
     {
-        self.activities
-            .enter(&self.view, &mut self.links, slot, out)
+        let before = out.len();
+        let winner = self
+            .activities
+            .enter(&self.view, &mut self.links, slot, out);
+        follow_from(&mut self.view, out, before);
+        winner
     }
 
     /// What an activity that wins a slot does first.

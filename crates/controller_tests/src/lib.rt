@@ -6,6 +6,8 @@ mod advertising_tests;
 #[cfg(test)]
 mod answer_tests;
 #[cfg(test)]
+mod asking_tests;
+#[cfg(test)]
 mod calls;
 #[cfg(test)]
 mod channel_tests;

@@ -1,13 +1,14 @@
 //! What an accepted command asks of the links, and what is answered at once (Core 5.2, volume 4
 //! part E, sections 7.1 and 7.8).
-ghost use Rattle.std.specs.Prelude.{◌≡◌, ◌<◌, ◌^◌, ◌++◌, ℕ, List, Ok};
+ghost use Rattle.std.specs.Prelude.{◌≡◌, ◌<◌, ◌≤◌, ◌^◌, ◌++◌, ℕ, List, Ok};
 ghost use Rattle.std.specs.Prelude.{if◌then◌else◌};
 ghost use Rattle.arrayvec.specs.ArrayVec.{array_vec_len};
 ghost use Rattle.acl_banks.specs.declared.pieces.Piece.{Piece};
 ghost use Rattle.ble_base.specs.ChannelMap.{IsMap};
 ghost use Rattle.ble_base.specs.declared.roles.Role.{Role};
 ghost use Rattle.hci_cmd.specs.declared.command.Command.TheVariants.{LeConnectionUpdate};
-ghost use Rattle.controller_model.specs.link_commands.Commands.{AsksInRange, update_by};
+ghost use Rattle.controller_model.specs.link_commands.Commands.{AsksInRange, transmit_maximum};
+ghost use Rattle.controller_model.specs.link_commands.Commands.{update_by};
 ghost use Rattle.controller_model.specs.link_commands.LinksCommanded.{events_commanded_on, links_commanded};
 ghost use Rattle.controller_model.specs.link_commands.LinksCommanded.{view_known_on};
 ghost use Rattle.controller_model.specs.link_commands.Views.{kind_if, view_answered};
@@ -153,6 +154,14 @@ fn ask_peer<const L: usize, const T: usize, const R: usize>(
     }
 }
 
+/// The transmit maximum that a host sets: its octets, or those for which its time is enough where
+/// they are fewer. A packet of n octets takes 8 (n + 14) us (volume 6 part B, section 4.5.10).
+fn transmit_maximum(octets: u16, time: u16) -> u16
+    ensures { result ≡ transmit_maximum octets time }
+{
+    octets.min((time / 8).saturating_sub(14))
+}
+
 /// What the host of an end with this role asks for as it changes the parameters.
 fn update_by(role: Role, min: u16, max: u16, latency: u16, timeout: u16) -> Ask
     ensures { result ≡ update_by role min max latency timeout }
@@ -238,7 +247,7 @@ pub fn ask_links<const L: usize, const T: usize, const R: usize>(
     command: &Command,
     slot: SlotNo,
 )
-    requires slot { slot.0 < 2 ^ 32 }
+    requires slot { slot.0 ≤ 2 ^ 32 }
     requires in_range { AsksInRange command.now }
     ensures knows { (known : Links) (received : List (ℕ × Piece))
         → KnowsLinks links.old known received
@@ -254,8 +263,13 @@ pub fn ask_links<const L: usize, const T: usize, const R: usize>(
         Command::LeReadRemoteFeatures { handle } => {
             ask_peer(links, *handle, Kind::Features, Ask::Features);
         }
-        Command::LeSetDataLength { handle, octets, .. } => {
-            links.ask(*handle, Ask::Length { tx: *octets });
+        Command::LeSetDataLength {
+            handle,
+            octets,
+            time,
+        } => {
+            let tx = transmit_maximum(*octets, *time);
+            links.ask(*handle, Ask::Length { tx });
         }
         Command::LeConnectionUpdate {
             handle,

@@ -1,7 +1,9 @@
 -- Proof of `asking::ask_links`.
 use Rattle.std.proofs.Common.{refl, sym, subst}
 use Rattle.hci_cmd.specs.declared.command.Command.TheVariants.{Disconnect, LeParamNegative, LeParamReply, LeReadRemoteFeatures, LeSetChannels, LeSetDataLength, ReadRemoteVersion}
+use Rattle.open_links.specs.Hosts.{links_asked}
 use Rattle.open_links.specs.Knowing.{Knows as KnowsLinks}
+use Rattle.procedures.specs.procedure_values.declared.asks.Ask.TheVariants.{Length}
 use Rattle.controller_model.proofs.link_commands.OpenLinkCalls.{map_asked, one_change}
 use Rattle.host_notes.proofs.AskedLinks.{features_asked_if, knows_by, others_leave, version_asked_if}
 use Rattle.host_notes.proofs.asking.ask_links.Goals as goal
@@ -29,7 +31,8 @@ returns-in-LeSetDataLength-clause-knows g c = λ known received k.
     let of = c.in-LeSetDataLength in
     let command = LeSetDataLength of.handle of.octets of.time in
     knows_by _ c.args.slot.0 known received _ command _ of.is (one_change command c.args.slot.0 of.handle (λ h. refl) known)
-    (c.ask.ensures.knows known received k)
+    (subst (λ tx. KnowsLinks c.ask.new.self (links_asked of.handle (Length tx) known) received) c.transmit_maximum-tx.ensures
+    (c.ask.ensures.knows known received k))
 
 pub returns-in-LeSetChannels-clause-knows : goal.returns-in-LeSetChannels-clause-knows
 returns-in-LeSetChannels-clause-knows g c = λ known received k.

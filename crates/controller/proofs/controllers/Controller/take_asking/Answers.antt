@@ -1,5 +1,5 @@
 -- Proof of `controllers::Controller::take_asking`.
-use Rattle.std.proofs.Common.{◌≡◌, true, false, ◌++◌, rules, refl, ap, sym, subst, ◌∙◌}
+use Rattle.std.proofs.Common.{◌≡◌, true, ◌++◌, refl, ap, sym, subst, ◌∙◌}
 use Rattle.host_view.specs.OnLinks.{asks_links}
 use Rattle.host_view.specs.View.{View}
 use Rattle.open_links.specs.Knowing.{Knows as KnowsLinks}
@@ -7,17 +7,10 @@ use Rattle.controller_model.specs.Commands.{facts_accepted}
 use Rattle.controller_model.specs.Events.{notes_of_events}
 use Rattle.controller_model.specs.declared.doing.Turn.{Turn}
 use Rattle.controller_model.specs.link_commands.LinksCommanded.{events_commanded_on, links_commanded}
-use Rattle.controller_model.proofs.Unasked.{accepted_asks_none}
 use Rattle.controller.specs.Held.{Held}
 use Rattle.controller.specs.Knowing.{IsAt}
 use Rattle.controller.proofs.Asking.{asks_is, still_knows, told_is}
 use Rattle.controller.proofs.controllers.Controller.take_asking.Goals as goal
-
--- no such command is accepted yet, so there is no slot to bound
-pub ask_links-requires : goal.ask_links-requires
-ask_links-requires g c =
-    let none : true ≡ false = sym c.requires.asks ∙ accepted_asks_none c.args.self.now.view c.args.command.now c.requires.status in
-    search (rules, none)
 
 pub returns-clause-at : goal.returns-clause-at
 returns-clause-at g c = λ has facts k.
