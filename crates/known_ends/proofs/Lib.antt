@@ -1,2 +1,7 @@
 -- The lemmas of this crate.
-pub mod Following
+pub mod ViewPlaces
+pub mod TurnsKnown
+pub mod CommandsKnown
+pub mod EndsKnown
+pub mod ReasonsFit
+pub mod StepsMay
