@@ -19,13 +19,14 @@ use Rattle.controller_model.specs.open_links.declared.offers.Offer.{Offer}
 use Rattle.controller_model.specs.open_links.declared.offers.Offer.TheVariants.{NoLink, Empty, Overflow, Kept}
 use Rattle.controller_model.specs.Step.{Step, HostOctet, TurnBegins, PacketHeard, NothingHeard, TurnEnds}
 use Rattle.controller_model.specs.Facts.{Setup, Facts, first_facts}
-use Rattle.controller_model.specs.Commands.{facts_commanded, facts_known}
+use Rattle.controller_model.specs.Commands.{facts_asking, facts_commanded, facts_known, is_asking}
 use Rattle.controller_model.specs.Data.{facts_offered, offer_of}
 use Rattle.controller_model.specs.Heard.{link_taken}
 use Rattle.controller_model.specs.Side.{facts_after, facts_fed, facts_of, result_of}
 use Rattle.controller_model.proofs.Accepted.{same_after_counts}
 use Rattle.controller_model.proofs.Always.{IsInTurn, IsKeptInTurns, kept_always, opening_passes, turn_keeps}
-use Rattle.controller_model.proofs.Unasked.{of_unasked}
+use Rattle.controller_model.proofs.Asked.{asked_view_is}
+use Rattle.controller_model.proofs.Following.{receiving_passes}
 use Rattle.controller_model.proofs.Feds.{frames_more, more_octets, no_frames, turn_octets}
 use Rattle.host_masks.specs.Masks.{Masks, first_masks, framed_command, framed_commands, known_command, masks_after, masks_of, view_masks}
 
@@ -77,11 +78,18 @@ known_set setup facts (LeSetEventMask mask) =
 known_set setup facts Reset = set_by (status_of facts.view Reset) setup facts Reset (reset_accepted facts.view)
 known_set setup facts other = left_by (status_of facts.view other == 0) setup facts other refl
 
+asking_set : (asks : Bool) (facts : Facts) (command : Command) (known : Facts) → Sets facts known (command ∷ [])
+    → Sets facts (facts_asking asks facts command known) (command ∷ [])
+asking_set true facts command known sets =
+    ap view_masks (asked_view_is facts.view command facts.links) ∙ view_set facts.view command
+asking_set false facts command known sets = sets
+
 -- ---- what an octet of the host completes
 
 read_set : (setup : Setup) (facts : Facts) (read : CmdRead) → Sets facts (facts_commanded setup facts read) (known_command read)
 read_set setup facts (Known command) =
-    of_unasked setup facts command (λ (after : Facts). Sets facts after (command ∷ [])) (known_set setup facts command)
+    asking_set (is_asking facts.view command) facts command (facts_known (status_of facts.view command == 0) setup facts command)
+    (known_set setup facts command)
 read_set setup facts UnknownOpcode = refl
 read_set setup facts BadLength = refl
 
@@ -147,7 +155,7 @@ masks_kept setup masks = record {
     scanned = λ channel heard pdu on doing is_on hears. is;
     answered = λ channel heard pdu on doing is_on hears. is;
     connects = λ channel heard pdu on access handle doing is_on hears answers next free in_range. is;
-    received = λ handle heard. is;
+    received = λ handle heard. receiving_passes (Has masks) setup handle heard facts is;
   };
 }
 

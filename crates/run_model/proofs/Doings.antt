@@ -68,6 +68,7 @@ passes_wanting setup facts = record {
 wanting_kept : (setup : Setup) → IsKept setup Any WantsIt
 wanting_kept setup = record {
   accepted = λ facts opcode octets command is accepted wants. wants;
+  asked = λ facts command asks wants next. next;
   given = λ facts handle count start octets is wants. wants;
   octet = λ facts octet wants. wants;
   turns = record {

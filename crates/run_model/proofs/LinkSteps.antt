@@ -35,7 +35,9 @@ use Rattle.controller_model.specs.declared.doing.Doing.{Doing}
 use Rattle.controller_model.specs.declared.doing.Doing.TheVariants.{Advertises, AwaitsRequest, Scans, Requests, AwaitsResponse, Initiates, Connects, CentralSends, CentralListens, PeripheralListens, PeripheralSends}
 use Rattle.controller_model.specs.Step.{Step, HostOctet, TurnBegins, PacketHeard, NothingHeard, TurnEnds}
 use Rattle.controller_model.specs.Facts.{Setup, Facts}
-use Rattle.controller_model.specs.Commands.{facts_commanded, facts_known, links_after}
+use Rattle.controller_model.specs.Commands.{facts_asking, facts_commanded, facts_known, is_asking, links_after}
+use Rattle.controller_model.specs.link_commands.Commands.{is_about}
+use Rattle.controller_model.specs.link_commands.LinksCommanded.{links_commanded_from}
 use Rattle.controller_model.specs.open_links.declared.offers.Offer.{Offer}
 use Rattle.controller_model.specs.open_links.declared.offers.Offer.TheVariants.{NoLink, Empty, Overflow, Kept}
 use Rattle.controller_model.specs.Data.{facts_ended_turn, facts_handed, facts_offered, offer_of}
@@ -45,13 +47,13 @@ use Rattle.controller_model.specs.Outcome.{Outcome, facts_passed}
 use Rattle.controller_model.specs.Packets.{links_sending, pdu_heard}
 use Rattle.controller_model.specs.Radio.{facts_entering, links_fixing, outcome_begun, plan_in, served, radio_served, turn_begins, winner_served}
 use Rattle.controller_model.specs.Side.{facts_after, facts_fed, result_of}
+use Rattle.controller_model.proofs.Asked.{place_asked}
 use Rattle.controller_model.proofs.Always.{ending_is, leaving_is, links_won, opening_is, winning_is}
 use Rattle.controller_model.proofs.LinkNotes.{AreIn, first_in, rest_in}
 use Rattle.controller_model.proofs.Phases.{EachOutcome, heard_is, unheard_is}
 use Rattle.run_model.specs.OnAir.{ends_phase}
 use Rattle.run_model.specs.Run.{step_of}
 use Rattle.controller_model.specs.Entering.{all_entered}
-use Rattle.controller_model.proofs.Unasked.{of_unasked}
 
 -- ---- a fact of what each link was set up with
 
@@ -175,9 +177,23 @@ module _ (P : EndSetup → Type 0) where
   known_linked true setup facts command each = command_linked command facts.links each
   known_linked false setup facts command each = each
 
+  -- a step that it makes changes no setup
+  places_linked : (command : Command) (slot first : ℕ) (links : Links) → EachLink P links → EachLink P (links_commanded_from first command slot links)
+  places_linked command slot first [] each = tt
+  places_linked command slot first (place ∷ links) each = (
+    place_asked (AtPlace P) command slot (is_about first command) place each.0 (λ link step is asked asks. subst (AtPlace P) is each.0),
+    places_linked command slot (first + 1) links each.1,
+  )
+
+  asking_linked : (asks : Bool) (facts : Facts) (command : Command) (after : Facts) → EachLink P facts.links → EachLink P after.links
+      → EachLink P (facts_asking asks facts command after).links
+  asking_linked true facts command after each known = places_linked command facts.turn.begun 0 facts.links each
+  asking_linked false facts command after each known = known
+
   read_linked : (setup : Setup) (facts : Facts) (read : CmdRead) → EachLink P facts.links → EachLink P (facts_commanded setup facts read).links
   read_linked setup facts (Known command) each =
-      of_unasked setup facts command (λ (after : Facts). EachLink P after.links) (known_linked (status_of facts.view command == 0) setup facts command each)
+      asking_linked (is_asking facts.view command) facts command (facts_known (status_of facts.view command == 0) setup facts command) each
+      (known_linked (status_of facts.view command == 0) setup facts command each)
   read_linked setup facts UnknownOpcode each = each
   read_linked setup facts BadLength each = each
 

@@ -56,6 +56,7 @@ use Rattle.controller_model.specs.Step.{Step, HostOctet, TurnBegins, PacketHeard
 use Rattle.controller_model.specs.Facts.{Setup, Facts}
 use Rattle.controller_model.specs.Answers.{answer_to}
 use Rattle.controller_model.specs.Commands.{events_caused, notes_before, notes_commanded, notes_known}
+use Rattle.controller_model.specs.link_commands.LinksCommanded.{events_commanded_on}
 use Rattle.controller_model.specs.open_links.declared.offers.Offer.{Offer}
 use Rattle.controller_model.specs.open_links.declared.offers.Offer.TheVariants.{NoLink, Empty, Overflow, Kept}
 use Rattle.controller_model.specs.Data.{event_completed, facts_handed, note_received, notes_ended_turn, notes_handed, notes_offered, offer_of}
@@ -67,11 +68,11 @@ use Rattle.controller_model.specs.Outcome.{Outcome, notes_passed}
 use Rattle.controller_model.specs.Packets.{notes_doing, notes_sent, pdu_heard}
 use Rattle.controller_model.specs.Radio.{outcome_begun}
 use Rattle.controller_model.specs.Side.{notes_after, notes_fed, result_of}
+use Rattle.controller_model.proofs.Asked.{noted_asking, notes_at_once}
 use Rattle.controller_model.proofs.Handles.{HaveOwnHandles, IsNew, free_is_new}
 use Rattle.controller_model.proofs.Phases.{EachOutcome, heard_is, unheard_is}
 use Rattle.run_model.specs.OnAir.{ends_phase}
 use Rattle.run_model.proofs.Calls.{same_station}
-use Rattle.controller_model.proofs.Unasked.{noted_unasked}
 
 -- a note that a link is opened under this handle
 abbrev pub opens_under : ℕ → Note → Bool
@@ -118,8 +119,9 @@ module _ (handle : ℕ) where
 
   read_open : (setup : Setup) (facts : Facts) (opcode : ℕ) (read : CmdRead) → is_opened handle (notes_commanded setup facts opcode read) ≡ false
   read_open setup facts opcode (Known command) =
-      noted_unasked setup facts command opcode (λ (notes : List Note). is_opened handle notes ≡ false)
+      noted_asking setup facts command opcode (λ (notes : List Note). is_opened handle notes ≡ false)
       (known_open (status_of facts.view command == 0) setup facts opcode command)
+      (λ notes asks none. neither notes (notes_at_once facts command) none (events_open facts.view (events_commanded_on command facts.links)))
   read_open setup facts opcode UnknownOpcode = events_open facts.view (answer_to setup facts opcode UnknownOpcode)
   read_open setup facts opcode BadLength = events_open facts.view (answer_to setup facts opcode BadLength)
 

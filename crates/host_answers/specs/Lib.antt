@@ -1,0 +1,4 @@
+-- The definitions of this crate.
+pub mod Answered
+pub mod Calls
+pub mod Rows
