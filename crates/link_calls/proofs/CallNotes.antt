@@ -30,7 +30,8 @@ use Rattle.run_laws.specs.controller_model.declared.doing.Doing.TheVariants.{Adv
 use Rattle.run_laws.specs.controller_model.Step.{HostOctet, TurnBegins, TurnEnds}
 use Rattle.run_laws.specs.controller_model.Facts.{Setup, Facts}
 use Rattle.run_laws.specs.controller_model.Answers.{answer_to}
-use Rattle.run_laws.specs.controller_model.Commands.{events_caused, notes_before, notes_commanded, notes_known}
+use Rattle.run_laws.specs.controller_model.Commands.{events_caused, is_asking, notes_asking, notes_before, notes_commanded, notes_known}
+use Rattle.run_laws.specs.controller_model.link_commands.LinksCommanded.{events_commanded_on}
 use Rattle.run_laws.specs.controller_model.Data.{acl_packet, event_completed, facts_handed, note_received, notes_handed, notes_offered, offer_of}
 use Rattle.run_laws.specs.controller_model.Entering.{events_entering, notes_all_entering}
 use Rattle.run_laws.specs.controller_model.Events.{notes_of_events, passes}
@@ -39,7 +40,6 @@ use Rattle.run_laws.specs.controller_model.Packets.{notes_doing, notes_sent}
 use Rattle.run_laws.specs.controller_model.Radio.{outcome_begun}
 use Rattle.run_laws.specs.controller_model.Side.{notes_after, notes_fed, result_of}
 use Rattle.run_laws.proofs.controller_model.EndNotes.{entered_each, sent_each}
-use Rattle.run_laws.proofs.controller_model.Unasked.{noted_unasked}
 
 abbrev pub is_taking : Note → Bool
 is_taking (Took handle number llid body) = true
@@ -97,9 +97,15 @@ module _ (P : Note → Type 0) (of : IsOfFeeds P) where
       (events_noted facts.view (answer_to setup facts opcode (Known command))))
       (events_noted facts.view (events_caused facts command))
 
+  asking_noted : (asks : Bool) (facts : Facts) (command : Command) (notes : List Note) → All P notes → All P (notes_asking asks facts command notes)
+  asking_noted true facts command notes all =
+      All-append P notes _ all (events_noted facts.view (events_commanded_on command facts.links))
+  asking_noted false facts command notes all = all
+
   read_noted : (setup : Setup) (facts : Facts) (opcode : ℕ) (read : CmdRead) → All P (notes_commanded setup facts opcode read)
   read_noted setup facts opcode (Known command) =
-      noted_unasked setup facts command opcode (All P) (known_noted (status_of facts.view command == 0) setup facts opcode command)
+      asking_noted (is_asking facts.view command) facts command (notes_known (status_of facts.view command == 0) setup facts opcode command)
+      (known_noted (status_of facts.view command == 0) setup facts opcode command)
   read_noted setup facts opcode UnknownOpcode = events_noted facts.view (answer_to setup facts opcode UnknownOpcode)
   read_noted setup facts opcode BadLength = events_noted facts.view (answer_to setup facts opcode BadLength)
 

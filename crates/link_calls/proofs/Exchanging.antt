@@ -64,21 +64,22 @@ slot_of link = (facts_in link).event.slot
 abbrev pub lengthened : OpenLink → Bool
 lengthened link = is_lengthened (facts_in link).lengths
 
--- what stays as the end does something else than enter an event or receive
+-- what stays as the end does something else than enter an event or receive; a length that is long, or was changed in the
+-- event, stays so
 record IsSameEvent (one other : OpenLink) : Type 0 where
   slot : slot_of other ≡ slot_of one
   heard : heard_in other ≡ heard_in one
-  lengths : lengthened other ≡ lengthened one
+  lengths : lengthened one ≡ true → lengthened other ≡ true
 
 same_event : (one other : OpenLink) → (facts_in other).event.slot ≡ (facts_in one).event.slot → (facts_in other).event.heard ≡ (facts_in one).event.heard
     → (facts_in other).lengths ≡ (facts_in one).lengths → IsSameEvent one other
-same_event one other slot heard lengths = record { slot = slot; heard = heard; lengths = ap is_lengthened lengths }
+same_event one other slot heard lengths = record { slot = slot; heard = heard; lengths = λ long. ap is_lengthened lengths ∙ long }
 
 event_same : (link : OpenLink) → IsSameEvent link link
-event_same link = record { slot = refl; heard = refl; lengths = refl }
+event_same link = record { slot = refl; heard = refl; lengths = λ long. long }
 
 event_then : (one two three : OpenLink) → IsSameEvent one two → IsSameEvent two three → IsSameEvent one three
-event_then one two three first next = record { slot = next.slot ∙ first.slot; heard = next.heard ∙ first.heard; lengths = next.lengths ∙ first.lengths }
+event_then one two three first next = record { slot = next.slot ∙ first.slot; heard = next.heard ∙ first.heard; lengths = λ long. next.lengths (first.lengths long) }
 
 event_is : (one other after : OpenLink) → after ≡ other → IsSameEvent one other → IsSameEvent one after
 event_is one other after is same = subst (IsSameEvent one) (sym is) same
@@ -108,12 +109,15 @@ served_event : (one other : OpenLink) → other.setup ≡ one.setup → other.pa
 served_event one other setup past = record {
   slot = λ i. (end_facts (setup i) (past i)).event.slot;
   heard = λ i. (end_facts (setup i) (past i)).event.heard;
-  lengths = λ i. is_lengthened (end_facts (setup i) (past i)).lengths;
+  lengths = λ long. (λ i. is_lengthened (end_facts (setup i) (past i)).lengths) ∙ long;
 }
 
 alike_event : (place : Option OpenLink) (after : OpenLink) (alike : WasAlike place after) → IsSameEvent alike.link after
-alike_event place after alike =
-    same_event alike.link after (ap (λ (e : ConnectionEvent). e.slot) alike.event) (ap (λ (e : ConnectionEvent). e.heard) alike.event) alike.lengths
+alike_event place after alike = record {
+  slot = ap (λ (e : ConnectionEvent). e.slot) alike.event;
+  heard = ap (λ (e : ConnectionEvent). e.heard) alike.event;
+  lengths = alike.lengthened;
+}
 
 -- ---- it enters an event
 
@@ -172,7 +176,7 @@ pub data IsInSlot (radio : Radio) (slot handle : ℕ) (link : OpenLink) : Type 0
 of_event : (hold : Hold) (one other : OpenLink) → IsSameEvent one other → IsOfEvent hold one → IsOfEvent hold other
 of_event hold one other same of = record {
   from = of.from ∙ sym same.slot;
-  slots = elim of.slots [ inl two ↦ inl two | inr some ↦ inr (same.lengths ∙ some) ];
+  slots = elim of.slots [ inl two ↦ inl two | inr some ↦ inr (same.lengths some) ];
 }
 
 holds_later : (before after : Radio) (handle : ℕ) (one other : OpenLink) → Keeps before after → IsSameEvent one other → HoldsNow before handle one → HoldsNow after handle other
@@ -258,7 +262,7 @@ module _ (slot handle : ℕ) (begun : Facts) (link : OpenLink) (at : link_at han
             let short = not_lengthened (facts_in now).event.heard (facts_in now).event.more (facts_in now).lengths.long (facts_in now).lengths.changed second in
             elim of.slots [
               | inl two ↦ AfterAnchor (next_slot (slot_of link) hold.0.from.0 slot hold.0.slots of.from two until.1 was.past ∙ ap (λ n. n + 1) (sym stays.slot)) heard
-              | inr some ↦ absurd (let h : true ≡ false = sym (stays.lengths ∙ some) ∙ short in absurd cc)
+              | inr some ↦ absurd (let h : true ≡ false = sym (stays.lengths some) ∙ short in absurd cc)
             ]
 
         if_by : (one : OpenLink) (continues : Bool) → has_second_exchange (facts_in one) ≡ continues → link_at other (facts_entering slot begun).links ≡ Some one
@@ -411,19 +415,6 @@ module _ (handle : ℕ) (room : Bool) (octets : List ℕ) (facts : Facts) (link 
   event_with None = refl
   event_with (Some pdu) = ap (λ (e : ConnectionEvent). e.slot) (received_same link.setup.link.role slot room pdu (facts_in link)).event
 
-  -- what it has heard after that it had heard before, or it is in the slot of the anchor
-  heard_with : (may : Option (List ℕ)) → (facts_received link.setup.link.role slot room may (facts_in link)).event.heard ≡ true
-      → (heard_in link ≡ true) ⊎ (slot ≡ slot_of link)
-  heard_with None heard = inl heard
-  heard_with (Some pdu) heard =
-      either (heard_in link) (slot == slot_of link) refl
-      (sym (ap (λ (e : ConnectionEvent). e.heard) (received_same link.setup.link.role slot room pdu (facts_in link)).event) ∙ heard)
-    where
-      either : (before now : Bool) → (slot == slot_of link) ≡ now → (before || now) ≡ true → (before ≡ true) ⊎ (slot ≡ slot_of link)
-      either true now same is = inl refl
-      either false true same is = inr (eqb-true slot (slot_of link) same)
-      either false false same is = absurd cc
-
   still_with : (may : Option (List ℕ)) → heard_in link ≡ true → (facts_received link.setup.link.role slot room may (facts_in link)).event.heard ≡ true
   still_with None heard = heard
   still_with (Some pdu) heard =
@@ -445,9 +436,6 @@ module _ (handle : ℕ) (room : Bool) (octets : List ℕ) (facts : Facts) (link 
 
   received_slot : slot_of received ≡ slot_of link
   received_slot = ap (λ (e : ConnectionEvent). e.slot) event_now ∙ event_with found
-
-  received_heard : heard_in received ≡ true → (heard_in link ≡ true) ⊎ (slot ≡ slot_of link)
-  received_heard heard = heard_with found (sym (ap (λ (e : ConnectionEvent). e.heard) event_now) ∙ heard)
 
   received_still : heard_in link ≡ true → heard_in received ≡ true
   received_still heard = ap (λ (e : ConnectionEvent). e.heard) event_now ∙ still_with found heard

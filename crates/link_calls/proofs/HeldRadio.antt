@@ -22,7 +22,7 @@ use Rattle.slot_plan.specs.declared.Activity.{Activity}
 use Rattle.slot_plan.specs.declared.Activity.TheVariants.{Link, Advertise, Scan, Initiate}
 use Rattle.slot_plan.specs.declared.plan.Hold.{Hold}
 use Rattle.slot_plan.specs.Holding.{is_held_in, winner_of}
-use Rattle.run_laws.specs.controller_model.Commands.{facts_commanded, facts_known, radio_after, radio_unadvertised}
+use Rattle.run_laws.specs.controller_model.Commands.{facts_asking, facts_commanded, facts_known, is_asking, radio_after, radio_unadvertised}
 use Rattle.run_laws.specs.controller_model.Data.{facts_handed, facts_offered, offer_of}
 use Rattle.run_laws.specs.controller_model.Facts.{Facts, Radio, Setup, free_radio}
 use Rattle.run_laws.specs.controller_model.Heard.{link_taken, opens}
@@ -33,7 +33,6 @@ use Rattle.run_laws.specs.controller_model.Side.{facts_after, facts_fed, result_
 use Rattle.run_laws.specs.controller_model.Step.{HostOctet, TurnBegins, TurnEnds}
 use Rattle.run_laws.proofs.controller_model.Phases.{EachOutcome, heard_is, unheard_is}
 use Rattle.run_laws.specs.run_model.Run.{step_of}
-use Rattle.run_laws.proofs.controller_model.Unasked.{of_unasked}
 
 -- ---- the radio is held by the same link, or by none
 
@@ -75,9 +74,15 @@ known_keeps : (accepted : Bool) (setup : Setup) (facts : Facts) (command : Comma
 known_keeps true setup facts command = command_keeps command facts.radio
 known_keeps false setup facts command = keeps_same facts.radio
 
+asking_keeps : (asks : Bool) (facts : Facts) (command : Command) (known : Facts) → Keeps facts.radio known.radio
+    → Keeps facts.radio (facts_asking asks facts command known).radio
+asking_keeps true facts command known keeps = keeps
+asking_keeps false facts command known keeps = keeps
+
 read_keeps : (setup : Setup) (facts : Facts) (read : CmdRead) → Keeps facts.radio (facts_commanded setup facts read).radio
 read_keeps setup facts (Known command) =
-    of_unasked setup facts command (λ (after : Facts). Keeps facts.radio after.radio) (known_keeps (status_of facts.view command == 0) setup facts command)
+    asking_keeps (is_asking facts.view command) facts command (facts_known (status_of facts.view command == 0) setup facts command)
+    (known_keeps (status_of facts.view command == 0) setup facts command)
 read_keeps setup facts UnknownOpcode = keeps_same facts.radio
 read_keeps setup facts BadLength = keeps_same facts.radio
 

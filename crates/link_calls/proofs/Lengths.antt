@@ -38,7 +38,7 @@ reported_lengthened (new_lengths rx tx) lengths = refl
 reported_lengthened Nothing lengths = refl
 reported_lengthened other lengths = refl
 
-seen_lengthened : (long changed differ : Bool) → (long || changed) ≡ true → (long || (changed || differ)) ≡ true
+pub seen_lengthened : (long changed differ : Bool) → (long || changed) ≡ true → (long || (changed || differ)) ≡ true
 seen_lengthened true changed differ is = refl
 seen_lengthened false true differ is = refl
 seen_lengthened false false differ is = absurd cc

@@ -3,6 +3,7 @@ pub mod CallNotes
 pub mod LinkUses
 pub mod LinkPhases
 pub mod HeardSteps
+pub mod HostSteps
 pub mod UnderHandles
 pub mod OffLinks
 pub mod LinkCalls

@@ -43,13 +43,12 @@ use Rattle.run_laws.specs.run_model.Run.{step_of}
 use Rattle.run_laws.proofs.Agreed.{ack_answered, ack_fixed, ack_of, step_facts}
 use Rattle.run_laws.proofs.LinkPasses.{IsPassingOn, LeavesAll, OpensOne, ReceivesOn}
 use Rattle.run_laws.proofs.TurnSteps.{IsListening, begins_slot}
-use Rattle.link_calls.specs.Entries.{entries_in}
 use Rattle.link_calls.specs.Phases.{HasPassed, IsNew, Stays, Takes, link_receiving, refusal, refused_if, refuses_at}
 use Rattle.link_calls.specs.Turns.{HasBegunTurn, change_if, fixed_if, sent_if}
 use Rattle.link_calls.specs.Uses.{fixes_under, is_on_link, listens_under, sends_under}
 use Rattle.link_calls.proofs.CallNotes.{IsOfFeeds, OpensNone, SendsNone, doing_noted, events_noted, opening_none}
 use Rattle.link_calls.proofs.OffLinks.{off_phase}
-use Rattle.link_calls.proofs.UnderHandles.{IsOpenedIf, WasOpen, change_under, entered_under, entries_after, fixing_under, opened_under, sending_under, staying_under}
+use Rattle.link_calls.proofs.UnderHandles.{IsOpenedIf, WasOpen, change_under, entered_under, fixing_under, opened_under, sending_under, staying_under}
 
 -- ---- a turn begins
 
@@ -228,13 +227,6 @@ module _ (handle : ℕ) (room : Bool) (octets : List ℕ) (facts : Facts) (link 
       by true = ack_answered refusal taken
       by false = refl
 
-  pub receiving_entries : entries_in (link_receiving handle room octets facts link).past ≡ entries_in link.past
-  receiving_entries = by (refuses_at handle room octets facts)
-    where
-      by : (refuses : Bool) → entries_in (refused_if refuses taken).past ≡ entries_in link.past
-      by true = entries_after taken (RequestAnswered refusal) ∙ entries_after link (PacketReceived facts.turn.slot octets room)
-      by false = entries_after link (PacketReceived facts.turn.slot octets room)
-
   pub receiving_event : (facts_in (link_receiving handle room octets facts link)).event ≡ (facts_in taken).event
   receiving_event = by (refuses_at handle room octets facts)
     where
@@ -390,7 +382,6 @@ passes_under setup facts received handle after listens is = phase_under setup fa
 pub record IsOpenedNow (slot : ℕ) (link : OpenLink) : Type 0 where
   pub opened : link.setup.opened ≡ slot
   pub past : link.past ≡ []
-  pub entries : entries_in link.past ≡ 0
   pub event : (facts_in link).event ≡ no_event
   pub good : (facts_in link).last_good ≡ None
 
@@ -406,7 +397,6 @@ pub new_now : (slot : ℕ) (end : EndSetup) (link : OpenLink) → link ≡ new_l
 new_now slot end link is now = record {
   opened = ap (λ (l : OpenLink). l.setup.opened) is ∙ now;
   past = ap (λ (l : OpenLink). l.past) is;
-  entries = ap (λ (l : OpenLink). entries_in l.past) is;
   event = new_event end link is;
   good = new_good end link is;
 }

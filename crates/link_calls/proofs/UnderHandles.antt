@@ -1,9 +1,8 @@
 -- What is open under a handle after each change of the links of a controller.
 use Rattle.std.proofs.Common.{◌≡◌, ℕ, ◌+◌, ◌==◌, Bool, true, false, Option, Some, None, List, [], ◌∷◌, ◌++◌, length, map, take, refl, sym, ap, subst, ◌∙◌, append-nil, arith, length-append}
-use Rattle.std.specs.Prelude.{nat_lt, if◌then◌else◌}
+use Rattle.std.specs.Prelude.{◌&&◌, nat_lt, if◌then◌else◌}
 use Rattle.std.specs.Option.{option_map}
 use Rattle.std.proofs.lemmas.Bool.{eqb-true, eqb-false}
-use Rattle.std.proofs.lemmas.List.Sums.{fold-append}
 use Rattle.std.proofs.Math.Seq.{take-append_seam}
 use Rattle.h4_frames.specs.declared.packet.HostPacket.TheVariants.{Command as HostCommand, Acl}
 use Rattle.h4_frames.specs.declared.packet.Fed.{Fed}
@@ -13,6 +12,7 @@ use Rattle.hci_cmd.specs.declared.command.Command.TheVariants.{Reset}
 use Rattle.hci_cmd.specs.declared.command.CmdRead.{CmdRead}
 use Rattle.hci_cmd.specs.declared.command.CmdRead.TheVariants.{Known, UnknownOpcode, BadLength}
 use Rattle.hci_cmd.specs.Command.{command_of}
+use Rattle.run_laws.specs.host_view.OnLinks.{asks_links}
 use Rattle.run_laws.specs.host_view.Unbuilt.{status_of}
 use Rattle.run_laws.specs.link_model.Setup.{Setup as EndSetup}
 use Rattle.run_laws.specs.link_model.Facts.{Facts as EndFacts}
@@ -21,7 +21,7 @@ use Rattle.run_laws.specs.link_model.Times.{ending_of}
 use Rattle.run_laws.specs.open_links.declared.offers.Offer.{Offer}
 use Rattle.run_laws.specs.open_links.declared.offers.Offer.TheVariants.{NoLink, Empty, Overflow, Kept}
 use Rattle.run_laws.specs.open_links.Data.{complete_in, link_reported, links_given, links_reported}
-use Rattle.run_laws.specs.open_links.OpenLinks.{Links, OpenLink, facts_in, link_after, link_at, link_from, new_link, with_change, with_change_from, with_link, without_links}
+use Rattle.run_laws.specs.open_links.OpenLinks.{Links, OpenLink, facts_in, link_after, link_at, link_from, new_link, with_change, with_change_from, with_link}
 use Rattle.run_laws.specs.open_links.Turns.{ending_in, link_entered, links_without, place_without, staying_by}
 use Rattle.run_laws.proofs.open_links.Ends.{stays_where_not_due}
 use Rattle.run_laws.proofs.open_links.Handles.{changed_is, other_stays}
@@ -29,19 +29,23 @@ use Rattle.run_laws.specs.controller_model.declared.doing.Doing.{Doing}
 use Rattle.run_laws.specs.controller_model.declared.doing.Doing.TheVariants.{Advertises, CentralSends, PeripheralListens, PeripheralSends}
 use Rattle.run_laws.specs.controller_model.Step.{HostOctet, TurnEnds}
 use Rattle.run_laws.specs.controller_model.Facts.{Setup, Facts}
-use Rattle.run_laws.specs.controller_model.Commands.{facts_commanded, facts_known, links_after}
+use Rattle.run_laws.specs.controller_model.Commands.{facts_asking, facts_commanded, facts_known, links_after}
 use Rattle.run_laws.specs.controller_model.Entering.{all_entered}
+use Rattle.run_laws.specs.controller_model.Host.{commands_accepted_after, commands_accepted_by, commands_accepted_in}
+use Rattle.run_laws.specs.controller_model.link_commands.Commands.{host_step_of, is_about, step_if_about}
+use Rattle.run_laws.specs.controller_model.link_commands.LinksCommanded.{link_after_if, links_commanded, place_commanded}
 use Rattle.run_laws.specs.controller_model.Data.{facts_handed, facts_offered, offer_of}
 use Rattle.run_laws.specs.controller_model.Packets.{links_sending}
 use Rattle.run_laws.specs.controller_model.Radio.{links_fixing}
 use Rattle.run_laws.specs.controller_model.Side.{facts_after, facts_fed, result_of}
 use Rattle.run_laws.proofs.controller_model.Always.{leaving_is}
-use Rattle.run_laws.proofs.Agreed.{ack_given, ack_of, ack_reported, step_facts}
-use Rattle.link_calls.specs.Entries.{count_entry, entries_in}
-use Rattle.link_calls.specs.Hosts.{HasHeardHost, GetsData, Unchanged}
+use Rattle.run_laws.proofs.Agreed.{ack_asked, ack_given, ack_of, ack_reported, step_facts}
+use Rattle.run_laws.proofs.controller_model.Asked.{IsAskedStep, asked_at}
+use Rattle.link_calls.specs.Hosts.{HasHeardHost, GetsData, IsAsked, Unchanged}
 use Rattle.link_calls.specs.Turns.{HasEndedTurn, change_if, sent_if}
 use Rattle.link_calls.specs.Uses.{fixes_under, sends_under}
-use Rattle.run_laws.proofs.controller_model.Unasked.{of_unasked}
+use Rattle.link_calls.proofs.HostSteps.{asked_is_well, asked_leaves}
+use Rattle.link_calls.proofs.Lengths.{is_lengthened}
 
 -- a place that is open after a change of it was open before
 pub record WasOpen (change : OpenLink → OpenLink) (before : Option OpenLink) (after : OpenLink) : Type 0 where
@@ -176,52 +180,76 @@ fixing_under handle doing links after is = nothing_fixed (link_at handle links) 
 
 -- ---- an octet of the host
 
-given_under : (start : Bool) (body : List ℕ) (handle other : ℕ) (links : Links) (after : OpenLink) → link_at handle (links_given other start body links) ≡ Some after
-    → HasHeardHost links handle after
-given_under start body handle other links after is = by (other == handle) (change_under other handle (link_after (DataGiven start body)) links after is)
-  where
-    by : (same : Bool) → WasOpen (change_if same (link_after (DataGiven start body))) (link_at handle links) after → HasHeardHost links handle after
-    by true was = GetsData was.link start body was.was was.is
-    by false was = Unchanged (was.was ∙ ap Some (sym was.is))
+module _ (facts : Facts) (octet handle : ℕ) (after : OpenLink) where
+  given_under : (start : Bool) (body : List ℕ) (other : ℕ) → link_at handle (links_given other start body facts.links) ≡ Some after
+      → HasHeardHost facts octet handle after
+  given_under start body other is =
+      by (other == handle) (change_under other handle (link_after (DataGiven start body)) facts.links after is)
+    where
+      by : (same : Bool) → WasOpen (change_if same (link_after (DataGiven start body))) (link_at handle facts.links) after → HasHeardHost facts octet handle after
+      by true was = GetsData was.link start body was.was was.is
+      by false was = Unchanged (was.was ∙ ap Some (sym was.is))
 
-shut_under : (handle : ℕ) (links : Links) (after : OpenLink) → link_at handle (without_links links) ≡ Some after → link_at handle links ≡ Some after
-shut_under handle links after is = absurd (let h : None ≡ Some after = sym (map_under (λ place. None) refl 0 handle links) ∙ is in absurd cc)
+  command_under : (command : Command) → link_at handle (links_after command facts.links) ≡ Some after → link_at handle facts.links ≡ Some after
+  command_under Reset is =
+      absurd (let h : None ≡ Some after = sym (map_under (λ place. None) refl 0 handle facts.links) ∙ is in absurd cc)
+  command_under other is = is
 
-command_under : (command : Command) (handle : ℕ) (links : Links) (after : OpenLink) → link_at handle (links_after command links) ≡ Some after → link_at handle links ≡ Some after
-command_under Reset handle links after is = shut_under handle links after is
-command_under other handle links after is = is
+  known_under : (accepted : Bool) (setup : Setup) (command : Command) → link_at handle (facts_known accepted setup facts command).links ≡ Some after
+      → HasHeardHost facts octet handle after
+  known_under true setup command is = Unchanged (command_under command is)
+  known_under false setup command is = Unchanged is
 
-known_under : (accepted : Bool) (setup : Setup) (command : Command) (facts : Facts) (handle : ℕ) (after : OpenLink)
-    → link_at handle (facts_known accepted setup facts command).links ≡ Some after → HasHeardHost facts.links handle after
-known_under true setup command facts handle after is = Unchanged (command_under command handle facts.links after is)
-known_under false setup command facts handle after is = Unchanged is
+  -- a command that asks something of links is accepted
+  asked_under : (command : Command) → commands_accepted_after facts (HostOctet octet) ≡ command ∷ []
+      → link_at handle (links_commanded command facts.turn.begun facts.links) ≡ Some after → HasHeardHost facts octet handle after
+  asked_under command accepted is =
+      at (is_about handle command) refl (link_at handle facts.links) refl (sym (asked_at command facts.turn.begun handle facts.links) ∙ is)
+    where
+      made : (link : OpenLink) → link_at handle facts.links ≡ Some link → is_about handle command ≡ true → (step : Option EndStep)
+          → host_step_of command facts.turn.begun link.setup.link.role (facts_in link).peer ≡ step → Some (link_after_if step link) ≡ Some after
+          → HasHeardHost facts octet handle after
+      made link was about None none same = Unchanged (was ∙ same)
+      made link was about (Some step) some same =
+          let equal : link_after step link ≡ after = cc in
+          IsAsked link command step was accepted
+          (ap (λ b. step_if_about b (host_step_of command facts.turn.begun link.setup.link.role (facts_in link).peer)) about ∙ some) (sym equal)
 
-read_under : (setup : Setup) (facts : Facts) (read : CmdRead) (handle : ℕ) (after : OpenLink)
-    → link_at handle (facts_commanded setup facts read).links ≡ Some after → HasHeardHost facts.links handle after
-read_under setup facts (Known command) handle after is =
-    of_unasked setup facts command (λ (next : Facts). link_at handle next.links ≡ Some after → HasHeardHost facts.links handle after)
-    (known_under (status_of facts.view command == 0) setup command facts handle after) is
-read_under setup facts UnknownOpcode handle after is = Unchanged is
-read_under setup facts BadLength handle after is = Unchanged is
+      at : (about : Bool) → is_about handle command ≡ about → (place : Option OpenLink) → link_at handle facts.links ≡ place
+          → place_commanded about command facts.turn.begun place ≡ Some after → HasHeardHost facts octet handle after
+      at false other place was same = Unchanged (was ∙ same)
+      at true about None was same = absurd cc
+      at true about (Some link) was same = made link was about (host_step_of command facts.turn.begun link.setup.link.role (facts_in link).peer) refl same
 
-offered_under : (offer : Offer) (other : ℕ) (start : Bool) (body : List ℕ) (facts : Facts) (handle : ℕ) (after : OpenLink)
-    → link_at handle (facts_offered offer other start body facts).links ≡ Some after → HasHeardHost facts.links handle after
-offered_under Kept other start body facts handle after is = given_under start body handle other facts.links after is
-offered_under NoLink other start body facts handle after is = Unchanged is
-offered_under Empty other start body facts handle after is = Unchanged is
-offered_under Overflow other start body facts handle after is = Unchanged is
+  read_under : (setup : Setup) (read : CmdRead) → commands_accepted_after facts (HostOctet octet) ≡ commands_accepted_by facts read
+      → link_at handle (facts_commanded setup facts read).links ≡ Some after → HasHeardHost facts octet handle after
+  read_under setup (Known command) accepted is = by (status_of facts.view command == 0) (asks_links facts.view command) refl is
+    where
+      by : (ok asks : Bool) → (status_of facts.view command == 0) ≡ ok
+          → link_at handle (facts_asking (ok && asks) facts command (facts_known ok setup facts command)).links ≡ Some after → HasHeardHost facts octet handle after
+      by true true ok found = asked_under command (accepted ∙ ap (λ b. if b then command ∷ [] else []) ok) found
+      by true false ok found = known_under true setup command found
+      by false asks ok found = known_under false setup command found
+  read_under setup UnknownOpcode accepted is = Unchanged is
+  read_under setup BadLength accepted is = Unchanged is
 
-fed_under : (setup : Setup) (facts : Facts) (fed : Fed) (handle : ℕ) (after : OpenLink)
-    → link_at handle (facts_fed setup facts fed).links ≡ Some after → HasHeardHost facts.links handle after
-fed_under setup facts (Packet (HostCommand opcode body)) handle after is = read_under setup facts (command_of opcode body.items) handle after is
-fed_under setup facts (Packet (Acl other start count body)) handle after is =
-    offered_under (offer_of setup facts other count) other start body.items facts handle after is
-fed_under setup facts LostSync handle after is = Unchanged is
-fed_under setup facts More handle after is = Unchanged is
+  offered_under : (offer : Offer) (other : ℕ) (start : Bool) (body : List ℕ) → link_at handle (facts_offered offer other start body facts).links ≡ Some after
+      → HasHeardHost facts octet handle after
+  offered_under Kept other start body is = given_under start body other is
+  offered_under NoLink other start body is = Unchanged is
+  offered_under Empty other start body is = Unchanged is
+  offered_under Overflow other start body is = Unchanged is
+
+  fed_under : (setup : Setup) (fed : Fed) → result_of facts.octets octet ≡ fed → link_at handle (facts_fed setup facts fed).links ≡ Some after
+      → HasHeardHost facts octet handle after
+  fed_under setup (Packet (HostCommand opcode body)) fed is = read_under setup (command_of opcode body.items) (ap (commands_accepted_in facts) fed) is
+  fed_under setup (Packet (Acl other start count body)) fed is = offered_under (offer_of setup facts other count) other start body.items is
+  fed_under setup LostSync fed is = Unchanged is
+  fed_under setup More fed is = Unchanged is
 
 pub host_under : (setup : Setup) (facts : Facts) (octet handle : ℕ) (after : OpenLink)
-    → link_at handle (facts_after setup facts (HostOctet octet)).links ≡ Some after → HasHeardHost facts.links handle after
-host_under setup facts octet handle after is = fed_under setup facts (result_of facts.octets octet) handle after is
+    → link_at handle (facts_after setup facts (HostOctet octet)).links ≡ Some after → HasHeardHost facts octet handle after
+host_under setup facts octet handle after is = fed_under facts octet handle after setup (result_of facts.octets octet) refl is
 
 -- ---- a turn ends
 
@@ -247,20 +275,18 @@ reported_ends link = by (nat_lt 0 (complete_in link))
     by true = ap ending_of (step_facts link DataReported)
     by false = refl
 
--- ---- what stays of a link as its host gives it data, or data is reported
+-- ---- what stays of a link as its host gives it data or asks it something, or data is reported
 
--- the link that was there before has sent, accepted and entered the same, and is in the same event
+-- the link that was there before has sent and accepted the same, and is in the same event
 pub record WasAlike (place : Option OpenLink) (after : OpenLink) : Type 0 where
   pub link : OpenLink
   pub was : place ≡ Some link
   pub setup : after.setup ≡ link.setup
   pub ack : ack_of after ≡ ack_of link
-  pub entries : entries_in after.past ≡ entries_in link.past
   pub event : (facts_in after).event ≡ (facts_in link).event
   pub good : (facts_in after).last_good ≡ (facts_in link).last_good
-  -- its procedures, and what it has of lengths, are the same
-  pub control : (facts_in after).control ≡ (facts_in link).control
-  pub lengths : (facts_in after).lengths ≡ (facts_in link).lengths
+  -- a length that is long, or was changed in that event, stays so
+  pub lengthened : is_lengthened (facts_in link).lengths ≡ true → is_lengthened (facts_in after).lengths ≡ true
   -- some steps more happened to it
   pub more : List EndStep
   pub past : after.past ≡ link.past ++ more
@@ -271,17 +297,12 @@ alike_same place after is = record {
   was = is;
   setup = refl;
   ack = refl;
-  entries = refl;
   event = refl;
   good = refl;
-  control = refl;
-  lengths = refl;
+  lengthened = λ is. is;
   more = [];
   past = sym (append-nil after.past);
 }
-
-pub entries_after : (link : OpenLink) (step : EndStep) → entries_in (link_after step link).past ≡ count_entry (entries_in link.past) step
-entries_after link step = fold-append count_entry 0 link.past (step ∷ [])
 
 given_alike : (place : Option OpenLink) (start : Bool) (body : List ℕ) (link : OpenLink) → place ≡ Some link → WasAlike place (link_after (DataGiven start body) link)
 given_alike place start body link is =
@@ -290,11 +311,9 @@ given_alike place start body link is =
       was = is;
       setup = refl;
       ack = ack_given start body link;
-      entries = entries_after link (DataGiven start body);
       event = ap (λ (f : EndFacts). f.event) same;
       good = ap (λ (f : EndFacts). f.last_good) same;
-      control = ap (λ (f : EndFacts). f.control) same;
-      lengths = ap (λ (f : EndFacts). f.lengths) same;
+      lengthened = λ is. ap (λ (f : EndFacts). is_lengthened f.lengths) same ∙ is;
       more = DataGiven start body ∷ [];
       past = refl;
     }
@@ -306,11 +325,9 @@ reported_alike place link is =
       was = is;
       setup = refl;
       ack = ack_reported link;
-      entries = entries_after link DataReported;
       event = ap (λ (f : EndFacts). f.event) same;
       good = ap (λ (f : EndFacts). f.last_good) same;
-      control = ap (λ (f : EndFacts). f.control) same;
-      lengths = ap (λ (f : EndFacts). f.lengths) same;
+      lengthened = λ is. ap (λ (f : EndFacts). is_lengthened f.lengths) same ∙ is;
       more = DataReported ∷ [];
       past = refl;
     }
@@ -318,14 +335,34 @@ reported_alike place link is =
 alike_is : (place : Option OpenLink) (one after : OpenLink) → after ≡ one → WasAlike place one → WasAlike place after
 alike_is place one after is alike = subst (WasAlike place) (sym is) alike
 
-host_alike : (links : Links) (handle : ℕ) (after : OpenLink) → HasHeardHost links handle after → WasAlike (link_at handle links) after
-host_alike links handle after (Unchanged was) = alike_same (link_at handle links) after was
-host_alike links handle after (GetsData link start body was is) =
-    alike_is (link_at handle links) (link_after (DataGiven start body) link) after is (given_alike (link_at handle links) start body link was)
+asked_alike : (place : Option OpenLink) (step : EndStep) (link : OpenLink) → place ≡ Some link → IsAskedStep step → WasAlike place (link_after step link)
+asked_alike place step link is by_host =
+    let same = step_facts link step in
+    let leaves = asked_leaves link.setup (facts_in link) step by_host in record {
+      link = link;
+      was = is;
+      setup = refl;
+      ack = ack_asked step link by_host;
+      event = ap (λ (f : EndFacts). f.event) same ∙ leaves.event;
+      good = ap (λ (f : EndFacts). f.last_good) same ∙ leaves.good;
+      lengthened = λ long. ap (λ (f : EndFacts). is_lengthened f.lengths) same ∙ leaves.lengthened long;
+      more = step ∷ [];
+      past = refl;
+    }
+
+host_alike : (facts : Facts) (octet handle : ℕ) (after : OpenLink) → HasHeardHost facts octet handle after → WasAlike (link_at handle facts.links) after
+host_alike facts octet handle after (Unchanged was) = alike_same (link_at handle facts.links) after was
+host_alike facts octet handle after (GetsData link start body was is) =
+    let place = link_at handle facts.links in
+    alike_is place (link_after (DataGiven start body) link) after is (given_alike place start body link was)
+host_alike facts octet handle after (IsAsked link command step was accepted asks is) =
+    let place = link_at handle facts.links in
+    let well = asked_is_well facts octet handle command link.setup.link.role (facts_in link).peer step accepted asks in
+    alike_is place (link_after step link) after is (asked_alike place step link was well.by_host)
 
 pub octet_under : (setup : Setup) (facts : Facts) (octet handle : ℕ) (after : OpenLink)
     → link_at handle (facts_after setup facts (HostOctet octet)).links ≡ Some after → WasAlike (link_at handle facts.links) after
-octet_under setup facts octet handle after is = host_alike facts.links handle after (host_under setup facts octet handle after is)
+octet_under setup facts octet handle after is = host_alike facts octet handle after (host_under setup facts octet handle after is)
 
 pub end_under : (setup : Setup) (facts : Facts) (handle : ℕ) (after : OpenLink)
     → link_at handle (facts_after setup facts TurnEnds).links ≡ Some after → WasAlike (link_at handle facts.links) after

@@ -1,6 +1,5 @@
 -- The definitions of this crate.
 pub mod Uses
-pub mod Entries
 pub mod Turns
 pub mod Phases
 pub mod Hosts

@@ -47,12 +47,13 @@ pub fn only_a_central_refuses()
         → link.setup.link.role ≡ Central }
 {}
 
-/// A link that is open after an octet of the host got data of it, or nothing happened to it (Core
-/// 5.2, volume 4 part E, section 5.4.2).
-pub fn a_host_only_gives_data_to_links()
+/// A link that is open after an octet of the host got data of it, or a command that the octet
+/// completes was accepted and asks a step of its end, or nothing happened to it (Core 5.2, volume 4
+/// part E, sections 5.4.2, 7.1 and 7.8).
+pub fn a_host_gives_data_or_asks()
     ensures { (setup : Setup) (facts : Facts) (octet handle : ℕ) (after : OpenLink)
         → link_at handle (facts_after setup facts (HostOctet octet)).links ≡ Some after
-        → HasHeardHost facts.links handle after }
+        → HasHeardHost facts octet handle after }
 {}
 
 /// As a turn ends, the complete packets of each link are reported, and then a link is shut exactly

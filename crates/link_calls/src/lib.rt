@@ -7,7 +7,7 @@ mod exchanges;
 mod rows;
 
 pub use crate::calls::{
-    a_host_only_gives_data_to_links, a_link_receives_answers_and_sends, a_turn_begins_on_links,
+    a_host_gives_data_or_asks, a_link_receives_answers_and_sends, a_turn_begins_on_links,
     a_turn_ends_on_links, only_a_central_refuses,
 };
 pub use crate::exchanges::each_end_exchanges_in_its_events;

@@ -19,7 +19,7 @@ use Rattle.run_model.specs.link_model.End.{facts_after, facts_of}
 use Rattle.run_model.specs.link_model.Facts.{Facts, first_facts}
 use Rattle.run_model.specs.link_model.Hearing.{is_on_air}
 use Rattle.run_model.specs.link_model.Packets.{more_sent, packet_sent, payload_sent, pdu_sent}
-use Rattle.run_model.specs.link_model.Step.{Step, DataGiven, EventEntered, PduFixed, PacketSent, PacketReceived, RequestAnswered, DataReported}
+use Rattle.run_model.specs.link_model.Step.{Step, DataGiven, DataReported, Disconnected, EventEntered, PacketReceived, PacketSent, PduFixed, ProcedureAsked, RequestAnswered}
 use Rattle.run_model.proofs.link_model.Acknowledging.{ack_sent as end_sent}
 use Rattle.run_model.proofs.link_model.Agreeing.{heard_agrees, others_leave}
 use Rattle.run_model.proofs.link_model.Repeating.{past_payload}
@@ -27,6 +27,7 @@ use Rattle.run_model.specs.open_links.OpenLinks.{OpenLink, facts_in, link_after,
 use Rattle.run_model.specs.open_links.Turns.{enters_in, entered_if, link_entered}
 use Rattle.run_laws.specs.Ends.{HaveOneConnectInd}
 use Rattle.run_laws.specs.Ranges.{HasRanges}
+use Rattle.controller_model.proofs.Asked.{IsAskedStep}
 use Rattle.run_laws.proofs.Pieces.{ranged_understand}
 
 abbrev pub ack_of : OpenLink → Acknowledgement
@@ -61,6 +62,17 @@ ack_fixed link = ack_kept PduFixed link refl
 pub ack_answered : (answer : Result Ask ErrCode) (link : OpenLink) → ack_of (link_after (RequestAnswered answer) link) ≡ ack_of link
 ack_answered answer link = ack_kept (RequestAnswered answer) link refl
 
+-- nor does it by a command of its host
+asked_off_air : (step : Step) → IsAskedStep step → is_on_air step ≡ false
+asked_off_air (ProcedureAsked ask) by_host = refl
+asked_off_air (RequestAnswered answer) by_host = refl
+asked_off_air (Disconnected reason slot) by_host = refl
+asked_off_air (DataGiven start body) by_host = absurd by_host
+asked_off_air other by_host = absurd by_host
+
+pub ack_asked : (step : Step) (link : OpenLink) → IsAskedStep step → ack_of (link_after step link) ≡ ack_of link
+ack_asked step link by_host = ack_kept step link (asked_off_air step by_host)
+
 pub agree_by : (one after other : OpenLink) → after.setup ≡ one.setup → ack_of after ≡ ack_of one → Agree one other → Agree after other
 agree_by one after other setup same agree = λ both.
     subst (λ a. AreInAgreement a (ack_of other)) (sym same)
@@ -77,6 +89,9 @@ agree_fixed one other agree = agree_by one (link_after PduFixed one) other refl 
 
 pub agree_answered : (answer : Result Ask ErrCode) (one other : OpenLink) → Agree one other → Agree (link_after (RequestAnswered answer) one) other
 agree_answered answer one other agree = agree_by one (link_after (RequestAnswered answer) one) other refl (ack_answered answer one) agree
+
+pub agree_asked : (step : Step) (one other : OpenLink) → IsAskedStep step → Agree one other → Agree (link_after step one) other
+agree_asked step one other by_host agree = agree_by one (link_after step one) other refl (ack_asked step one by_host) agree
 
 entered_by : (enters : Bool) (slot : ℕ) (one other : OpenLink) → Agree one other → Agree (entered_if enters slot one) other
 entered_by false slot one other agree = agree

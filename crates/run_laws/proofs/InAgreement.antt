@@ -5,7 +5,7 @@ use Rattle.std.proofs.lemmas.Bool.{eqb-true}
 use Rattle.run_model.specs.link_model.Setup.{Setup as EndSetup}
 use Rattle.run_model.specs.link_model.Acknowledgement.{first_acknowledgement}
 use Rattle.ble_base.specs.declared.error_codes.ErrCode.{ErrCode}
-use Rattle.run_model.specs.link_model.Step.{DataGiven, PduFixed, PacketSent, PacketReceived, RequestAnswered, DataReported}
+use Rattle.run_model.specs.link_model.Step.{Step as EndStep, DataGiven, PduFixed, PacketSent, PacketReceived, RequestAnswered, DataReported}
 use Rattle.run_model.specs.open_links.OpenLinks.{Links, OpenLink, link_after, link_at, link_served, new_link}
 use Rattle.run_model.specs.open_links.Turns.{link_entered}
 use Rattle.run_model.proofs.open_links.Unmoved.{entered_setup}
@@ -20,11 +20,11 @@ use Rattle.controller_model.proofs.Handles.{HaveOwnHandles, handles_kept, own_ha
 use Rattle.run_model.specs.Run.{Given, setup_at, step_of}
 use Rattle.run_model.proofs.Stations.{is_in}
 use Rattle.run_laws.specs.Ends.{link_listened}
-use Rattle.run_laws.proofs.Agreed.{Agree, ack_given, ack_of, ack_reported, agree_answered, agree_entered, agree_fixed, agree_given, agree_new, agree_reported, agree_sent, agree_served, first_ack}
+use Rattle.run_laws.proofs.Agreed.{Agree, ack_asked, ack_given, ack_of, ack_reported, agree_answered, agree_asked, agree_entered, agree_fixed, agree_given, agree_new, agree_reported, agree_sent, agree_served, first_ack}
 use Rattle.run_laws.proofs.ByCalls.{IsCalled, IsKeptByCalls}
 use Rattle.run_laws.proofs.Entering.{IsInTurn}
 use Rattle.run_laws.proofs.LinkPasses.{IsPassingOn, LeavesAll, OpensOne, ReceivesOn, is_on_link, links_receiving, phase_passes_on}
-use Rattle.run_laws.proofs.OpenSteps.{EachOpen, IsKeptByHosts, IsKeptOpen, IsKeptServed, MayOpen, begin_open, changed, changed_at, end_open, none_open, octet_open, phase_open, open_more, opened, refuses as refusing, sends}
+use Rattle.run_laws.proofs.OpenSteps.{EachOpen, IsAskedWell, IsKeptByHosts, IsKeptOpen, IsKeptServed, KeepsAsked, MayOpen, begin_open, changed, changed_at, end_open, none_open, octet_open, phase_open, open_more, opened, refuses as refusing, sends}
 use Rattle.run_laws.proofs.TurnPlaces.{Within}
 use Rattle.run_laws.proofs.TurnSteps.{MakesWell, begins_begun, begins_slot, ends_turn, octet_turn, phase_turn}
 use Rattle.run_laws.proofs.TwoStations.{differs_back as apart_back}
@@ -53,6 +53,9 @@ pub record IsStation (setup : Setup) (facts : Facts) : Type 0 where
 before_hosts : (slot : ℕ) → IsKeptByHosts (OpenedBefore slot)
 before_hosts slot = record { given = λ start body link is. is; reported = λ link is. is }
 
+before_asked : (slot : ℕ) → KeepsAsked (OpenedBefore slot)
+before_asked slot step link well is = is
+
 before_served : (slot : ℕ) → IsKeptServed (OpenedBefore slot)
 before_served slot = record {
   hosts = before_hosts slot;
@@ -67,6 +70,9 @@ fresh_hosts slot = record {
   reported = λ link fresh. λ same. ack_reported link ∙ fresh same;
 }
 
+fresh_asked : (slot : ℕ) → KeepsAsked (IsFresh slot)
+fresh_asked slot step link well fresh = λ same. ack_asked step link well.by_host ∙ fresh same
+
 short_served : IsKeptServed TakesShort
 short_served = record {
   hosts = record { given = λ start body link is. is; reported = λ link is. is };
@@ -74,6 +80,9 @@ short_served = record {
   fixed = λ link is. is;
   sent = λ now link is. is;
 }
+
+short_asked : KeepsAsked TakesShort
+short_asked step link well is = is
 
 short_open : IsKeptOpen TakesShort
 short_open = record { serving = short_served; received = λ now octets room link is. is; answered = λ code link is. is }
@@ -104,11 +113,11 @@ station_fed setup facts octet is =
     let same = (octet_turn setup facts octet).turn in
     let after = facts_after setup facts (HostOctet octet) in record {
       own = own_step setup facts (HostOctet octet) is.own;
-      earlier = subst (λ (turn : Turn). EachOpen (OpenedBefore turn.begun) after.links) (sym same) (octet_open (OpenedBefore facts.turn.begun) (before_hosts facts.turn.begun) setup facts octet is.earlier);
-      fresh = subst (λ (turn : Turn). EachOpen (IsFresh turn.slot) after.links) (sym same) (octet_open (IsFresh facts.turn.slot) (fresh_hosts facts.turn.slot) setup facts octet is.fresh);
-      short = octet_open TakesShort short_served.hosts setup facts octet is.short;
+      earlier = subst (λ (turn : Turn). EachOpen (OpenedBefore turn.begun) after.links) (sym same) (octet_open (OpenedBefore facts.turn.begun) (before_hosts facts.turn.begun) (before_asked facts.turn.begun) setup facts octet is.earlier);
+      fresh = subst (λ (turn : Turn). EachOpen (IsFresh turn.slot) after.links) (sym same) (octet_open (IsFresh facts.turn.slot) (fresh_hosts facts.turn.slot) (fresh_asked facts.turn.slot) setup facts octet is.fresh);
+      short = octet_open TakesShort short_served.hosts short_asked setup facts octet is.short;
       old = subst (λ (turn : Turn). is_on_link turn.doing ≡ true → EachOpen (OpenedBefore turn.slot) after.links) (sym same)
-          (λ on. octet_open (OpenedBefore facts.turn.slot) (before_hosts facts.turn.slot) setup facts octet (is.old on));
+          (λ on. octet_open (OpenedBefore facts.turn.slot) (before_hosts facts.turn.slot) (before_asked facts.turn.slot) setup facts octet (is.old on));
     }
 
 pub station_begins : (setup : Setup) (facts : Facts) (slot : ℕ) (on : Bool) → facts.turn.begun ≡ slot → IsStation setup facts → IsStation setup (facts_after setup facts (TurnBegins slot on))
@@ -226,6 +235,7 @@ pub record IsKeptByFirst (R : OpenLink → OpenLink → Type 0) : Type 0 where
   pub sent : (slot : ℕ) (one other : OpenLink) → R one other → R (link_after (PacketSent slot) one) other
   pub entered : (slot : ℕ) (one other : OpenLink) → R one other → R (link_entered slot one) other
   pub answered : (code : ErrCode) (one other : OpenLink) → R one other → R (link_after (RequestAnswered (Err code)) one) other
+  pub asked : (step : EndStep) (one other : OpenLink) → IsAskedWell step → R one other → R (link_after step one) other
 
 pub agree_kept : IsKeptByFirst Agree
 agree_kept = record {
@@ -236,6 +246,7 @@ agree_kept = record {
   sent = agree_sent;
   entered = agree_entered;
   answered = λ code one other agree. agree_answered (Err code) one other agree;
+  asked = λ step one other well agree. agree_asked step one other well.by_host agree;
 }
 
 module _ (R : OpenLink → OpenLink → Type 0) (kept : IsKeptByFirst R) (others : Links) where
@@ -247,6 +258,9 @@ module _ (R : OpenLink → OpenLink → Type 0) (kept : IsKeptByFirst R) (others
     given = λ start body one all. open_more (R one) (R (link_after (DataGiven start body) one)) others (λ other is. kept.given start body one other is) all;
     reported = λ one all. open_more (R one) (R (link_after DataReported one)) others (λ other is. kept.reported one other is) all;
   }
+
+  pub all_asked : KeepsAsked (λ one. EachOpen (R one) others)
+  all_asked step one well all = open_more (R one) (R (link_after step one)) others (λ other is. kept.asked step one other well is) all
 
   pub all_served : IsKeptServed (λ one. EachOpen (R one) others)
   all_served = record {

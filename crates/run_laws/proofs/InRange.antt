@@ -24,7 +24,7 @@ use Rattle.run_model.specs.Run.{Given, facts_at, history_of, run_of, setup_at, s
 use Rattle.run_model.proofs.Stations.{contains_in, is_in}
 use Rattle.run_laws.specs.Ranges.{HasRanges}
 use Rattle.run_laws.proofs.Entering.{IsInTurn, turn_first, turn_kept}
-use Rattle.run_laws.proofs.OpenSteps.{EachOpen, IsKeptByHosts, IsKeptOpen, IsKeptServed, MayOpen, begin_open, end_open, none_open, octet_open, open_has, phase_open}
+use Rattle.run_laws.proofs.OpenSteps.{EachOpen, IsKeptByHosts, IsKeptOpen, IsKeptServed, KeepsAsked, MayOpen, begin_open, end_open, none_open, octet_open, open_has, phase_open}
 use Rattle.run_laws.proofs.TurnPlaces.{Between, IsTurned, Stage, stands_in_run, turned}
 use Rattle.run_laws.proofs.TurnSteps.{begins_may}
 
@@ -101,6 +101,10 @@ ranges_hosts = record {
   reported = λ link has. ranges_after DataReported link tt has;
 }
 
+-- what a command asks for is in range
+ranges_asked : KeepsAsked HasRanges
+ranges_asked step link well has = ranges_after step link well.in_range has
+
 ranges_served : IsKeptServed HasRanges
 ranges_served = record {
   hosts = ranges_hosts;
@@ -119,10 +123,10 @@ ranges_open = record {
 
 -- ---- at any time of a controller
 
-record AreRanged (setup : Setup) (stage : Stage) (begun : ℕ) (facts : Facts) : Type 0 where
-  in_turn : IsInTurn setup stage begun facts
+pub record AreRanged (setup : Setup) (stage : Stage) (begun : ℕ) (facts : Facts) : Type 0 where
+  pub in_turn : IsInTurn setup stage begun facts
   makes : MakesMax facts.turn.doing
-  each : EachOpen HasRanges facts.links
+  pub each : EachOpen HasRanges facts.links
 
 may_open : (facts : Facts) → MakesMax facts.turn.doing → MayOpen HasRanges ranges_open facts
 may_open facts makes = record {
@@ -130,13 +134,13 @@ may_open facts makes = record {
   taken = λ pdu on fields handle takes. record { max_rx = refl; asks = tt };
 }
 
-ranged_kept : (setup : Setup) → IsTurned setup (AreRanged setup)
+pub ranged_kept : (setup : Setup) → IsTurned setup (AreRanged setup)
 ranged_kept setup = record {
   feeds = λ begun octet facts is.
       let in_turn = (turn_kept setup).feeds begun octet facts is.in_turn in record {
         in_turn = in_turn;
         makes = subst MakesMax (sym in_turn.does) tt;
-        each = octet_open HasRanges ranges_hosts setup facts octet is.each;
+        each = octet_open HasRanges ranges_hosts ranges_asked setup facts octet is.each;
       };
   begins = λ begun on facts is. record {
     in_turn = (turn_kept setup).begins begun on facts is.in_turn;
@@ -155,7 +159,7 @@ ranged_kept setup = record {
   };
 }
 
-ranged_first : (setup : Setup) → AreRanged setup Between 0 (first_facts setup)
+pub ranged_first : (setup : Setup) → AreRanged setup Between 0 (first_facts setup)
 ranged_first setup = record { in_turn = turn_first setup; makes = tt; each = none_open HasRanges setup.links }
 
 -- ---- in a run

@@ -3,7 +3,6 @@ pub mod SameEvent
 pub mod TurnPlaces
 pub mod OpenSteps
 pub mod TurnSteps
-pub mod OnTime
 pub mod Entering
 pub mod BetweenTurns
 pub mod SentPackets
@@ -14,14 +13,12 @@ pub mod Hearings
 pub mod ByCalls
 pub mod ChSel
 pub mod LinkPasses
-pub mod PlainLinks
 pub mod InRange
 pub mod Pieces
 pub mod Agreed
 pub mod TwoStations
 pub mod InAgreement
 pub mod EachCall
-pub mod PlainTurns
 pub mod OpenedOnce
 pub mod OwnLinks
 pub mod TwoEnds
@@ -29,7 +26,6 @@ pub mod TwoEnds
 pub use Rattle.run_model.proofs.control_model as control_model
 pub use Rattle.run_model.proofs.link_model as link_model
 pub use Rattle.run_model.proofs.open_links as open_links
-pub use Rattle.plain_links.proofs as plain_links
 pub use Rattle.run_model.proofs as run_model
 pub use Rattle.controller_model.proofs as controller_model
 pub use Rattle.run_model.proofs.link_end as link_end

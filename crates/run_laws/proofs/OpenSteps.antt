@@ -1,7 +1,7 @@
 -- The open links of a controller after each call on it.
 use Rattle.std.proofs.Common.{◌≡◌, ℕ, zero, suc, ◌+◌, ◌≤◌, ◌==◌, Bool, true, false, Option, Some, None, List, [], ◌∷◌, replicate, refl, sym, subst, ◌∙◌, arith}
 use Rattle.std.proofs.lemmas.Bool.{eqb-true}
-use Rattle.std.specs.Prelude.{⊤, nat_lt, if◌then◌else◌, ◌&&◌, Err}
+use Rattle.std.specs.Prelude.{⊤, nat_lt, if◌then◌else◌, ◌&&◌, Ok, Err, is_some}
 use Rattle.std.specs.Option.{option_map}
 use Rattle.adv_pdu.specs.declared.pdu.AdvPdu.{AdvPdu}
 use Rattle.adv_pdu.specs.declared.pdu.ConnectFields.{ConnectFields}
@@ -12,20 +12,30 @@ use Rattle.h4_frames.specs.declared.packet.HostPacket.TheVariants.{Command as Ho
 use Rattle.h4_frames.specs.declared.packet.Fed.{Fed}
 use Rattle.h4_frames.specs.declared.packet.Fed.TheVariants.{More, Packet, LostSync}
 use Rattle.hci_cmd.specs.declared.command.Command.{Command}
-use Rattle.hci_cmd.specs.declared.command.Command.TheVariants.{Reset}
+use Rattle.hci_cmd.specs.declared.command.Command.TheVariants.{Disconnect, LeConnectionUpdate, LeParamNegative, LeParamReply, LeReadRemoteFeatures, LeSetChannels, LeSetDataLength, ReadRemoteVersion, Reset}
 use Rattle.hci_cmd.specs.declared.command.CmdRead.{CmdRead}
 use Rattle.hci_cmd.specs.declared.command.CmdRead.TheVariants.{Known, UnknownOpcode, BadLength}
 use Rattle.hci_cmd.specs.Command.{command_of}
+use Rattle.host_view.specs.View.{View}
+use Rattle.host_view.specs.OnLinks.{asks_links}
 use Rattle.host_view.specs.Unbuilt.{status_of}
+use Rattle.ble_base.specs.ChannelMap.{IsMap}
 use Rattle.ble_base.specs.declared.error_codes.ErrCode.{ErrCode}
+use Rattle.ble_base.specs.declared.roles.Role.{Role}
+use Rattle.ble_base.specs.declared.roles.Role.TheVariants.{Central, Peripheral}
 use Rattle.run_model.specs.link_model.Setup.{Setup as EndSetup}
-use Rattle.run_model.specs.link_model.Step.{DataGiven, PduFixed, PacketSent, PacketReceived, RequestAnswered, DataReported}
+use Rattle.run_model.specs.link_model.ControlSteps.{IsAskInRange}
+use Rattle.run_model.specs.link_model.Step.{Step as EndStep, DataGiven, DataReported, Disconnected, PacketReceived, PacketSent, PduFixed, ProcedureAsked, RequestAnswered}
+use Rattle.run_model.specs.link_model.declared.state.PeerFacts.{PeerFacts}
+use Rattle.run_model.specs.procedure_values.declared.asks.Ask.{Ask}
+use Rattle.run_model.specs.procedure_values.declared.asks.Ask.TheVariants.{Features, Length, Map, Request, Update, Version}
+use Rattle.run_model.specs.procedure_values.Wants.{IsAsk}
 use Rattle.run_model.specs.link_model.declared.setup.LinkSetup.{LinkSetup}
 use Rattle.slot_plan.specs.declared.Activity.{Activity}
 use Rattle.slot_plan.specs.declared.Activity.TheVariants.{Link, Advertise, Scan, Initiate}
 use Rattle.slot_plan.specs.Holding.{is_held_in, winner_of}
 use Rattle.run_model.specs.open_links.Data.{complete_in, links_reported}
-use Rattle.run_model.specs.open_links.OpenLinks.{Links, OpenLink, link_after, link_at, link_from, link_served, new_link, with_change, with_change_from, with_link, without_links}
+use Rattle.run_model.specs.open_links.OpenLinks.{Links, OpenLink, facts_in, link_after, link_at, link_from, link_served, new_link, with_change, with_change_from, with_link, without_links}
 use Rattle.run_model.proofs.open_links.Handles.{here, later}
 use Rattle.run_model.specs.open_links.Turns.{due_in, ending_in, link_entered, links_without, staying_by}
 use Rattle.scan_init.specs.Reports.{does_ask, scan_answer}
@@ -33,7 +43,9 @@ use Rattle.controller_model.specs.declared.doing.Doing.{Doing}
 use Rattle.controller_model.specs.declared.doing.Doing.TheVariants.{Advertises, Connects, CentralSends, PeripheralListens, PeripheralSends, Rests}
 use Rattle.controller_model.specs.Step.{HostOctet, TurnBegins, TurnEnds}
 use Rattle.controller_model.specs.Facts.{Setup, Facts}
-use Rattle.controller_model.specs.Commands.{facts_commanded, facts_known, links_after}
+use Rattle.controller_model.specs.Commands.{facts_asking, facts_commanded, facts_known, links_after}
+use Rattle.controller_model.specs.link_commands.Commands.{AsksInRange, ask_unless, host_step_of, is_about, map_by, transmit_maximum, update_by}
+use Rattle.controller_model.specs.link_commands.LinksCommanded.{link_after_if, links_commanded_from, place_commanded}
 use Rattle.run_model.specs.open_links.declared.offers.Offer.{Offer}
 use Rattle.run_model.specs.open_links.declared.offers.Offer.TheVariants.{NoLink, Empty, Overflow, Kept}
 use Rattle.controller_model.specs.Data.{facts_handed, facts_offered, offer_of}
@@ -47,7 +59,9 @@ use Rattle.controller_model.proofs.Always.{ending_is, leaving_is, links_won, ope
 use Rattle.controller_model.proofs.Phases.{EachOutcome, heard_is, unheard_is}
 use Rattle.run_model.specs.Run.{step_of}
 use Rattle.controller_model.specs.Entering.{all_entered}
-use Rattle.controller_model.proofs.Unasked.{of_unasked}
+use Rattle.controller_model.proofs.Accepted.{table_accepts}
+use Rattle.controller_model.proofs.Asked.{IsAskedStep}
+use Rattle.controller_model.proofs.link_commands.Ranges.{asked_in_range}
 
 -- ---- a fact of each open link
 
@@ -130,6 +144,66 @@ changed_at P first handle change (place ∷ links) more each = at (first == hand
     at true is own rest = (here place own each.0, each.1)
     at false is own rest = (each.0, rest own each.1)
 
+-- ---- what a command makes on a link
+
+-- a channel map that a host asks for is one
+abbrev pub AsksForMap : EndStep → Type 0
+AsksForMap (ProcedureAsked (Map map)) = IsMap map
+AsksForMap other = ⊤
+
+-- a step that a host makes by a command, with values in their range
+pub record IsAskedWell (step : EndStep) : Type 0 where
+  pub by_host : IsAskedStep step
+  pub in_range : IsAskInRange step
+  pub map : AsksForMap step
+
+-- it keeps the fact
+abbrev pub KeepsAsked : (OpenLink → Type 0) → Type 0
+KeepsAsked P = (step : EndStep) (link : OpenLink) → IsAskedWell step → P link → P (link_after step link)
+
+one_well : (one step : EndStep) → IsAskedWell one → Some one ≡ Some step → IsAskedWell step
+one_well one step well is = let same : one ≡ step = cc in subst IsAskedWell same well
+
+asked_well : (ask : Ask) (step : EndStep) → IsAsk ask → AsksForMap (ProcedureAsked ask) → Some (ProcedureAsked ask) ≡ Some step → IsAskedWell step
+asked_well ask step ranged map is = one_well (ProcedureAsked ask) step (record { by_host = tt; in_range = ranged; map = map }) is
+
+unless_well : (known : Bool) (ask : Ask) (step : EndStep) → IsAsk ask → AsksForMap (ProcedureAsked ask) → ask_unless known ask ≡ Some step → IsAskedWell step
+unless_well true ask step ranged map is = absurd cc
+unless_well false ask step ranged map is = asked_well ask step ranged map is
+
+map_well : (role : Role) (map : ℕ) (step : EndStep) → IsMap map → map_by role map ≡ Some step → IsAskedWell step
+map_well Central map step ranged is = asked_well (Map map) step tt ranged is
+map_well Peripheral map step ranged is = absurd cc
+
+update_well : (role : Role) (min max latency timeout : ℕ) (step : EndStep) → IsAsk (update_by role min max latency timeout)
+    → Some (ProcedureAsked (update_by role min max latency timeout)) ≡ Some step → IsAskedWell step
+update_well Central min max latency timeout step ranged is = asked_well (Update max latency timeout) step ranged tt is
+update_well Peripheral min max latency timeout step ranged is = asked_well (Request min max latency timeout) step ranged tt is
+
+-- an accepted command asks for what is in range
+pub step_is_well : (command : Command) (slot : ℕ) (role : Role) (peer : PeerFacts) (step : EndStep) → AsksInRange command
+    → host_step_of command slot role peer ≡ Some step → IsAskedWell step
+step_is_well (Disconnect handle reason) slot role peer step ranged is =
+    one_well (Disconnected (record { 0 = reason }) slot) step (record { by_host = tt; in_range = tt; map = tt }) is
+step_is_well (ReadRemoteVersion handle) slot role peer step ranged is = unless_well (is_some peer.version) Version step tt tt is
+step_is_well (LeReadRemoteFeatures handle) slot role peer step ranged is = unless_well (is_some peer.features) Features step tt tt is
+step_is_well (LeSetDataLength handle octets time) slot role peer step ranged is =
+    asked_well (Length (transmit_maximum octets time)) step ranged tt is
+step_is_well (LeConnectionUpdate handle min max latency timeout lengths) slot role peer step ranged is =
+    update_well role min max latency timeout step (ranged role) is
+step_is_well (LeSetChannels map) slot role peer step ranged is = map_well role map step ranged is
+step_is_well (LeParamReply handle min max latency timeout lengths) slot role peer step ranged is =
+    one_well (RequestAnswered (Ok (Update max latency timeout))) step (record { by_host = tt; in_range = ranged; map = tt }) is
+step_is_well (LeParamNegative handle reason) slot role peer step ranged is =
+    one_well (RequestAnswered (Err (record { 0 = reason }))) step (record { by_host = tt; in_range = tt; map = tt }) is
+step_is_well other slot role peer step ranged is = absurd cc
+
+pub accepted_in_range : (view : View) (command : Command) → status_of view command ≡ 0 → AsksInRange command
+unfolding status_of
+accepted_in_range view command accepted = asked_in_range view command (table_accepts _ _ accepted)
+
+-- ---- what each call keeps
+
 -- what its host gives, and what is reported to it, keeps the fact
 pub record IsKeptByHosts (P : OpenLink → Type 0) : Type 0 where
   pub given : (start : Bool) (body : List ℕ) (link : OpenLink) → P link → P (link_after (DataGiven start body) link)
@@ -199,11 +273,42 @@ module _ (P : OpenLink → Type 0) where
   known_open true setup command facts each = command_open command facts.links each
   known_open false setup command facts each = each
 
-  read_open : (setup : Setup) (facts : Facts) (read : CmdRead) → EachOpen P facts.links → EachOpen P (facts_commanded setup facts read).links
-  read_open setup facts (Known command) each =
-      of_unasked setup facts command (λ (after : Facts). EachOpen P after.links) (known_open (status_of facts.view command == 0) setup command facts each)
-  read_open setup facts UnknownOpcode each = each
-  read_open setup facts BadLength each = each
+  module _ (asked : KeepsAsked P) where
+    place_asked : (command : Command) → AsksInRange command → (slot : ℕ) (about : Bool) (place : Option OpenLink) → AtOpen P place
+        → AtOpen P (place_commanded about command slot place)
+    place_asked command ranged slot false place has = has
+    place_asked command ranged slot true None has = tt
+    place_asked command ranged slot true (Some link) has =
+        let role = link.setup.link.role in
+        let peer = (facts_in link).peer in
+        by (host_step_of command slot role peer) (λ step is. step_is_well command slot role peer step ranged is)
+      where
+        by : (step : Option EndStep) → ((one : EndStep) → step ≡ Some one → IsAskedWell one) → P (link_after_if step link)
+        by None well = has
+        by (Some step) well = asked step link (well step refl) has
+
+    places_asked : (command : Command) → AsksInRange command → (slot first : ℕ) (links : Links) → EachOpen P links
+        → EachOpen P (links_commanded_from first command slot links)
+    places_asked command ranged slot first [] each = tt
+    places_asked command ranged slot first (place ∷ links) each = (
+      place_asked command ranged slot (is_about first command) place each.0,
+      places_asked command ranged slot (first + 1) links each.1,
+    )
+
+    -- a command that asks something of links was accepted
+    asking_open : (setup : Setup) (facts : Facts) (command : Command) (accepted asks : Bool) → (status_of facts.view command == 0) ≡ accepted
+        → EachOpen P facts.links
+        → EachOpen P (facts_asking (accepted && asks) facts command (facts_known accepted setup facts command)).links
+    asking_open setup facts command true true is each =
+        places_asked command (accepted_in_range facts.view command (eqb-true (status_of facts.view command) 0 is)) facts.turn.begun 0 facts.links each
+    asking_open setup facts command true false is each = known_open true setup command facts each
+    asking_open setup facts command false asks is each = each
+
+    read_open : (setup : Setup) (facts : Facts) (read : CmdRead) → EachOpen P facts.links → EachOpen P (facts_commanded setup facts read).links
+    read_open setup facts (Known command) each =
+        asking_open setup facts command (status_of facts.view command == 0) (asks_links facts.view command) refl each
+    read_open setup facts UnknownOpcode each = each
+    read_open setup facts BadLength each = each
 
   module _ (kept : IsKeptByHosts P) where
     offered_open : (offer : Offer) (handle : ℕ) (start : Bool) (octets : List ℕ) (facts : Facts) → EachOpen P facts.links
@@ -213,15 +318,16 @@ module _ (P : OpenLink → Type 0) where
     offered_open Empty handle start octets facts each = each
     offered_open Overflow handle start octets facts each = each
 
-    fed_open : (setup : Setup) (facts : Facts) (fed : Fed) → EachOpen P facts.links → EachOpen P (facts_fed setup facts fed).links
-    fed_open setup facts (Packet (HostCommand opcode body)) each = read_open setup facts (command_of opcode body.items) each
-    fed_open setup facts (Packet (Acl handle start count body)) each =
+    fed_open : KeepsAsked P → (setup : Setup) (facts : Facts) (fed : Fed) → EachOpen P facts.links → EachOpen P (facts_fed setup facts fed).links
+    fed_open asked setup facts (Packet (HostCommand opcode body)) each = read_open asked setup facts (command_of opcode body.items) each
+    fed_open asked setup facts (Packet (Acl handle start count body)) each =
         offered_open (offer_of setup facts handle count) handle start body.items facts each
-    fed_open setup facts LostSync each = each
-    fed_open setup facts More each = each
+    fed_open asked setup facts LostSync each = each
+    fed_open asked setup facts More each = each
 
-    pub octet_open : (setup : Setup) (facts : Facts) (octet : ℕ) → EachOpen P facts.links → EachOpen P (facts_after setup facts (HostOctet octet)).links
-    octet_open setup facts octet each = fed_open setup facts (result_of facts.octets octet) each
+    pub octet_open : KeepsAsked P → (setup : Setup) (facts : Facts) (octet : ℕ) → EachOpen P facts.links
+        → EachOpen P (facts_after setup facts (HostOctet octet)).links
+    octet_open asked setup facts octet each = fed_open asked setup facts (result_of facts.octets octet) each
 
     -- ---- a turn ends
 

@@ -22,7 +22,7 @@ use Rattle.controller_model.specs.declared.doing.Doing.TheVariants.{Advertises, 
 use Rattle.controller_model.specs.declared.doing.Turn.{Turn}
 use Rattle.controller_model.specs.Step.{HostOctet, TurnBegins, TurnEnds}
 use Rattle.controller_model.specs.Facts.{Setup, Facts, Listens}
-use Rattle.controller_model.specs.Commands.{facts_commanded, facts_known}
+use Rattle.controller_model.specs.Commands.{facts_asking, facts_commanded, facts_known, is_asking}
 use Rattle.run_model.specs.open_links.declared.offers.Offer.{Offer}
 use Rattle.run_model.specs.open_links.declared.offers.Offer.TheVariants.{NoLink, Empty, Overflow, Kept}
 use Rattle.controller_model.specs.Data.{facts_handed, facts_offered, offer_of}
@@ -35,7 +35,6 @@ use Rattle.controller_model.specs.Side.{facts_after, facts_fed, result_of}
 use Rattle.controller_model.proofs.Always.{IsKeptAtStarts, MayBegin, facts_opening, leaving_is, opening_passes, start_keeps, winning_is, IsAdvertisingChannel}
 use Rattle.controller_model.proofs.Phases.{EachOutcome, heard_is, unheard_is}
 use Rattle.run_model.specs.Run.{step_of}
-use Rattle.controller_model.proofs.Unasked.{of_unasked}
 
 -- ---- an octet of the host changes neither the turn nor the number of access addresses
 
@@ -51,8 +50,14 @@ known_turn : (accepted : Bool) (setup : Setup) (command : Command) (facts : Fact
 known_turn true setup command facts = record { turn = refl; connections = refl; wanted = refl }
 known_turn false setup command facts = same_turn facts
 
+asking_turn : (asks : Bool) (facts : Facts) (command : Command) (known : Facts) → IsSameTurn facts known → IsSameTurn facts (facts_asking asks facts command known)
+asking_turn true facts command known same = record { turn = same.turn; connections = same.connections; wanted = same.wanted }
+asking_turn false facts command known same = same
+
 read_turn : (setup : Setup) (facts : Facts) (read : CmdRead) → IsSameTurn facts (facts_commanded setup facts read)
-read_turn setup facts (Known command) = of_unasked setup facts command (IsSameTurn facts) (known_turn (status_of facts.view command == 0) setup command facts)
+read_turn setup facts (Known command) =
+    asking_turn (is_asking facts.view command) facts command (facts_known (status_of facts.view command == 0) setup facts command)
+    (known_turn (status_of facts.view command == 0) setup command facts)
 read_turn setup facts UnknownOpcode = same_turn facts
 read_turn setup facts BadLength = same_turn facts
 

@@ -30,7 +30,7 @@ use Rattle.run_laws.proofs.Agreed.{Agree, ack_of, agree_by, agree_received, exch
 use Rattle.run_laws.proofs.ByCalls.{all_facts}
 use Rattle.run_laws.proofs.EachCall.{IsCallOf, IsPhase, call_at, facts_called, facts_others, kept_along}
 use Rattle.run_laws.proofs.DistinctAccess.{AreApart}
-use Rattle.run_laws.proofs.InAgreement.{AllAgree, AllPairs, IsKeptByFirst, IsStation, WithAll, agree_kept, all_entered, all_hosts, all_served, first_station, new_agree, one_slot, pairs_back, passing_keeps, station_begins, station_ends, station_fed, station_passes}
+use Rattle.run_laws.proofs.InAgreement.{AllAgree, AllPairs, IsKeptByFirst, IsStation, WithAll, agree_kept, all_asked, all_entered, all_hosts, all_served, first_station, new_agree, one_slot, pairs_back, passing_keeps, station_begins, station_ends, station_fed, station_passes}
 use Rattle.run_laws.proofs.InRange.{ranges_before, ranges_in}
 use Rattle.run_laws.proofs.LinkPasses.{phase_passes_on}
 use Rattle.run_laws.proofs.OpenSteps.{EachOpen, begin_open, each_under, end_open, none_open, octet_open, open_has, open_more}
@@ -66,6 +66,7 @@ on_kept end = record {
   entered = λ slot one other agree own.
       agree_kept.entered slot one other (agree (subst (λ s. HaveOneConnectInd s end) (entered_setup slot one) own));
   answered = λ answer one other agree own. agree_kept.answered answer one other (agree own);
+  asked = λ step one other well agree own. agree_kept.asked step one other well (agree own);
 }
 
 -- ---- what is received
@@ -203,7 +204,7 @@ module _ (whole : IsHeardWhole) (given : Given) (six : HaveAddresses given) (dis
         → HearsNow given before one other step → IsNext step
     next (HostOctet octet) at call hears = record {
       is_one = station_fed setup facts octet are.is_one;
-      agree = octet_open WithFar (all_hosts Pairs (on_kept one.link.setup) far_facts.links) setup facts octet are.agree;
+      agree = octet_open WithFar (all_hosts Pairs (on_kept one.link.setup) far_facts.links) (all_asked Pairs (on_kept one.link.setup) far_facts.links) setup facts octet are.agree;
     }
     next (TurnBegins slot on) at call hears = record {
       is_one = station_begins setup facts slot on call.in_turn.begun_is are.is_one;

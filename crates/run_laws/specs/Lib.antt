@@ -1,16 +1,13 @@
 -- The definitions of this crate.
 pub mod Ends
 pub mod Access
-pub mod OnTime
 pub mod Ranges
-pub mod Plainness
 pub mod Rows
 -- what the crates above use of those below
 pub use Rattle.run_model.specs.control_end as control_end
 pub use Rattle.run_model.specs.link_end as link_end
 pub use Rattle.run_model.specs.link_model as link_model
 pub use Rattle.run_model.specs.open_links as open_links
-pub use Rattle.plain_links.specs as plain_links
 pub use Rattle.run_model.specs.procedure_stages as procedure_stages
 pub use Rattle.run_model.specs as run_model
 pub use Rattle.controller_model.specs as controller_model

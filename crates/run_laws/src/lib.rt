@@ -4,7 +4,6 @@
 mod access;
 mod agreement;
 mod ends;
-mod plain;
 mod ranges;
 mod rows;
 
@@ -15,9 +14,6 @@ pub use crate::agreement::{
 };
 pub use crate::ends::{
     each_station_begins_the_turns, ends_of_one_link_agree, ends_of_one_link_have_one_connect_ind,
-};
-pub use crate::plain::{
-    links_are_plain, links_of_a_run_end_by_supervision, no_call_of_a_run_notes_a_procedure,
 };
 pub use crate::ranges::{
     packets_are_understood_on_their_channel, what_hosts_ask_is_in_range,

@@ -35,6 +35,7 @@ use Rattle.link_runs.specs.link_pairs.Hearing.{received as received_facts}
 use Rattle.link_runs.specs.link_pairs.Turns.{sent_if as sends_if}
 use Rattle.link_runs.specs.Open.{AreOpenEnds}
 use Rattle.link_runs.specs.Runs.{MayHostAll}
+use Rattle.link_runs.proofs.GoingOn.{lasting_goes}
 use Rattle.link_runs.specs.Turn.{facts_hosted}
 use Rattle.link_calls.specs.run_laws.Ends.{HaveOneConnectInd, OpenEnd, ReceivesGood, link_listened}
 use Rattle.link_calls.proofs.run_laws.Agreed.{step_facts}
@@ -54,7 +55,7 @@ use Rattle.run_pairs.proofs.Stages.{new_ends}
 use Rattle.link_calls.proofs.UnderHandles.{ended_under}
 use Rattle.link_calls.specs.Turns.{sent_if}
 use Rattle.link_calls.specs.Uses.{fixes_under, listens_under, sends_under}
-use Rattle.run_pairs.proofs.LinkSteps.{octet_under, replies_under}
+use Rattle.run_pairs.proofs.LinkSteps.{AsksMayCome, MayAskAt, octet_under, replies_under}
 
 -- ---- the place of a controller after one more call
 
@@ -173,7 +174,7 @@ sends_next setup facts handle received = sends_under handle (facts_after setup f
 
 module _ (whole : IsHeardWhole) (taken : AreTaken) (given : Given) (distinct : AreDistinct given.stations) (central peripheral : OpenEnd)
     (ends : AreEnds central.link.setup peripheral.link.setup) (in_it : is_in central.station given.stations ≡ true)
-    (in_too : is_in peripheral.station given.stations ≡ true) where
+    (in_too : is_in peripheral.station given.stations ≡ true) (asks : AsksMayCome given) where
   abbrev c_end : EndSetup
   c_end = central.link.setup
 
@@ -196,6 +197,15 @@ module _ (whole : IsHeardWhole) (taken : AreTaken) (given : Given) (distinct : A
 
   station_at : (setup : Setup) (past : List Step) (at : Standing) → standing past ≡ Some at → StationAt setup at.stage at.begun (facts_of setup past)
   station_at setup past at is = turned setup (StationAt setup) (station_kept taken setup) past at (station_first setup) is
+
+  -- no procedure ended the link, between two turns
+  central_goes : (turns : ℕ) (c p : EndFacts) → AreOpenEnds c_end p_end turns c p → c.control.ends ≡ None
+  central_goes turns c p (inl link) = lasting_goes c link.central_lasts
+  central_goes turns c p (inr parting) = parting.took.goes_on
+
+  peripheral_goes : (turns : ℕ) (c p : EndFacts) → AreOpenEnds c_end p_end turns c p → p.control.ends ≡ None
+  peripheral_goes turns c p (inl link) = lasting_goes p link.peripheral_lasts
+  peripheral_goes turns c p (inr parting) = parting.sent.goes_on
 
   -- what is open after a call
   after_call_at : (setup : Setup) (past : List Step) (step : Step) (handle : ℕ) (link : OpenLink) → link_at handle (facts_of setup (past ++ step ∷ [])).links ≡ Some link
@@ -226,12 +236,18 @@ module _ (whole : IsHeardWhole) (taken : AreTaken) (given : Given) (distinct : A
 
     -- ---- at the central
 
-    central_fed : (octet turns : ℕ) → standing pc ≡ Some (at_stage Between turns) → standing pp ≡ Some (at_stage Between turns) → Keeps (pc ++ HostOctet octet ∷ []) pp
-    central_fed octet turns own other = λ c p at_c setup at_p setup_too.
-        let was = octet_under setup_c facts_c octet central.handle c (after_call_at setup_c pc (HostOctet octet) central.handle c at_c) in
+    central_fed : (octet turns : ℕ) → standing pc ≡ Some (at_stage Between turns) → standing pp ≡ Some (at_stage Between turns)
+        → MayAskAt facts_c octet central.handle → Keeps (pc ++ HostOctet octet ∷ []) pp
+    central_fed octet turns own other may_ask = λ c p at_c setup at_p setup_too.
+        let before : (link : OpenLink) → link_at central.handle facts_c.links ≡ Some link → link.setup ≡ c_end
+        → AreOpenEnds c_end p_end turns (facts_in link) (facts_in p) =
+        (λ link at same. at_standing c_end p_end p_handle (at_stage Between turns) (at_stage Between turns) (standing pc) (standing pp) facts_p.turn.doing link p own other
+        (keeps link p at same at_p setup_too)) in
+        let was = octet_under setup_c facts_c octet central.handle c may_ask
+        (λ link at same. central_goes turns (facts_in link) (facts_in p) (before link at (same ∙ setup)))
+        (after_call_at setup_c pc (HostOctet octet) central.handle c at_c) in
         let setups : was.link.setup ≡ c_end = sym was.setup ∙ setup in
-        let prior = at_standing c_end p_end p_handle (at_stage Between turns) (at_stage Between turns) (standing pc) (standing pp) facts_p.turn.doing was.link p own other
-        (keeps was.link p was.was setups at_p setup_too) in
+        let prior = before was.link was.was setups in
         let may = subst (λ (s : EndSetup). MayHostAll s was.steps (facts_in was.link)) setups was.may in
         let facts_are = was.facts ∙ ap (λ (s : EndSetup). facts_hosted s was.steps (facts_in was.link)) setups in
         by_standing c_end p_end p_handle (at_stage Between turns) (at_stage Between turns) _ _ facts_p.turn.doing c p (fed_next pc octet turns own) other
@@ -404,12 +420,18 @@ module _ (whole : IsHeardWhole) (taken : AreTaken) (given : Given) (distinct : A
 
     -- ---- at the peripheral
 
-    peripheral_fed : (octet turns : ℕ) → standing pc ≡ Some (at_stage Between turns) → standing pp ≡ Some (at_stage Between turns) → Keeps pc (pp ++ HostOctet octet ∷ [])
-    peripheral_fed octet turns other own = λ c p at_c setup at_p setup_too.
-        let was = octet_under setup_p facts_p octet p_handle p (after_call_at setup_p pp (HostOctet octet) p_handle p at_p) in
+    peripheral_fed : (octet turns : ℕ) → standing pc ≡ Some (at_stage Between turns) → standing pp ≡ Some (at_stage Between turns)
+        → MayAskAt facts_p octet p_handle → Keeps pc (pp ++ HostOctet octet ∷ [])
+    peripheral_fed octet turns other own may_ask = λ c p at_c setup at_p setup_too.
+        let before : (link : OpenLink) → link_at p_handle facts_p.links ≡ Some link → link.setup ≡ p_end
+        → AreOpenEnds c_end p_end turns (facts_in c) (facts_in link) =
+        (λ link at same. at_standing c_end p_end p_handle (at_stage Between turns) (at_stage Between turns) (standing pc) (standing pp) facts_p.turn.doing c link other own
+        (keeps c link at_c setup at same)) in
+        let was = octet_under setup_p facts_p octet p_handle p may_ask
+        (λ link at same. peripheral_goes turns (facts_in c) (facts_in link) (before link at (same ∙ setup_too)))
+        (after_call_at setup_p pp (HostOctet octet) p_handle p at_p) in
         let setups : was.link.setup ≡ p_end = sym was.setup ∙ setup_too in
-        let prior = at_standing c_end p_end p_handle (at_stage Between turns) (at_stage Between turns) (standing pc) (standing pp) facts_p.turn.doing c was.link other own
-        (keeps c was.link at_c setup was.was setups) in
+        let prior = before was.link was.was setups in
         let may = subst (λ (s : EndSetup). MayHostAll s was.steps (facts_in was.link)) setups was.may in
         let facts_are = was.facts ∙ ap (λ (s : EndSetup). facts_hosted s was.steps (facts_in was.link)) setups in
         by_standing c_end p_end p_handle (at_stage Between turns) (at_stage Between turns) _ _ _ c p other (fed_next pp octet turns own)
@@ -629,6 +651,7 @@ module _ (whole : IsHeardWhole) (taken : AreTaken) (given : Given) (distinct : A
       by (HostOctet octet) at place hears =
           central_fed (past_of central.station before) (past_of peripheral.station before) keeps octet place.turns place.stand.own
           (feed_other (place.stand.was_called peripheral.station) place.turns (past_of peripheral.station before) (place.stand.others peripheral.station in_too))
+          (asks before rest central.station octet central.handle in_it at)
       by (TurnBegins slot on) at place hears =
           central_begun (past_of central.station before) (past_of peripheral.station before) keeps slot on place.own (place.was_called peripheral.station)
           (place.others peripheral.station in_too)
@@ -655,6 +678,7 @@ module _ (whole : IsHeardWhole) (taken : AreTaken) (given : Given) (distinct : A
       by (HostOctet octet) at place hears =
           peripheral_fed (past_of central.station before) (past_of peripheral.station before) keeps octet place.turns
           (feed_other (place.stand.was_called central.station) place.turns (past_of central.station before) (place.stand.others central.station in_it)) place.stand.own
+          (asks before rest peripheral.station octet p_handle in_too at)
       by (TurnBegins slot on) at place hears =
           peripheral_begun (past_of central.station before) (past_of peripheral.station before) keeps slot on place.own (place.was_called central.station)
           (place.others central.station in_it)

@@ -48,6 +48,7 @@ use Rattle.link_calls.proofs.run_laws.ChSel.{one_link}
 use Rattle.link_calls.proofs.run_laws.OpenSteps.{open_has}
 use Rattle.link_calls.proofs.run_laws.SameEvent.{apart_ends}
 use Rattle.link_calls.proofs.run_laws.TurnPlaces.{Between, Stage, StandsSomewhere, Within, at_stage, standing, stands_in_run, turned}
+use Rattle.run_pairs.proofs.LinkSteps.{AsksMayCome}
 use Rattle.run_pairs.proofs.OneSide.{IsSetUp, StationAt, station_first, station_kept}
 
 -- no procedure ends the link but at a late peripheral, and the counts agree
@@ -125,7 +126,7 @@ module _ (whole : IsHeardWhole) (c_end p_end : EndSetup) (ends : AreEnds c_end p
 -- ---- at a place of a run
 
 module _ (whole : IsHeardWhole) (understood : IsUnderstood) (taken : AreTaken) (given : Given) (six : HaveAddresses given) (distinct : AreDistinct given.stations)
-    (before rest : List Event) (at : history_of (run_of given) ≡ before ++ rest) (central peripheral : OpenEnd)
+    (asks : AsksMayCome given) (before rest : List Event) (at : history_of (run_of given) ≡ before ++ rest) (central peripheral : OpenEnd)
     (in_it : is_in central.station given.stations ≡ true) (in_too : is_in peripheral.station given.stations ≡ true)
     (of_one : AreEndsIn before central peripheral) (is_open : IsOpen given before central) (is_open_too : IsOpen given before peripheral)
     (hear : HearEachInTurn given before central peripheral) where
@@ -160,7 +161,7 @@ module _ (whole : IsHeardWhole) (understood : IsUnderstood) (taken : AreTaken) (
   kept_here : ByStanding c_here p_here peripheral.handle (standing (past_of central.station before)) (standing (past_of peripheral.station before))
       (facts_at given peripheral.station before).turn.doing central.link peripheral.link
   kept_here =
-      kept_to whole taken given distinct central peripheral pair_ends in_it in_too (apart_ends before central peripheral of_one) before rest at hear before []
+      kept_to whole taken given distinct central peripheral pair_ends in_it in_too asks (apart_ends before central peripheral of_one) before rest at hear before []
       (sym (append-nil before)) central.link peripheral.link is_open refl is_open_too refl
 
   pub open_linked : (slot : ℕ) → AllBetween given before slot → AreOpenEnds c_here p_here slot (facts_in central.link) (facts_in peripheral.link)
@@ -208,7 +209,7 @@ module _ (whole : IsHeardWhole) (understood : IsUnderstood) (taken : AreTaken) (
           let opened : c_here.opened ≡ slot = one_slot c_here.opened slot turns new slot_here in
           let there : c_here.opened ≡ (facts_at given peripheral.station before).turn.slot = one_slot c_here.opened _ turns new slot_there in
           heard_sound whole c_here p_here pair_ends peripheral.handle slot (facts_in central.link) (facts_in peripheral.link)
-          (both_new whole taken given distinct central peripheral pair_ends in_it in_too slot central.link peripheral.link refl refl
+          (both_new whole taken given distinct central peripheral pair_ends in_it in_too asks slot central.link peripheral.link refl refl
           (side.new central.handle central.link is_open opened) (far.new peripheral.handle peripheral.link is_open_too (sym pair_ends.one_link.opened ∙ there)) opened)
 
   pub sound_here : IsSoundPlace (facts_in central.link) (facts_in peripheral.link)

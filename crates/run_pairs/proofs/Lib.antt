@@ -10,3 +10,4 @@ pub mod BothEnds
 pub mod Conclusions
 pub mod OnAirNow
 pub mod FarEnds
+pub mod OnTime

@@ -1,25 +1,34 @@
 -- What the calls on a controller do to the link under one handle, as steps of its end.
-use Rattle.std.proofs.Common.{◌≡◌, ℕ, ◌==◌, Bool, true, false, Option, Some, List, [], ◌∷◌, ◌++◌, append-nil, refl, sym, ap, ◌∙◌}
+use Rattle.std.proofs.Common.{◌≡◌, ℕ, ◌==◌, Bool, true, false, Option, Some, None, List, [], ◌∷◌, ◌++◌, append-nil, refl, sym, ap, ◌∙◌}
 use Rattle.std.proofs.lemmas.Bool.{eqb-true}
+use Rattle.hci_cmd.specs.declared.command.Command.{Command}
 use Rattle.link_calls.specs.link_model.Receiving.{replies_of}
+use Rattle.link_calls.specs.link_model.Setup.{Setup as EndSetup}
 use Rattle.link_calls.specs.link_model.Step.{Step as EndStep, DataGiven}
-use Rattle.link_calls.specs.open_links.OpenLinks.{Links, OpenLink, facts_in, link_after, link_at}
-use Rattle.controller_model.specs.Step.{HostOctet}
+use Rattle.link_calls.specs.open_links.OpenLinks.{OpenLink, facts_in, link_after, link_at}
+use Rattle.controller_model.specs.Step.{Step, HostOctet}
 use Rattle.controller_model.specs.declared.doing.Doing.{Doing}
 use Rattle.controller_model.specs.declared.doing.Doing.TheVariants.{Advertises, CentralListens, PeripheralListens}
 use Rattle.controller_model.specs.Facts.{Setup, Facts}
+use Rattle.controller_model.specs.host_view.View.{View}
+use Rattle.controller_model.specs.host_view.Unbuilt.{status_of}
 use Rattle.controller_model.specs.Heard.{has_room, heard, replies_in, reply_if}
-use Rattle.controller_model.specs.Side.{facts_after}
+use Rattle.controller_model.specs.Host.{commands_accepted_after}
+use Rattle.controller_model.specs.link_commands.Commands.{FitsReason, step_on}
+use Rattle.controller_model.specs.Side.{facts_after, facts_of}
 use Rattle.link_runs.specs.link_pairs.Hosts.{MayHost}
 use Rattle.link_runs.specs.Runs.{MayHostAll}
 use Rattle.link_runs.specs.Turn.{facts_hosted}
 use Rattle.link_calls.proofs.run_laws.Agreed.{step_facts}
-use Rattle.link_calls.specs.Hosts.{HasHeardHost, GetsData, Unchanged}
+use Rattle.link_calls.specs.Hosts.{HasHeardHost, GetsData, IsAsked, Unchanged}
 use Rattle.link_calls.specs.Turns.{fixed_if}
 use Rattle.link_calls.specs.Uses.{fixes_under, listens_under, sends_under}
 use Rattle.link_calls.proofs.LinkCalls.{HasBegun}
+use Rattle.link_calls.proofs.HostSteps.{accepted_status}
 use Rattle.link_calls.proofs.UnderHandles.{host_under}
-use Rattle.link_calls.specs.run_model.Run.{step_of}
+use Rattle.link_calls.specs.run_model.History.{Event, Called, past_of}
+use Rattle.link_calls.specs.run_model.Run.{Given, facts_at, history_of, run_of, setup_at, step_of}
+use Rattle.link_calls.proofs.run_model.Stations.{is_in}
 
 -- ---- an octet of the host
 
@@ -48,13 +57,53 @@ hosted_step place step link after was is may = record {
   facts = ap facts_in is ∙ step_facts link step;
 }
 
-heard_host : (links : Links) (handle : ℕ) (after : OpenLink) → HasHeardHost links handle after → WasHosted (link_at handle links) after
-heard_host links handle after (Unchanged was) = hosted_same (link_at handle links) after was
-heard_host links handle after (GetsData link start body was is) = hosted_step (link_at handle links) (DataGiven start body) link after was is tt
+-- what a command that an octet completes asks of the end under a handle may come there, while no procedure ended the link
+abbrev pub MayAskAt : Facts → ℕ → ℕ → Type 0
+MayAskAt facts octet handle =
+    (link : OpenLink) (command : Command) (step : EndStep) → link_at handle facts.links ≡ Some link → (facts_in link).control.ends ≡ None
+    → commands_accepted_after facts (HostOctet octet) ≡ command ∷ []
+    → step_on handle command facts.turn.begun link.setup.link.role (facts_in link).peer ≡ Some step → MayHost step (facts_in link)
 
-pub octet_under : (setup : Setup) (facts : Facts) (octet handle : ℕ) (after : OpenLink)
+-- so it is in a run
+abbrev pub AsksMayCome : Given → Type 0
+AsksMayCome given =
+    (before rest : List Event) (station octet handle : ℕ) → is_in station given.stations ≡ true
+    → history_of (run_of given) ≡ before ++ Called station (HostOctet octet) ∷ rest → MayAskAt (facts_at given station before) octet handle
+
+-- by what is known of all pasts of a controller
+abbrev pub MayAskAfterAll : Type 0
+MayAskAfterAll =
+    (setup : Setup) (past : List Step) (octet handle : ℕ) (link : OpenLink) (command : Command) (step : EndStep) → FitsReason command
+    → link_at handle (facts_of setup past).links ≡ Some link → (facts_in link).control.ends ≡ None
+    → commands_accepted_after (facts_of setup past) (HostOctet octet) ≡ command ∷ []
+    → step_on handle command (facts_of setup past).turn.begun link.setup.link.role (facts_in link).peer ≡ Some step → MayHost step (facts_in link)
+
+abbrev pub HasFittingReasons : Type 0
+HasFittingReasons = (view : View) (command : Command) → status_of view command ≡ 0 → FitsReason command
+
+pub asks_come : MayAskAfterAll → HasFittingReasons → (given : Given) → AsksMayCome given
+asks_come may fits given before rest station octet handle in_it at link command step found goes accepted asks =
+    let facts = facts_at given station before in
+    may (setup_at given station) (past_of station before) octet handle link command step
+    (fits facts.view command (accepted_status facts octet command accepted)) found goes accepted asks
+
+-- no procedure ended the link with this setup that is under the handle
+abbrev GoesOnUnder : Facts → ℕ → EndSetup → Type 0
+GoesOnUnder facts handle setup = (link : OpenLink) → link_at handle facts.links ≡ Some link → link.setup ≡ setup → (facts_in link).control.ends ≡ None
+
+heard_host : (facts : Facts) (octet handle : ℕ) (after : OpenLink) → MayAskAt facts octet handle → GoesOnUnder facts handle after.setup
+    → HasHeardHost facts octet handle after → WasHosted (link_at handle facts.links) after
+heard_host facts octet handle after may goes (Unchanged was) = hosted_same (link_at handle facts.links) after was
+heard_host facts octet handle after may goes (GetsData link start body was is) =
+    hosted_step (link_at handle facts.links) (DataGiven start body) link after was is tt
+heard_host facts octet handle after may goes (IsAsked link command step was accepted asks is) =
+    hosted_step (link_at handle facts.links) step link after was is
+    (may link command step was (goes link was (sym (ap (λ (l : OpenLink). l.setup) is))) accepted asks)
+
+pub octet_under : (setup : Setup) (facts : Facts) (octet handle : ℕ) (after : OpenLink) → MayAskAt facts octet handle → GoesOnUnder facts handle after.setup
     → link_at handle (facts_after setup facts (HostOctet octet)).links ≡ Some after → WasHosted (link_at handle facts.links) after
-octet_under setup facts octet handle after is = heard_host facts.links handle after (host_under setup facts octet handle after is)
+octet_under setup facts octet handle after may goes is =
+    heard_host facts octet handle after may goes (host_under setup facts octet handle after is)
 
 -- ---- a turn begins
 

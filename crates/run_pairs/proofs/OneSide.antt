@@ -1,6 +1,6 @@
 -- What a controller alone knows of its open links, at any time: with what each was set up, that a link that is opened
 -- in a turn is new in all of that turn, and in which slot each sent last.
-use Rattle.std.proofs.Common.{◌≡◌, ℕ, ◌+◌, ◌<◌, ◌≤◌, Bool, true, false, Option, Some, None, List, [], ◌∷◌, ◌++◌, append-nil, append_assoc, length, length-append, refl, sym, ap, subst, ◌∙◌, arith}
+use Rattle.std.proofs.Common.{◌≡◌, ℕ, ◌+◌, ◌<◌, ◌≤◌, Bool, true, false, Option, Some, None, List, [], ◌∷◌, ◌++◌, length, length-append, refl, sym, ap, subst, ◌∙◌, arith}
 use Rattle.std.specs.Prelude.{⊤, fold, nat_lt, ◌&&◌, if◌then◌else◌}
 use Rattle.std.proofs.lemmas.List.Sums.{fold-append}
 use Rattle.adv_pdu.specs.declared.pdu.AdvPdu.{AdvPdu}
@@ -8,8 +8,6 @@ use Rattle.adv_pdu.specs.Ranges.{IsInRange}
 use Rattle.link_runs.specs.procedure_values.Values.{IsPayloadMax}
 use Rattle.link_calls.specs.link_model.Setup.{Setup as EndSetup}
 use Rattle.link_calls.specs.link_model.Step.{Step as EndStep, DataGiven, DataReported, Disconnected, EventEntered, PacketReceived, PacketSent, PduFixed, ProcedureAsked, RequestAnswered}
-use Rattle.link_calls.specs.link_model.Facts.{Facts as EndFacts}
-use Rattle.link_calls.specs.link_model.End.{facts_after as end_after}
 use Rattle.link_calls.specs.open_links.Data.{complete_in}
 use Rattle.link_calls.specs.open_links.OpenLinks.{OpenLink, facts_in, link_after, link_at}
 use Rattle.link_calls.specs.open_links.Turns.{enters_in, entered_if, link_entered}
@@ -28,19 +26,20 @@ use Rattle.controller_model.proofs.Phases.{EachOutcome, heard_is, unheard_is}
 use Rattle.link_calls.specs.Phases.{HasPassed, IsNew, Stays, Takes, link_receiving, refused_if, refuses_at}
 use Rattle.link_calls.specs.run_model.Run.{step_of}
 use Rattle.link_calls.proofs.run_model.LinkEnds.{AreTaken}
-use Rattle.link_runs.specs.link_pairs.Hosts.{MayHost}
-use Rattle.link_runs.specs.Runs.{MayHostAll}
+use Rattle.link_calls.specs.Hosts.{HasHeardHost, GetsData, IsAsked, Unchanged}
 use Rattle.link_calls.proofs.run_laws.Entering.{taken_in_range}
 use Rattle.link_calls.proofs.run_laws.InAgreement.{IsStation, OpenedBefore, first_station, station_begins, station_ends, station_fed, station_passes}
-use Rattle.link_calls.proofs.run_laws.OpenSteps.{EachOpen, IsKeptOpen, IsKeptServed, MayOpen, begin_open, end_open, none_open, octet_open, open_has, phase_open}
+use Rattle.controller_model.proofs.Asked.{IsAskedStep}
+use Rattle.link_calls.proofs.run_laws.OpenSteps.{EachOpen, IsKeptOpen, IsKeptServed, KeepsAsked, MayOpen, begin_open, end_open, none_open, octet_open, open_has, phase_open}
 use Rattle.link_calls.proofs.run_laws.TurnPlaces.{Between, IsTurned, Stage, Within}
 use Rattle.link_calls.proofs.run_laws.TurnSteps.{MakesWell, begins_may, begins_slot, phase_turn}
 use Rattle.link_calls.proofs.Exchanging.{AreExchanging, exchanging_first, exchanging_kept}
 use Rattle.link_calls.proofs.LinkCalls.{HasBegun, begins_under, passes_under, receiving_setup}
-use Rattle.link_calls.proofs.UnderHandles.{ended_under}
+use Rattle.link_calls.proofs.HostSteps.{asked_is_well}
+use Rattle.link_calls.proofs.UnderHandles.{ended_under, host_under}
 use Rattle.link_calls.specs.Turns.{fixed_if, sent_if}
 use Rattle.link_calls.specs.Uses.{fixes_under, is_on_link, listens_under, sends_under}
-use Rattle.run_pairs.proofs.LinkSteps.{base_under, octet_under}
+use Rattle.run_pairs.proofs.LinkSteps.{base_under}
 
 -- ---- in which slot an end sent last
 
@@ -76,23 +75,21 @@ last_sent slot now past before = λ sent front same.
 pub last_later : (slot later : ℕ) (past : List EndStep) → slot ≤ later → LastBefore slot past → LastBefore later past
 last_later slot later past more is = λ sent front same. let before = is sent front same in omega (arith, before, more)
 
-host_unsent : (step : EndStep) (facts : EndFacts) → MayHost step facts → is_sent step ≡ false
-host_unsent (DataGiven start body) facts may = refl
-host_unsent (ProcedureAsked ask) facts may = refl
-host_unsent (RequestAnswered answer) facts may = refl
-host_unsent (Disconnected reason slot) facts may = refl
-host_unsent DataReported facts may = refl
-host_unsent (EventEntered slot) facts may = absurd may
-host_unsent PduFixed facts may = absurd may
-host_unsent (PacketSent slot) facts may = absurd may
-host_unsent (PacketReceived slot octets room) facts may = absurd may
+asked_unsent : (step : EndStep) → IsAskedStep step → is_sent step ≡ false
+asked_unsent (ProcedureAsked ask) by_host = refl
+asked_unsent (RequestAnswered answer) by_host = refl
+asked_unsent (Disconnected reason slot) by_host = refl
+asked_unsent (DataGiven start body) by_host = absurd by_host
+asked_unsent other by_host = absurd by_host
 
-hosted_last : (slot : ℕ) (setup : EndSetup) (steps : List EndStep) (past : List EndStep) (facts : EndFacts) → MayHostAll setup steps facts → LastBefore slot past
-    → LastBefore slot (past ++ steps)
-hosted_last slot setup [] past facts may is = subst (LastBefore slot) (sym (append-nil past)) is
-hosted_last slot setup (step ∷ steps) past facts may is =
-    subst (LastBefore slot) (append_assoc past (step ∷ []) steps)
-    (hosted_last slot setup steps (past ++ step ∷ []) (end_after setup facts step) may.1 (last_other slot past step (host_unsent step facts may.0)))
+heard_last : (slot : ℕ) (facts : Facts) (octet handle : ℕ) (after : OpenLink) → HasHeardHost facts octet handle after
+    → ((link : OpenLink) → link_at handle facts.links ≡ Some link → LastBefore slot link.past) → LastBefore slot after.past
+heard_last slot facts octet handle after (Unchanged was) last = last after was
+heard_last slot facts octet handle after (GetsData link start body was is) last =
+    subst (λ (l : OpenLink). LastBefore slot l.past) (sym is) (last_other slot link.past (DataGiven start body) refl)
+heard_last slot facts octet handle after (IsAsked link command step was accepted asks is) last =
+    let well = asked_is_well facts octet handle command link.setup.link.role (facts_in link).peer step accepted asks in
+    subst (λ (l : OpenLink). LastBefore slot l.past) (sym is) (last_other slot link.past step (asked_unsent step well.by_host))
 
 entered_last : (enters : Bool) (slot now : ℕ) (link : OpenLink) → LastBefore slot link.past → LastBefore slot (entered_if enters now link).past
 entered_last true slot now link is = last_other slot link.past (EventEntered now) refl
@@ -142,6 +139,9 @@ set_up_served = record {
   fixed = λ link is. set_up_as link _ refl is;
   sent = λ now link is. set_up_as link _ refl is;
 }
+
+set_up_asked : KeepsAsked IsSetUp
+set_up_asked step link well is = set_up_as link (link_after step link) refl is
 
 set_up_open : IsKeptOpen IsSetUp
 set_up_open = record {
@@ -277,12 +277,11 @@ station_kept taken setup = let kept = exchanging_kept setup in record {
       let holds = kept.feeds begun octet facts is.holds in record {
         holds = holds;
         station = station_fed setup facts octet is.station;
-        each = octet_open IsSetUp set_up_served.hosts setup facts octet is.each;
+        each = octet_open IsSetUp set_up_served.hosts set_up_asked setup facts octet is.each;
         makes = subst MakesMost (sym holds.phased.uses.in_turn.does) tt;
         new = tt;
         last = λ handle link at.
-            let was = octet_under setup facts octet handle link at in
-            subst (LastBefore begun) (sym was.past) (hosted_last begun was.link.setup was.steps was.link.past (facts_in was.link) was.may (is.last handle was.link was.was));
+            heard_last begun facts octet handle link (host_under setup facts octet handle link at) (is.last handle);
       };
   begins = λ begun on facts is. record {
     holds = kept.begins begun on facts is.holds;

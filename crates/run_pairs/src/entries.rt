@@ -1,36 +1,23 @@
-//! Which connection events the open ends of a run have entered, as long as no procedure runs on
-//! their links. The body only calls the law that it rests on: the contract is the law.
+//! Which connection events the open ends of a run have entered. The body only calls the law that it
+//! rests on: the contract is the law.
 ghost use Rattle.std.specs.Prelude.{◌≡◌, ◌++◌, ℕ, List, Some};
 ghost use Rattle.std.specs.List.{Contains};
-ghost use Rattle.link_calls.specs.open_links.OpenLinks.{OpenLink, link_at};
+ghost use Rattle.link_calls.specs.open_links.OpenLinks.{OpenLink, facts_in, link_at};
 ghost use Rattle.link_calls.specs.run_model.Feeding.{AreDistinct};
 ghost use Rattle.link_calls.specs.run_model.History.{Event};
-ghost use Rattle.link_calls.specs.run_model.LinkEnds.{HaveAddresses};
 ghost use Rattle.link_calls.specs.run_model.Run.{Given, facts_at, history_of, run_of};
-ghost use Rattle.link_calls.specs.run_laws.Ends.{AreEnds, IsOpen, OpenEnd};
-ghost use Rattle.link_calls.specs.run_laws.OnTime.{IsOnTime};
-ghost use Rattle.link_calls.specs.run_laws.plain_links.Events.{entries_in};
+ghost use Rattle.run_pairs.specs.OnTime.{IsOnTrack};
 
 /// At any time of a run, an open end has entered exactly the events whose anchors are in the turns
-/// that its controller began, by its CONNECT_IND, since no host can ask for a procedure yet. Both
-/// ends of one link have entered the same number of events where both controllers began the same
-/// number of turns: so it is before each turn, and at the end of a run (Core 5.2, volume 6 part B,
-/// section 4.5.1).
+/// that its controller began: the anchor of the event that it entered last is over, and that of the
+/// next one is not, unless a procedure ended the link. The anchors follow from its CONNECT_IND and
+/// from the indications that it took (Core 5.2, volume 6 part B, sections 4.5.1 and 5.5).
 pub fn each_end_enters_its_events()
-    ensures on_time { (given : Given) (before rest : List Event) (station handle : ℕ)
-        (link : OpenLink) → AreDistinct given.stations → HaveAddresses given
-        → Contains given.stations station
+    ensures { (given : Given) (before rest : List Event) (station handle : ℕ)
+        (link : OpenLink) → AreDistinct given.stations → Contains given.stations station
         → history_of (run_of given) ≡ before ++ rest
         → link_at handle (facts_at given station before).links ≡ Some link
-        → IsOnTime (facts_at given station before).turn.begun link }
-    ensures together { (given : Given) (before rest : List Event) (central peripheral : OpenEnd)
-        → AreDistinct given.stations → HaveAddresses given
-        → Contains given.stations central.station → Contains given.stations peripheral.station
-        → history_of (run_of given) ≡ before ++ rest → AreEnds before central peripheral
-        → IsOpen given before central → IsOpen given before peripheral
-        → (facts_at given central.station before).turn.begun
-        ≡ (facts_at given peripheral.station before).turn.begun
-        → entries_in central.link.past ≡ entries_in peripheral.link.past }
+        → IsOnTrack (facts_at given station before).turn.begun (facts_in link) }
 {
     advertise::laws::connections_are_taken();
 }

@@ -44,6 +44,7 @@ pub fn open_ends_are_linked()
     air_frame::laws::packet_tells_its_pdu();
     controller_model::a_pdu_is_understood();
     advertise::laws::connections_are_taken();
+    known_ends::what_hosts_ask_may_come();
 }
 
 /// A link lasts at an end where no procedure of the end has ended it, and the end has taken no
@@ -84,6 +85,7 @@ pub fn ends_that_last_are_sound()
     air_frame::laws::packet_tells_its_pdu();
     controller_model::a_pdu_is_understood();
     advertise::laws::connections_are_taken();
+    known_ends::what_hosts_ask_may_come();
 }
 
 /// At any place of a run no procedure of the central has ended the link, and one of the peripheral
@@ -116,6 +118,7 @@ pub fn no_procedure_ends_a_link_but_a_late_one()
     air_frame::laws::packet_tells_its_pdu();
     controller_model::a_pdu_is_understood();
     advertise::laws::connections_are_taken();
+    known_ends::what_hosts_ask_may_come();
 }
 
 /// Where a station is called with a packet, listens on the link of one of the ends, and the far end
@@ -146,4 +149,5 @@ pub fn packets_of_a_link_are_understood()
     air_frame::laws::packet_tells_its_pdu();
     controller_model::a_pdu_is_understood();
     advertise::laws::connections_are_taken();
+    known_ends::what_hosts_ask_may_come();
 }
