@@ -17,7 +17,6 @@ use Rattle.journal_packets.specs.open_links.OpenLinks.{OpenLink, facts_in, link_
 use Rattle.controller_model.specs.declared.doing.Turn.{Turn}
 use Rattle.controller_model.specs.Since.{notes_opened_on}
 use Rattle.controller_model.specs.Step.{Step}
-use Rattle.controller_model.specs.Plain.{AllPlain}
 use Rattle.controller_model.specs.Facts.{Facts, Sends}
 use Rattle.run_model.specs.History.{Event, Noted, packet_received, steps_in}
 use Rattle.run_model.specs.Journal.{journal_of, side_of}
@@ -81,9 +80,6 @@ pub record AreKnown (given : Given) (Q : Place → List Event → Type 0) : Type
   -- what the host of an open end asked is in range
   pub ranges : (place : Place) (history : List Event) → Q place history → (station handle : ℕ) (link : OpenLink) → is_in station given.stations ≡ true
       → link_at handle (facts_at given station history).links ≡ Some link → HasRanges link
-  -- no control procedure runs on an open link
-  pub plain : (place : Place) (history : List Event) → Q place history → (station : ℕ) → is_in station given.stations ≡ true
-      → AllPlain (facts_at given station history).links
   -- both open ends of a link are in agreement
   pub agree : IsHeardWhole → (place : Place) (history : List Event) → Q place history → (one other : ℕ) → is_in one given.stations ≡ true → is_in other given.stations ≡ true
       → (one == other) ≡ false → AllAgree (facts_at given one history).links (facts_at given other history).links

@@ -38,7 +38,6 @@ use Rattle.link_calls.proofs.LinkCalls.{begins_under, received_quiet, receiving_
 use Rattle.link_calls.specs.Uses.{listens_under, sends_under}
 use Rattle.journal_acks.proofs.PhaseNotes.{IsOnLink, IsPhaseOf, IsPlainPhase, SendsFrom, SendsNothing, SendsOne, sends_from}
 use Rattle.link_calls.proofs.UnderHandles.{change_by}
-use Rattle.link_calls.specs.Turns.{sent_if}
 use Rattle.journal_acks.proofs.TwoStations.{same_number}
 
 -- the link with a number began before this turn
@@ -127,11 +126,6 @@ pub received_at : (other : ℕ) (octets : List ℕ) (room : Bool) (facts : Facts
 received_at other octets room facts link at =
     ap (link_at other) (receiving_is other room octets facts)
     ∙ change_here (other == other) other other (link_receiving other room octets facts) facts.links link refl (same_number other) at
-
-pub replied_at : (replies : Bool) (slot other : ℕ) (links : Links) (link : OpenLink) → link_at other links ≡ Some link
-    → link_at other (links_sending slot (reply_if replies other) links) ≡ Some (sent_if replies slot link)
-replied_at true slot other links link at = change_here (other == other) other other (link_after (PacketSent slot)) links link refl (same_number other) at
-replied_at false slot other links link at = at
 
 only_reply : (replies : Bool) (other : ℕ) (then_on : Facts) (link : OpenLink) → link_at other then_on.links ≡ Some link → link.setup.link.handle ≡ other
     → All (IsOnly other) (notes_doing (reply_if replies other) then_on)

@@ -7,7 +7,7 @@ use Rattle.run_model.specs.Due.{Each}
 use Rattle.run_model.specs.History.{Event, TurnBegan, HostFed, Called, Noted, Transmitted, packet_received}
 use Rattle.run_model.specs.Run.{Given, Plan, after_call, after_feed, after_octets, facts_at, hearings_of, history_of, octets_left, run_of, setup_at, step_of}
 use Rattle.run_model.proofs.Places.{each_called, each_event}
-use Rattle.run_model.proofs.Walk.{Place, NoTurn, AtBegins, AtListening, IsKept, IsStopped, IsWhole, ends_with, run_kept}
+use Rattle.run_model.proofs.Walk.{Place, NoTurn, AtBegins, AtListening, AtEnds, IsKept, IsStopped, IsWhole, ends_with, run_kept}
 
 module _ (given : Given) (fact : List Event → ℕ → Step → Type 0) where
   -- of a call, after the events before it
@@ -26,7 +26,8 @@ module _ (given : Given) (fact : List Event → ℕ → Step → Type 0) where
     pub passes : (phases : ℕ) (done left : List ℕ) (station : ℕ) (history : List Event) → given.stations ≡ done ++ station ∷ left → P (AtListening phases done (station ∷ left)) history
         → P (AtListening phases (done ++ station ∷ []) left) (after_call given station (step_of (packet_received station history)) history)
         → fact history station (step_of (packet_received station history))
-    pub ends : (station : ℕ) (history : List Event) → fact history station TurnEnds
+    pub ends : (done left : List ℕ) (station : ℕ) (history : List Event) → given.stations ≡ done ++ station ∷ left → P (AtEnds done (station ∷ left)) history
+        → fact history station TurnEnds
 
   record AreOfCalls (P : Place → List Event → Type 0) (place : Place) (history : List Event) : Type 0 where
     is : P place history
@@ -80,7 +81,7 @@ module _ (given : Given) (fact : List Event → ℕ → Step → Type 0) where
       on_phases = λ history has. record { is = kept.on_phases history has.is; each = has.each };
       on_end = λ done left station history are some has. record {
         is = kept.on_end done left station history are some has.is;
-        each = one_call station TurnEnds history (have.ends station history) has.each;
+        each = one_call station TurnEnds history (have.ends done left station history are has.is) has.each;
       };
       on_ended = λ history has. record { is = kept.on_ended history has.is; each = has.each };
     }

@@ -1,7 +1,7 @@
 -- What an event or a call adds to what a journal says was heard last on a link.
 use Rattle.std.proofs.Common.{◌≡◌, ℕ, zero, suc, ◌+◌, ◌-◌, ◌<◌, ◌≤◌, ◌==◌, ◌&&◌, not, Bool, true, false, Option, Some, None, List, [], ◌∷◌, ◌++◌, length, refl, sym, ap, ◌∙◌, append-nil, append_assoc, arith}
 use Rattle.std.specs.Prelude.{map, if◌then◌else◌}
-use Rattle.std.proofs.lemmas.Bool.{eqb-true, and_left, and_right}
+use Rattle.std.proofs.lemmas.Bool.{eqb-true, and_left}
 use Rattle.ble_base.specs.Side.{other_side}
 use Rattle.ble_base.specs.declared.roles.Side.{Side}
 use Rattle.ble_base.specs.declared.notes.Note.{Note}
@@ -113,17 +113,8 @@ advertised_heard number side station channel octets history hearings hearing are
     ∙ ap (λ b. heard_if ((not b && is_number (link_of_packet (journal_of history) (side_of station) octets) number)
     && (is_side (side_of station) (other_side side) && is_good hearing.verdict)) (length (turns_of (journal_of history))) (heard_at number side history)) on
 
--- a packet that its listener does not judge good, or of the side itself
-pub unheard_packet : (number : ℕ) (side : Side) (station channel : ℕ) (octets : List ℕ) (history : List Event) (hearings : List Hearing) (hearing : Hearing) → hearings ≡ hearing ∷ []
-    → (is_side (side_of station) (other_side side) && is_good hearing.verdict) ≡ false
-    → heard_at number side (history ++ Transmitted station channel octets hearings ∷ []) ≡ heard_at number side history
-unheard_packet number side station channel octets history hearings hearing are none =
-    air_heard number side station channel octets history hearings hearing are
-    ∙ ap (λ b. heard_if b (length (turns_of (journal_of history))) (heard_at number side history))
-    (and_right (is_of_link number (journal_of history) (side_of station) channel octets) (is_side (side_of station) (other_side side) && is_good hearing.verdict) none)
-
 -- a packet of a link
-pub link_heard : (number other : ℕ) (side : Side) (station channel : ℕ) (octets : List ℕ) (history : List Event) (hearings : List Hearing) (hearing : Hearing) → hearings ≡ hearing ∷ []
+link_heard : (number other : ℕ) (side : Side) (station channel : ℕ) (octets : List ℕ) (history : List Event) (hearings : List Hearing) (hearing : Hearing) → hearings ≡ hearing ∷ []
     → is_advertising channel ≡ false → link_of_packet (journal_of history) (side_of station) octets ≡ Some other
     → heard_at number side (history ++ Transmitted station channel octets hearings ∷ [])
     ≡ heard_if ((other == number) && (is_side (side_of station) (other_side side) && is_good hearing.verdict)) (length (turns_of (journal_of history))) (heard_at number side history)

@@ -22,7 +22,6 @@ use Rattle.journal_packets.proofs.run_laws.ConnectInds.{TakenInOrder}
 use Rattle.journal_packets.proofs.run_laws.DistinctAccess.{AreApart}
 use Rattle.journal_packets.proofs.run_laws.OpenedOnce.{opened_once}
 use Rattle.link_calls.proofs.InRange.{ranges_in}
-use Rattle.journal_packets.proofs.run_laws.PlainLinks.{links_plain}
 use Rattle.journal_packets.proofs.run_laws.TwoEnds.{all_agree}
 use Rattle.journal_packets.proofs.run_laws.TwoStations.{are_two as of_both}
 use Rattle.journal_packets.specs.journal_links.Begun.{LinkBegun, links_begun, with_number}
@@ -108,9 +107,6 @@ known_of understood taken nth apart given are_two six = record {
   ranges = λ at history q station handle link in_it is_open.
       let front = front_at given at history q.front in
       ranges_in given history front.rest station handle link (are_distinct given are_two) in_it front.at is_open;
-  plain = λ at history q station in_it.
-      let front = front_at given at history q.front in
-      links_plain given six (are_distinct given are_two) history front.rest front.at station in_it;
   agree = λ whole at history q one other in_it in_too differs.
       let front = front_at given at history q.front in
       all_agree whole understood taken apart given six (are_distinct given are_two) (of_both given 0 1 are_two) history front.rest front.at one other in_it in_too differs;

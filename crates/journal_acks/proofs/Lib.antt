@@ -9,7 +9,6 @@ pub mod FirstCounts
 pub mod Standing
 pub mod PhaseNotes
 pub mod DataCalls
-pub mod PlainCalls
 pub mod AirCounts
 pub mod KeptCounts
 pub mod EachCall
@@ -25,19 +24,13 @@ pub mod NewPdus
 pub mod EventsInOrder
 pub mod HeardLines
 pub mod GoodLinks
-pub mod GoodCalls
-pub mod GoodPackets
-pub mod KeptGood
-pub mod DueLinks
 pub mod FeedCalls
 pub mod ResetLines
-pub mod ShutLines
 -- what the crates above use of those below
 pub use Rattle.journal_packets.proofs.journal_links as journal_links
 pub use Rattle.journal_packets.proofs as journal_packets
 pub use Rattle.link_calls.proofs as link_calls
 pub use Rattle.journal_packets.proofs.link_model as link_model
 pub use Rattle.journal_packets.proofs.open_links as open_links
-pub use Rattle.journal_packets.proofs.plain_links as plain_links
 pub use Rattle.journal_packets.proofs.run_laws as run_laws
 pub use Rattle.run_model.proofs as run_model

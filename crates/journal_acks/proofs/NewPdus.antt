@@ -252,7 +252,7 @@ module _ (whole : IsHeardWhole) (given : Given) (Q : Place → List Event → Ty
       new = phase_new given Q known distinct phases done left station history are is next.known next.holds;
       of = call_is given Q known distinct phases done left station history are is next.known next.holds;
     };
-    ends = λ station history. end_new given history station;
+    ends = λ done left station history are has. end_new given history station;
   }
 
 -- ---- a line

@@ -108,6 +108,15 @@ line_called given number station step history side none =
     call_keeps (Option SentLine) (λ before. sent_line_at number before side) SendsNone station (λ before note quiet. quiet_note number station side before note quiet)
     given step history (call_line number history station step side) none
 
+-- after some of its notes
+pub line_in_call : (number station : ℕ) (step : Step) (history : List Event) (side : Side) (notes : List Note) → All SendsNone notes
+    → sent_line_at number (history ++ Called station step ∷ map (Noted station) notes) side ≡ sent_line_at number history side
+line_in_call number station step history side notes none =
+    ap (λ before. sent_line_at number before side) (sym (append_assoc history (Called station step ∷ []) (map (Noted station) notes)))
+    ∙ notes_keep (Option SentLine) (λ before. sent_line_at number before side) SendsNone station (λ before note quiet. quiet_note number station side before note quiet) notes
+    (history ++ Called station step ∷ []) none
+    ∙ call_line number history station step side
+
 -- on the other side
 pub line_other : (given : Given) (number station : ℕ) (step : Step) (history : List Event) (side : Side) → is_side (side_of station) side ≡ false
     → sent_line_at number (after_call given station step history) side ≡ sent_line_at number history side

@@ -12,7 +12,6 @@ pub use Rattle.link_calls.specs as link_calls
 pub use Rattle.journal_packets.specs.link_end as link_end
 pub use Rattle.journal_packets.specs.link_model as link_model
 pub use Rattle.journal_packets.specs.open_links as open_links
-pub use Rattle.journal_packets.specs.plain_links as plain_links
 pub use Rattle.journal_packets.specs.procedure_stages as procedure_stages
 pub use Rattle.journal_packets.specs.run_laws as run_laws
 pub use Rattle.run_model.specs as run_model

@@ -1,6 +1,6 @@
--- Why a link is shut, from the lines of a journal alone (Core 5.2, volume 6 part B, section 4.5.2, and volume 4 part E,
--- section 7.3.2).
-use Rattle.std.specs.Prelude.{◌≡◌, ℕ, ◌+◌, ◌-◌, ◌*◌, ◌&&◌, ◌⊎◌, not, Bool, List, [], ◌∷◌, ◌++◌, length, Option, Some, None, if◌then◌else◌}
+-- What a side heard last on a link, and that its host completed a Reset, from the lines of a journal alone (Core 5.2,
+-- volume 6 part B, section 4.5.2, and volume 4 part E, section 7.3.2).
+use Rattle.std.specs.Prelude.{◌≡◌, ℕ, ◌-◌, ◌&&◌, not, Bool, List, [], ◌∷◌, ◌++◌, length, Option, Some, None, if◌then◌else◌}
 use Rattle.h4_frames.specs.declared.packet.HostPacket.TheVariants.{Command as HostCommand}
 use Rattle.h4_frames.specs.declared.packet.Fed.TheVariants.{Packet}
 use Rattle.ble_base.specs.Side.{other_side}
@@ -12,7 +12,6 @@ use Rattle.run_model.specs.History.{is_good}
 use Rattle.run_model.specs.Links.{is_advertising}
 use Rattle.run_model.specs.Order.{AreNotes}
 use Rattle.run_model.specs.Readers.{fed_to_side, turns_of}
-use Rattle.journal_packets.specs.journal_links.Begun.{LinkBegun, link_numbered}
 use Rattle.journal_packets.specs.Belonging.{is_side, link_of_packet}
 use Rattle.journal_acks.specs.Exchange.{is_number}
 
@@ -39,14 +38,7 @@ heard_from number side front before (entry ∷ entries) =
 unfoldable pub last_heard : ℕ → Side → List Entry → Option ℕ
 last_heard number side journal = heard_from number side [] None journal
 
--- ---- the reasons
-
--- the slot in which a link ends at a side: six intervals after that of its CONNECT_IND, where the side judged no packet
--- of the other side good; else the supervision timeout, in units of 10 ms, which are eight slots, after that of the
--- last such packet
-abbrev pub end_slot : LinkBegun → Option ℕ → ℕ
-end_slot link None = link.slot + 6 * link.fields.interval
-end_slot link (Some slot) = slot + 8 * link.fields.timeout
+-- ---- a Reset
 
 -- an octet of the last line of the host of a side, which is in this turn, completes an HCI_Reset, after all octets that
 -- the host sent before: the command 0C03, with no parameters
@@ -62,26 +54,3 @@ pub record CompletesReset (front : List Entry) (side : Side) : Type 0 where
   pub octets_are : octets ≡ first ++ last ∷ more
   pub completes : result_of (fed_to_side side before ++ first) last
       ≡ Packet (HostCommand 0x0C03 (record { items = [] }))
-
--- a side judged no packet of the other side on this link good, and this turn is that of six intervals after its
--- CONNECT_IND
-pub record IsNotEstablished (front : List Entry) (side : Side) (number : ℕ) : Type 0 where
-  pub link : LinkBegun
-  pub is_link : link_numbered number front ≡ Some link
-  pub none_heard : last_heard number side front ≡ None
-  pub in_turn : length (turns_of front) ≡ end_slot link None + 1
-
--- this turn is that of the supervision timeout after the last such packet
-pub record HasTimedOut (front : List Entry) (side : Side) (number : ℕ) : Type 0 where
-  pub link : LinkBegun
-  pub is_link : link_numbered number front ≡ Some link
-  pub slot : ℕ
-  pub heard : last_heard number side front ≡ Some slot
-  pub in_turn : length (turns_of front) ≡ end_slot link (Some slot) + 1
-
--- a line that comes after these entries says that a side shuts this link with this code, for one of three reasons
-pub record IsShutWithReason (front : List Entry) (side : Side) (number reason : ℕ) : Type 0 where
-  pub one_of : (reason ≡ 0x00) ⊎ ((reason ≡ 0x3E) ⊎ (reason ≡ 0x08))
-  pub reset : reason ≡ 0x00 → CompletesReset front side
-  pub not_established : reason ≡ 0x3E → IsNotEstablished front side number
-  pub timed_out : reason ≡ 0x08 → HasTimedOut front side number

@@ -7,7 +7,6 @@ mod events;
 mod exchanges;
 mod packets;
 mod rows;
-mod shuts;
 mod stations;
 
 pub use crate::counts::counts_of_any_journal;
@@ -17,7 +16,4 @@ pub use crate::packets::{
     each_link_packet_carries_what_the_journal_says, each_sent_line_is_of_a_new_pdu,
 };
 pub use crate::rows::{worked_data, worked_exchange};
-pub use crate::shuts::{
-    each_shut_line_has_its_reason, each_shut_line_of_two_stations_has_its_reason,
-};
 pub use crate::stations::links_of_two_stations_keep_to_the_journal;

@@ -49,14 +49,11 @@ use Rattle.journal_links.specs.Changes.{changes_of}
 use Rattle.journal_links.specs.Entered.{IsEnteredInTime, anchor_in, channel_in}
 use Rattle.journal_links.proofs.LinksBegun.{number_stays}
 use Rattle.journal_links.specs.LinkLines.{line_of, lines_of}
-use Rattle.journal_links.specs.Procedures.{NoneNamesAProcedure}
 use Rattle.journal_links.proofs.ChangesAt.{changes_before, none_opened}
 use Rattle.journal_links.proofs.EntriesNoted.{noted_after}
 use Rattle.journal_links.proofs.LineNotes.{lines_are_notes, open_was_opened}
 use Rattle.journal_links.proofs.OfTwo.{two_apart}
 use Rattle.journal_links.proofs.Ranges.{values_in_range}
-use Rattle.journal_links.proofs.NoChanges.{no_changes, none_before}
-use Rattle.journal_links.proofs.NoProcedures.{none_names}
 use Rattle.journal_links.proofs.Numbered.{IsLinkOf, link_of_number}
 
 -- ---- its call
@@ -111,13 +108,6 @@ module _ {journal : List Entry} {number station : ℕ} {end : Setup} (of : IsLin
             (params_in (first_params (sym of.fields_are i)) changes event).map)
             ∙ ap (λ changes. channel_in of.link changes event) (sym are);
       }
-
--- ---- no change is in force in a run so far
-
-pub none_in_runs : (a b : List ℕ) (script : Script) → length script.a.public ≡ 6 → length script.b.public ≡ 6 → (front rest : List Entry) (number : ℕ) (link : LinkBegun) (side : Side)
-    → journal_of (history_of (run_of (given_of a b script))) ≡ front ++ rest → changes_of number link side front ≡ []
-none_in_runs a b script six six_too front rest number link side is =
-    no_changes number link side front (none_before front rest (subst NoneNamesAProcedure is (none_names a b script six six_too)))
 
 -- ---- a line
 
@@ -187,7 +177,7 @@ module _ (understood : IsUnderstood) (taken : AreTaken) (a b : List ℕ) (script
 
 -- ---- both lines
 
-one_link : (number : ℕ) (journal front later : List Entry) (rest last : List Entry) (one other : LinkBegun) → journal ≡ front ++ rest → journal ≡ later ++ last
+pub one_link : (number : ℕ) (journal front later : List Entry) (rest last : List Entry) (one other : LinkBegun) → journal ≡ front ++ rest → journal ≡ later ++ last
     → link_numbered number front ≡ Some one → link_numbered number later ≡ Some other → one ≡ other
 one_link number journal front later rest last one other is is_too here there =
     let same : Some one ≡ Some other =

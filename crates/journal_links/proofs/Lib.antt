@@ -4,8 +4,6 @@ pub mod Offers
 pub mod Numbered
 pub mod EnterLines
 pub mod OpenedLines
-pub mod NoProcedures
-pub mod NoChanges
 pub mod Ranges
 pub mod SaidLines
 pub mod CallNotes
@@ -18,6 +16,5 @@ pub mod OfTwo
 pub use Rattle.run_laws.proofs.control_model as control_model
 pub use Rattle.run_laws.proofs.link_model as link_model
 pub use Rattle.run_laws.proofs.open_links as open_links
-pub use Rattle.run_laws.proofs.plain_links as plain_links
 pub use Rattle.run_laws.proofs as run_laws
 pub use Rattle.run_laws.proofs.run_model as run_model

@@ -3,7 +3,8 @@ use Rattle.std.proofs.Common.{◌≡◌, ℕ, Bool, true, false, List, [], ◌�
 use Rattle.std.specs.Prelude.{Err}
 use Rattle.std.specs.List.{AllByRecursion}
 use Rattle.adv_pdu.specs.Ranges.{IsInRange}
-use Rattle.run_laws.specs.link_model.Step.{Step as EndStep, DataGiven, DataReported, EventEntered, PacketReceived, PacketSent, PduFixed, RequestAnswered}
+use Rattle.run_laws.specs.link_model.Step.{Step as EndStep, DataGiven, DataReported, EventEntered, PacketReceived, PacketSent, PduFixed, ProcedureAsked, RequestAnswered}
+use Rattle.run_laws.specs.link_model.procedure_values.declared.asks.Ask.TheVariants.{Map}
 use Rattle.run_laws.specs.open_links.OpenLinks.{OpenLink, link_after, link_at}
 use Rattle.run_laws.specs.open_links.Turns.{entered_if, enters_in, link_entered}
 use Rattle.controller_model.specs.Facts.{Setup, Facts}
@@ -16,7 +17,7 @@ use Rattle.run_laws.proofs.run_model.LinkEnds.{AreTaken}
 use Rattle.run_laws.proofs.run_model.Stations.{is_in}
 use Rattle.run_laws.proofs.Entering.{IsInTurn, taken_in_range, turn_first, turn_kept}
 use Rattle.run_laws.proofs.InRange.{ranges_in}
-use Rattle.run_laws.proofs.OpenSteps.{EachOpen, IsKeptByHosts, IsKeptOpen, IsKeptServed, MayOpen, begin_open, end_open, none_open, octet_open, open_has, phase_open}
+use Rattle.run_laws.proofs.OpenSteps.{AsksForMap, EachOpen, IsKeptByHosts, IsKeptOpen, IsKeptServed, KeepsAsked, MayOpen, begin_open, end_open, none_open, octet_open, open_has, phase_open}
 use Rattle.run_laws.proofs.TurnPlaces.{IsTurned, Stage, Within, stands_in_run, turned}
 use Rattle.run_laws.proofs.TurnSteps.{MakesWell}
 use Rattle.link_changes.specs.InForce.{AsksMap, HasRanges}
@@ -46,6 +47,14 @@ values_hosts = record {
   given = λ start body link has. values_after (DataGiven start body) link tt has;
   reported = λ link has. values_after DataReported link tt has;
 }
+
+asks_map : (step : EndStep) → AsksForMap step → AsksMap step
+asks_map (ProcedureAsked (Map map)) is = is
+asks_map (ProcedureAsked ask) is = tt
+asks_map other is = tt
+
+values_asked : KeepsAsked HasValues
+values_asked step link well has = values_after step link (asks_map step well.map) has
 
 values_served : IsKeptServed HasValues
 values_served = record {
@@ -77,7 +86,7 @@ values_kept : AreTaken → (setup : Setup) → IsTurned setup (HaveValues setup)
 values_kept taken setup = record {
   feeds = λ begun octet facts are. record {
     in_turn = (turn_kept setup).feeds begun octet facts are.in_turn;
-    each = octet_open HasValues values_hosts setup facts octet are.each;
+    each = octet_open HasValues values_hosts values_asked setup facts octet are.each;
   };
   begins = λ begun on facts are. record {
     in_turn = (turn_kept setup).begins begun on facts are.in_turn;

@@ -1,12 +1,13 @@
 -- When and on which channel a link has its connection events, from its CONNECT_IND, the advertisement that it answers
 -- and the changes of its parameters (Core 5.2, volume 6 part B, sections 4.5.1, 4.5.3, 4.5.8 and 5.1).
-use Rattle.std.specs.Prelude.{◌≡◌, ℕ, ◌+◌, List, length, Some, if◌then◌else◌}
+use Rattle.std.specs.Prelude.{◌≡◌, ℕ, ◌+◌, List, ◌∷◌, ◌++◌, length, Some, if◌then◌else◌}
 use Rattle.ble_base.specs.declared.roles.Side.{Side}
 use Rattle.chan_select.specs.Channel.{channel_of}
 use Rattle.chan_select.specs.declared.selection.Algorithm.TheVariants.{One, Two}
 use Rattle.instants.specs.declared.track.Change.{Change}
 use Rattle.instants.specs.Parameters.{anchor_in as anchor_after, params_in}
 use Rattle.journal.specs.declared.entries.Entry.{Entry}
+use Rattle.journal.specs.declared.entries.Entry.TheVariants.{Enter}
 use Rattle.run_laws.specs.link_model.Setup.{first_params}
 use Rattle.run_laws.specs.run_model.Readers.{turns_of}
 use Rattle.journal_links.specs.Begun.{LinkBegun, link_numbered}
@@ -32,3 +33,8 @@ pub record IsEnteredInTime (front : List Entry) (side : Side) (number event chan
   pub is_link : link_numbered number front ≡ Some link
   pub in_turn : length (turns_of front) ≡ anchor_in link (changes_of number link side front) event + 1
   pub on_channel : channel ≡ channel_in link (changes_of number link side front) event
+
+-- so it is with each event of a journal
+abbrev pub AllAreEntered : List Entry → Type 0
+AllAreEntered journal = (front rest : List Entry) (side : Side) (number event channel : ℕ)
+    → journal ≡ front ++ Enter side number event channel ∷ rest → IsEnteredInTime front side number event channel

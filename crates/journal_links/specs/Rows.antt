@@ -1,5 +1,5 @@
 -- The link of a small run, and links of journals in which a side does not offer channel selection algorithm #2.
-use Rattle.std.specs.Prelude.{true, false, ℕ, List, [], ◌∷◌}
+use Rattle.std.specs.Prelude.{true, false, ℕ, List, [], ◌∷◌, ◌++◌}
 use Rattle.ble_base.specs.declared.roles.Side.TheVariants.{A, B}
 use Rattle.ble_base.specs.declared.verdicts.Verdict.TheVariants.{Good}
 use Rattle.journal.specs.declared.entries.Entry.{Entry}
@@ -46,8 +46,11 @@ offered_once =
     turn_entry 0 ∷ Air A 37 connectable_packet Passed Good ∷ Air A 37 unoffered_packet Passed Good
     ∷ Air B 37 connect_packet Passed Good ∷ []
 
--- B sends an update whose Instant is event 6 in event 0 of link 1, and A takes it; B lets it hold from event 6 on
+-- B sends an update whose Instant is event 6 in event 0 of link 1
+abbrev pub update_sent : List Entry
+update_sent = Enter A 1 0 25 ∷ Enter B 1 0 25 ∷ Sent B 1 1 3 (update_octets 6) ∷ []
+
+-- A takes it, and B lets it hold from event 6 on
 abbrev pub update_in_force : List Entry
 update_in_force =
-    Enter A 1 0 25 ∷ Enter B 1 0 25 ∷ Sent B 1 1 3 (update_octets 6) ∷ Took A 1 1 3 (update_octets 6)
-    ∷ Enter A 1 5 9 ∷ Enter B 1 5 9 ∷ Applied B 1 1 6 ∷ []
+    update_sent ++ Took A 1 1 3 (update_octets 6) ∷ Enter A 1 5 9 ∷ Enter B 1 5 9 ∷ Applied B 1 1 6 ∷ []

@@ -7,8 +7,7 @@ mod rows;
 
 pub use crate::lines::{
     both_ends_enter_an_event_in_one_turn, each_enter_line_is_at_its_anchor,
-    each_opened_line_names_its_link, lines_of_a_link_are_its_notes, no_line_names_a_procedure,
+    each_opened_line_names_its_link, lines_of_a_link_are_its_notes,
     without_changes_events_follow_the_connect_ind,
-    without_procedures_both_ends_enter_an_event_in_one_turn,
 };
 pub use crate::rows::{worked_algorithms, worked_changes, worked_links};

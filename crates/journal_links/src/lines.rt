@@ -14,7 +14,6 @@ ghost use Rattle.journal_links.specs.Changes.{changes_of};
 ghost use Rattle.journal_links.specs.Entered.{IsEnteredInTime, anchor_in, channel_in};
 ghost use Rattle.journal_links.specs.LinkLines.{AreLinesOf, IsOfItsNotes};
 ghost use Rattle.journal_links.specs.Opened.{IsOpenedInTime};
-ghost use Rattle.journal_links.specs.Procedures.{NoneNamesAProcedure};
 ghost use Rattle.run_laws.specs.open_links.OpenLinks.{OpenLink, link_at};
 ghost use Rattle.radio_replay.specs.Script.{Script};
 ghost use Rattle.run_laws.specs.run_model.Feeding.{is_note};
@@ -85,36 +84,6 @@ pub fn both_ends_enter_an_event_in_one_turn()
     advertise::laws::connections_are_taken();
 }
 
-/// No line of a run names a procedure yet, so no change of parameters is in force at a line. So two
-/// lines that say that an event of one link is entered are in one turn and name one channel
-/// (Core 5.2, volume 6 part B, sections 4.5.1 and 4.5.8).
-pub fn without_procedures_both_ends_enter_an_event_in_one_turn()
-    ensures no_changes { (a b : List ℕ) (script : Script) (front rest : List Entry) (number : ℕ)
-        (link : LinkBegun) (side : Side)
-        → length script.a.public ≡ 6 → length script.b.public ≡ 6
-        → journal_of (history_of (run_of (given_of a b script))) ≡ front ++ rest
-        → changes_of number link side front ≡ [] }
-    ensures turn { (a b : List ℕ) (script : Script) (front rest later last : List Entry)
-        (side other : Side) (number event channel too : ℕ)
-        → length script.a.public ≡ 6 → length script.b.public ≡ 6
-        → journal_of (history_of (run_of (given_of a b script)))
-        ≡ front ++ Enter side number event channel ∷ rest
-        → journal_of (history_of (run_of (given_of a b script)))
-        ≡ later ++ Enter other number event too ∷ last
-        → length (turns_of front) ≡ length (turns_of later) }
-    ensures channel { (a b : List ℕ) (script : Script) (front rest later last : List Entry)
-        (side other : Side) (number event channel too : ℕ)
-        → length script.a.public ≡ 6 → length script.b.public ≡ 6
-        → journal_of (history_of (run_of (given_of a b script)))
-        ≡ front ++ Enter side number event channel ∷ rest
-        → journal_of (history_of (run_of (given_of a b script)))
-        ≡ later ++ Enter other number event too ∷ last
-        → channel ≡ too }
-{
-    controller_model::a_pdu_is_understood();
-    advertise::laws::connections_are_taken();
-}
-
 /// Each line of a link that a side holds from there on names a link of the journal, and is in
 /// the turn of its CONNECT_IND: the central sent that, and the peripheral is the other side (Core
 /// 5.2, volume 6 part B, section 4.5).
@@ -129,14 +98,6 @@ pub fn each_opened_line_names_its_link()
     controller_model::a_pdu_is_understood();
     advertise::laws::connections_are_taken();
 }
-
-/// No line is of a control procedure or of an indication that takes effect: the commands that start
-/// a procedure are refused, so no link of a run has one.
-pub fn no_line_names_a_procedure()
-    ensures { (a b : List ℕ) (script : Script) → length script.a.public ≡ 6
-        → length script.b.public ≡ 6
-        → NoneNamesAProcedure (journal_of (history_of (run_of (given_of a b script)))) }
-{}
 
 /// The lines of a side on one link are the notes of that link, in order, from the one that says
 /// that it was opened: those of its events, its PDUs, its indications and its procedures, and that

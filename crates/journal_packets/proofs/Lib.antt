@@ -13,5 +13,4 @@ pub use Rattle.journal_links.proofs.control_model as control_model
 pub use Rattle.journal_links.proofs as journal_links
 pub use Rattle.journal_links.proofs.link_model as link_model
 pub use Rattle.journal_links.proofs.open_links as open_links
-pub use Rattle.journal_links.proofs.plain_links as plain_links
 pub use Rattle.journal_links.proofs.run_laws as run_laws

@@ -8,6 +8,5 @@ pub use Rattle.journal_links.specs as journal_links
 pub use Rattle.journal_links.specs.link_end as link_end
 pub use Rattle.journal_links.specs.link_model as link_model
 pub use Rattle.journal_links.specs.open_links as open_links
-pub use Rattle.journal_links.specs.plain_links as plain_links
 pub use Rattle.journal_links.specs.procedure_stages as procedure_stages
 pub use Rattle.journal_links.specs.run_laws as run_laws
