@@ -102,9 +102,6 @@ module _ (number : ℕ) (side : Side) (history : List Event) (station channel : 
       (ap (λ xs. xs ++ heard_where (is_heard_of number side history station channel octets hearing) (turn_at history) octets) (sym seen)
       ∙ sym (packet_seen number side station channel octets history (hearing ∷ []) hearing refl) ∙ seen_too)
 
-  abbrev IsThen : Bool → Option (List ℕ) → Type 0
-  IsThen on may = control_at number side after ≡ Some (control_taking on may turn.slot link)
-
   unheard : to_hear listens received_too turn.slot link ≡ [] → control_at number side after ≡ Some (facts_in link).control
   unheard none = unheard_still number side history station channel octets hearing (heard_is ∙ none) ∙ was
 

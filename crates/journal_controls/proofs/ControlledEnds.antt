@@ -3,10 +3,13 @@ use Rattle.std.proofs.Common.{◌≡◌, ℕ, ◌==◌, Bool, true, false, Optio
 use Rattle.std.proofs.lemmas.Bool.{eqb-true}
 use Rattle.std.proofs.lemmas.List.{map-append}
 use Rattle.ble_base.specs.declared.roles.Side.{Side}
+use Rattle.controller_model.proofs.Always.{IsInTurn}
 use Rattle.controller_model.specs.Facts.{Facts}
+use Rattle.controller_model.specs.Side.{notes_after}
 use Rattle.controller_model.specs.Since.{notes_opened_on}
 use Rattle.controller_model.specs.Step.{Step as Call}
 use Rattle.controller_model.specs.declared.doing.Turn.{Turn}
+use Rattle.host_answers.proofs.LineAnswers.{far_quiet, turn_quiet}
 use Rattle.journal_ends.specs.journal_acks.link_calls.Uses.{listens_under}
 use Rattle.journal_ends.specs.journal_links.LinkLines.{line_of}
 use Rattle.journal_ends.specs.link_model.End.{notes_from}
@@ -14,7 +17,7 @@ use Rattle.journal_ends.specs.link_model.control_model.Control.{Control}
 use Rattle.journal_ends.specs.open_links.OpenLinks.{OpenLink, facts_in, link_at}
 use Rattle.journal_ends.specs.run_model.History.{Event, steps_in}
 use Rattle.journal_ends.specs.run_model.Journal.{side_of}
-use Rattle.journal_ends.specs.run_model.Run.{Given, after_call, facts_at, step_of}
+use Rattle.journal_ends.specs.run_model.Run.{Given, after_call, facts_at, setup_at, step_of}
 use Rattle.journal_ends.proofs.EndsKnown.{AreLined}
 use Rattle.journal_ends.proofs.KeptSeen.{listened_as}
 use Rattle.journal_ends.proofs.PastSeen.{notes_more}
@@ -113,15 +116,16 @@ module _ (given : Given) where
       (λ c is. same (number_at station handle history) (side_of station) ∙ is)
       (are station handle link in_it (ap (λ (f : Facts). link_at handle f.links) (sym facts) ∙ at))
 
-  -- a call, by what it does to the ends of its station
-  pub controlled_call : (station : ℕ) (step : Call) (history : List Event) (received received_too : ℕ → Option (List ℕ)) → AreLined given history
+  -- a call, by what it does to the ends of its station, and with no answer to the other one
+  pub controlled_call : (station : ℕ) (step : Call) (history : List Event) (received received_too : ℕ → Option (List ℕ))
+      → ((other : ℕ) → is_in other given.stations ≡ true → (other == station) ≡ false → side_of other ≡ side_of station → ⊥) → AreLined given history
       → AreLined given (after_call given station step history)
       → ((handle : ℕ) (link : OpenLink) → link_at handle (facts_at given station (after_call given station step history)).links ≡ Some link
       → IsControlledAt (received_too station) handle (facts_at given station (after_call given station step history)).turn link
       (number_at station handle (after_call given station step history)) (side_of station) (after_call given station step history))
       → ((other : ℕ) → is_in other given.stations ≡ true → (other == station) ≡ false → received_too other ≡ received other)
       → AreControlledSo given history received → AreControlledSo given (after_call given station step history) received_too
-  controlled_call station step history received received_too lined lined_after own r are = λ other handle link in_it at. by other handle link in_it at (other == station) refl
+  controlled_call station step history received received_too apart lined lined_after own r are = λ other handle link in_it at. by other handle link in_it at (other == station) refl
     where
       by : (other handle : ℕ) (link : OpenLink) → is_in other given.stations ≡ true → link_at handle (facts_at given other (after_call given station step history)).links ≡ Some link
           → (same : Bool) → (other == station) ≡ same
@@ -142,7 +146,8 @@ module _ (given : Given) where
           let now = subst (λ n. lines_at n side next ≡ map (line_of side n) (notes_opened_on link.setup link.past)) numbers (lined_after other handle link in_it at) in
           let same = now ∙ sym (lined other handle link in_it was) ∙ sym (append-nil (lines_at number side history)) in
           let turn = (facts_at given other history).turn in
-          still_at history next (received_too other) other handle link facts numbers (λ c is. call_moves given side number station step history [] c same tt is)
+          still_at history next (received_too other) other handle link facts numbers (λ c is. call_moves given side number station step history [] c
+          (far_quiet side station (notes_after (setup_at given station) (facts_at given station history) step) (apart other in_it differs)) same tt is)
           (moved handle link side history (received other) (received_too other) turn turn number number (r other in_it differs) refl refl (are other handle link in_it was))
 
   -- ---- a call, at its own station
@@ -160,10 +165,17 @@ module _ (given : Given) where
       abbrev own : ℕ
       own = number_at station handle history
 
-      -- what happened to an end moves it by the lines of the call
-      pub moved_own : (from : Control) → MovesTo side own (withholds_at side history) (turn_at history) base link from → control_at own side history ≡ Some from
+      -- what its host asks moves it
+      pub asked_own : control_at own side after ≡ Some (facts_in link).control
           → IsControlledAt received handle (facts_at given station after).turn link (number_at station handle after) side after
-      moved_own from moves is =
+      asked_own is =
+          from_whole received handle (facts_at given station after).turn link (number_at station handle after) side after (λ on. none)
+          (ap (λ n. control_at n side after) number ∙ is)
+
+      -- what happened to an end in a call of a turn moves it by the lines of the call
+      pub moved_own : IsInTurn step → (from : Control) → MovesTo side own (withholds_at side history) (turn_at history) base link from → control_at own side history ≡ Some from
+          → IsControlledAt received handle (facts_at given station after).turn link (number_at station handle after) side after
+      moved_own in_turn from moves is =
           let notes = notes_from base.setup (facts_in base) moves.steps in
           let now = subst (λ n. lines_at n side after ≡ map (line_of side n) (notes_opened_on link.setup link.past)) number (lined_after station handle link in_it at) in
           let lines : lines_at own side after ≡ lines_at own side history ++ map (line_of side own) notes =
@@ -173,5 +185,5 @@ module _ (given : Given) where
           ∙ ap (λ xs. xs ++ map (line_of side own) notes) (sym (lined station handle base in_it was)) in
           from_whole received handle (facts_at given station after).turn link (number_at station handle after) side after (λ on. none)
           (ap (λ n. control_at n side after) number
-          ∙ call_moves given side own station step history (map (line_of side own) notes) from lines (steps_later side own base.setup (facts_in base) moves.steps) is
+          ∙ call_moves given side own station step history (map (line_of side own) notes) from (turn_quiet given station step history in_turn) lines (steps_later side own base.setup (facts_in base) moves.steps) is
           ∙ ap Some moves.moves)

@@ -1,27 +1,32 @@
 -- What an event or a call does to the control part of an end by a journal.
-use Rattle.std.proofs.Common.{◌≡◌, ℕ, ◌-◌, Bool, Option, Some, List, [], ◌∷◌, ◌++◌, length, map, refl, sym, ap, subst, ◌∙◌, append-nil, append_assoc}
+use Rattle.std.proofs.Common.{◌≡◌, ℕ, ◌-◌, Bool, false, Option, Some, List, [], ◌∷◌, ◌++◌, length, map, refl, sym, ap, subst, ◌∙◌, append-nil, append_assoc}
+use Rattle.std.specs.List.{AllByRecursion}
 use Rattle.std.proofs.lemmas.Grind.{flat_map-append}
 use Rattle.std.proofs.lemmas.List.{append_cancel_left}
 use Rattle.ble_base.specs.declared.notes.Note.{Note}
 use Rattle.ble_base.specs.declared.notes.Note.TheVariants.{Up}
 use Rattle.ble_base.specs.declared.roles.Side.{Side}
+use Rattle.ble_base.specs.declared.roles.Side.TheVariants.{A, B}
+use Rattle.controller_model.proofs.Always.{IsInTurn}
 use Rattle.controller_model.specs.Side.{notes_after}
-use Rattle.controller_model.specs.Step.{Step as Call}
+use Rattle.controller_model.specs.Step.{Step as Call, HostOctet}
 use Rattle.host_masks.specs.Masks.{masks_of, withholds_requests}
 use Rattle.journal.specs.declared.entries.Entry.{Entry}
 use Rattle.journal.specs.declared.entries.Entry.TheVariants.{Air, Fed, Turn}
-use Rattle.journal_ends.specs.Seen.{Hears, heard_in_line}
+use Rattle.host_answers.proofs.LineAnswers.{IsQuiet, far_quiet, turn_quiet}
+use Rattle.journal_ends.specs.Seen.{Hears, asked_in_line, heard_in_line}
 use Rattle.journal_ends.specs.journal_acks.Carried.{carried_of}
 use Rattle.journal_ends.specs.journal_acks.Exchange.{exchange_of}
 use Rattle.journal_ends.specs.journal_links.LinkLines.{lines_of, link_named, where_named}
 use Rattle.journal_ends.specs.link_model.control_model.Control.{Control, after_all}
 use Rattle.journal_ends.specs.link_model.procedure_stages.Kinds.{role_of}
+use Rattle.journal_ends.specs.run_model.Feeding.{is_octet}
 use Rattle.journal_ends.specs.run_model.History.{Event, TurnBegan, HostFed, Called, Hearing, Noted, Transmitted}
 use Rattle.journal_ends.specs.run_model.Journal.{entries_of, entry_of, journal_of, mark_of, radio_in, side_of}
 use Rattle.journal_ends.specs.run_model.Links.{links_of}
 use Rattle.journal_ends.specs.run_model.Readers.{PairOpening, fed_in, fed_to_side, pair_openings_in, turns_of}
 use Rattle.journal_ends.specs.run_model.Run.{Given, after_call, facts_at, setup_at}
-use Rattle.journal_ends.proofs.SeenEvents.{lines_at}
+use Rattle.journal_ends.proofs.SeenEvents.{lines_at, note_hears, unasked_by}
 use Rattle.journal_ends.proofs.journal_links.LinkLines.{line_more}
 use Rattle.journal_ends.proofs.run_model.Parts.{journal_event}
 use Rattle.journal_controls.specs.LineSteps.{control_after, control_on, has_next, steps_heard, turn_now, withholds}
@@ -70,10 +75,11 @@ moving_then number side first second third one next = record {
       ∙ ap Some (sym (moved_both held slot one.more next.more c));
 }
 
--- an event with one line that begins no turn and is not of a host
+-- an event with one line that begins no turn and is not of a host, nor answers it
 line_moving : (number : ℕ) (side : Side) (history : List Event) (event : Event) (line : Entry) → entries_of (links_of history) event ≡ line ∷ []
-    → heard_in_line side number (journal_of history) line ≡ [] → pair_openings_in line ≡ [] → fed_in side line ≡ [] → IsMoving number side history (history ++ event ∷ [])
-line_moving number side history event line is deaf begins feeds =
+    → heard_in_line side number (journal_of history) line ≡ [] → asked_in_line side number (journal_of history) line ≡ []
+    → pair_openings_in line ≡ [] → fed_in side line ≡ [] → IsMoving number side history (history ++ event ∷ [])
+line_moving number side history event line is deaf unasked begins feeds =
     let front = journal_of history in
     let named = where_named side number (link_named line) line in
     let journal = journal_event history event ∙ ap (λ xs. front ++ xs) is in record {
@@ -85,12 +91,8 @@ line_moving number side history event line is deaf begins feeds =
           (flat_map-append (fed_in side) front (line ∷ []) ∙ (λ i. fed_to_side side front ++ (feeds i ++ [])) ∙ append-nil (fed_to_side side front));
       control = λ c none was.
           ap (control_on side number) journal ∙ control_more side number front line ∙ ap (λ before. control_after side number front before line) was
-          ∙ line_moves side number front line c deaf none;
+          ∙ line_moves side number front line c deaf unasked none;
     }
-
-note_hears : (number : ℕ) (side other : Side) (front : List Entry) (link_of : ℕ → ℕ) (last : ℕ) (note : Note) → heard_in_line side number front (entry_of other link_of last note) ≡ []
-note_hears number side other front link_of last (Up packet) = refl
-note_hears number side other front link_of last note = refl
 
 note_begins : (other : Side) (link_of : ℕ → ℕ) (last : ℕ) (note : Note) → pair_openings_in (entry_of other link_of last note) ≡ []
 note_begins other link_of last (Up packet) = refl
@@ -100,11 +102,13 @@ note_feeds : (side other : Side) (link_of : ℕ → ℕ) (last : ℕ) (note : No
 note_feeds side other link_of last (Up packet) = refl
 note_feeds side other link_of last note = refl
 
-note_moving : (number : ℕ) (side : Side) (history : List Event) (station : ℕ) (note : Note) → IsMoving number side history (history ++ Noted station note ∷ [])
-note_moving number side history station note =
+note_moving : (number : ℕ) (side : Side) (history : List Event) (station : ℕ) (note : Note) → IsQuiet side station note
+    → IsMoving number side history (history ++ Noted station note ∷ [])
+note_moving number side history station note quiet =
     let links = links_of history in
     line_moving number side history (Noted station note) _ refl
     (note_hears number side (side_of station) (journal_of history) (links.link_of station) (links.last_of station) note)
+    (unasked_by side number (journal_of history) _ (quiet (links.link_of station) (links.last_of station)))
     (note_begins (side_of station) (links.link_of station) (links.last_of station) note)
     (note_feeds side (side_of station) (links.link_of station) (links.last_of station) note)
 
@@ -117,24 +121,49 @@ none_moving number side history after same = record {
   control = λ c none was. ap (control_on side number) same ∙ was;
 }
 
-notes_moving : (number : ℕ) (side : Side) (station : ℕ) (notes : List Note) (history after : List Event) → after ≡ history ++ map (Noted station) notes
-    → IsMoving number side history after
-notes_moving number side station [] history after is = none_moving number side history after (ap journal_of (is ∙ append-nil history))
-notes_moving number side station (note ∷ notes) history after is =
+notes_moving : (number : ℕ) (side : Side) (station : ℕ) (notes : List Note) (history after : List Event) → AllByRecursion (IsQuiet side station) notes
+    → after ≡ history ++ map (Noted station) notes → IsMoving number side history after
+notes_moving number side station [] history after quiet is = none_moving number side history after (ap journal_of (is ∙ append-nil history))
+notes_moving number side station (note ∷ notes) history after quiet is =
     let next = history ++ Noted station note ∷ [] in
-    moving_then number side history next after (note_moving number side history station note)
-    (notes_moving number side station notes next after (is ∙ sym (append_assoc history (Noted station note ∷ []) (map (Noted station) notes))))
+    moving_then number side history next after (note_moving number side history station note quiet.0)
+    (notes_moving number side station notes next after quiet.1 (is ∙ sym (append_assoc history (Noted station note ∷ []) (map (Noted station) notes))))
+
+-- a call answers no command of a side
+abbrev pub AnswersNone : Given → Side → ℕ → Call → List Event → Type 0
+AnswersNone given side station step history =
+    AllByRecursion (IsQuiet side station) (notes_after (setup_at given station) (facts_at given station history) step)
+
+-- none of a turn does
+in_turn : (step : Call) → is_octet step ≡ false → IsInTurn step
+in_turn (HostOctet octet) none = absurd cc
+in_turn other none = tt
+
+pub turn_answers : (given : Given) (side : Side) (station : ℕ) (step : Call) (history : List Event) → is_octet step ≡ false → AnswersNone given side station step history
+turn_answers given side station step history none = by side (side_of station) refl refl
+  where
+    notes : List Note
+    notes = notes_after (setup_at given station) (facts_at given station history) step
+
+    own : side_of station ≡ side → AnswersNone given side station step history
+    own same = subst (λ one. AllByRecursion (IsQuiet one station) notes) same (turn_quiet given station step history (in_turn step none))
+
+    by : (one other : Side) → side ≡ one → side_of station ≡ other → AnswersNone given side station step history
+    by A A is is_too = own (is_too ∙ sym is)
+    by A B is is_too = far_quiet side station notes (λ same. let h : A ≡ B = sym is ∙ same ∙ is_too in absurd cc)
+    by B A is is_too = far_quiet side station notes (λ same. let h : B ≡ A = sym is ∙ same ∙ is_too in absurd cc)
+    by B B is is_too = own (is_too ∙ sym is)
 
 -- a call, with all of its notes
-pub call_moving : (given : Given) (number : ℕ) (side : Side) (station : ℕ) (step : Call) (history : List Event)
+pub call_moving : (given : Given) (number : ℕ) (side : Side) (station : ℕ) (step : Call) (history : List Event) → AnswersNone given side station step history
     → IsMoving number side history (after_call given station step history)
-call_moving given number side station step history =
+call_moving given number side station step history quiet =
     let notes = notes_after (setup_at given station) (facts_at given station history) step in
     let called = history ++ Called station step ∷ [] in
     let after = history ++ Called station step ∷ map (Noted station) notes in
     moving_then number side history called after
     (none_moving number side history called (journal_event history (Called station step) ∙ append-nil (journal_of history)))
-    (notes_moving number side station notes called after (sym (append_assoc history (Called station step ∷ []) (map (Noted station) notes))))
+    (notes_moving number side station notes called after quiet (sym (append_assoc history (Called station step ∷ []) (map (Noted station) notes))))
 
 -- a turn begins
 pub turn_still : (number : ℕ) (side : Side) (history : List Event) (slot : ℕ) (radios : List Bool)
@@ -147,11 +176,11 @@ turn_still number side history slot radios =
 
 -- by the lines that it adds
 pub call_moves : (given : Given) (side : Side) (number station : ℕ) (step : Call) (history : List Event) (more : List Entry) (c : Control)
-    → lines_at number side (after_call given station step history) ≡ lines_at number side history ++ more → NoneOpens more
+    → AnswersNone given side station step history → lines_at number side (after_call given station step history) ≡ lines_at number side history ++ more → NoneOpens more
     → control_at number side history ≡ Some c
     → control_at number side (after_call given station step history) ≡ Some (moved_by (withholds_at side history) (turn_at history) more c)
-call_moves given side number station step history more c lines none was =
-    let moving = call_moving given number side station step history in
+call_moves given side number station step history more c quiet lines none was =
+    let moving = call_moving given number side station step history quiet in
     let same = append_cancel_left (lines_at number side history) moving.more more (sym moving.lines ∙ lines) in
     moving.control c (subst NoneOpens (sym same) none) was ∙ ap (λ xs. Some (moved_by (withholds_at side history) (turn_at history) xs c)) same
 

@@ -15,7 +15,8 @@ use Rattle.controller_model.specs.Heard.{has_room, replies_in, reply_if}
 use Rattle.controller_model.specs.Outcome.{Outcome}
 use Rattle.controller_model.specs.Side.{facts_after}
 use Rattle.controller_model.specs.Step.{HostOctet, TurnBegins, TurnEnds}
-use Rattle.journal_ends.specs.link_model.Data.{is_control}
+use Rattle.controller_model.proofs.Asked.{IsAskedStep, asked_leaves_data}
+use Rattle.journal_ends.specs.link_model.Data.{Data, is_control}
 use Rattle.journal_ends.specs.link_model.Controls.{goes_on}
 use Rattle.journal_ends.specs.link_model.End.{facts_after as end_after, facts_of as end_facts}
 use Rattle.journal_ends.specs.link_model.Facts.{Facts as EndFacts, first_facts as first_end}
@@ -24,7 +25,7 @@ use Rattle.journal_ends.specs.link_model.Setup.{Setup as EndSetup}
 use Rattle.journal_ends.specs.link_model.Step.{Step, DataGiven, DataReported, EventEntered, PacketReceived, PacketSent, PduFixed}
 use Rattle.journal_ends.specs.link_model.Times.{ended_by_procedures, ending_of}
 use Rattle.journal_ends.specs.link_model.declared.state.Leaving.{Leaving}
-use Rattle.journal_ends.specs.journal_acks.link_calls.Hosts.{HasHeardHost, GetsData, Unchanged}
+use Rattle.journal_ends.specs.journal_acks.link_calls.Hosts.{HasHeardHost, GetsData, IsAsked, Unchanged}
 use Rattle.journal_ends.specs.journal_acks.link_calls.Phases.{HasPassed, IsNew, Stays, Takes, link_receiving, refused_if, refuses_at}
 use Rattle.journal_ends.specs.journal_acks.link_calls.Turns.{change_if, fixed_if, link_begun, sent_if}
 use Rattle.journal_ends.specs.journal_acks.link_calls.Uses.{fixes_under, listens_under, sends_under}
@@ -37,6 +38,7 @@ use Rattle.journal_ends.specs.run_model.Run.{Given, facts_at, history_of, run_of
 use Rattle.journal_ends.proofs.journal_acks.PhaseNotes.{IsOnLink, IsPhaseOf, IsPlainPhase, phase_of}
 use Rattle.journal_ends.proofs.journal_acks.Standing.{listener_role, sender_role}
 use Rattle.journal_ends.proofs.journal_acks.TwoStations.{same_number}
+use Rattle.journal_ends.proofs.journal_acks.link_calls.HostSteps.{asked_is_well}
 use Rattle.journal_ends.proofs.journal_acks.link_calls.LinkCalls.{passes_under, receiving_setup, turn_begun_under}
 use Rattle.journal_ends.proofs.journal_acks.link_calls.LinkPhases.{IsPhased, phased_first, phased_kept}
 use Rattle.journal_ends.proofs.journal_acks.link_calls.RadioUses.{no_link}
@@ -135,12 +137,19 @@ pub given_facts : (start : Bool) (body : List ℕ) (base after : OpenLink) → a
     → facts_in after ≡ end_after base.setup (facts_in base) (DataGiven start body)
 given_facts start body base after is = ap facts_in is ∙ step_facts base (DataGiven start body)
 
-host_free : (links : Links) (handle : ℕ) (after : OpenLink) → HasHeardHost links handle after
-    → ((link : OpenLink) → link_at handle links ≡ Some link → IsFree (facts_in link)) → IsFree (facts_in after)
-host_free links handle after (Unchanged same) free = free after same
-host_free links handle after (GetsData link start body was is) free =
+asked_free : (step : Step) → IsAskedStep step → (base after : OpenLink) → after ≡ link_after step base → IsFree (facts_in base) → IsFree (facts_in after)
+asked_free step by_host base after is free =
+    ap (λ (f : EndFacts). is_control f.outgoing.fixed) (ap facts_in is ∙ step_facts base step)
+    ∙ ap (λ (held : Data). is_control held.fixed) ((asked_leaves_data step by_host).outgoing base.setup (facts_in base)) ∙ free
+
+host_free : (facts : Facts) (octet handle : ℕ) (after : OpenLink) → HasHeardHost facts octet handle after
+    → ((link : OpenLink) → link_at handle facts.links ≡ Some link → IsFree (facts_in link)) → IsFree (facts_in after)
+host_free facts octet handle after (Unchanged same) free = free after same
+host_free facts octet handle after (GetsData link start body was is) free =
     subst IsFree (sym (given_facts start body link after is))
     (ap is_control (given_free link.setup.link.handle start body (facts_in link).outgoing) ∙ free link was)
+host_free facts octet handle after (IsAsked link command step was accepted asks is) free =
+    asked_free step (asked_is_well facts octet handle command link.setup.link.role (facts_in link).peer step accepted asks).by_host link after is (free link was)
 
 -- ---- a turn begins
 
@@ -312,7 +321,7 @@ fixed_kept setup = record {
   feeds = λ begun octet facts is.
       let phased = (phased_kept setup).feeds begun octet facts is.phased in record {
         phased = phased;
-        free = λ handle link at. host_free facts.links handle link (host_under setup facts octet handle link at) (is.free handle);
+        free = λ handle link at. host_free facts octet handle link (host_under setup facts octet handle link at) (is.free handle);
         fixes = λ handle link at. resting handle (facts_after setup facts (HostOctet octet)).turn.doing link phased.phase;
       };
   begins = λ begun on facts is.

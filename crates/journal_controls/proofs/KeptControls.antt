@@ -1,6 +1,6 @@
 -- Each step of a run of two stations keeps that the control part of each open end is, by the journal, the one that the end
 -- holds.
-use Rattle.std.proofs.Common.{◌≡◌, ℕ, suc, ◌+◌, ◌==◌, Bool, true, false, Option, Some, None, List, [], ◌∷◌, ◌++◌, inl, inr, length, replicate, refl, sym, ap, subst, ◌∙◌, append_assoc, arith}
+use Rattle.std.proofs.Common.{◌≡◌, ℕ, suc, ◌+◌, ◌-◌, ◌==◌, Bool, true, false, Option, Some, None, List, [], ◌∷◌, ◌++◌, inl, inr, length, replicate, refl, sym, ap, subst, ◌∙◌, append_assoc, arith}
 use Rattle.std.specs.Prelude.{◌⊎◌, map, take, if◌then◌else◌}
 use Rattle.std.proofs.lemmas.Bool.{eqb-true}
 use Rattle.ble_base.specs.declared.roles.Role.{Role}
@@ -21,7 +21,7 @@ use Rattle.journal_ends.specs.run_model.Readers.{station_of, turns_of}
 use Rattle.journal_ends.specs.run_model.Run.{Given, after_call, after_feed, after_octets, facts_at, hearings_of, history_of, octets_left, run_of, setup_at, step_of, use_at}
 use Rattle.radio_replay.specs.declared.fates.Fate.{Fate}
 use Rattle.journal_ends.proofs.EndsKnown.{AreLined, lined_at}
-use Rattle.journal_ends.proofs.KeptSeen.{AreSeenAt, lined_next, lined_octet, seen_first, seen_kept}
+use Rattle.journal_ends.proofs.KeptSeen.{AreFed as AreSeenFed, AreSeenAt, apart_from, begin_fed, first_fed, lined_next, lined_octet, octet_asks, octet_fed as seen_fed, octet_next, seen_first, seen_kept}
 use Rattle.journal_ends.proofs.SeenCalls.{IsSeenAt, held_at, moved as seen_moved, whole as seen_whole}
 use Rattle.journal_ends.proofs.journal_acks.Counting.{facts_event, moved as count_moved}
 use Rattle.journal_ends.proofs.journal_acks.Exchanging.{exchange_at, number_at, number_called, number_quiet, number_sent}
@@ -31,7 +31,7 @@ use Rattle.journal_ends.proofs.journal_acks.Known.{known_of}
 use Rattle.journal_ends.proofs.journal_acks.LinkPackets.{lines_first}
 use Rattle.journal_ends.proofs.journal_acks.Standing.{PhasedBy, listens_wanted, phased_at, sender_role}
 use Rattle.journal_ends.proofs.journal_acks.TwoStations.{IsOfTwo, hearing_of, one_hearing}
-use Rattle.journal_ends.proofs.journal_acks.link_calls.CallNotes.{OpensNone, begin_noted, end_noted, octet_noted, opening_none}
+use Rattle.journal_ends.proofs.journal_acks.link_calls.CallNotes.{OpensNone, begin_noted, end_noted, opening_none}
 use Rattle.journal_ends.proofs.journal_links.OfTwo.{are_distinct, of_two_stations}
 use Rattle.journal_ends.proofs.journal_packets.AccessOrder.{AreNth}
 use Rattle.journal_ends.proofs.journal_packets.SoFar.{IsBelongingSoFar}
@@ -49,11 +49,12 @@ use Rattle.journal_ends.proofs.run_model.Places.{each_called, each_event}
 use Rattle.journal_ends.proofs.run_model.Stations.{among, is_in, not_before}
 use Rattle.journal_ends.proofs.run_model.Walk.{AtBegins, AtEnds, AtFeeds, AtListening, AtPackets, IsKept, NoTurn, Place}
 use Rattle.journal_controls.specs.Hearing.{control_next}
+use Rattle.journal_controls.proofs.AskedControls.{call_asks, end_asked}
 use Rattle.journal_controls.proofs.ControlPackets.{packet_moves}
-use Rattle.journal_controls.proofs.ControlledEnds.{AreControlledSo, IsControlledAt, controlled_call, controlled_event, controlled_same, moved, moved_own, taking_next, whole}
+use Rattle.journal_controls.proofs.ControlledEnds.{AreControlledSo, IsControlledAt, controlled_call, controlled_event, asked_own, controlled_same, moved, moved_own, taking_next, whole}
 use Rattle.journal_controls.proofs.EventMoves.{control_at, feed_still, turn_at, turn_still, withholds_at}
 use Rattle.journal_controls.proofs.FixedEnds.{fixed_in}
-use Rattle.journal_controls.proofs.LinkMoves.{MovesTo, begin_moves, end_moves, octet_moves}
+use Rattle.journal_controls.proofs.LinkMoves.{MovesTo, begin_moves, end_moves}
 use Rattle.journal_controls.proofs.PassedControls.{passes_own}
 
 -- ---- what is kept
@@ -136,47 +137,52 @@ module _ (heard_whole : IsHeardWhole) (understood : IsUnderstood) (taken : AreTa
     (six : HaveAddresses given) where
   -- ---- what a host sends
 
-  record AreFed (history : List Event) : Type 0 where
+  -- while a station is fed
+  record AreFed (station begun : ℕ) (history : List Event) : Type 0 where
     control : AreControlledSo given history NoneReceived
     each : Each (ControlBefore given) [] history
+    seen : AreSeenFed understood taken nth apart given are_two six station begun history
 
-  octet_fed : (station octet : ℕ) (history : List Event) → is_in station given.stations ≡ true → AreLined given history → AreLined given (after_call given station (HostOctet octet) history)
-      → AreFed history → AreFed (after_call given station (HostOctet octet) history)
-  octet_fed station octet history in_it lined lined_after fed =
-      let step = HostOctet octet in
-      let setup = setup_at given station in
-      let facts = facts_at given station history in record {
-        control = controlled_call given station step history NoneReceived NoneReceived lined lined_after (λ handle link at.
+  octet_fed : (station octet begun : ℕ) (history rest : List Event) → is_in station given.stations ≡ true
+      → history_of (run_of given) ≡ history ++ Called station (HostOctet octet) ∷ rest → AreLined given history → AreLined given (after_call given station (HostOctet octet) history)
+      → AreFed station begun history → AreFed station begun (after_call given station (HostOctet octet) history)
+  octet_fed station octet begun history rest in_it at lined lined_after fed =
+      let step = HostOctet octet in record {
+        control = controlled_call given station step history NoneReceived NoneReceived (apart_from understood taken nth apart given are_two six station in_it) lined lined_after (λ handle link held.
             let number = number_at station handle history in
-            let has = octet_moves (side_of station) number (withholds_at (side_of station) history) (turn_at history) setup facts octet handle link
-            (held_at given station step history in_it lined lined_after handle link at) in
-            moved_own given station step history in_it lined lined_after handle link at None refl
-            (number_called given station step history handle (octet_noted (OpensNone handle) (opening_none handle).starts.feeds setup facts octet)) has.base has.was
-            (facts_in has.base).control has.is (whole_at given history NoneReceived station handle has.base in_it has.was (λ on. refl) fed.control))
+            let asks = octet_asks understood taken nth apart given are_two six station octet begun history rest in_it at lined lined_after fed.seen handle link held in
+            asked_own given station step history in_it lined lined_after handle link held None refl asks.number asks.base asks.was
+            (call_asks given (side_of station) number station step history asks.is.asked (facts_in asks.base).control asks.lines
+            (whole_at given history NoneReceived station handle asks.base in_it asks.was (λ on. refl) fed.control)
+            ∙ ap Some (end_asked asks.base asks.is.asked asks.is.is_seen ∙ sym asks.is.control_is)))
             (λ other is_too differs. refl) fed.control;
         each = call_each given station step history fed.each (whole_before given history NoneReceived station step (λ handle held link. refl) refl fed.control);
+        seen = seen_fed understood taken nth apart given are_two six station octet begun history rest in_it at lined lined_after fed.seen;
       }
 
-  octets_fed : (station : ℕ) (octets : List ℕ) (history rest : List Event) → is_in station given.stations ≡ true
+  octets_fed : (station : ℕ) (octets : List ℕ) (begun : ℕ) (history rest : List Event) → is_in station given.stations ≡ true
       → history_of (run_of given) ≡ after_octets given station octets history ++ rest → AreLined given (after_octets given station octets history)
-      → AreFed history → AreFed (after_octets given station octets history)
-  octets_fed station [] history rest in_it is lined fed = fed
-  octets_fed station (octet ∷ octets) history rest in_it is lined fed =
+      → AreFed station begun history → AreFed station begun (after_octets given station octets history)
+  octets_fed station [] begun history rest in_it is lined fed = fed
+  octets_fed station (octet ∷ octets) begun history rest in_it is lined fed =
       let next = after_call given station (HostOctet octet) history in
-      octets_fed station octets next rest in_it is lined
-      (octet_fed station octet history in_it (lined_octet understood taken nth apart given are_two six station octet octets history rest is)
+      let now = octet_next given station octet octets history rest is in
+      octets_fed station octets begun next rest in_it is lined
+      (octet_fed station octet begun history now.rest in_it now.at
+      (lined_octet understood taken nth apart given are_two six station octet octets history rest is)
       (lined_next understood taken nth apart given are_two six station octets next rest is lined) fed)
 
-  feed_fed : (station : ℕ) (octets : List ℕ) (history rest : List Event) → is_in station given.stations ≡ true
-      → history_of (run_of given) ≡ after_feed given station octets history ++ rest → AreLined given (after_feed given station octets history)
-      → AreFed history → AreFed (after_feed given station octets history)
-  feed_fed station [] history rest in_it is lined fed = fed
-  feed_fed station (octet ∷ octets) history rest in_it is lined fed =
+  feed_fed : (station : ℕ) (octets : List ℕ) (begun : ℕ) (history rest : List Event) → is_in station given.stations ≡ true
+      → history_of (run_of given) ≡ after_feed given station octets history ++ rest → AreLined given history → AreLined given (after_feed given station octets history)
+      → AreFed station begun history → AreFed station begun (after_feed given station octets history)
+  feed_fed station [] begun history rest in_it is lined lined_after fed = fed
+  feed_fed station (octet ∷ octets) begun history rest in_it is lined lined_after fed =
       let event = HostFed station (octet ∷ octets) in
-      octets_fed station (octet ∷ octets) (history ++ event ∷ []) rest in_it is lined (record {
+      octets_fed station (octet ∷ octets) begun (history ++ event ∷ []) rest in_it is lined_after (record {
         control = controlled_event given history event NoneReceived (λ one. refl) (λ number side. feed_still number side history station (octet ∷ octets))
             (λ one handle. number_quiet one handle history event (λ links. refl)) fed.control;
         each = each_event (ControlBefore given) history event fed.each tt;
+        seen = begin_fed understood taken nth apart given are_two six station octet octets begun history rest is lined fed.seen;
       })
 
   -- ---- a packet
@@ -277,9 +283,13 @@ module _ (heard_whole : IsHeardWhole) (understood : IsUnderstood) (taken : AreTa
             let place = AtFeeds (done ++ station ∷ []) left in
             let seen = sees.on_feed plan done left station history are some now has.seen in
             let front = front_at given place after seen.known.front in
-            let fed = feed_fed station octets history front.rest (among given.stations done left station are) front.at (lined_at understood taken given are_two six place after seen.known) (record {
+            let in_it = among given.stations done left station are in
+            let fed = feed_fed station octets (turns_begun history - 1) history front.rest in_it front.at
+            (lined_at understood taken given are_two six (AtFeeds done (station ∷ left)) history has.seen.known)
+            (lined_at understood taken given are_two six place after seen.known) (record {
               control = controlled_same given history (λ one. packet_received one history) NoneReceived (λ one in_one. sym (has.seen.holds.hearing.hears one in_one)) has.control;
               each = has.each;
+              seen = first_fed understood taken nth apart given are_two six done left station history in_it has.seen;
             }) in record {
               seen = seen;
               lined = lines.on_feed plan done left station history are some now has.lined;
@@ -300,14 +310,14 @@ module _ (heard_whole : IsHeardWhole) (understood : IsUnderstood) (taken : AreTa
             let none = has.seen.holds.hearing.hears station in_it in record {
               seen = seen;
               lined = lines.on_begin slot plan done left station history are due has.lined;
-              control = controlled_call given station step history (λ one. packet_received one history) (λ one. packet_received one after) lined lined_after (λ handle link at.
+              control = controlled_call given station step history (λ one. packet_received one history) (λ one. packet_received one after) (apart_from understood taken nth apart given are_two six station in_it) lined lined_after (λ handle link at.
                   let number = number_at station handle history in
                   let held = held_at given station step history in_it lined lined_after handle link at in
                   let next = facts_after setup facts step in
                   let moves = begin_moves (side_of station) number (withholds_at (side_of station) history) slot setup facts on handle link held
                   (λ sends. first_sender 0 link.setup.link.role refl (sender_role 0 next.links next.turn.doing handle link (begins_in setup slot on facts) sends held)) in
                   moved_own given station step history in_it lined lined_after handle link at (packet_received station after) (seen.holds.hearing.hears station in_it)
-                  (number_called given station step history handle (begin_noted (OpensNone handle) (opening_none handle) setup slot on facts)) moves.base moves.was
+                  (number_called given station step history handle (begin_noted (OpensNone handle) (opening_none handle) setup slot on facts)) moves.base moves.was tt
                   (facts_in moves.base).control
                   (subst (λ n. MovesTo (side_of station) number (withholds_at (side_of station) history) n moves.base link (facts_in moves.base).control)
                   (sym (turn_is history slot due.slot_is)) moves.is)
@@ -355,7 +365,7 @@ module _ (heard_whole : IsHeardWhole) (understood : IsUnderstood) (taken : AreTa
             (no_octet received))) in record {
               seen = seen;
               lined = lines.on_hearing phases done left station history are some has.lined;
-              control = controlled_call given station step history (λ one. packet_received one history) (λ one. packet_received one after) lined lined_after
+              control = controlled_call given station step history (λ one. packet_received one history) (λ one. packet_received one after) (apart_from understood taken nth apart given are_two six station in_it) lined lined_after
                   (passes_own understood taken given are_two six station history phases place in_it phased lined lined_after seen.known seen.seen held
                   (turn_is history facts.turn.slot (sym phased.uses.in_turn.slot_is)) has.control)
                   (λ other is_too differs. received_by given other station step history false differs) has.control;
@@ -376,11 +386,11 @@ module _ (heard_whole : IsHeardWhole) (understood : IsUnderstood) (taken : AreTa
             let none = has.seen.holds.hearing.hears station in_it in record {
               seen = seen;
               lined = lines.on_end done left station history are some has.lined;
-              control = controlled_call given station step history (λ one. packet_received one history) (λ one. packet_received one after) lined lined_after (λ handle link at.
+              control = controlled_call given station step history (λ one. packet_received one history) (λ one. packet_received one after) (apart_from understood taken nth apart given are_two six station in_it) lined lined_after (λ handle link at.
                   let moves = end_moves (side_of station) (number_at station handle history) (withholds_at (side_of station) history) (turn_at history) setup facts handle link
                   (held_at given station step history in_it lined lined_after handle link at) in
                   moved_own given station step history in_it lined lined_after handle link at (packet_received station after) (seen.holds.hearing.hears station in_it)
-                  (number_called given station step history handle (end_noted (OpensNone handle) (opening_none handle).starts.feeds setup facts)) moves.base moves.was
+                  (number_called given station step history handle (end_noted (OpensNone handle) (opening_none handle).starts.feeds setup facts)) moves.base moves.was tt
                   (facts_in moves.base).control moves.is
                   (whole_at given history (λ one. packet_received one history) station handle moves.base in_it moves.was (λ listens. none) has.control))
                   (λ other is_too differs. received_by given other station step history false differs) has.control;

@@ -12,6 +12,7 @@ pub mod FixedEnds
 pub mod TakingLines
 pub mod LinkMoves
 pub mod OpenedControls
+pub mod AskedControls
 pub mod ControlledEnds
 pub mod ControlPackets
 pub mod PassedControls

@@ -7,18 +7,19 @@ use Rattle.ble_base.specs.declared.roles.Side.{Side}
 use Rattle.ble_base.specs.declared.roles.Side.TheVariants.{A, B}
 use Rattle.journal.specs.declared.entries.Entry.{Entry}
 use Rattle.journal.specs.declared.entries.Entry.TheVariants.{Opened, Shut}
-use Rattle.journal_ends.specs.Seen.{Hears, Says, heard_in_line, seen_in_line}
+use Rattle.journal_ends.specs.Seen.{Asks, Hears, Says, asked_in_line, heard_in_line, seen_in_line}
 use Rattle.journal_ends.specs.journal_acks.Carried.{carried_of}
 use Rattle.journal_ends.specs.journal_acks.Exchange.{exchange_of}
 use Rattle.journal_ends.specs.journal_links.Begun.{LinkBegun, link_numbered}
 use Rattle.journal_ends.specs.journal_links.LinkLines.{link_named, where_named}
 use Rattle.journal_ends.specs.journal_packets.Belonging.{is_side}
+use Rattle.journal_ends.specs.link_model.Step.{Step}
 use Rattle.journal_ends.specs.link_model.control_model.Control.{Control, after_all}
 use Rattle.journal_ends.specs.link_model.procedure_stages.Kinds.{role_of}
 use Rattle.journal_ends.specs.run_model.Readers.{of_side}
 use Rattle.journal_ends.proofs.journal_acks.TwoStations.{same_number}
 use Rattle.journal_controls.specs.SaidLines.{NoneOpens, is_opening, moved_by}
-use Rattle.journal_controls.specs.LineSteps.{control_after, control_begun, control_from, control_moved, control_on, has_next, steps_heard, steps_said, steps_seen, turn_now, withholds}
+use Rattle.journal_controls.specs.LineSteps.{control_after, control_begun, control_from, control_moved, control_on, has_next, steps_asking, steps_heard, steps_said, steps_seen, turn_now, withholds}
 
 -- ---- a line more
 
@@ -98,18 +99,18 @@ pub named_by : (side : Side) (number : ℕ) (names : Option (Side × ℕ)) (line
 named_by side number None line = Others refl
 named_by side number (Some named) line = named_if side named.0 (named.1 == number) line
 
--- a line in which the end hears nothing
+-- a line in which the end hears nothing and is asked nothing
 pub line_moves : (side : Side) (number : ℕ) (front : List Entry) (line : Entry) (c : Control) → heard_in_line side number front line ≡ []
-    → let named = where_named side number (link_named line) line in NoneOpens named
+    → asked_in_line side number front line ≡ [] → let named = where_named side number (link_named line) line in NoneOpens named
     → control_after side number front (Some c) line ≡ Some (moved_by (withholds side front) (turn_now front) named c)
-line_moves side number front line c deaf opens = by (named_by side number (link_named line) line)
+line_moves side number front line c deaf unasked opens = by (named_by side number (link_named line) line)
   where
     by : IsNamed line (where_named side number (link_named line) line)
         → control_after side number front (Some c) line ≡ Some (moved_by (withholds side front) (turn_now front) (where_named side number (link_named line) line) c)
     by (Own is) =
-        said_line side number front line c (subst NoneOpens is opens).0 (λ i. deaf i ++ map Says (is i)) ∙ ap (λ lines. Some (moved_by (withholds side front) (turn_now front) lines c)) (sym is)
+        said_line side number front line c (subst NoneOpens is opens).0 (λ i. unasked i ++ (deaf i ++ map Says (is i))) ∙ ap (λ lines. Some (moved_by (withholds side front) (turn_now front) lines c)) (sym is)
     by (Others none) =
-        quiet_line side number front (Some c) line (λ i. deaf i ++ map Says (none i)) ∙ ap (λ lines. Some (moved_by (withholds side front) (turn_now front) lines c)) (sym none)
+        quiet_line side number front (Some c) line (λ i. unasked i ++ (deaf i ++ map Says (none i))) ∙ ap (λ lines. Some (moved_by (withholds side front) (turn_now front) lines c)) (sym none)
 
 -- ---- a good packet that the end hears
 
@@ -122,6 +123,28 @@ heard_line side number front line c slot octets opens is =
     ∙ ap (λ seen. Some (after_all (flat_map (steps_seen side number front line c) seen) c)) is
     ∙ ap (λ steps. Some (after_all steps c))
     (append-nil (steps_heard (role_of c.table.progress) slot (exchange_of number front side) (exchange_of number (front ++ line ∷ []) side) (carried_of number front side) (has_next c)))
+
+-- ---- what its host asks
+
+-- no line that opens a link or shuts it
+named_unasked : (line : Entry) (named : List Entry) (step : Step) → IsNamed line named → map Says named ≡ Asks step ∷ [] → ⊥
+named_unasked line named step (Own is) asked = absurd (let h : Says line ∷ [] ≡ Asks step ∷ [] = ap (map Says) (sym is) ∙ asked in absurd cc)
+named_unasked line named step (Others none) asked = absurd (let h : [] ≡ Asks step ∷ [] = ap (map Says) (sym none) ∙ asked in absurd cc)
+
+opening_unasked : (side : Side) (number : ℕ) (front : List Entry) (line : Entry) (step : Step) → seen_in_line side number front line ≡ Asks step ∷ []
+    → is_opening line ≡ false
+opening_unasked side number front (Opened other link handle role) step asked =
+    absurd (named_unasked (Opened other link handle role) _ step (named_by side number (Some (other, link)) (Opened other link handle role)) asked)
+opening_unasked side number front (Shut other link reason) step asked =
+    absurd (named_unasked (Shut other link reason) _ step (named_by side number (Some (other, link)) (Shut other link reason)) asked)
+opening_unasked side number front line step asked = refl
+
+pub asked_line : (side : Side) (number : ℕ) (front : List Entry) (line : Entry) (c : Control) (step : Step) → seen_in_line side number front line ≡ Asks step ∷ []
+    → control_after side number front (Some c) line ≡ Some (after_all (steps_asking c step) c)
+asked_line side number front line c step is =
+    moves side number front (Some c) line (opening_unasked side number front line step is)
+    ∙ ap (λ seen. Some (after_all (flat_map (steps_seen side number front line c) seen) c)) is
+    ∙ ap (λ steps. Some (after_all steps c)) (append-nil (steps_asking c step))
 
 -- ---- the line that opens the link
 

@@ -11,10 +11,9 @@ use Rattle.ble_base.specs.declared.roles.Side.{Side}
 use Rattle.controller_model.specs.Facts.{Setup, Facts}
 use Rattle.controller_model.specs.Heard.{effect_in, is_refused}
 use Rattle.controller_model.specs.Side.{facts_after}
-use Rattle.controller_model.specs.Step.{HostOctet, TurnBegins, TurnEnds}
+use Rattle.controller_model.specs.Step.{TurnBegins, TurnEnds}
 use Rattle.data_pdu.specs.Header.{header_in}
 use Rattle.host_masks.specs.Masks.{view_masks, withholds_requests}
-use Rattle.journal_ends.specs.journal_acks.link_calls.Hosts.{HasHeardHost, GetsData, Unchanged}
 use Rattle.journal_ends.specs.journal_acks.link_calls.Phases.{link_receiving, refusal, refused_if, refuses_at}
 use Rattle.journal_ends.specs.journal_acks.link_calls.Turns.{sent_if}
 use Rattle.journal_ends.specs.journal_acks.link_calls.Uses.{fixes_under, sends_under}
@@ -30,7 +29,7 @@ use Rattle.journal_ends.specs.link_model.Packets.{good_pdu}
 use Rattle.journal_ends.specs.link_model.Receiving.{accepts, facts_before_taking, facts_received, has_ended, received_notes, replies_by, replies_of}
 use Rattle.journal_ends.specs.link_model.Sending.{sent_notes_if}
 use Rattle.journal_ends.specs.link_model.Setup.{Setup as EndSetup}
-use Rattle.journal_ends.specs.link_model.Step.{Step, DataGiven, DataReported, EventEntered, PacketReceived, PacketSent, PduFixed, RequestAnswered}
+use Rattle.journal_ends.specs.link_model.Step.{Step, DataReported, EventEntered, PacketReceived, PacketSent, PduFixed, RequestAnswered}
 use Rattle.journal_ends.specs.link_model.Verdicts.{pdu_of}
 use Rattle.journal_ends.specs.link_model.control_end.Answers.{entry_of}
 use Rattle.journal_ends.specs.link_model.control_end.Held.{held_of}
@@ -42,7 +41,7 @@ use Rattle.journal_ends.specs.open_links.OpenLinks.{Links, OpenLink, facts_in, l
 use Rattle.journal_ends.specs.open_links.Turns.{enters_in}
 use Rattle.journal_ends.proofs.journal_acks.link_calls.LinkCalls.{turn_begun_under}
 use Rattle.journal_ends.proofs.journal_acks.link_calls.Refusals.{only_central_refuses}
-use Rattle.journal_ends.proofs.journal_acks.link_calls.UnderHandles.{ended_under, host_under}
+use Rattle.journal_ends.proofs.journal_acks.link_calls.UnderHandles.{ended_under}
 use Rattle.journal_ends.proofs.link_model.ControlSteps.{one_step}
 use Rattle.journal_ends.proofs.run_laws.Agreed.{step_facts}
 use Rattle.journal_controls.specs.Hearing.{control_hearing}
@@ -70,29 +69,6 @@ pub record HasMoved (side : Side) (number : ℕ) (withheld : Bool) (slot : ℕ) 
 module _ (side : Side) (number : ℕ) (withheld : Bool) (slot : ℕ) where
   pub same_moves : (link : OpenLink) → MovesTo side number withheld slot link link (facts_in link).control
   same_moves link = record { setup_is = refl; steps = []; past_is = sym (append-nil link.past); moves = refl }
-
-  -- ---- a host
-
-  given_moves : (start : Bool) (body : List ℕ) (link : OpenLink)
-      → MovesTo side number withheld slot link (link_after (DataGiven start body) link) (facts_in link).control
-  given_moves start body link = record {
-    setup_is = refl;
-    steps = DataGiven start body ∷ [];
-    past_is = refl;
-    moves = sym (ap (λ (f : EndFacts). f.control) (step_facts link (DataGiven start body)));
-  }
-
-  fed_moves : (links : Links) (handle : ℕ) (after : OpenLink) → HasHeardHost links handle after → HasMoved side number withheld slot links handle after
-  fed_moves links handle after (Unchanged same) = record { base = after; was = same; is = same_moves after }
-  fed_moves links handle after (GetsData link start body was is) = record {
-    base = link;
-    was = was;
-    is = subst (λ l. MovesTo side number withheld slot link l (facts_in link).control) (sym is) (given_moves start body link);
-  }
-
-  pub octet_moves : (setup : Setup) (facts : Facts) (octet handle : ℕ) (after : OpenLink) → link_at handle (facts_after setup facts (HostOctet octet)).links ≡ Some after
-      → HasMoved side number withheld slot facts.links handle after
-  octet_moves setup facts octet handle after at = fed_moves facts.links handle after (host_under setup facts octet handle after at)
 
   -- ---- a turn ends
 

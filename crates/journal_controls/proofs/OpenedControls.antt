@@ -12,7 +12,7 @@ use Rattle.ble_base.specs.declared.roles.Side.{Side}
 use Rattle.controller_model.specs.Links.{note_opened}
 use Rattle.journal.specs.declared.entries.Entry.{Entry}
 use Rattle.journal.specs.declared.entries.Entry.TheVariants.{Air, Opened}
-use Rattle.journal_ends.specs.Seen.{Hears, Says, Seen, heard_in_line, heard_where, seen_from, seen_in_line, seen_on}
+use Rattle.journal_ends.specs.Seen.{Asks, Hears, Says, Seen, asked_in_line, heard_in_line, heard_where, seen_from, seen_in_line, seen_on}
 use Rattle.journal_ends.specs.journal_links.Begun.{LinkBegun, link_numbered, links_begun, with_number}
 use Rattle.journal_ends.specs.journal_links.Changes.{role_by}
 use Rattle.journal_ends.specs.journal_links.LinkLines.{line_of, link_named, where_named}
@@ -21,6 +21,7 @@ use Rattle.journal_ends.specs.journal_acks.Shut.{is_of_link}
 use Rattle.journal_ends.specs.journal_acks.link_calls.Ranges.{HasRanges}
 use Rattle.journal_ends.specs.journal_packets.Belonging.{is_side}
 use Rattle.journal_ends.specs.link_model.Facts.{first_facts}
+use Rattle.journal_ends.specs.link_model.Step.{Step}
 use Rattle.journal_ends.specs.link_model.Setup.{Setup as EndSetup, first_params}
 use Rattle.journal_ends.specs.link_model.control_model.Control.{Control, first_control}
 use Rattle.journal_ends.specs.open_links.OpenLinks.{OpenLink}
@@ -33,6 +34,7 @@ use Rattle.journal_ends.specs.run_model.Numbers.{HasNumber}
 use Rattle.journal_ends.specs.run_model.Readers.{turns_of}
 use Rattle.journal_ends.specs.run_model.Run.{Given, history_of, run_of}
 use Rattle.journal_ends.proofs.SeenEvents.{seen_at}
+use Rattle.journal_ends.proofs.SeenLists.{AreAsks, line_are_asks}
 use Rattle.journal_ends.proofs.journal_acks.TwoStations.{IsOfTwo}
 use Rattle.journal_ends.proofs.journal_links.ChangesAt.{role_is}
 use Rattle.journal_ends.proofs.journal_links.LinksBegun.{number_stays}
@@ -52,15 +54,15 @@ use Rattle.journal_controls.proofs.LineFolds.{IsNamed, Others, Own, named_by, op
 
 -- ---- lines of which one says that the link is opened, and in which the end says and hears nothing else
 
-record AreNone (one other : List Seen) : Type 0 where
-  first : one ≡ []
-  second : other ≡ []
+pub record AreNone (one other : List Seen) : Type 0 where
+  pub first : one ≡ []
+  pub second : other ≡ []
 
-none_of : (one other : List Seen) → one ++ other ≡ [] → AreNone one other
+pub none_of : (one other : List Seen) → one ++ other ≡ [] → AreNone one other
 none_of [] other is = record { first = refl; second = is }
 none_of (seen ∷ one) other is = absurd cc
 
-quiet_lines : (side : Side) (number : ℕ) (front : List Entry) (before : Option Control) (lines : List Entry) → seen_from side number front lines ≡ []
+pub quiet_lines : (side : Side) (number : ℕ) (front : List Entry) (before : Option Control) (lines : List Entry) → seen_from side number front lines ≡ []
     → control_from side number front before lines ≡ before
 quiet_lines side number front before [] none = refl
 quiet_lines side number front before (line ∷ lines) none =
@@ -82,13 +84,22 @@ heard_so side number front (Air sender channel octets fate verdict) =
     by false slot = Unheard refl
 heard_so side number front line = Unheard refl
 
-same_line : (heard : List Seen) (named : List Entry) (line one : Entry) → IsHeardSo heard → IsNamed line named → heard ++ map Says named ≡ Says one ∷ [] → line ≡ one
-same_line heard named line one (Heard slot octets is) name said =
+same_heard : (heard : List Seen) (named : List Entry) (line one : Entry) → IsHeardSo heard → IsNamed line named → heard ++ map Says named ≡ Says one ∷ [] → line ≡ one
+same_heard heard named line one (Heard slot octets is) name said =
     absurd (let h : Hears slot octets ∷ map Says named ≡ Says one ∷ [] = ap (λ xs. xs ++ map Says named) (sym is) ∙ said in absurd cc)
-same_line heard named line one (Unheard none) (Own is) said =
+same_heard heard named line one (Unheard none) (Own is) said =
     let h : Says line ∷ [] ≡ Says one ∷ [] = (λ i. sym none i ++ map Says (sym is i)) ∙ said in cc
-same_line heard named line one (Unheard none) (Others is) said =
+same_heard heard named line one (Unheard none) (Others is) said =
     absurd (let h : [] ≡ Says one ∷ [] = (λ i. sym none i ++ map Says (sym is i)) ∙ said in absurd cc)
+
+same_line : (asked heard : List Seen) (named : List Entry) (line one : Entry) → AreAsks asked → IsHeardSo heard → IsNamed line named
+    → asked ++ (heard ++ map Says named) ≡ Says one ∷ [] → line ≡ one
+same_line asked heard named line one are so name said = by are.steps are.is
+  where
+    by : (steps : List Step) → asked ≡ map Asks steps → line ≡ one
+    by [] none = same_heard heard named line one so name (ap (λ xs. xs ++ (heard ++ map Says named)) (sym none) ∙ said)
+    by (step ∷ steps) is =
+        absurd (let h : Asks step ∷ (map Asks steps ++ (heard ++ map Says named)) ≡ Says one ∷ [] = ap (λ xs. xs ++ (heard ++ map Says named)) (sym is) ∙ said in absurd cc)
 
 -- the line that says so, and the control part from there on
 record IsOpenedIn (side : Side) (number handle : ℕ) (role : Role) (front : List Entry) (before : Option Control) (lines : List Entry) : Type 0 where
@@ -121,8 +132,8 @@ opened_in side number handle role front before (line ∷ lines) said =
         let tail : more ++ seen_from side number (front ++ line ∷ []) lines ≡ [] = cc in
         let both = none_of more (seen_from side number (front ++ line ∷ []) lines) tail in
         let alone : seen_in_line side number front line ≡ Says (Opened side number handle role) ∷ [] = is ∙ (λ i. head i ∷ both.first i) in
-        let same = same_line (heard_in_line side number front line) (where_named side number (link_named line) line) line (Opened side number handle role)
-        (heard_so side number front line) (named_by side number (link_named line) line) alone in record {
+        let same = same_line (asked_in_line side number front line) (heard_in_line side number front line) (where_named side number (link_named line) line) line
+        (Opened side number handle role) (line_are_asks side number front line) (heard_so side number front line) (named_by side number (link_named line) line) alone in record {
           first = [];
           rest = lines;
           is_at = ap (λ l. l ∷ lines) same;

@@ -1,6 +1,7 @@
 -- A phase passes at a station: what its control parts are then by the journal.
 use Rattle.std.proofs.Common.{◌≡◌, ℕ, ◌⊎◌, inl, inr, true, Option, Some, None, List, [], ◌∷◌, sym, ap, subst, ◌∙◌}
 use Rattle.std.specs.Prelude.{All}
+use Rattle.controller_model.proofs.Always.{IsInTurn}
 use Rattle.controller_model.specs.Facts.{Facts}
 use Rattle.controller_model.specs.Heard.{has_room}
 use Rattle.controller_model.specs.Links.{note_opened}
@@ -70,6 +71,10 @@ module _ (understood : IsUnderstood) (taken : AreTaken) (given : Given) (are_two
   abbrev IsNow : ℕ → OpenLink → Type 0
   IsNow handle link = IsControlledAt (packet_received station next) handle (facts_at given station next).turn link (number_at station handle next) (side_of station) next
 
+  phase_turn : (may : Option (List ℕ)) → IsInTurn (step_of may)
+  phase_turn None = tt
+  phase_turn (Some octets) = tt
+
   none_next : packet_received station next ≡ None
   none_next = received_by given station station (step_of received) history true (same_station station)
 
@@ -90,7 +95,7 @@ module _ (understood : IsUnderstood) (taken : AreTaken) (given : Given) (are_two
   passed handle link at number (IsNew end made opened off) = fresh handle link at (ap (λ (l : OpenLink). l.past) made)
   passed handle link at number (Stays was none nothing listened) =
       let own = number_at station handle history in
-      moved_own given station (step_of received) history in_it lined lined_after handle link at (packet_received station next) none_next number link was (facts_in link).control
+      moved_own given station (step_of received) history in_it lined lined_after handle link at (packet_received station next) none_next number link was (phase_turn received) (facts_in link).control
       (same_moves (side_of station) own (withholds_at (side_of station) history) (turn_at history) link)
       (whole received handle facts.turn link own (side_of station) history nothing (are station handle link in_it was))
   passed handle link at number (Takes base octets was some on same) =
@@ -101,7 +106,7 @@ module _ (understood : IsUnderstood) (taken : AreTaken) (given : Given) (are_two
       let sends = sends_under handle (facts_after setup facts (step_of received)).turn.doing in
       let from = control_if true facts.turn.slot octets base in
       let moves = taken_moves side own facts handle room octets base was sends link (sends_replying setup facts received handle base octets was some on) same in
-      moved_own given station (step_of received) history in_it lined lined_after handle link at (packet_received station next) none_next number base was from
+      moved_own given station (step_of received) history in_it lined lined_after handle link at (packet_received station next) none_next number base was (phase_turn received) from
       (subst (λ w. MovesTo side own w (turn_at history) base link from) (sym held)
       (subst (λ n. MovesTo side own (withholds_requests (view_masks facts.view)) n base link from) (sym slot_is) moves))
       (are station handle base in_it was ∙ (λ i. Some (control_taking (on i) (some i) facts.turn.slot base)))

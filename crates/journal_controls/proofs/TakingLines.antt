@@ -1,11 +1,10 @@
 -- The lines of an end that takes a packet move its control part from what it was as the packet reached the end.
-use Rattle.std.proofs.Common.{◌≡◌, ℕ, ◌&&◌, not, Bool, true, false, Option, Some, None, List, [], ◌++◌, map, refl, sym, ap, ◌∙◌, if◌then◌else◌}
+use Rattle.std.proofs.Common.{◌≡◌, ℕ, ◌&&◌, not, Bool, true, false, Option, Some, None, List, ◌++◌, map, refl, sym, ap, ◌∙◌, if◌then◌else◌}
 use Rattle.std.specs.Prelude.{◌==◌}
 use Rattle.std.proofs.lemmas.List.{map-append}
 use Rattle.ble_base.specs.declared.error_codes.ErrCode.{ErrCode}
 use Rattle.ble_base.specs.declared.notes.Note.{Note}
 use Rattle.ble_base.specs.declared.procedure_kinds.Kind.{Kind}
-use Rattle.ble_base.specs.declared.roles.Role.{Role}
 use Rattle.ble_base.specs.declared.roles.Side.{Side}
 use Rattle.controller_model.specs.Heard.{is_refused}
 use Rattle.controller_model.specs.host_view.View.{View}
@@ -59,22 +58,6 @@ hearing_told slot setup facts before after last pdu told =
     let own = acknowledged_if acks (heard_in_slot slot header.md facts) in
     told_steps slot setup facts before after last header told
     ∙ gone_by (acks_control acks facts) (answers_with_control setup.link.role own) slot own facts.control refl
-
--- it is some steps further
-pub record IsFurther (control now : Control) : Type 0 where
-  pub steps : List ControlStep
-  pub is : now ≡ after_all steps control
-
-pub hearing_further : (role : Role) (slot : ℕ) (pdu : Option (List ℕ)) (facts : Facts) → IsFurther facts.control (control_hearing role slot pdu facts)
-hearing_further role slot None facts = record { steps = []; is = refl }
-hearing_further role slot (Some pdu) facts =
-    let header = header_in pdu in
-    let acks = has_acknowledged facts header in
-    let own = acknowledged_if acks (heard_in_slot slot header.md facts) in
-    let goes = answers_with_control role own in record {
-      steps = step_if (acks_control acks facts) SeesAcknowledged ++ step_if goes (Sends slot true);
-      is = sym (gone_by (acks_control acks facts) goes slot own facts.control refl);
-    }
 
 -- ---- the lines of its notes
 

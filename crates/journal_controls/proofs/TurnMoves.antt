@@ -21,11 +21,6 @@ use Rattle.journal_controls.proofs.EndSteps.{central_sends_free, entry_moves, pa
 use Rattle.journal_controls.proofs.NotedSteps.{joined, noted_both}
 
 module _ (side : Side) (number slot : ℕ) (setup : Setup) where
-  -- the control part goes by the lines of a step
-  abbrev IsByLine : Facts → Step → Type 0
-  IsByLine facts step =
-      (facts_after setup facts step).control ≡ after_all (steps_noted side number setup.link.role slot (notes_after setup facts step)) facts.control
-
   -- ---- as a turn begins
 
   sends_by : (sends : Bool) (facts : Facts) → (setup.link.role ≡ Central → IsFree facts) → (sends ≡ true → setup.link.role ≡ Central)

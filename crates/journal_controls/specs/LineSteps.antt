@@ -1,8 +1,9 @@
 -- The control part of an end of a link, from the lines of a journal alone (Core 5.2, volume 6 part B, sections 4.5.9,
 -- 5.1 and 5.5). No link is encrypted yet, so each step is in phase Clear.
-use Rattle.std.specs.Prelude.{ℕ, ◌+◌, ◌-◌, ◌==◌, ◌&&◌, nat_lt, Bool, true, false, List, [], ◌∷◌, ◌++◌, length, Option, Some, None, is_some, if◌then◌else◌}
+use Rattle.std.specs.Prelude.{ℕ, ◌+◌, ◌-◌, ◌==◌, ◌&&◌, nat_lt, not, Bool, true, false, List, [], ◌∷◌, ◌++◌, length, Option, Some, None, is_some, if◌then◌else◌}
 use Rattle.std.specs.List.{flat_map}
 use Rattle.std.specs.Option.{option_map}
+use Rattle.ble_base.specs.declared.channel_map.ChannelMap.{ChannelMap}
 use Rattle.ble_base.specs.declared.roles.Role.{Role}
 use Rattle.ble_base.specs.declared.roles.Role.TheVariants.{Central, Peripheral}
 use Rattle.ble_base.specs.declared.roles.Side.{Side}
@@ -10,7 +11,7 @@ use Rattle.controller_model.specs.Heard.{most_received}
 use Rattle.host_masks.specs.Masks.{masks_of, withholds_requests}
 use Rattle.journal.specs.declared.entries.Entry.{Entry}
 use Rattle.journal.specs.declared.entries.Entry.TheVariants.{Enter, Opened, Sent, Shut, Took}
-use Rattle.journal_ends.specs.Seen.{Hears, Says, Seen, seen_in_line}
+use Rattle.journal_ends.specs.Seen.{Asks as IsAsked, Hears, Says, Seen, seen_in_line}
 use Rattle.journal_ends.specs.journal_acks.Carried.{carried_of}
 use Rattle.journal_ends.specs.journal_acks.Exchange.{Exchanged, exchange_of}
 use Rattle.journal_ends.specs.journal_acks.link_calls.Phases.{refusal}
@@ -21,19 +22,37 @@ use Rattle.journal_ends.specs.link_model.Acknowledgement.{Pdu}
 use Rattle.journal_ends.specs.link_model.ControlSteps.{step_if}
 use Rattle.journal_ends.specs.link_model.Controls.{is_procedure_pdu, read_of}
 use Rattle.journal_ends.specs.link_model.Data.{is_control}
+use Rattle.journal_ends.specs.link_model.Hosts.{map_queued, map_waiting, map_wanted, or_else}
 use Rattle.journal_ends.specs.link_model.Setup.{first_params}
+use Rattle.journal_ends.specs.link_model.Step.{Step, Disconnected, ProcedureAsked}
 use Rattle.journal_ends.specs.link_model.control_end.Answers.{next_ctrl, taken_of}
 use Rattle.journal_ends.specs.link_model.control_end.Held.{held_of}
-use Rattle.journal_ends.specs.link_model.control_model.Control.{Control, Step as ControlStep, Answers, Enters, SeesAcknowledged, Sends, Takes, after_all, first_control}
+use Rattle.journal_ends.specs.link_model.control_model.Control.{Control, Step as ControlStep, Answers, Asks, Disconnects, Enters, SeesAcknowledged, Sends, Takes, after_all, first_control}
+use Rattle.journal_ends.specs.link_model.procedure_values.declared.asks.Ask.{Ask}
+use Rattle.journal_ends.specs.link_model.procedure_values.declared.asks.Ask.TheVariants.{Map}
 use Rattle.journal_ends.specs.link_model.procedure_stages.Kinds.{role_of}
 use Rattle.journal_ends.specs.link_model.procedure_stages.Steps.{asks_host}
 use Rattle.journal_ends.specs.run_model.Readers.{fed_to_side, turns_of}
 
 -- ---- its host
 
--- the steps that a host asks for in a line (our choice: the controller refuses each command of a procedure yet)
-abbrev pub steps_asked : Side → ℕ → List Entry → Entry → List ControlStep
-steps_asked side number front line = []
+-- the map that an end is to have: the one that is wanted, or else the one that is on its way, or else that of now
+abbrev pub map_coming : Control → ChannelMap
+map_coming control =
+    or_else (map_wanted control.table.wanted)
+    (or_else (map_queued control.table.queue.drafts)
+    (or_else (map_waiting control.track.waits) control.track.params.map))
+
+-- a map that it is to have already changes nothing
+abbrev pub is_coming : Ask → Control → Bool
+is_coming (Map map) control = map == map_coming control
+is_coming ask control = false
+
+-- the steps of what a host asks of an end with this control part
+abbrev pub steps_asking : Control → Step → List ControlStep
+steps_asking control (ProcedureAsked ask) = step_if (not (is_coming ask control)) (Asks ask)
+steps_asking control (Disconnected reason slot) = Disconnects reason ∷ []
+steps_asking control step = []
 
 -- the masks of the host of a side withhold from it the requests of its peer, by these entries
 abbrev pub withholds : Side → List Entry → Bool
@@ -94,23 +113,23 @@ steps_heard role slot before after last waits =
     step_if (is_more_acked before after && is_control last) SeesAcknowledged
     ++ step_if (answers_with role waits after) (Sends slot true)
 
--- ---- all that it says and hears
+-- ---- all that is seen of it
 
 -- the turn that is under way after these entries
 abbrev pub turn_now : List Entry → ℕ
 turn_now front = length (turns_of front) - 1
 
--- the steps of what it says or hears in a line that comes after these
+-- the steps of what it says, hears or is asked in a line that comes after these
 abbrev pub steps_seen : Side → ℕ → List Entry → Entry → Control → Seen → List ControlStep
 steps_seen side number front line control (Says own) = steps_said (withholds side front) (turn_now front) control own
 steps_seen side number front line control (Hears slot octets) =
     steps_heard (role_of control.table.progress) slot (exchange_of number front side)
     (exchange_of number (front ++ line ∷ []) side) (carried_of number front side) (has_next control)
+steps_seen side number front line control (IsAsked step) = steps_asking control step
 
 abbrev pub steps_in_line : Side → ℕ → List Entry → Entry → Control → List ControlStep
 steps_in_line side number front line control =
-    steps_asked side number front line
-    ++ flat_map (steps_seen side number front line control) (seen_in_line side number front line)
+    flat_map (steps_seen side number front line control) (seen_in_line side number front line)
 
 -- ---- line by line
 

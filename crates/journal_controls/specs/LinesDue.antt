@@ -4,7 +4,7 @@ use Rattle.std.specs.Prelude.{ℕ, ◌&&◌, Bool, true, List, [], ◌∷◌, �
 use Rattle.ble_base.specs.declared.roles.Side.{Side}
 use Rattle.journal.specs.declared.entries.Entry.{Entry}
 use Rattle.journal.specs.declared.entries.Entry.TheVariants.{Began, Done, Enter, Refused, Took}
-use Rattle.journal_ends.specs.Seen.{Hears, Says, Seen, seen_in_line}
+use Rattle.journal_ends.specs.Seen.{Asks, Hears, Says, Seen, seen_in_line}
 use Rattle.journal_ends.specs.journal_acks.Carried.{carried_of}
 use Rattle.journal_ends.specs.journal_acks.Exchange.{exchange_of}
 use Rattle.journal_ends.specs.journal_links.LinkLines.{line_of}
@@ -57,6 +57,7 @@ due_seen side number front line control due (Hears slot octets) =
     due_hearing side number
     (is_more_acked (exchange_of number front side) (exchange_of number (front ++ line ∷ []) side)
     && is_control (carried_of number front side)) control
+due_seen side number front line control due (Asks step) = due
 
 -- no line of a procedure is due where the link is not open
 abbrev pub due_with : Side → ℕ → List Entry → Entry → List Entry → Option Control → List Entry

@@ -1,35 +1,46 @@
 //! Laws of the control part as a controller is called, by the lines that the call adds. The bodies
 //! are empty: the contracts are the laws.
-ghost use Rattle.std.specs.Prelude.{◌≡◌, ◌++◌, ℕ, List, Some, false, map};
+ghost use Rattle.std.specs.Prelude.{◌≡◌, ◌++◌, ℕ, List, Option, Some, false, map};
 ghost use Rattle.ble_base.specs.declared.notes.Note.{Note};
 ghost use Rattle.ble_base.specs.declared.roles.Side.{Side};
 ghost use Rattle.controller_model.specs.Step.{Step as Call};
 ghost use Rattle.journal.specs.declared.entries.Entry.{Entry};
+ghost use Rattle.host_answers.specs.Calls.{call_lines};
+ghost use Rattle.journal_ends.specs.Seen.{asked_if, seen_from};
 ghost use Rattle.journal_ends.specs.journal_links.LinkLines.{line_of, lines_of};
 ghost use Rattle.journal_ends.specs.link_model.End.{facts_of, notes_from};
 ghost use Rattle.journal_ends.specs.link_model.Facts.{Facts};
 ghost use Rattle.journal_ends.specs.link_model.Setup.{Setup};
 ghost use Rattle.journal_ends.specs.link_model.Step.{Step};
 ghost use Rattle.journal_ends.specs.link_model.control_model.Control.{Control, after_all};
+ghost use Rattle.journal_ends.specs.run_model.Feeding.{is_octet};
 ghost use Rattle.journal_ends.specs.run_model.History.{Event};
 ghost use Rattle.journal_ends.specs.run_model.Journal.{journal_of};
 ghost use Rattle.journal_ends.specs.run_model.Run.{Given, after_call};
 ghost use Rattle.journal_controls.specs.LineSteps.{control_on, turn_now, withholds};
 ghost use Rattle.journal_controls.specs.OneEnd.{steps_noted};
-ghost use Rattle.journal_controls.specs.SaidLines.{NoneOpens, moved_by};
+ghost use Rattle.journal_controls.specs.SaidLines.{NoneOpens, after_asking, moved_by};
 
-/// A call on a controller, after any history, moves the control part of an end by the lines that it
-/// adds for that end, in order, where none of them opens the link or shuts it. A request that is
-/// withheld from the host is refused as it is taken (Core 5.2, volume 6 part B, section 5.1.7).
+/// A call of a turn on a controller, after any history, moves the control part of an end by the
+/// lines that it adds for that end, in order, where none of them opens the link or shuts it. A
+/// request that is withheld from the host is refused as it is taken. A call in the lines of which
+/// nothing else is seen of an end than what its host asks moves the control part by that (Core 5.2,
+/// volume 6 part B, sections 5.1 and 5.1.7).
 pub fn a_call_moves_the_control_part_by_its_lines()
-    ensures { (given : Given) (side : Side) (number station : ℕ) (call : Call)
-        (history : List Event) (more : List Entry) (control : Control)
+    ensures turn { (given : Given) (side : Side) (number station : ℕ) (call : Call)
+        (history : List Event) (more : List Entry) (control : Control) → is_octet call ≡ false
         → lines_of side number (journal_of (after_call given station call history))
         ≡ lines_of side number (journal_of history) ++ more
         → NoneOpens more → control_on side number (journal_of history) ≡ Some control
         → control_on side number (journal_of (after_call given station call history))
         ≡ Some (moved_by (withholds side (journal_of history)) (turn_now (journal_of history)) more
         control) }
+    ensures asked { (given : Given) (side : Side) (number station : ℕ) (call : Call)
+        (history : List Event) (asked : Option Step) (control : Control)
+        → seen_from side number (journal_of history) (call_lines given station call history)
+        ≡ asked_if asked → control_on side number (journal_of history) ≡ Some control
+        → control_on side number (journal_of (after_call given station call history))
+        ≡ Some (after_asking asked control) }
 {}
 
 /// The lines of what an end notes in any steps neither open its link nor shut it, and they move the

@@ -27,7 +27,9 @@ pub use crate::events::{
 };
 pub use crate::fixing::{a_control_pdu_is_fixed_where_one_waits, what_open_ends_have_fixed};
 pub use crate::journals::only_what_an_end_says_and_hears_moves_its_control_part;
-pub use crate::rows::{worked_controls, worked_lines_due, worked_requests, worked_versions};
+pub use crate::rows::{
+    worked_asks, worked_controls, worked_lines_due, worked_requests, worked_versions,
+};
 pub use crate::runs::the_control_part_by_lines_is_the_one_that_the_end_holds;
 pub use crate::turns::{
     a_packet_that_is_taken_moves_the_control_part_by_its_lines,

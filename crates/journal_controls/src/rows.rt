@@ -10,10 +10,14 @@ ghost use Rattle.journal.specs.declared.entries.Entry.TheVariants.{Began, Enter,
 ghost use Rattle.journal_ends.specs.journal_acks.Rows.{data_acknowledged};
 ghost use Rattle.journal_ends.specs.journal_acks.link_calls.Phases.{refusal};
 ghost use Rattle.journal_ends.specs.link_model.Controls.{read_of};
-ghost use Rattle.journal_ends.specs.link_model.control_model.Control.{Answers, Control};
+ghost use Rattle.journal_ends.specs.Rows.{asked_of_central, ended_by_central};
+ghost use Rattle.journal_ends.specs.Rows.{refused_to_central};
+ghost use Rattle.journal_ends.specs.link_model.control_model.Control.{Answers, Asks, Control};
+ghost use Rattle.journal_ends.specs.link_model.control_model.Control.{Disconnects};
 ghost use Rattle.journal_ends.specs.link_model.control_model.Control.{Enters, Sends, Takes};
 ghost use Rattle.journal_ends.specs.link_model.control_model.Control.{after_all};
 ghost use Rattle.journal_ends.specs.link_model.procedure_stages.InProgress.{is_host_asked};
+ghost use Rattle.journal_ends.specs.link_model.procedure_values.declared.asks.Ask.TheVariants.{Version};
 ghost use Rattle.journal_ends.specs.run_model.Rows.{one_connection_journal, one_event_journal};
 ghost use Rattle.journal_controls.specs.LineSteps.{control_on};
 ghost use Rattle.journal_controls.specs.LinesDue.{applied_due, due_saying, lines_due};
@@ -32,6 +36,18 @@ pub fn worked_controls()
     ensures other { control_on A 2 one_event_journal ≡ None }
     ensures shut { control_on A 1 (one_event_journal
         ++ Shut A 1 (record { 0 = connection_timeout }) ∷ []) ≡ None }
+{}
+
+/// The host of the central asks for an exchange of versions by a command that is accepted, and then
+/// ends the link. A command that is refused asks nothing, and no command asks of the other end.
+pub fn worked_asks()
+    ensures asked { control_on B 1 asked_of_central
+        ≡ Some (after_all (Asks Version ∷ []) (first_on Central)) }
+    ensures ended { control_on B 1 ended_by_central
+        ≡ Some (after_all (Asks Version ∷ Disconnects (record { 0 = 0x13 }) ∷ [])
+        (first_on Central)) }
+    ensures refused { control_on B 1 refused_to_central ≡ Some (first_on Central) }
+    ensures peripheral { control_on A 1 asked_of_central ≡ Some (first_on Peripheral) }
 {}
 
 /// The control PDU of a central is first sent in its line, in turn 3. As the peripheral takes it,

@@ -67,7 +67,7 @@ module _ (side : Side) (link_of : ℕ → ℕ) (last : ℕ) where
   -- ---- links end
 
   shut_own : (handle code : ℕ) → IsOwnLine side (link_of handle) (line (note_shut handle code))
-  shut_own handle code = record { named = refl; deaf = λ other front. refl; own = refl; no_turn = refl }
+  shut_own handle code = record { named = refl; deaf = λ other front. refl; unasked = λ other front. refl; own = refl; no_turn = refl }
 
   -- links that end leave the control part of another one
   ends_keep : (view : View) (reason : OpenLink → Option ℕ) (number first : ℕ) (links : Links) (front : List Entry)
@@ -92,7 +92,7 @@ module _ (side : Side) (link_of : ℕ → ℕ) (last : ℕ) where
           ∙ ap (control_on side number) (sym (append_assoc front (shut ∷ []) (map line events ++ map line later)))
           ∙ ap (control_on side number) (sym (append_assoc next (map line events) (map line later)))
           ∙ rest (next ++ map line events)
-          ∙ events_keep side link_of last view (DisconnectionComplete 0 first code ∷ []) next number
+          ∙ events_keep side link_of last view (DisconnectionComplete 0 first code ∷ []) next number (tt, tt)
           ∙ control_apart side (link_of first) number front shut (shut_own first code) (apart first code link (at_first first (Some link) links) some)
 
   -- what is known of the links that stay

@@ -5,17 +5,19 @@ use Rattle.std.proofs.lemmas.List.Sums.{fold-append}
 use Rattle.ble_base.specs.declared.roles.Side.{Side}
 use Rattle.ble_base.specs.declared.roles.Side.TheVariants.{A, B}
 use Rattle.journal.specs.declared.entries.Entry.{Entry}
-use Rattle.journal.specs.declared.entries.Entry.TheVariants.{Opened, Shut}
-use Rattle.journal_controls.specs.journal_ends.Seen.{Hears, Says, seen_in_line}
+use Rattle.journal.specs.declared.entries.Entry.TheVariants.{Opened, Shut, Up}
+use Rattle.journal_controls.specs.journal_ends.Seen.{Asks, Hears, Says, asked_in_line, seen_in_line}
 use Rattle.journal_controls.specs.journal_acks.Carried.{carried_of}
 use Rattle.journal_controls.specs.journal_acks.Exchange.{exchange_of}
 use Rattle.journal_controls.specs.journal_links.Begun.{link_numbered}
 use Rattle.journal_controls.specs.journal_packets.Belonging.{is_side}
 use Rattle.journal_controls.specs.link_model.Data.{is_control}
+use Rattle.journal_controls.specs.link_model.Step.{Step}
 use Rattle.journal_controls.specs.link_model.control_model.Control.{Control}
 use Rattle.journal_controls.specs.run_model.Readers.{of_side}
 use Rattle.journal_controls.specs.LineSteps.{control_after, control_begun, control_on, is_more_acked, turn_now}
 use Rattle.journal_controls.specs.LinesDue.{due_from, due_hearing, due_saying, due_seen, due_with, lines_due}
+use Rattle.journal_controls.proofs.journal_ends.SeenLists.{AreAsks, line_are_asks}
 use Rattle.journal_controls.proofs.LineFolds.{control_more}
 use Rattle.journal_due.specs.ProcedureLines.{applied_after, applied_in, applied_last, is_same_side, side_of_line}
 
@@ -97,6 +99,30 @@ quiet_due side number journal line none = due_more side number journal line ∙ 
     by : (found : Option Control) → control_on side number journal ≡ found → due_with side number journal line (lines_due side number journal) found ≡ lines_due side number journal
     by None is = sym (none_unopened side number journal is)
     by (Some control) is = ap (fold (due_seen side number journal line control) (lines_due side number journal)) none
+
+-- ---- what a host asks leaves what is due
+
+asks_leave : (side : Side) (number : ℕ) (front : List Entry) (line : Entry) (control : Control) (due : List Entry) (steps : List Step)
+    → fold (due_seen side number front line control) due (map Asks steps) ≡ due
+asks_leave side number front line control due [] = refl
+asks_leave side number front line control due (step ∷ steps) = asks_leave side number front line control due steps
+
+asked_due : (side : Side) (number : ℕ) (journal : List Entry) (line : Entry) → AreAsks (seen_in_line side number journal line)
+    → lines_due side number (journal ++ line ∷ []) ≡ lines_due side number journal
+asked_due side number journal line asks = due_more side number journal line ∙ by (control_on side number journal) refl
+  where
+    by : (found : Option Control) → control_on side number journal ≡ found → due_with side number journal line (lines_due side number journal) found ≡ lines_due side number journal
+    by None is = sym (none_unopened side number journal is)
+    by (Some control) is =
+        ap (fold (due_seen side number journal line control) (lines_due side number journal)) asks.is
+        ∙ asks_leave side number journal line control (lines_due side number journal) asks.steps
+
+-- a packet to a host is no more than an answer
+pub packet_due : (side other : Side) (number : ℕ) (journal : List Entry) (octets : List ℕ)
+    → lines_due side number (journal ++ Up other octets ∷ []) ≡ lines_due side number journal
+packet_due side other number journal octets =
+    let asks = line_are_asks side number journal (Up other octets) in
+    asked_due side number journal (Up other octets) (record { steps = asks.steps; is = append-nil (asked_in_line side number journal (Up other octets)) ∙ asks.is })
 
 -- ---- the indication of the last line of a side
 

@@ -1,5 +1,5 @@
 -- Lines of no procedure leave nothing due; lines of the other side leave what is due.
-use Rattle.std.proofs.Common.{◌≡◌, ℕ, ◌==◌, Bool, true, false, Option, Some, None, List, [], ◌∷◌, ◌++◌, map, refl, sym, ap, ◌∙◌}
+use Rattle.std.proofs.Common.{◌≡◌, ℕ, ◌==◌, Bool, true, false, Option, Some, None, List, [], ◌∷◌, ◌++◌, map, refl, sym, ap, ◌∙◌, append-nil}
 use Rattle.std.specs.Prelude.{fold, if◌then◌else◌}
 use Rattle.std.specs.List.{AllByRecursion}
 use Rattle.ble_base.specs.declared.notes.Note.{Note}
@@ -7,8 +7,11 @@ use Rattle.ble_base.specs.declared.notes.Note.TheVariants.{Opened, Sent, Shut, U
 use Rattle.ble_base.specs.declared.roles.Side.{Side}
 use Rattle.ble_base.specs.declared.roles.Side.TheVariants.{A, B}
 use Rattle.controller_model.proofs.EndNotes.{sent_each}
+use Rattle.host_answers.specs.Answered.{answer_statuses}
 use Rattle.journal.specs.declared.entries.Entry.{Entry}
-use Rattle.journal_controls.specs.journal_ends.Seen.{Says, seen_in_line}
+use Rattle.journal.specs.declared.entries.Entry.TheVariants.{Up as UpLine}
+use Rattle.journal_controls.proofs.journal_ends.SeenEvents.{unasked_by}
+use Rattle.journal_controls.specs.journal_ends.Seen.{Says, asked_in_line, seen_in_line}
 use Rattle.journal_controls.specs.journal_packets.Belonging.{is_side}
 use Rattle.journal_controls.specs.journal_links.LinkLines.{line_of}
 use Rattle.journal_controls.specs.link_model.End.{notes_after}
@@ -24,7 +27,7 @@ use Rattle.journal_controls.specs.LinesDue.{due_saying, due_seen, due_with, line
 use Rattle.journal_due.specs.EachLine.{IsDueLine, is_of_procedures}
 use Rattle.journal_due.specs.ProcedureLines.{RestsAt, applied_by, applied_in, applied_last, first_of, is_same_side, procedure_line, side_of_line}
 use Rattle.journal_due.proofs.DueEntries.{AreAllTold, line_then, no_lines}
-use Rattle.journal_due.proofs.DueLines.{due_more, other_applied, own_applied, own_side, quiet_due}
+use Rattle.journal_due.proofs.DueLines.{due_more, other_applied, own_applied, own_side, packet_due, quiet_due}
 use Rattle.journal_due.proofs.DueSteps.{turn_stays}
 
 -- ---- a line of this side, and of no procedure
@@ -76,7 +79,7 @@ note_plain side link_of last (Up packet) plain = record {
   none = refl;
   quiet = λ front. refl;
   no_turn = refl;
-  leaves = λ front number none. quiet_due side number front _ refl ∙ none;
+  leaves = λ front number none. packet_due side side number front packet.items ∙ none;
 }
 note_plain side link_of last (Opened handle role own peer) plain = record {
   is = λ number. refl;
@@ -144,14 +147,18 @@ pub record IsOtherLine (side : Side) (line : Entry) : Type 0 where
   pub other : is_same_side (side_of_line line) side ≡ false
   pub unseen : (number : ℕ) (front : List Entry) → seen_in_line side number front line ≡ []
 
-other_none : (side other : Side) (values : List Entry) → is_side other side ≡ false → of_side side other values ≡ []
+other_none : {X : Type 0} (side other : Side) (values : List X) → is_side other side ≡ false → of_side side other values ≡ []
 other_none A A values differs = absurd cc
 other_none A B values differs = refl
 other_none B A values differs = refl
 other_none B B values differs = absurd cc
 
 pub note_other : (side other : Side) (link_of : ℕ → ℕ) (last : ℕ) (note : Note) → is_side other side ≡ false → IsOtherLine side (entry_of other link_of last note)
-note_other side other link_of last (Up packet) differs = record { other = differs; unseen = λ number front. refl }
+note_other side other link_of last (Up packet) differs = record {
+  other = differs;
+  unseen = λ number front. append-nil (asked_in_line side number front (UpLine other packet.items))
+      ∙ unasked_by side number front (UpLine other packet.items) (ap answer_statuses (other_none side other (packet.items ∷ []) differs));
+}
 note_other side other link_of last note differs = record { other = differs; unseen = λ number front. ap (map Says) (other_none side other _ differs) }
 
 pub other_due : (side : Side) (front : List Entry) (line : Entry) → is_same_side (side_of_line line) side ≡ false → side_of_line line ≡ Some side → IsDueLine side front line

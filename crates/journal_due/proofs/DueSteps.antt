@@ -10,7 +10,7 @@ use Rattle.ble_base.specs.declared.roles.Side.{Side}
 use Rattle.ble_base.specs.declared.roles.Side.TheVariants.{A, B}
 use Rattle.journal.specs.declared.entries.Entry.{Entry}
 use Rattle.journal.specs.declared.entries.Entry.TheVariants.{Began, Done, Refused}
-use Rattle.journal_controls.specs.journal_ends.Seen.{Says, heard_in_line, seen_in_line}
+use Rattle.journal_controls.specs.journal_ends.Seen.{Says, asked_in_line, heard_in_line, seen_in_line}
 use Rattle.journal_controls.specs.journal_links.LinkLines.{line_of, link_named, where_named}
 use Rattle.journal_controls.specs.link_model.Entering.{began_notes, done_notes}
 use Rattle.journal_controls.specs.link_model.Receiving.{given_notes, refused_notes}
@@ -30,6 +30,7 @@ use Rattle.journal_due.proofs.DueLines.{own_applied, quiet_due, said_due}
 pub record IsOwnLine (side : Side) (number : ℕ) (line : Entry) : Type 0 where
   pub named : link_named line ≡ Some (side, number)
   pub deaf : (other : ℕ) (front : List Entry) → heard_in_line side other front line ≡ []
+  pub unasked : (other : ℕ) (front : List Entry) → asked_in_line side other front line ≡ []
   pub own : side_of_line line ≡ Some side
   pub no_turn : pair_openings_in line ≡ []
 
@@ -49,11 +50,11 @@ module _ (side : Side) (number : ℕ) where
 
   pub seen_own : (front : List Entry) (line : Entry) → IsOwnLine side number line → seen_in_line side number front line ≡ Says line ∷ []
   seen_own front line own =
-      (λ i. own.deaf number front i ++ map Says (where_named side number (own.named i) line)) ∙ ap (map Says) (named_own side line)
+      (λ i. own.unasked number front i ++ (own.deaf number front i ++ map Says (where_named side number (own.named i) line))) ∙ ap (map Says) (named_own side line)
 
   pub seen_apart : (other : ℕ) (front : List Entry) (line : Entry) → IsOwnLine side number line → (number == other) ≡ false → seen_in_line side other front line ≡ []
   seen_apart other front line own apart =
-      (λ i. own.deaf other front i ++ map Says (where_named side other (own.named i) line)) ∙ ap (map Says) (named_apart side (number == other) line apart)
+      (λ i. own.unasked other front i ++ (own.deaf other front i ++ map Says (where_named side other (own.named i) line))) ∙ ap (map Says) (named_apart side (number == other) line apart)
 
   pub control_apart : (other : ℕ) (front : List Entry) (line : Entry) → IsOwnLine side number line → (number == other) ≡ false
       → control_on side other (front ++ line ∷ []) ≡ control_on side other front
@@ -121,7 +122,7 @@ still_if side number line front c own moved none is =
 
 module _ (side : Side) (number : ℕ) where
   began_line : (kind : Kind) → IsProcedureLine side number (Began side number kind)
-  began_line kind = let own : IsOwnLine side number (Began side number kind) = record { named = refl; deaf = λ other front. refl; own = refl; no_turn = refl } in record {
+  began_line kind = let own : IsOwnLine side number (Began side number kind) = record { named = refl; deaf = λ other front. refl; unasked = λ other front. refl; own = refl; no_turn = refl } in record {
     line_is = own;
     is = λ other. refl;
     drops = λ slot control due. refl;
@@ -131,7 +132,7 @@ module _ (side : Side) (number : ℕ) where
   }
 
   done_line : (kind : Kind) → IsProcedureLine side number (Done side number kind)
-  done_line kind = let own : IsOwnLine side number (Done side number kind) = record { named = refl; deaf = λ other front. refl; own = refl; no_turn = refl } in record {
+  done_line kind = let own : IsOwnLine side number (Done side number kind) = record { named = refl; deaf = λ other front. refl; unasked = λ other front. refl; own = refl; no_turn = refl } in record {
     line_is = own;
     is = λ other. refl;
     drops = λ slot control due. refl;
@@ -141,7 +142,7 @@ module _ (side : Side) (number : ℕ) where
   }
 
   refused_line : (kind : Kind) (code : ErrCode) → IsProcedureLine side number (Refused side number kind code)
-  refused_line kind code = let own : IsOwnLine side number (Refused side number kind code) = record { named = refl; deaf = λ other front. refl; own = refl; no_turn = refl } in record {
+  refused_line kind code = let own : IsOwnLine side number (Refused side number kind code) = record { named = refl; deaf = λ other front. refl; unasked = λ other front. refl; own = refl; no_turn = refl } in record {
     line_is = own;
     is = λ other. refl;
     drops = λ slot control due. refl;

@@ -1,7 +1,7 @@
 -- The lines of a station as a turn begins come where they are due: links end, the others enter their events one after
 -- another, and one sends.
 use Rattle.std.proofs.Common.{◌≡◌, ℕ, ◌+◌, ◌≤◌, ◌==◌, Bool, true, false, Option, Some, None, List, [], ◌∷◌, ◌++◌, map, refl, sym, ap, subst, ◌∙◌, append-nil, append_assoc, arith}
-use Rattle.std.specs.Prelude.{All, filter, if◌then◌else◌}
+use Rattle.std.specs.Prelude.{All, cond, filter, if◌then◌else◌}
 use Rattle.std.specs.List.{AllByRecursion}
 use Rattle.std.proofs.lemmas.Bool.{eqb-true}
 use Rattle.std.proofs.lemmas.List.{map-append}
@@ -9,7 +9,9 @@ use Rattle.std.proofs.lemmas.List.Elements.{All-head, All-tail}
 use Rattle.ble_base.specs.declared.notes.Note.{Note}
 use Rattle.ble_base.specs.declared.notes.Note.TheVariants.{Up}
 use Rattle.ble_base.specs.declared.roles.Side.{Side}
+use Rattle.ble_base.specs.declared.roles.Side.TheVariants.{A, B}
 use Rattle.hci_evt.specs.declared.event.Event.{Event}
+use Rattle.hci_evt.specs.declared.event.Event.TheVariants.{CommandComplete, CommandStatus}
 use Rattle.hci_evt.specs.Event.{mask_bit_of, written}
 use Rattle.journal.specs.declared.entries.Entry.{Entry}
 use Rattle.journal.specs.declared.entries.Entry.TheVariants.{Applied, Began, Done, Enter}
@@ -17,6 +19,13 @@ use Rattle.controller_model.specs.Entering.{events_entering, notes_all_entering}
 use Rattle.controller_model.specs.Events.{notes_of_events, passes}
 use Rattle.controller_model.specs.host_view.View.{View}
 use Rattle.controller_model.proofs.EndNotes.{entered_each}
+use Rattle.controller_model.proofs.NoAnswers.{IsNoAnswer}
+use Rattle.controller_model.proofs.ProcedureEvents.{AreOfProcedures, IsOfProcedure, entering_events}
+use Rattle.host_answers.proofs.AnswerStatuses.{reads_statuses}
+use Rattle.host_answers.specs.Answered.{answer_statuses}
+use Rattle.journal_controls.proofs.journal_ends.SeenEvents.{unasked_by}
+use Rattle.journal_controls.specs.journal_ends.Seen.{asked_in_line, seen_in_line}
+use Rattle.journal_controls.specs.run_model.Readers.{of_side}
 use Rattle.journal_controls.specs.journal_links.LinkLines.{line_of}
 use Rattle.journal_controls.specs.link_model.End.{notes_after}
 use Rattle.journal_controls.specs.link_model.Entering.{facts_entered}
@@ -55,6 +64,17 @@ at_later first handle place links link at =
 pub at_first : (first : ℕ) (place : Option OpenLink) (links : Links) → link_from first first (place ∷ links) ≡ place
 at_first first place links = ap (λ b. if b then place else link_from (first + 1) first links) (same_number first)
 
+-- ---- events of procedures are no answers
+
+no_answer : (event : Event) → IsOfProcedure event → IsNoAnswer event
+no_answer (CommandComplete number opcode fields) is = absurd is
+no_answer (CommandStatus status number opcode) is = absurd is
+no_answer other is = tt
+
+no_answers : (events : List Event) → AreOfProcedures events → AllByRecursion IsNoAnswer events
+no_answers [] are = tt
+no_answers (event ∷ events) are = (no_answer event are.0, no_answers events are.1)
+
 -- ---- lines of one station, with the numbers of its links
 
 module _ (side : Side) (link_of : ℕ → ℕ) (last : ℕ) where
@@ -77,17 +97,37 @@ module _ (side : Side) (link_of : ℕ → ℕ) (last : ℕ) where
   pub events_told : (view : View) (events : List Event) (front : List Entry) → RestsAt side front → AreAllTold side front (map line (notes_of_events view events))
   events_told view events front rests = ups_told (filter (λ event. passes view (mask_bit_of event)) events) front rests
 
-  pub events_keep : (view : View) (events : List Event) (front : List Entry) (number : ℕ)
-      → control_on side number (front ++ map line (notes_of_events view events)) ≡ control_on side number front
-  events_keep view events front number = by (filter (λ event. passes view (mask_bit_of event)) events) front
+  -- an event that is no answer tells of nothing that a host asks
+  event_silent : (front : List Entry) (number : ℕ) (event : Event) → IsNoAnswer event → seen_in_line side number front (line (Up (record { items = written event }))) ≡ []
+  event_silent front number event is =
+      append-nil (asked_in_line side number front (line (Up (record { items = written event }))))
+      ∙ unasked_by side number front (line (Up (record { items = written event }))) (by side)
     where
-      by : (events : List Event) (front : List Entry) → control_on side number (front ++ map line (map (λ event. Up (record { items = written event })) events)) ≡ control_on side number front
-      by [] front = ap (control_on side number) (append-nil front)
-      by (event ∷ events) front =
+      by : (side : Side) → answer_statuses (of_side side side (written event ∷ [])) ≡ []
+      by A = ap (λ xs. xs ++ []) (reads_statuses.event event is)
+      by B = ap (λ xs. xs ++ []) (reads_statuses.event event is)
+
+  passed_no_answers : (view : View) (events : List Event) → AllByRecursion IsNoAnswer events → AllByRecursion IsNoAnswer (filter (λ event. passes view (mask_bit_of event)) events)
+  passed_no_answers view [] are = tt
+  passed_no_answers view (event ∷ events) are = by (passes view (mask_bit_of event)) (passed_no_answers view events are.1)
+    where
+      by : (passed : Bool) → AllByRecursion IsNoAnswer (filter (λ event. passes view (mask_bit_of event)) events)
+          → AllByRecursion IsNoAnswer (cond passed (event ∷ filter (λ event. passes view (mask_bit_of event)) events) (filter (λ event. passes view (mask_bit_of event)) events))
+      by true later = (are.0, later)
+      by false later = later
+
+  pub events_keep : (view : View) (events : List Event) (front : List Entry) (number : ℕ) → AllByRecursion IsNoAnswer events
+      → control_on side number (front ++ map line (notes_of_events view events)) ≡ control_on side number front
+  events_keep view events front number are = by (filter (λ event. passes view (mask_bit_of event)) events) front (passed_no_answers view events are)
+    where
+      by : (events : List Event) (front : List Entry) → AllByRecursion IsNoAnswer events
+          → control_on side number (front ++ map line (map (λ event. Up (record { items = written event })) events)) ≡ control_on side number front
+      by [] front are = ap (control_on side number) (append-nil front)
+      by (event ∷ events) front are =
           let up = line (Up (record { items = written event })) in
           ap (control_on side number) (sym (append_assoc front (up ∷ []) _))
-          ∙ by events (front ++ up ∷ [])
-          ∙ control_more side number front up ∙ quiet_line side number front (control_on side number front) up refl
+          ∙ by events (front ++ up ∷ []) are.1
+          ∙ control_more side number front up ∙ quiet_line side number front (control_on side number front) up (event_silent front number event are.0)
 
   -- ---- an event of one link
 
@@ -127,10 +167,10 @@ module _ (side : Side) (link_of : ℕ → ℕ) (last : ℕ) where
             }));
         are_own = mapped_own (link_of handle) (notes_after link.setup (facts_in link) (EventEntered slot))
             (entered_each (λ note. IsOwnLine side (link_of handle) (line note)) link.setup slot (facts_in link) (record {
-              applied = λ number. record { named = ap (λ n. Some (side, n)) named; deaf = λ other front. refl; own = refl; no_turn = refl };
-              enter = record { named = ap (λ n. Some (side, n)) named; deaf = λ other front. refl; own = refl; no_turn = refl };
-              done = λ kind. record { named = ap (λ n. Some (side, n)) named; deaf = λ other front. refl; own = refl; no_turn = refl };
-              began = λ kind. record { named = ap (λ n. Some (side, n)) named; deaf = λ other front. refl; own = refl; no_turn = refl };
+              applied = λ number. record { named = ap (λ n. Some (side, n)) named; deaf = λ other front. refl; unasked = λ other front. refl; own = refl; no_turn = refl };
+              enter = record { named = ap (λ n. Some (side, n)) named; deaf = λ other front. refl; unasked = λ other front. refl; own = refl; no_turn = refl };
+              done = λ kind. record { named = ap (λ n. Some (side, n)) named; deaf = λ other front. refl; unasked = λ other front. refl; own = refl; no_turn = refl };
+              began = λ kind. record { named = ap (λ n. Some (side, n)) named; deaf = λ other front. refl; unasked = λ other front. refl; own = refl; no_turn = refl };
             }));
       }
 
@@ -178,7 +218,7 @@ module _ (side : Side) (link_of : ℕ → ℕ) (last : ℕ) where
       let two = events_told view (events_entering slot first (Some link)) mid one.left in
       let next = mid ++ map line events in
       let keep = λ (handle : ℕ) (later : OpenLink) (at : link_from (first + 1) handle links ≡ Some later).
-      events_keep view (events_entering slot first (Some link)) mid (link_of handle)
+      events_keep view (events_entering slot first (Some link)) mid (link_of handle) (no_answers (events_entering slot first (Some link)) (entering_events slot first (Some link)))
       ∙ own_keep (link_of first) (link_of handle) (map line entry) front (entry_of_link first slot enters link handle_is).are_own
       (known.numbers first handle link later here (at_later first handle (Some link) links later at) (apart_from first handle (from_first (first + 1) handle links later at))) in
       let three = all_told view slot (first + 1) links next (two.turn_is ∙ one.turn_is ∙ now) (later_known first (Some link) links front next known keep) two.left in

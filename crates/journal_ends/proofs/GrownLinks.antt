@@ -1,35 +1,22 @@
--- How the past of the link under a handle grows in each call on a controller.
-use Rattle.std.proofs.Common.{◌≡◌, ℕ, ◌==◌, Bool, true, false, Some, None, List, [], ◌∷◌, ◌++◌, refl, sym, ap, subst, ◌∙◌, append-nil, append_assoc}
+-- How the past of the link under a handle grows in each call of a turn on a controller.
+use Rattle.std.proofs.Common.{◌≡◌, ℕ, Bool, true, false, Some, List, [], ◌∷◌, ◌++◌, refl, sym, ap, subst, ◌∙◌, append-nil, append_assoc}
 use Rattle.std.specs.Prelude.{nat_lt, if◌then◌else◌}
 use Rattle.std.specs.Option.{option_map}
-use Rattle.h4_frames.specs.declared.packet.HostPacket.TheVariants.{Command as HostCommand, Acl}
-use Rattle.h4_frames.specs.declared.packet.Fed.{Fed}
-use Rattle.h4_frames.specs.declared.packet.Fed.TheVariants.{More, Packet, LostSync}
-use Rattle.hci_cmd.specs.declared.command.Command.{Command}
-use Rattle.hci_cmd.specs.declared.command.Command.TheVariants.{Reset}
-use Rattle.hci_cmd.specs.declared.command.CmdRead.{CmdRead}
-use Rattle.hci_cmd.specs.declared.command.CmdRead.TheVariants.{Known, UnknownOpcode, BadLength}
-use Rattle.hci_cmd.specs.Command.{command_of}
-use Rattle.host_view.specs.Unbuilt.{status_of}
-use Rattle.controller_model.specs.Commands.{facts_commanded, facts_known, links_after}
-use Rattle.controller_model.specs.Data.{facts_handed, facts_offered, offer_of}
+use Rattle.controller_model.specs.Data.{facts_handed}
 use Rattle.controller_model.specs.Facts.{Setup, Facts}
-use Rattle.controller_model.specs.Side.{facts_after, facts_fed, result_of}
-use Rattle.controller_model.specs.Step.{HostOctet, TurnBegins, TurnEnds}
+use Rattle.controller_model.specs.Side.{facts_after}
+use Rattle.controller_model.specs.Step.{TurnBegins, TurnEnds}
 use Rattle.controller_model.proofs.Always.{leaving_is}
 use Rattle.controller_model.proofs.Places.{link_receiving, refusal, refused_if, refuses_at}
-use Rattle.journal_acks.specs.link_model.Step.{Step, DataGiven, DataReported, EventEntered, PacketReceived, PacketSent, PduFixed, RequestAnswered}
-use Rattle.journal_acks.specs.open_links.Data.{complete_in, link_reported, links_given, links_reported}
-use Rattle.journal_acks.specs.open_links.OpenLinks.{Links, OpenLink, link_after, link_at, without_links}
+use Rattle.journal_acks.specs.link_model.Step.{Step, DataReported, EventEntered, PacketReceived, PacketSent, PduFixed, RequestAnswered}
+use Rattle.journal_acks.specs.open_links.Data.{complete_in, link_reported, links_reported}
+use Rattle.journal_acks.specs.open_links.OpenLinks.{Links, OpenLink, link_after, link_at}
 use Rattle.journal_acks.specs.open_links.Turns.{ending_in, entered_if, enters_in, links_without}
-use Rattle.journal_acks.specs.open_links.declared.offers.Offer.{Offer}
-use Rattle.journal_acks.specs.open_links.declared.offers.Offer.TheVariants.{NoLink, Empty, Overflow, Kept}
 use Rattle.journal_acks.proofs.link_calls.LinkCalls.{begins_under}
 use Rattle.journal_acks.specs.link_calls.Uses.{sends_under}
-use Rattle.journal_acks.proofs.link_calls.UnderHandles.{WasOpen, change_under, map_under, staying_under, was_open}
+use Rattle.journal_acks.proofs.link_calls.UnderHandles.{WasOpen, map_under, staying_under, was_open}
 use Rattle.journal_acks.specs.link_calls.Turns.{change_if, sent_if}
 use Rattle.journal_ends.proofs.PastSeen.{AreDeaf, IsDeaf, deaf_both}
-use Rattle.controller_model.proofs.Unasked.{of_unasked}
 
 -- ---- one link
 
@@ -65,65 +52,10 @@ pub record HasGrown (links : Links) (handle : ℕ) (after : OpenLink) : Type 0 w
   pub was : link_at handle links ≡ Some base
   pub is : IsGrown base after
 
-same_under : (links : Links) (handle : ℕ) (after : OpenLink) → link_at handle links ≡ Some after → HasGrown links handle after
-same_under links handle after at = record { base = after; was = at; is = grown_same after }
-
-changed_under : (changes : Bool) (step : Step) (links : Links) (handle : ℕ) (after : OpenLink) → IsDeaf step
-    → WasOpen (change_if changes (link_after step)) (link_at handle links) after → HasGrown links handle after
-changed_under changes step links handle after deaf was =
-    record { base = was.link; was = was.was; is = subst (IsGrown was.link) (sym was.is) (grown_if changes step was.link deaf) }
-
--- ---- an octet of the host
-
-none_left : (handle : ℕ) (links : Links) (after : OpenLink) → link_at handle (without_links links) ≡ Some after → link_at handle links ≡ Some after
-none_left handle links after at = absurd (let h : None ≡ Some after = sym (map_under (λ place. None) refl 0 handle links) ∙ at in absurd cc)
-
-command_leaves : (command : Command) (handle : ℕ) (links : Links) (after : OpenLink) → link_at handle (links_after command links) ≡ Some after → link_at handle links ≡ Some after
-command_leaves Reset handle links after at = none_left handle links after at
-command_leaves other handle links after at = at
-
-known_grown : (accepted : Bool) (setup : Setup) (command : Command) (facts : Facts) (handle : ℕ) (after : OpenLink)
-    → link_at handle (facts_known accepted setup facts command).links ≡ Some after → HasGrown facts.links handle after
-known_grown true setup command facts handle after at = same_under facts.links handle after (command_leaves command handle facts.links after at)
-known_grown false setup command facts handle after at = same_under facts.links handle after at
-
-read_grown : (setup : Setup) (facts : Facts) (read : CmdRead) (handle : ℕ) (after : OpenLink)
-    → link_at handle (facts_commanded setup facts read).links ≡ Some after → HasGrown facts.links handle after
-read_grown setup facts (Known command) handle after at =
-    of_unasked setup facts command (λ (next : Facts). link_at handle next.links ≡ Some after → HasGrown facts.links handle after)
-    (known_grown (status_of facts.view command == 0) setup command facts handle after) at
-read_grown setup facts UnknownOpcode handle after at = same_under facts.links handle after at
-read_grown setup facts BadLength handle after at = same_under facts.links handle after at
-
-given_grown : (start : Bool) (body : List ℕ) (handle other : ℕ) (links : Links) (after : OpenLink)
-    → link_at handle (links_given other start body links) ≡ Some after → HasGrown links handle after
-given_grown start body handle other links after at =
-    changed_under (other == handle) (DataGiven start body) links handle after (λ setup facts. refl)
-    (change_under other handle (link_after (DataGiven start body)) links after at)
-
-offered_grown : (offer : Offer) (other : ℕ) (start : Bool) (body : List ℕ) (facts : Facts) (handle : ℕ) (after : OpenLink)
-    → link_at handle (facts_offered offer other start body facts).links ≡ Some after → HasGrown facts.links handle after
-offered_grown Kept other start body facts handle after at = given_grown start body handle other facts.links after at
-offered_grown NoLink other start body facts handle after at = same_under facts.links handle after at
-offered_grown Empty other start body facts handle after at = same_under facts.links handle after at
-offered_grown Overflow other start body facts handle after at = same_under facts.links handle after at
-
-fed_grown : (setup : Setup) (facts : Facts) (fed : Fed) (handle : ℕ) (after : OpenLink)
-    → link_at handle (facts_fed setup facts fed).links ≡ Some after → HasGrown facts.links handle after
-fed_grown setup facts (Packet (HostCommand opcode body)) handle after at = read_grown setup facts (command_of opcode body.items) handle after at
-fed_grown setup facts (Packet (Acl other start count body)) handle after at =
-    offered_grown (offer_of setup facts other count) other start body.items facts handle after at
-fed_grown setup facts LostSync handle after at = same_under facts.links handle after at
-fed_grown setup facts More handle after at = same_under facts.links handle after at
-
-pub octet_grown : (setup : Setup) (facts : Facts) (octet handle : ℕ) (after : OpenLink)
-    → link_at handle (facts_after setup facts (HostOctet octet)).links ≡ Some after → HasGrown facts.links handle after
-octet_grown setup facts octet handle after at = fed_grown setup facts (result_of facts.octets octet) handle after at
-
 -- ---- a turn begins
 
 entered_grown : (enters : Bool) (slot : ℕ) (link : OpenLink) → IsGrown link (entered_if enters slot link)
-entered_grown true slot link = grown_after (EventEntered slot) link (λ setup facts. refl)
+entered_grown true slot link = grown_after (EventEntered slot) link (refl, λ setup facts. refl)
 entered_grown false slot link = grown_same link
 
 pub begun_grown : (setup : Setup) (facts : Facts) (slot : ℕ) (on : Bool) (handle : ℕ) (after : OpenLink)
@@ -138,8 +70,8 @@ begun_grown setup facts slot on handle after at =
       past_is = begun.past_is ∙ entered.past_is;
       deaf = entered.deaf;
     } in
-    let fixed = subst (IsGrown begun.entered) (sym begun.base_is) (grown_if begun.fixes PduFixed begun.entered (λ setup facts. refl)) in
-    let sent = subst (IsGrown begun.base) (sym begun.is) (grown_if sends (PacketSent slot) begun.base (λ setup facts. refl)) in
+    let fixed = subst (IsGrown begun.entered) (sym begun.base_is) (grown_if begun.fixes PduFixed begun.entered (refl, λ setup facts. refl)) in
+    let sent = subst (IsGrown begun.base) (sym begun.is) (grown_if sends (PacketSent slot) begun.base (refl, λ setup facts. refl)) in
     record { base = begun.link; was = begun.was; is = grown_then begun.link begun.base after (grown_then begun.link begun.entered begun.base first fixed) sent }
 
 -- ---- a turn ends
@@ -153,7 +85,7 @@ ended_grown setup facts handle after at =
     found (was_open link_reported (link_at handle facts.links) after (sym (map_under (option_map link_reported) refl 0 handle facts.links) ∙ stayed.was))
   where
     by : (reports : Bool) (link : OpenLink) → IsGrown link (if reports then link_after DataReported link else link)
-    by true link = grown_after DataReported link (λ setup facts. refl)
+    by true link = grown_after DataReported link (refl, λ setup facts. refl)
     by false link = grown_same link
 
     found : WasOpen link_reported (link_at handle facts.links) after → HasGrown facts.links handle after
@@ -176,7 +108,7 @@ taken_grown sends handle room octets facts base after is =
     let refuses = refuses_at handle room octets facts in
     let all = subst (IsGrown taken) (sym is)
     (grown_then taken (refused_if refuses taken) (sent_if sends facts.turn.slot (refused_if refuses taken)) (refused refuses taken)
-    (grown_if sends (PacketSent facts.turn.slot) (refused_if refuses taken) (λ setup held. refl))) in record {
+    (grown_if sends (PacketSent facts.turn.slot) (refused_if refuses taken) (refl, λ setup held. refl))) in record {
       setup_is = all.setup_is;
       steps = all.steps;
       past_is = all.past_is ∙ append_assoc base.past (step ∷ []) all.steps;
@@ -184,5 +116,5 @@ taken_grown sends handle room octets facts base after is =
     }
   where
     refused : (refuses : Bool) (link : OpenLink) → IsGrown link (refused_if refuses link)
-    refused true link = grown_after (RequestAnswered refusal) link (λ setup held. refl)
+    refused true link = grown_after (RequestAnswered refusal) link (refl, λ setup held. refl)
     refused false link = grown_same link

@@ -1,27 +1,34 @@
--- Each step of a run of two stations keeps that each open end says and hears by the journal what happened to it.
-use Rattle.std.proofs.Common.{◌≡◌, ℕ, suc, ◌<◌, ◌==◌, inl, inr, Bool, true, false, Option, Some, None, List, [], ◌∷◌, ◌++◌, replicate, refl, sym, ap, subst, ◌∙◌, append-nil, append_assoc, arith}
-use Rattle.std.specs.Prelude.{◌&&◌, map, take, if◌then◌else◌}
+-- Each step of a run of two stations keeps that what is seen of each open end by the journal is what happened to it.
+use Rattle.std.proofs.Common.{◌≡◌, ℕ, suc, ◌-◌, ◌<◌, ◌==◌, inl, inr, Bool, true, false, Option, Some, None, List, [], ◌∷◌, ◌++◌, replicate, refl, sym, ap, subst, ◌∙◌, append-nil, append_assoc, arith}
+use Rattle.std.specs.Prelude.{◌&&◌, fold, map, take, if◌then◌else◌}
 use Rattle.std.proofs.lemmas.Bool.{eqb-true}
+use Rattle.std.proofs.lemmas.List.Sums.{fold-append}
 use Rattle.controller_model.specs.Facts.{Facts, Listens, Sends}
+use Rattle.controller_model.specs.Since.{notes_opened_on}
 use Rattle.controller_model.specs.Side.{facts_of, notes_after}
 use Rattle.controller_model.specs.Step.{Step as Call, HostOctet, TurnBegins, TurnEnds}
+use Rattle.controller_model.proofs.Handles.{own_handles}
 use Rattle.controller_model.specs.declared.doing.Doing.{Doing}
 use Rattle.controller_model.specs.declared.doing.Doing.TheVariants.{Advertises, CentralListens, PeripheralListens}
+use Rattle.host_answers.specs.Calls.{answered_after, call_lines}
+use Rattle.host_answers.proofs.LineAnswers.{call_accepts}
+use Rattle.journal_acks.specs.journal_links.LinkLines.{line_of}
 use Rattle.journal_acks.specs.link_model.Packets.{verdict_of}
 use Rattle.journal_acks.specs.link_model.Step.{PacketSent}
 use Rattle.journal_acks.specs.open_links.OpenLinks.{OpenLink, facts_in, link_after, link_at}
 use Rattle.journal_acks.specs.run_laws.Ends.{link_listened}
 use Rattle.journal_acks.specs.run_model.Due.{Each}
 use Rattle.journal_acks.specs.run_model.Feeding.{AreDistinct}
-use Rattle.journal_acks.specs.run_model.History.{Event, TurnBegan, HostFed, Called, Noted, Transmitted, has_received, is_good, packet_received, turns_begun}
-use Rattle.journal_acks.specs.run_model.Journal.{side_of}
+use Rattle.journal_acks.specs.run_model.History.{Event, TurnBegan, HostFed, Called, Noted, Transmitted, has_received, is_good, packet_received, past_of, turns_begun}
+use Rattle.journal_acks.specs.run_model.Journal.{journal_of, side_of}
 use Rattle.journal_acks.specs.run_model.LinkEnds.{HaveAddresses}
 use Rattle.journal_acks.specs.run_model.Links.{is_advertising}
 use Rattle.journal_acks.specs.run_model.Run.{Given, after_call, after_feed, after_octets, facts_at, hearings_of, history_of, octets_left, run_of, setup_at, step_of, use_at}
 use Rattle.journal_acks.specs.Exchange.{is_number}
 use Rattle.radio_replay.specs.declared.fates.Fate.{Fate}
-use Rattle.journal_acks.proofs.journal_links.OfTwo.{are_distinct}
+use Rattle.journal_acks.proofs.journal_links.OfTwo.{are_distinct, two_apart}
 use Rattle.journal_acks.proofs.journal_packets.AccessOrder.{AreNth}
+use Rattle.journal_acks.proofs.journal_packets.SentLinks.{IsOfTwo as IsOfBoth}
 use Rattle.journal_acks.proofs.journal_packets.SoFar.{IsBelongingSoFar, belonging_first, sends_on_its_link}
 use Rattle.journal_acks.proofs.run_laws.ByCalls.{Holds, all_facts, first_hears, holds_kept}
 use Rattle.journal_acks.proofs.run_laws.ConnectInds.{on_channel}
@@ -32,24 +39,33 @@ use Rattle.journal_acks.proofs.run_laws.LinkPasses.{is_on_link}
 use Rattle.journal_acks.proofs.run_laws.OpenSteps.{none_open, open_has}
 use Rattle.journal_acks.proofs.run_laws.SentPackets.{IsUseSent}
 use Rattle.journal_acks.proofs.run_laws.TurnSteps.{IsListening}
-use Rattle.journal_acks.proofs.run_laws.TurnPlaces.{Within, at_stage, stands_first}
+use Rattle.journal_acks.proofs.run_laws.TurnPlaces.{Between, Within, at_stage, event_past, standing, stands_first}
+use Rattle.journal_acks.proofs.run_model.Calls.{past_own, turns_called, turns_same}
+use Rattle.journal_acks.proofs.run_model.Fates.{turns_are}
 use Rattle.journal_acks.proofs.run_model.Fronts.{front_at}
 use Rattle.journal_acks.proofs.run_model.LinkEnds.{AreTaken, IsUnderstood, received_by, received_event}
-use Rattle.journal_acks.proofs.run_model.Places.{each_called, each_event}
+use Rattle.journal_acks.proofs.run_model.Notes.{NotedBefore, run_noted}
+use Rattle.journal_acks.proofs.run_model.Numbers.{numbered_at}
+use Rattle.journal_acks.proofs.run_model.Places.{each_at, each_called, each_event}
 use Rattle.journal_acks.proofs.run_model.Stations.{among, in_more_other, in_more_same, is_in, not_before}
 use Rattle.journal_acks.proofs.run_model.Walk.{AtBegins, AtEnds, AtFeeds, AtListening, AtPackets, IsKept, NoTurn, Place}
 use Rattle.journal_acks.proofs.link_calls.CallNotes.{begin_noted, end_noted, octet_noted}
 use Rattle.journal_acks.proofs.link_calls.CallNotes.{OpensNone, opening_none}
 use Rattle.journal_acks.proofs.Exchanging.{number_at, number_called, number_quiet}
+use Rattle.journal_acks.proofs.Known.{begun_as}
+use Rattle.journal_acks.proofs.open_links.Handles.{handle_is as handle_under}
 use Rattle.journal_acks.proofs.HeardLines.{AreUnheard, IsUnheard, advertised_heard, feed_heard, none_unheard, turn_heard, unheard_called, unheard_event_at, unheard_packet_of}
 use Rattle.journal_acks.specs.link_calls.Uses.{listens_under}
 use Rattle.journal_acks.proofs.Standing.{PhasedBy, listens_wanted, phased_at, sending_on_link}
 use Rattle.journal_acks.proofs.TwoStations.{IsOfTwo, hearing_of, one_hearing, other_is, own_differs, own_received}
-use Rattle.journal_ends.specs.Seen.{heard_next, heard_where}
+use Rattle.journal_ends.specs.Seen.{asked_if, heard_next, heard_where, seen_from}
 use Rattle.journal_ends.proofs.EndsKnown.{AreLined, begun_at, known_kept, lined_at, lined_before}
-use Rattle.journal_ends.proofs.GrownLinks.{begun_grown, ended_grown, octet_grown}
-use Rattle.journal_ends.proofs.SeenCalls.{AreSeenSo, held_at, passes_own, quiet_own, seen_call, seen_event, seen_in_link, seen_same, to_hear, whole}
-use Rattle.journal_ends.proofs.SeenEvents.{feed_says, seen_at, turn_says}
+use Rattle.journal_ends.proofs.AskedCalls.{IsKnownEnd, asked_lines, asked_seen}
+use Rattle.journal_ends.proofs.GrownLinks.{begun_grown, ended_grown}
+use Rattle.journal_ends.proofs.HostedLinks.{IsAsked, octet_asked}
+use Rattle.journal_ends.proofs.StandingLinks.{older_at}
+use Rattle.journal_ends.proofs.SeenCalls.{AreSeenSo, IsSeenAt, held_at, hosted_own, passes_own, quiet_own, seen_call, seen_event, seen_in_link, seen_same, to_hear, whole}
+use Rattle.journal_ends.proofs.SeenEvents.{feed_says, lines_at, seen_at, turn_says}
 use Rattle.journal_ends.proofs.SeenPackets.{packet_aired}
 
 -- ---- what is kept
@@ -166,6 +182,32 @@ octets_more given station (octet ∷ octets) history =
     let called = Called station (HostOctet octet) ∷ map (Noted station) notes in
     record { events = called ++ more.events; is = more.is ∙ append_assoc history called more.events }
 
+-- an octet is called next
+pub record IsOctetNext (given : Given) (station octet : ℕ) (history : List Event) : Type 0 where
+  pub rest : List Event
+  pub at : history_of (run_of given) ≡ history ++ Called station (HostOctet octet) ∷ rest
+
+pub octet_next : (given : Given) (station octet : ℕ) (octets : List ℕ) (history rest : List Event)
+    → history_of (run_of given) ≡ after_octets given station (octet ∷ octets) history ++ rest → IsOctetNext given station octet history
+octet_next given station octet octets history rest is =
+    let step = HostOctet octet in
+    let notes = map (Noted station) (notes_after (setup_at given station) (facts_at given station history) step) in
+    let called = Called station step ∷ notes in
+    let more = octets_more given station octets (after_call given station step history) in record {
+      rest = notes ++ (more.events ++ rest);
+      at = is ∙ ap (λ xs. xs ++ rest) more.is ∙ append_assoc (history ++ called) more.events rest ∙ append_assoc history called (more.events ++ rest);
+    }
+
+-- a station stands before its turn after an octet too
+fold_then : {A B : Type 0} (f : B → A → B) (start mid last : B) (past : List A) (x : A) → fold f start past ≡ mid → f mid x ≡ last
+    → fold f start (past ++ x ∷ []) ≡ last
+fold_then f start mid last past x is then_is = fold-append f start past (x ∷ []) ∙ ap (λ one. f one x) is ∙ then_is
+
+octet_stands : (past : List Call) (octet begun : ℕ) → standing past ≡ Some (at_stage Between begun)
+    → standing (past ++ HostOctet octet ∷ []) ≡ Some (at_stage Between begun)
+octet_stands past octet begun stands =
+    fold_then _ (Some (at_stage Between 0)) (Some (at_stage Between begun)) (Some (at_stage Between begun)) past (HostOctet octet) stands refl
+
 abbrev NoneReceived : ℕ → Option (List ℕ)
 NoneReceived station = None
 
@@ -177,58 +219,144 @@ module _ (understood : IsUnderstood) (taken : AreTaken) (nth : AreNth) (apart : 
   pub lined_octet : (station octet : ℕ) (octets : List ℕ) (history rest : List Event) → history_of (run_of given) ≡ after_octets given station (octet ∷ octets) history ++ rest
       → AreLined given history
   lined_octet station octet octets history rest is =
-      let step = HostOctet octet in
-      let called = Called station step ∷ map (Noted station) (notes_after (setup_at given station) (facts_at given station history) step) in
-      let more = octets_more given station octets (after_call given station step history) in
-      lined_before understood taken given are_two six history (map (Noted station) (notes_after (setup_at given station) (facts_at given station history) step) ++ (more.events ++ rest))
-      (Called station step)
-      (is ∙ ap (λ xs. xs ++ rest) more.is ∙ append_assoc (history ++ called) more.events rest ∙ append_assoc history called (more.events ++ rest)) refl
+      let now = octet_next given station octet octets history rest is in
+      lined_before understood taken given are_two six history now.rest (Called station (HostOctet octet)) now.at refl
 
   pub lined_next : (station : ℕ) (octets : List ℕ) (history rest : List Event) → history_of (run_of given) ≡ after_octets given station octets history ++ rest
       → AreLined given (after_octets given station octets history) → AreLined given history
   lined_next station [] history rest is lined = lined
   lined_next station (octet ∷ octets) history rest is lined = lined_octet station octet octets history rest is
 
-  record AreFed (history : List Event) : Type 0 where
-    seen : AreSeenSo given history NoneReceived
-    each : Each (SeenBefore given) [] history
+  -- while a station is fed: it takes nothing, and stands before its turn
+  pub record AreFed (station begun : ℕ) (history : List Event) : Type 0 where
+    pub seen : AreSeenSo given history NoneReceived
+    pub each : Each (SeenBefore given) [] history
+    pub sent : Each IsOfBoth [] history
+    pub stands : standing (past_of station history) ≡ Some (at_stage Between begun)
+    pub turns : turns_begun history - 1 ≡ begun
 
-  octet_fed : (station octet : ℕ) (history : List Event) → is_in station given.stations ≡ true → AreLined given history → AreLined given (after_call given station (HostOctet octet) history)
-      → AreFed history → AreFed (after_call given station (HostOctet octet) history)
-  octet_fed station octet history in_it lined lined_after fed =
-      let step = HostOctet octet in
-      let setup = setup_at given station in
-      let facts = facts_at given station history in record {
-        seen = seen_call given station step history NoneReceived NoneReceived lined lined_after (λ handle link at.
-            let grown = octet_grown setup facts octet handle link (held_at given station step history in_it lined lined_after handle link at) in
-            quiet_own given station step history in_it lined lined_after handle link at None refl
-            (number_called given station step history handle (octet_noted (OpensNone handle) (opening_none handle).starts.feeds setup facts octet)) grown.base grown.was grown.is
-            (whole_at given history NoneReceived station handle grown.base in_it grown.was refl fed.seen))
-            (λ other is_too differs. refl) fed.seen;
-        each = call_each given station step history fed.each (whole_before given history NoneReceived station step (λ handle held link. refl) refl fed.seen);
-      }
+  -- the other station is the other side
+  pub apart_from : (station : ℕ) → is_in station given.stations ≡ true → (other : ℕ) → is_in other given.stations ≡ true → (other == station) ≡ false
+      → side_of other ≡ side_of station → ⊥
+  apart_from station in_it other is_too differs same = two_apart given are_two station in_it other is_too (differs_back other station differs) (sym same)
 
-  octets_fed : (station : ℕ) (octets : List ℕ) (history rest : List Event) → is_in station given.stations ≡ true
+  module _ (station octet begun : ℕ) (history rest : List Event) (in_it : is_in station given.stations ≡ true)
+      (at : history_of (run_of given) ≡ history ++ Called station (HostOctet octet) ∷ rest) (lined : AreLined given history)
+      (lined_after : AreLined given (after_call given station (HostOctet octet) history)) (fed : AreFed station begun history) where
+    abbrev here : Facts
+    here = facts_at given station history
+
+    -- the journal knows each open end
+    known_end : (handle : ℕ) (base : OpenLink) → link_at handle here.links ≡ Some base
+        → IsKnownEnd (number_at station handle history) (side_of station) history here.turn.begun handle base
+    known_end handle base was =
+        let older = older_at (setup_at given station) (past_of station history) begun fed.stands in
+        let numbered = numbered_at understood taken given history rest (Called station (HostOctet octet)) distinct six at refl in
+        let is_begun = begun_as history (number_at station handle history) station base.setup fed.sent (numbered station handle base was) in
+        let now = older.in_turn.begun_is in record {
+          link = is_begun.link;
+          is_link = is_begun.is_link;
+          earlier = (let opened = older.older handle base was in let slot = is_begun.slot in omega (arith, opened, slot, now));
+          turns = (let all = turns_are history in let turns = fed.turns in omega (arith, all, turns, now));
+          handle_is = handle_under 0 handle here.links base (own_handles (setup_at given station) (past_of station history)).handles was;
+          lined = lined station handle base in_it was;
+          goes_on = older.goes_on handle base was;
+        }
+
+    abbrev next : List Event
+    next = after_call given station (HostOctet octet) history
+
+    -- what an open end was asked in the call, by its facts and by the lines of the call
+    pub record IsAskedIn (handle : ℕ) (link : OpenLink) : Type 0 where
+      pub base : OpenLink
+      pub was : link_at handle here.links ≡ Some base
+      pub number : number_at station handle next ≡ number_at station handle history
+      pub is : IsAsked handle here.turn.begun (answered_after here (HostOctet octet)) base link
+      pub lines : seen_from (side_of station) (number_at station handle history) (journal_of history) (call_lines given station (HostOctet octet) history)
+          ≡ asked_if is.asked
+      pub seen : seen_at (number_at station handle history) (side_of station) next
+          ≡ seen_in_link (number_at station handle history) (side_of station) link
+
+    pub octet_asks : (handle : ℕ) (link : OpenLink) → link_at handle (facts_at given station next).links ≡ Some link → IsAskedIn handle link
+    octet_asks handle link held =
+        let step = HostOctet octet in
+        let setup = setup_at given station in
+        let side = side_of station in
+        let own = number_at station handle history in
+        let asked = octet_asked setup here handle link octet (held_at given station step history in_it lined lined_after handle link held) in
+        let same = number_called given station step history handle (octet_noted (OpensNone handle) (opening_none handle).starts.feeds setup here octet) in
+        let known = known_end handle asked.base asked.was in
+        let now = subst (λ n. lines_at n side next ≡ map (line_of side n) (notes_opened_on link.setup link.past)) same (lined_after station handle link in_it held) in
+        let accepted = call_accepts given are_two station in_it step history rest at
+        (each_at (NotedBefore given) (history_of (run_of given)) history rest (Called station step) (run_noted given).each at refl station) in record {
+          base = asked.base;
+          was = asked.was;
+          number = same;
+          is = asked.is;
+          lines = asked_lines own side history here.turn.begun handle asked.base known given station octet link now accepted asked.is;
+          seen = asked_seen own side history here.turn.begun handle asked.base known given station octet link now accepted asked.is
+              (whole_at given history NoneReceived station handle asked.base in_it asked.was refl fed.seen);
+        }
+
+    octet_own : (handle : ℕ) (link : OpenLink) → link_at handle (facts_at given station next).links ≡ Some link
+        → IsSeenAt None handle (facts_at given station next).turn link (number_at station handle next) (side_of station) next
+    octet_own handle link held =
+        let asked = octet_asks handle link held in
+        hosted_own given station (HostOctet octet) history in_it lined lined_after handle link held None refl asked.number asked.base asked.was asked.seen
+
+    pub octet_fed : AreFed station begun (after_call given station (HostOctet octet) history)
+    octet_fed =
+        let step = HostOctet octet in
+        let notes = notes_after (setup_at given station) here step in record {
+          seen = seen_call given station step history NoneReceived NoneReceived (apart_from station in_it) lined lined_after octet_own (λ other is_too differs. refl) fed.seen;
+          each = call_each given station step history fed.each (whole_before given history NoneReceived station step (λ handle held link. refl) refl fed.seen);
+          sent = each_called IsOfBoth station step notes history fed.sent tt (λ before note. tt);
+          stands = ap standing (past_own station step notes history) ∙ octet_stands (past_of station history) octet begun fed.stands;
+          turns = ap (λ n. n - 1) (turns_called station step notes history) ∙ fed.turns;
+        }
+
+  octets_fed : (station : ℕ) (octets : List ℕ) (begun : ℕ) (history rest : List Event) → is_in station given.stations ≡ true
       → history_of (run_of given) ≡ after_octets given station octets history ++ rest → AreLined given (after_octets given station octets history)
-      → AreFed history → AreFed (after_octets given station octets history)
-  octets_fed station [] history rest in_it is lined fed = fed
-  octets_fed station (octet ∷ octets) history rest in_it is lined fed =
+      → AreFed station begun history → AreFed station begun (after_octets given station octets history)
+  octets_fed station [] begun history rest in_it is lined fed = fed
+  octets_fed station (octet ∷ octets) begun history rest in_it is lined fed =
       let next = after_call given station (HostOctet octet) history in
-      octets_fed station octets next rest in_it is lined
-      (octet_fed station octet history in_it (lined_octet station octet octets history rest is) (lined_next station octets next rest is lined) fed)
+      let now = octet_next given station octet octets history rest is in
+      octets_fed station octets begun next rest in_it is lined
+      (octet_fed station octet begun history now.rest in_it now.at (lined_octet station octet octets history rest is) (lined_next station octets next rest is lined) fed)
 
-  feed_fed : (station : ℕ) (octets : List ℕ) (history rest : List Event) → is_in station given.stations ≡ true
-      → history_of (run_of given) ≡ after_feed given station octets history ++ rest → AreLined given history → AreLined given (after_feed given station octets history)
-      → AreFed history → AreFed (after_feed given station octets history)
-  feed_fed station [] history rest in_it is lined lined_after fed = fed
-  feed_fed station (octet ∷ octets) history rest in_it is lined lined_after fed =
-      let event = HostFed station (octet ∷ octets) in
-      let next = history ++ event ∷ [] in
-      octets_fed station (octet ∷ octets) next rest in_it is lined_after (record {
-        seen = seen_event given history event NoneReceived lined (lined_octet station octet octets next rest is) (λ one. refl)
+  -- its host sends octets
+  pub begin_fed : (station octet : ℕ) (octets : List ℕ) (begun : ℕ) (history rest : List Event)
+      → history_of (run_of given) ≡ after_feed given station (octet ∷ octets) history ++ rest → AreLined given history
+      → AreFed station begun history → AreFed station begun (history ++ HostFed station (octet ∷ octets) ∷ [])
+  begin_fed station octet octets begun history rest is lined fed =
+      let event = HostFed station (octet ∷ octets) in record {
+        seen = seen_event given history event NoneReceived lined (lined_octet station octet octets (history ++ event ∷ []) rest is) (λ one. refl)
             (λ number side. feed_says number side history station (octet ∷ octets)) (λ one handle. number_quiet one handle history event (λ links. refl)) fed.seen;
         each = each_event (SeenBefore given) history event fed.each tt;
-      })
+        sent = each_event IsOfBoth history event fed.sent tt;
+        stands = ap standing (event_past station history event refl) ∙ fed.stands;
+        turns = ap (λ n. n - 1) (turns_same history event refl) ∙ fed.turns;
+      }
+
+  -- before it is fed
+  pub first_fed : (done left : List ℕ) (station : ℕ) (history : List Event) → is_in station given.stations ≡ true
+      → AreSeenAt given (AtFeeds done (station ∷ left)) history → AreFed station (turns_begun history - 1) history
+  first_fed done left station history in_it has = record {
+    seen = seen_same given history (λ one. packet_received one history) NoneReceived (λ one in_one. sym (has.holds.hearing.hears one in_one)) has.seen;
+    each = has.each;
+    sent = has.known.asked.sent;
+    stands = has.holds.hearing.stand station in_it;
+    turns = refl;
+  }
+
+  feed_fed : (station : ℕ) (octets : List ℕ) (begun : ℕ) (history rest : List Event) → is_in station given.stations ≡ true
+      → history_of (run_of given) ≡ after_feed given station octets history ++ rest → AreLined given history → AreLined given (after_feed given station octets history)
+      → AreFed station begun history → AreFed station begun (after_feed given station octets history)
+  feed_fed station [] begun history rest in_it is lined lined_after fed = fed
+  feed_fed station (octet ∷ octets) begun history rest in_it is lined lined_after fed =
+      octets_fed station (octet ∷ octets) begun (history ++ HostFed station (octet ∷ octets) ∷ []) rest in_it is lined_after
+      (begin_fed station octet octets begun history rest is lined fed)
 
   octets_unheard : (station : ℕ) (octets : List ℕ) (history : List Event) → AreUnheard history → AreUnheard (after_octets given station octets history)
   octets_unheard station [] history are = are
@@ -341,11 +469,9 @@ module _ (understood : IsUnderstood) (taken : AreTaken) (nth : AreNth) (apart : 
         let known = knows.on_feed plan done left station history are some now has.known in
         let holds = kept.on_feed plan done left station history are some now has.holds in
         let front = front_at given place after known.front in
-        let fed = feed_fed station octets history front.rest in_it front.at (lined_at understood taken given are_two six (AtFeeds done (station ∷ left)) history has.known)
-        (lined_at understood taken given are_two six place after known) (record {
-          seen = seen_same given history (λ one. packet_received one history) NoneReceived (λ one in_one. sym (has.holds.hearing.hears one in_one)) has.seen;
-          each = has.each;
-        }) in record {
+        let fed = feed_fed station octets (turns_begun history - 1) history front.rest in_it front.at
+        (lined_at understood taken given are_two six (AtFeeds done (station ∷ left)) history has.known)
+        (lined_at understood taken given are_two six place after known) (first_fed done left station history in_it has) in record {
           known = known;
           holds = holds;
           silent = tt;
@@ -377,10 +503,10 @@ module _ (understood : IsUnderstood) (taken : AreTaken) (nth : AreNth) (apart : 
           holds = holds;
           silent = tt;
           unheard = unheard_called given station step history has.unheard;
-          seen = seen_call given station step history (λ one. packet_received one history) (λ one. packet_received one after) lined lined_after (λ handle link held.
+          seen = seen_call given station step history (λ one. packet_received one history) (λ one. packet_received one after) (apart_from station in_it) lined lined_after (λ handle link held.
               let grown = begun_grown setup facts slot on handle link (held_at given station step history in_it lined lined_after handle link held) in
               quiet_own given station step history in_it lined lined_after handle link held (packet_received station after) (holds.hearing.hears station in_it)
-              (number_called given station step history handle (begin_noted (OpensNone handle) (opening_none handle) setup slot on facts)) grown.base grown.was grown.is
+              (number_called given station step history handle (begin_noted (OpensNone handle) (opening_none handle) setup slot on facts)) grown.base grown.was tt grown.is
               (whole_at given history (λ one. packet_received one history) station handle grown.base in_it grown.was none has.seen))
               (λ other is_too differs. received_by given other station step history false differs) has.seen;
           each = call_each given station step history has.each (whole_before given history (λ one. packet_received one history) station step (λ handle held link. refl) none has.seen);
@@ -445,7 +571,7 @@ module _ (understood : IsUnderstood) (taken : AreTaken) (nth : AreNth) (apart : 
           holds = kept.on_hearing phases done left station history are some has.holds;
           silent = tt;
           unheard = unheard_called given station step history has.unheard;
-          seen = seen_call given station step history (λ one. packet_received one history) (λ one. packet_received one after) lined lined_after
+          seen = seen_call given station step history (λ one. packet_received one history) (λ one. packet_received one after) (apart_from station in_it) lined lined_after
               (passes_own given station history phases in_it phased lined lined_after has.unheard has.seen (λ handle link held. begun_at given are_two place after known station handle link held))
               (λ other is_too differs. received_by given other station step history false differs) has.seen;
           each = call_each given station step history has.each (λ in_one handle link held.
@@ -483,10 +609,10 @@ module _ (understood : IsUnderstood) (taken : AreTaken) (nth : AreNth) (apart : 
           holds = holds;
           silent = tt;
           unheard = unheard_called given station step history has.unheard;
-          seen = seen_call given station step history (λ one. packet_received one history) (λ one. packet_received one after) lined lined_after (λ handle link held.
+          seen = seen_call given station step history (λ one. packet_received one history) (λ one. packet_received one after) (apart_from station in_it) lined lined_after (λ handle link held.
               let grown = ended_grown setup facts handle link (held_at given station step history in_it lined lined_after handle link held) in
               quiet_own given station step history in_it lined lined_after handle link held (packet_received station after) (holds.hearing.hears station in_it)
-              (number_called given station step history handle (end_noted (OpensNone handle) (opening_none handle).starts.feeds setup facts)) grown.base grown.was grown.is
+              (number_called given station step history handle (end_noted (OpensNone handle) (opening_none handle).starts.feeds setup facts)) grown.base grown.was tt grown.is
               (whole_at given history (λ one. packet_received one history) station handle grown.base in_it grown.was none has.seen))
               (λ other is_too differs. received_by given other station step history false differs) has.seen;
           each = call_each given station step history has.each (whole_before given history (λ one. packet_received one history) station step (λ handle held link. refl) none has.seen);

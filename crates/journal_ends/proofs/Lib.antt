@@ -2,7 +2,11 @@
 pub mod SeenLists
 pub mod PastSeen
 pub mod GrownLinks
+pub mod HostedLinks
+pub mod StandingLinks
+pub mod PeersKnown
 pub mod SeenEvents
+pub mod AskedCalls
 pub mod EndsKnown
 pub mod SeenCalls
 pub mod SeenPackets

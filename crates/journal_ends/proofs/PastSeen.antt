@@ -1,4 +1,4 @@
--- What an end says and hears, by its past: as the past grows, and where it heard nothing.
+-- What is seen of an end, by its past: as the past grows, and in steps in which it hears nothing and is asked nothing.
 use Rattle.std.proofs.Common.{◌≡◌, ℕ, Bool, true, false, None, List, [], ◌∷◌, ◌++◌, map, refl, sym, ap, ◌∙◌, append_assoc}
 use Rattle.std.specs.Prelude.{fold, if◌then◌else◌}
 use Rattle.std.proofs.lemmas.Grind.{flat_map-append}
@@ -24,8 +24,8 @@ use Rattle.journal_acks.specs.link_model.Verdicts.{good_in, has_room_for, pdu_by
 use Rattle.journal_acks.specs.run_model.History.{is_good}
 use Rattle.journal_acks.proofs.GoodLinks.{slot_of}
 use Rattle.journal_acks.proofs.link_calls.HeardSteps.{entered_good, fixed_same, received_same, sent_in}
-use Rattle.journal_ends.specs.Seen.{Says, heard_in_step, heard_where, line_said, lines_said, notes_said, seen_in, seen_in_steps, seen_of, slot_after}
-use Rattle.journal_ends.proofs.SeenLists.{heard_says, only_says, said_again, said_slot}
+use Rattle.journal_ends.specs.Seen.{Says, asked_in_step, heard_in_step, heard_where, line_said, lines_said, notes_said, seen_in, seen_in_steps, seen_of, slot_after}
+use Rattle.journal_ends.proofs.SeenLists.{heard_says, said_again, said_slot, step_unsaid}
 
 module _ (side : Side) (number : ℕ) (setup : Setup) where
   -- ---- more steps
@@ -55,7 +55,10 @@ module _ (side : Side) (number : ℕ) (setup : Setup) where
 
   step_lines : (facts : Facts) (step : Step) → lines_said (seen_in side number setup facts step) ≡ map (line_of side number) (notes_after setup facts step)
   step_lines facts step =
-      flat_map-append line_said (heard_in_step setup facts step) (notes_said side number (notes_after setup facts step))
+      let heard = heard_in_step setup facts step ++ notes_said side number (notes_after setup facts step) in
+      flat_map-append line_said (asked_in_step step) heard
+      ∙ ap (λ xs. xs ++ lines_said heard) (step_unsaid step).lines
+      ∙ flat_map-append line_said (heard_in_step setup facts step) (notes_said side number (notes_after setup facts step))
       ∙ ap (λ xs. xs ++ lines_said (notes_said side number (notes_after setup facts step))) (heard_lines facts step)
       ∙ notes_lines (notes_after setup facts step)
 
@@ -112,6 +115,8 @@ module _ (side : Side) (number : ℕ) (setup : Setup) where
       let lines = map (line_of side number) (notes_after setup facts step) in
       step_heard facts step ∙ sym (said_slot (fold slot_after (slot_of facts.last_good) heard) lines)
       ∙ sym (fold-append slot_after (slot_of facts.last_good) heard (map Says lines))
+      ∙ ap (λ slot. fold slot_after slot (heard ++ map Says lines)) (sym ((step_unsaid step).slot (slot_of facts.last_good)))
+      ∙ sym (fold-append slot_after (slot_of facts.last_good) (asked_in_step step) (heard ++ map Says lines))
 
   steps_slot : (facts : Facts) (steps : List Step)
       → slot_of (fold (facts_after setup) facts steps).last_good ≡ fold slot_after (slot_of facts.last_good) (seen_in_steps side number setup facts steps)
@@ -126,19 +131,19 @@ module _ (side : Side) (number : ℕ) (setup : Setup) where
   unfolding seen_of facts_of
   past_slot past = steps_slot (first_facts setup) past
 
-  -- an end that received no good packet only says its notes
-  pub past_unheard : (past : List Step) → (facts_of setup past).last_good ≡ None → seen_of side number setup past ≡ map Says (map (line_of side number) (notes_opened_on setup past))
-  past_unheard past none =
-      only_says (seen_of side number setup past) (sym (past_slot past) ∙ ap slot_of none) ∙ ap (map Says) (past_lines past)
+  -- an end to which nothing happened only says that its link was opened
+  pub past_new : seen_of side number setup [] ≡ map Says (map (line_of side number) (notes_opened_on setup []))
+  unfolding seen_of notes_of
+  past_new = refl
 
-  -- ---- steps in which it hears nothing
+  -- ---- steps in which it hears nothing and is asked nothing
 
   notes_apart : (notes more : List Note) → notes_said side number (notes ++ more) ≡ notes_said side number notes ++ notes_said side number more
   notes_apart notes more =
       ap (map Says) (map-append (line_of side number) notes more) ∙ map-append Says (map (line_of side number) notes) (map (line_of side number) more)
 
 abbrev pub IsDeaf : Step → Type 0
-IsDeaf step = (setup : Setup) (facts : Facts) → heard_in_step setup facts step ≡ []
+IsDeaf step = (asked_in_step step ≡ []) × ((setup : Setup) (facts : Facts) → heard_in_step setup facts step ≡ [])
 
 abbrev pub AreDeaf : List Step → Type 0
 AreDeaf [] = Unit {0}
@@ -154,17 +159,17 @@ deaf_say side number setup facts [] are = refl
 deaf_say side number setup facts (step ∷ steps) are =
     let next = facts_after setup facts step in
     let notes = notes_after setup facts step in
-    (λ i. (are.0 setup facts i ++ notes_said side number notes) ++ deaf_say side number setup next steps are.1 i)
+    (λ i. (are.0.0 i ++ (are.0.1 setup facts i ++ notes_said side number notes)) ++ deaf_say side number setup next steps are.1 i)
     ∙ sym (notes_apart side number setup notes (notes_from setup next steps))
 
 -- a packet that may be good, and after that steps in which it hears nothing
-pub first_heard : (side : Side) (number : ℕ) (setup : Setup) (facts : Facts) (step : Step) (steps : List Step) → AreDeaf steps
+pub first_heard : (side : Side) (number : ℕ) (setup : Setup) (facts : Facts) (step : Step) (steps : List Step) → asked_in_step step ≡ [] → AreDeaf steps
     → seen_in_steps side number setup facts (step ∷ steps) ≡ heard_in_step setup facts step ++ notes_said side number (notes_from setup facts (step ∷ steps))
-first_heard side number setup facts step steps are =
+first_heard side number setup facts step steps none are =
     let next = facts_after setup facts step in
     let notes = notes_after setup facts step in
     let heard = heard_in_step setup facts step in
-    ap (λ xs. (heard ++ notes_said side number notes) ++ xs) (deaf_say side number setup next steps are)
+    (λ i. (none i ++ (heard ++ notes_said side number notes)) ++ deaf_say side number setup next steps are i)
     ∙ append_assoc heard (notes_said side number notes) (notes_said side number (notes_from setup next steps))
     ∙ ap (λ xs. heard ++ xs) (sym (notes_apart side number setup notes (notes_from setup next steps)))
 

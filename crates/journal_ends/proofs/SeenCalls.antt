@@ -1,5 +1,5 @@
--- What each open end says and hears by the journal, after each call on a controller of a run.
-use Rattle.std.proofs.Common.{◌≡◌, ℕ, ◌+◌, ◌==◌, ◌⊎◌, inl, inr, Bool, true, false, Option, Some, None, List, [], ◌∷◌, ◌++◌, map, refl, sym, ap, subst, ◌∙◌, append-nil}
+-- What is seen of each open end by the journal, after each call on a controller of a run.
+use Rattle.std.proofs.Common.{◌≡◌, ℕ, ◌+◌, ◌≤◌, ◌==◌, ◌⊎◌, inl, inr, Bool, true, false, Option, Some, None, List, [], ◌∷◌, ◌++◌, length, map, refl, sym, ap, subst, ◌∙◌, append-nil, arith}
 use Rattle.std.specs.Prelude.{All}
 use Rattle.std.proofs.lemmas.Bool.{eqb-true}
 use Rattle.std.proofs.lemmas.List.{append_cancel_left}
@@ -10,16 +10,20 @@ use Rattle.controller_model.specs.Side.{facts_after, notes_after}
 use Rattle.controller_model.specs.Since.{notes_opened_on}
 use Rattle.controller_model.specs.Step.{Step as Call}
 use Rattle.controller_model.specs.declared.doing.Turn.{Turn}
+use Rattle.controller_model.proofs.Always.{IsInTurn}
+use Rattle.host_answers.proofs.LineAnswers.{far_quiet, turn_quiet}
 use Rattle.journal_acks.specs.journal_links.LinkLines.{line_of}
 use Rattle.journal_acks.specs.link_model.Packets.{verdict_of}
 use Rattle.journal_acks.specs.link_model.Step.{PacketReceived}
 use Rattle.journal_acks.specs.open_links.OpenLinks.{OpenLink, facts_in, link_at}
 use Rattle.journal_acks.specs.run_model.History.{Event, is_good, packet_received, steps_in, turns_begun}
 use Rattle.journal_acks.specs.run_model.Journal.{journal_of, side_of}
+use Rattle.journal_acks.specs.run_model.Readers.{turns_of}
 use Rattle.journal_acks.specs.run_model.Run.{Given, after_call, facts_at, setup_at, step_of}
 use Rattle.journal_acks.proofs.run_laws.Hearings.{other_facts, own_facts}
 use Rattle.journal_acks.proofs.run_laws.TurnPlaces.{Within, at_stage}
 use Rattle.journal_acks.proofs.run_model.Calls.{same_station, turns_called}
+use Rattle.journal_acks.proofs.run_model.Fates.{turns_are}
 use Rattle.journal_acks.proofs.run_model.LinkEnds.{received_by}
 use Rattle.journal_acks.proofs.run_model.Stations.{is_in}
 use Rattle.journal_acks.proofs.Counting.{IsBegun, facts_event}
@@ -27,13 +31,13 @@ use Rattle.journal_acks.proofs.link_calls.CallNotes.{OpensNone}
 use Rattle.journal_acks.proofs.Exchanging.{number_at, number_called, number_other}
 use Rattle.journal_acks.proofs.HeardLines.{AreUnheard, unheard_called, unheard_now}
 use Rattle.journal_acks.specs.link_calls.Phases.{HasPassed, IsNew, Stays, Takes}
-use Rattle.journal_acks.proofs.link_calls.LinkCalls.{IsOpenedNow, new_good, passes_under, phase_quiet}
+use Rattle.journal_acks.proofs.link_calls.LinkCalls.{IsOpenedNow, passes_under, phase_quiet}
 use Rattle.journal_acks.specs.link_calls.Uses.{listens_under, sends_under}
 use Rattle.journal_acks.proofs.Standing.{PhasedBy}
 use Rattle.journal_ends.specs.Seen.{Says, Seen, heard_in_step, heard_where, seen_of}
 use Rattle.journal_ends.proofs.EndsKnown.{AreLined}
 use Rattle.journal_ends.proofs.GrownLinks.{HasTaken, IsGrown, grown_same, taken_grown}
-use Rattle.journal_ends.proofs.PastSeen.{deaf_say, first_heard, past_unheard}
+use Rattle.journal_ends.proofs.PastSeen.{deaf_say, first_heard, past_new}
 use Rattle.journal_ends.proofs.SeenEvents.{IsSaying, call_says, grows_seen, lines_at, seen_at}
 use Rattle.journal_ends.proofs.SeenLists.{seen_unheard}
 
@@ -114,21 +118,20 @@ module _ (given : Given) where
       let number = number_at station handle history in
       moved handle link (side_of station) history (received station) (received_too station) turn turn number number (r station in_it) refl refl (seen station handle link in_it at)
 
-  module _ (history after : List Event) (lined : AreLined given history) (lined_after : AreLined given after)
-      (says : (number : ℕ) (side : Side) → IsSaying number side history after) where
+  module _ (history after : List Event) (lined : AreLined given history) (lined_after : AreLined given after) where
     -- a station with the same links, of the same numbers
     pub still_at : (received : Option (List ℕ)) (station handle : ℕ) (link : OpenLink) → is_in station given.stations ≡ true
-        → facts_at given station after ≡ facts_at given station history → number_at station handle after ≡ number_at station handle history
+        → IsSaying (number_at station handle history) (side_of station) history after → facts_at given station after ≡ facts_at given station history → number_at station handle after ≡ number_at station handle history
         → link_at handle (facts_at given station after).links ≡ Some link
         → ((one : OpenLink) → link_at handle (facts_at given station history).links ≡ Some one
         → IsSeenAt received handle (facts_at given station history).turn one (number_at station handle history) (side_of station) history)
         → IsSeenAt received handle (facts_at given station after).turn link (number_at station handle after) (side_of station) after
-    still_at received station handle link in_it facts number at seen =
+    still_at received station handle link in_it saying facts number at seen =
         let side = side_of station in
         let own = number_at station handle history in
         let was = ap (λ (f : Facts). link_at handle f.links) (sym facts) ∙ at in
         let now = subst (λ n. lines_at n side after ≡ map (line_of side n) (notes_opened_on link.setup link.past)) number (lined_after station handle link in_it at) in
-        let same = still_same own side history after (says own side) (now ∙ sym (lined station handle link in_it was)) in
+        let same = still_same own side history after saying (now ∙ sym (lined station handle link in_it was)) in
         moved handle link side after received received (facts_at given station history).turn (facts_at given station after).turn own (number_at station handle after)
         refl (ap (λ (f : Facts). f.turn) facts) number
         (same ∙ seen link was)
@@ -139,18 +142,19 @@ module _ (given : Given) where
       → ((station handle : ℕ) → number_at station handle (history ++ event ∷ []) ≡ number_at station handle history)
       → AreSeenSo given history received → AreSeenSo given (history ++ event ∷ []) received
   seen_event history event received lined lined_after none says number seen = λ station handle link in_it at.
-      still_at history (history ++ event ∷ []) lined lined_after says (received station) station handle link in_it (facts_event given station history event (none station))
+      still_at history (history ++ event ∷ []) lined lined_after (received station) station handle link in_it (says (number_at station handle history) (side_of station)) (facts_event given station history event (none station))
       (number station handle) at (λ one was. seen station handle one in_it was)
 
-  -- a call, by what it does to the ends of its station
-  pub seen_call : (station : ℕ) (step : Call) (history : List Event) (received received_too : ℕ → Option (List ℕ)) → AreLined given history
+  -- a call, by what it does to the ends of its station, and with no answer to the other one
+  pub seen_call : (station : ℕ) (step : Call) (history : List Event) (received received_too : ℕ → Option (List ℕ))
+      → ((other : ℕ) → is_in other given.stations ≡ true → (other == station) ≡ false → side_of other ≡ side_of station → ⊥) → AreLined given history
       → AreLined given (after_call given station step history)
       → ((handle : ℕ) (link : OpenLink) → link_at handle (facts_at given station (after_call given station step history)).links ≡ Some link
       → IsSeenAt (received_too station) handle (facts_at given station (after_call given station step history)).turn link
       (number_at station handle (after_call given station step history)) (side_of station) (after_call given station step history))
       → ((other : ℕ) → is_in other given.stations ≡ true → (other == station) ≡ false → received_too other ≡ received other)
       → AreSeenSo given history received → AreSeenSo given (after_call given station step history) received_too
-  seen_call station step history received received_too lined lined_after own r seen = λ other handle link in_it at. by other handle link in_it at (other == station) refl
+  seen_call station step history received received_too apart lined lined_after own r seen = λ other handle link in_it at. by other handle link in_it at (other == station) refl
     where
       by : (other handle : ℕ) (link : OpenLink) → is_in other given.stations ≡ true → link_at handle (facts_at given other (after_call given station step history)).links ≡ Some link
           → (same : Bool) → (other == station) ≡ same
@@ -162,7 +166,9 @@ module _ (given : Given) where
           subst (λ n. IsSeenAt (received_too n) handle (facts_at given n next).turn link (number_at n handle next) (side_of n) next) (sym equal)
           (own handle link (subst (λ n. link_at handle (facts_at given n next).links ≡ Some link) equal at))
       by other handle link in_it at false differs =
-          still_at history (after_call given station step history) lined lined_after (λ number side. call_says given number side station step history) (received_too other) other handle link in_it
+          still_at history (after_call given station step history) lined lined_after (received_too other) other handle link in_it
+          (call_says given (number_at other handle history) (side_of other) station step history
+          (far_quiet (side_of other) station (notes_after (setup_at given station) (facts_at given station history) step) (apart other in_it differs)))
           (other_facts given station step history other differs) (number_other given station step history other handle differs) at
           (λ one was.
           let turn = (facts_at given other history).turn in
@@ -197,39 +203,47 @@ module _ (given : Given) where
           (subst (λ n. seen_at n side after ≡ seen_in_link n side link) (sym number) seen)
 
       module _ (number : number_at station handle after ≡ own) (base : OpenLink) (was : link_at handle (facts_at given station history).links ≡ Some base) where
-        abbrev saying : IsSaying own side history after
-        saying = call_says given own side station step history
-
         lines_before : lines_at own side history ≡ map (line_of side own) (notes_opened_on base.setup base.past)
         lines_before = lined station handle base in_it was
 
         lines_now : lines_at own side after ≡ map (line_of side own) (notes_opened_on link.setup link.past)
         lines_now = subst (λ n. lines_at n side after ≡ map (line_of side n) (notes_opened_on link.setup link.past)) number (lined_after station handle link in_it at)
 
+        -- the call is of a turn: it has no answer
+        abbrev saying : IsInTurn step → IsSaying own side history after
+        saying turn = call_says given own side station step history (turn_quiet given station step history turn)
+
         -- the end hears nothing in it
-        pub quiet_own : IsGrown base link → seen_at own side history ≡ seen_in_link own side base → IsSeenThen
-        quiet_own grown seen = seen_then number (grown_seen own side history after base link saying lines_before lines_now grown seen)
+        pub quiet_own : IsInTurn step → IsGrown base link → seen_at own side history ≡ seen_in_link own side base → IsSeenThen
+        quiet_own turn grown seen = seen_then number (grown_seen own side history after base link (saying turn) lines_before lines_now grown seen)
+
+        -- its host asks it, or not
+        pub hosted_own : seen_at own side after ≡ seen_in_link own side link → IsSeenThen
+        hosted_own seen = seen_then number seen
 
         -- it takes a packet
-        pub taking_own : (slot : ℕ) (octets : List ℕ) (room : Bool) → HasTaken slot octets room base link
+        pub taking_own : IsInTurn step → (slot : ℕ) (octets : List ℕ) (room : Bool) → HasTaken slot octets room base link
             → seen_at own side history ≡ seen_in_link own side base ++ heard_where (is_good (verdict_of base.setup (facts_in base) octets)) slot octets → IsSeenThen
-        taking_own slot octets room takes seen =
+        taking_own turn slot octets room takes seen =
             let took = PacketReceived slot octets room in
             seen_then number
-            (grows_seen own side base.setup base.past (took ∷ takes.steps) (heard_in_step base.setup (facts_in base) took) history after saying lines_before
+            (grows_seen own side base.setup base.past (took ∷ takes.steps) (heard_in_step base.setup (facts_in base) took) history after (saying turn) lines_before
             (lines_now ∙ (λ i. map (line_of side own) (notes_opened_on (takes.setup_is i) (takes.past_is i))))
-            (first_heard side own base.setup (facts_in base) took takes.steps takes.deaf) seen
+            (first_heard side own base.setup (facts_in base) took takes.steps refl takes.deaf) seen
             ∙ sym (λ i. seen_of side own (takes.setup_is i) (takes.past_is i)))
 
       -- the link is one of this turn
       pub fresh_own : AreUnheard history → (begun : IsBegun after (number_at station handle after) station link.setup) → link.setup.opened + 1 ≡ turns_begun after
-          → (facts_in link).last_good ≡ None → IsSeenThen
-      fresh_own unheard begun now good =
+          → link.past ≡ [] → IsSeenThen
+      fresh_own unheard begun now new =
           let number = number_at station handle after in
+          let turns : length (turns_of (journal_of after)) ≤ begun.link.slot + 1 = (let all = turns_are after in let slot = begun.slot in omega (arith, all, now, slot)) in
           from_whole received handle (facts_at given station after).turn link number side after (λ listens. none)
-          (seen_unheard side number (journal_of after) (unheard_now after number station link.setup side (unheard_called given station step history unheard number) begun now)
+          (seen_unheard side number (journal_of after) begun.link begun.is_link turns
+          (unheard_now after number station link.setup side (unheard_called given station step history unheard number) begun now)
           ∙ ap (map Says) (lined_after station handle link in_it at)
-          ∙ sym (past_unheard side number link.setup link.past good))
+          ∙ sym (ap (λ past. seen_of side number link.setup past) new ∙ past_new side number link.setup
+          ∙ ap (λ past. map Says (map (line_of side number) (notes_opened_on link.setup past))) (sym new)))
 
 -- ---- a phase passes
 
@@ -252,26 +266,30 @@ module _ (given : Given) (station : ℕ) (history : List Event) (phases : ℕ) (
   abbrev IsSeenNow : ℕ → OpenLink → Type 0
   IsSeenNow handle link = IsSeenAt (packet_received station next) handle (facts_at given station next).turn link (number_at station handle next) (side_of station) next
 
+  phase_turn : (received : Option (List ℕ)) → IsInTurn (step_of received)
+  phase_turn None = tt
+  phase_turn (Some octets) = tt
+
   none_next : packet_received station next ≡ None
   none_next = received_by given station station (step_of taken) history true (same_station station)
 
-  fresh : (handle : ℕ) (link : OpenLink) → link_at handle (facts_at given station next).links ≡ Some link → link.setup.opened ≡ facts.turn.slot → (facts_in link).last_good ≡ None
+  fresh : (handle : ℕ) (link : OpenLink) → link_at handle (facts_at given station next).links ≡ Some link → link.setup.opened ≡ facts.turn.slot → link.past ≡ []
       → IsSeenNow handle link
-  fresh handle link at opened good =
+  fresh handle link at opened new =
       let turns : turns_begun next ≡ turns_begun history = turns_called station (step_of taken) (notes_after (setup_at given station) facts (step_of taken)) history in
       let now = ap (λ n. n + 1) opened ∙ phased.uses.in_turn.slot_is ∙ sym turns in
-      fresh_own given station (step_of taken) history in_it lined lined_after handle link at (packet_received station next) none_next unheard (begun_after handle link at) now good
+      fresh_own given station (step_of taken) history in_it lined lined_after handle link at (packet_received station next) none_next unheard (begun_after handle link at) now new
 
   passed : (handle : ℕ) (link : OpenLink) → link_at handle (facts_at given station next).links ≡ Some link → number_at station handle next ≡ number_at station handle history
       → HasPassed facts (has_room (setup_at given station) facts) taken handle (facts_after (setup_at given station) facts (step_of taken)).turn.doing link → IsSeenNow handle link
-  passed handle link at number (IsNew end made opened off) = fresh handle link at (ap (λ (l : OpenLink). l.setup.opened) made ∙ opened) (new_good end link made)
+  passed handle link at number (IsNew end made opened off) = fresh handle link at (ap (λ (l : OpenLink). l.setup.opened) made ∙ opened) (ap (λ (l : OpenLink). l.past) made)
   passed handle link at number (Stays was none nothing listened) =
-      quiet_own given station (step_of taken) history in_it lined lined_after handle link at (packet_received station next) none_next number link was (grown_same link)
+      quiet_own given station (step_of taken) history in_it lined lined_after handle link at (packet_received station next) none_next number link was (phase_turn taken) (grown_same link)
       (whole taken handle facts.turn link (number_at station handle history) (side_of station) history nothing (seen station handle link in_it was))
   passed handle link at number (Takes base octets was some on same) =
       let room = has_room (setup_at given station) facts in
       let sends = sends_under handle (facts_after (setup_at given station) facts (step_of taken)).turn.doing in
-      taking_own given station (step_of taken) history in_it lined lined_after handle link at (packet_received station next) none_next number base was facts.turn.slot octets room
+      taking_own given station (step_of taken) history in_it lined lined_after handle link at (packet_received station next) none_next number base was (phase_turn taken) facts.turn.slot octets room
       (taken_grown sends handle room octets facts base link same)
       (seen station handle base in_it was ∙ (λ i. seen_in_link (number_at station handle history) (side_of station) base ++ to_hear (on i) (some i) facts.turn.slot base))
 
@@ -285,4 +303,4 @@ module _ (given : Given) (station : ℕ) (history : List Event) (phases : ℕ) (
           passed handle link at (number_called given station (step_of taken) history handle quiet)
           (passes_under (setup_at given station) facts taken handle link phased.uses.in_turn.listens (held_at given station (step_of taken) history in_it lined lined_after handle link at))
       by (inr new) =
-          let now = new link (held_at given station (step_of taken) history in_it lined lined_after handle link at) in fresh handle link at now.opened now.good
+          let now = new link (held_at given station (step_of taken) history in_it lined lined_after handle link at) in fresh handle link at now.opened now.past

@@ -1,5 +1,7 @@
--- What an event or a call adds to what an end says and hears by a journal.
+-- What an event or a call adds to what is seen of an end by a journal.
 use Rattle.std.proofs.Common.{◌≡◌, ℕ, ◌-◌, ◌==◌, ◌&&◌, not, Bool, true, false, Some, List, [], ◌∷◌, ◌++◌, length, map, refl, sym, ap, ◌∙◌, append-nil, append_assoc}
+use Rattle.std.specs.Prelude.{flat_map}
+use Rattle.std.specs.List.{AllByRecursion}
 use Rattle.std.proofs.lemmas.Bool.{and_left, and_right}
 use Rattle.std.proofs.lemmas.List.{append_cancel_left, map-append}
 use Rattle.ble_base.specs.Side.{other_side}
@@ -25,7 +27,10 @@ use Rattle.journal_acks.specs.Exchange.{is_number}
 use Rattle.journal_acks.specs.Shut.{is_of_link}
 use Rattle.journal_acks.proofs.journal_links.LinkLines.{line_more}
 use Rattle.journal_acks.proofs.run_model.Parts.{journal_event}
-use Rattle.journal_ends.specs.Seen.{Says, Seen, heard_in_line, heard_where, notes_said, seen_in_steps, seen_of, seen_on}
+use Rattle.host_answers.specs.Answered.{accepted_with, next_command}
+use Rattle.host_answers.proofs.LineAnswers.{IsQuiet, statuses_in}
+use Rattle.journal_ends.specs.Asked.{step_asked}
+use Rattle.journal_ends.specs.Seen.{Says, Seen, asked_if, asked_in_line, heard_in_line, heard_where, notes_said, seen_in_steps, seen_of, seen_on}
 use Rattle.journal_ends.proofs.PastSeen.{notes_more, seen_grows}
 use Rattle.journal_ends.proofs.SeenLists.{seen_more}
 
@@ -52,33 +57,40 @@ saying_then number side first second third one next = record {
       ∙ ap (λ xs. seen_at number side first ++ xs) (sym (map-append Says one.more next.more));
 }
 
--- an event with one line, in which nothing is heard
+-- an event with one line, in which nothing is heard and nothing is asked
 line_says : (number : ℕ) (side : Side) (history : List Event) (event : Event) (line : Entry) → entries_of (links_of history) event ≡ line ∷ []
-    → heard_in_line side number (journal_of history) line ≡ [] → IsSaying number side history (history ++ event ∷ [])
-line_says number side history event line is none =
+    → heard_in_line side number (journal_of history) line ≡ [] → asked_in_line side number (journal_of history) line ≡ []
+    → IsSaying number side history (history ++ event ∷ [])
+line_says number side history event line is none unasked =
     let named = where_named side number (link_named line) line in
     let journal = journal_event history event ∙ ap (λ xs. journal_of history ++ xs) is in record {
       more = named;
       lines = ap (lines_of side number) journal ∙ line_more side number (journal_of history) line named (append-nil named);
       seen = ap (seen_on side number) journal ∙ seen_more side number (journal_of history) line
-          ∙ ap (λ xs. seen_at number side history ++ (xs ++ map Says named)) none;
+          ∙ (λ i. seen_at number side history ++ (unasked i ++ (none i ++ map Says named)));
     }
 
 pub turn_says : (number : ℕ) (side : Side) (history : List Event) (slot : ℕ) (radios : List Bool) → IsSaying number side history (history ++ TurnBegan slot radios ∷ [])
-turn_says number side history slot radios = line_says number side history (TurnBegan slot radios) _ refl refl
+turn_says number side history slot radios = line_says number side history (TurnBegan slot radios) _ refl refl refl
 
 pub feed_says : (number : ℕ) (side : Side) (history : List Event) (station : ℕ) (octets : List ℕ) → IsSaying number side history (history ++ HostFed station octets ∷ [])
-feed_says number side history station octets = line_says number side history (HostFed station octets) _ refl refl
+feed_says number side history station octets = line_says number side history (HostFed station octets) _ refl refl refl
 
-note_hears : (number : ℕ) (side other : Side) (front : List Entry) (link_of : ℕ → ℕ) (last : ℕ) (note : Note) → heard_in_line side number front (entry_of other link_of last note) ≡ []
+pub note_hears : (number : ℕ) (side other : Side) (front : List Entry) (link_of : ℕ → ℕ) (last : ℕ) (note : Note) → heard_in_line side number front (entry_of other link_of last note) ≡ []
 note_hears number side other front link_of last (Up packet) = refl
 note_hears number side other front link_of last note = refl
 
-note_says : (number : ℕ) (side : Side) (history : List Event) (station : ℕ) (note : Note) → IsSaying number side history (history ++ Noted station note ∷ [])
-note_says number side history station note =
+pub unasked_by : (side : Side) (number : ℕ) (front : List Entry) (line : Entry) → statuses_in side line ≡ [] → asked_in_line side number front line ≡ []
+unasked_by side number front line none =
+    ap (λ statuses. flat_map (λ command. asked_if (step_asked side number front command)) (flat_map (accepted_with (next_command side front)) statuses)) none
+
+note_says : (number : ℕ) (side : Side) (history : List Event) (station : ℕ) (note : Note) → IsQuiet side station note
+    → IsSaying number side history (history ++ Noted station note ∷ [])
+note_says number side history station note quiet =
     let links = links_of history in
     line_says number side history (Noted station note) _ refl
     (note_hears number side (side_of station) (journal_of history) (links.link_of station) (links.last_of station) note)
+    (unasked_by side number (journal_of history) _ (quiet (links.link_of station) (links.last_of station)))
 
 call_says_none : (number : ℕ) (side : Side) (history : List Event) (station : ℕ) (step : Call) → IsSaying number side history (history ++ Called station step ∷ [])
 call_says_none number side history station step =
@@ -95,28 +107,24 @@ nothing_says number side history after same = record {
   seen = ap (seen_at number side) same ∙ sym (append-nil (seen_at number side history));
 }
 
-notes_say : (number : ℕ) (side : Side) (station : ℕ) (notes : List Note) (history after : List Event) → after ≡ history ++ map (Noted station) notes
-    → IsSaying number side history after
-notes_say number side station [] history after is = nothing_says number side history after (is ∙ append-nil history)
-notes_say number side station (note ∷ notes) history after is =
+notes_say : (number : ℕ) (side : Side) (station : ℕ) (notes : List Note) (history after : List Event) → AllByRecursion (IsQuiet side station) notes
+    → after ≡ history ++ map (Noted station) notes → IsSaying number side history after
+notes_say number side station [] history after quiet is = nothing_says number side history after (is ∙ append-nil history)
+notes_say number side station (note ∷ notes) history after quiet is =
     let next = history ++ Noted station note ∷ [] in
-    saying_then number side history next after (note_says number side history station note)
-    (notes_say number side station notes next after (is ∙ sym (append_assoc history (Noted station note ∷ []) (map (Noted station) notes))))
+    saying_then number side history next after (note_says number side history station note quiet.0)
+    (notes_say number side station notes next after quiet.1 (is ∙ sym (append_assoc history (Noted station note ∷ []) (map (Noted station) notes))))
 
--- a call, with some of its notes
-pub front_says : (number : ℕ) (side : Side) (station : ℕ) (step : Call) (history : List Event) (notes : List Note)
-    → IsSaying number side history (history ++ Called station step ∷ map (Noted station) notes)
-front_says number side station step history notes =
-    let called = history ++ Called station step ∷ [] in
-    let after = history ++ Called station step ∷ map (Noted station) notes in
-    saying_then number side history called after (call_says_none number side history station step)
-    (notes_say number side station notes called after (sym (append_assoc history (Called station step ∷ []) (map (Noted station) notes))))
-
--- or with all of them
+-- a call with notes that answer no command of the side
 pub call_says : (given : Given) (number : ℕ) (side : Side) (station : ℕ) (step : Call) (history : List Event)
+    → AllByRecursion (IsQuiet side station) (notes_after (setup_at given station) (facts_at given station history) step)
     → IsSaying number side history (after_call given station step history)
-call_says given number side station step history =
-    front_says number side station step history (notes_after (setup_at given station) (facts_at given station history) step)
+call_says given number side station step history quiet =
+    let notes = notes_after (setup_at given station) (facts_at given station history) step in
+    let called = history ++ Called station step ∷ [] in
+    let after = after_call given station step history in
+    saying_then number side history called after (call_says_none number side history station step)
+    (notes_say number side station notes called after quiet (sym (append_assoc history (Called station step ∷ []) (map (Noted station) notes))))
 
 -- ---- an end to which more happened
 

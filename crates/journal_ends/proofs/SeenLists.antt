@@ -1,18 +1,26 @@
--- Lists of what an end says and hears: the lines among it, and the slot of what it heard last.
-use Rattle.std.proofs.Common.{◌≡◌, ℕ, ◌-◌, ◌&&◌, Bool, true, false, Option, Some, None, List, [], ◌∷◌, ◌++◌, length, map, refl, sym, ap, ◌∙◌, append-nil, append_assoc}
-use Rattle.std.specs.Prelude.{fold, if◌then◌else◌}
+-- Lists of what is seen of an end: the lines among it, what it is asked, and the slot of what it heard last.
+use Rattle.std.proofs.Common.{◌≡◌, ℕ, ◌+◌, ◌-◌, ◌<◌, ◌≤◌, ◌&&◌, Bool, true, false, Option, Some, None, List, [], ◌∷◌, ◌++◌, length, map, refl, sym, ap, subst, ◌∙◌, append-nil, append_assoc, arith}
+use Rattle.std.specs.Prelude.{flat_map, fold, if◌then◌else◌}
+use Rattle.std.proofs.lemmas.Bool.{ltb-true}
+use Rattle.std.proofs.lemmas.List.{length-append, map-append}
 use Rattle.std.proofs.lemmas.Grind.{flat_map-append}
 use Rattle.std.proofs.lemmas.List.Sums.{fold-append}
 use Rattle.ble_base.specs.Side.{other_side}
 use Rattle.ble_base.specs.declared.roles.Side.{Side}
+use Rattle.hci_cmd.specs.declared.command.Command.{Command}
+use Rattle.host_answers.specs.Answered.{accepted_in}
 use Rattle.journal.specs.declared.entries.Entry.{Entry}
 use Rattle.journal.specs.declared.entries.Entry.TheVariants.{Air}
+use Rattle.journal_acks.specs.journal_links.Begun.{LinkBegun, link_numbered}
 use Rattle.journal_acks.specs.journal_links.LinkLines.{lines_of, link_named, where_named}
+use Rattle.journal_acks.specs.link_model.Step.{Step, Disconnected, ProcedureAsked}
+use Rattle.journal_acks.proofs.journal_links.LinksBegun.{number_stays}
 use Rattle.journal_acks.specs.journal_packets.Belonging.{is_side}
 use Rattle.journal_acks.specs.run_model.History.{is_good}
 use Rattle.journal_acks.specs.run_model.Readers.{turns_of}
 use Rattle.journal_acks.specs.Shut.{heard_after, heard_from, is_of_link, last_heard}
-use Rattle.journal_ends.specs.Seen.{Hears, Says, Seen, heard_in_line, heard_where, line_said, lines_said, seen_from, seen_in_line, seen_on, slot_after}
+use Rattle.journal_ends.specs.Asked.{is_earlier, step_asked, step_by}
+use Rattle.journal_ends.specs.Seen.{Asks, Hears, Says, Seen, asked_if, asked_in_line, asked_in_step, heard_in_line, heard_where, line_said, lines_said, seen_from, seen_in_line, seen_on, slot_after}
 
 -- ---- a line more
 
@@ -46,11 +54,41 @@ line_says_none side number front (Air sender channel octets fate verdict) =
     heard_says (is_of_link number front sender channel octets && (is_side sender (other_side side) && is_good verdict)) (length (turns_of front) - 1) octets
 line_says_none side number front line = refl
 
+-- what an end is asked says no line, and is heard in no slot
+pub record IsUnsaid (seen : List Seen) : Type 0 where
+  pub lines : lines_said seen ≡ []
+  pub slot : (before : Option ℕ) → fold slot_after before seen ≡ before
+
+pub step_unsaid : (step : Step) → IsUnsaid (asked_in_step step)
+step_unsaid (ProcedureAsked ask) = record { lines = refl; slot = λ before. refl }
+step_unsaid (Disconnected reason slot) = record { lines = refl; slot = λ before. refl }
+step_unsaid other = record { lines = refl; slot = λ before. refl }
+
+asked_unsaid : (step : Option Step) → IsUnsaid (asked_if step)
+asked_unsaid None = record { lines = refl; slot = λ before. refl }
+asked_unsaid (Some step) = step_unsaid step
+
+all_unsaid : (steps : Command → Option Step) (commands : List Command) → IsUnsaid (flat_map (λ command. asked_if (steps command)) commands)
+all_unsaid steps [] = record { lines = refl; slot = λ before. refl }
+all_unsaid steps (command ∷ commands) =
+    let one = asked_unsaid (steps command) in
+    let more = all_unsaid steps commands in
+    let later = flat_map (λ one. asked_if (steps one)) commands in record {
+      lines = flat_map-append line_said (asked_if (steps command)) later ∙ (λ i. one.lines i ++ more.lines i);
+      slot = λ before. fold-append slot_after before (asked_if (steps command)) later ∙ ap (λ slot. fold slot_after slot later) (one.slot before) ∙ more.slot before;
+    }
+
+line_unsaid : (side : Side) (number : ℕ) (front : List Entry) (line : Entry) → IsUnsaid (asked_in_line side number front line)
+line_unsaid side number front line = all_unsaid (step_asked side number front) (accepted_in side front line)
+
 line_says : (side : Side) (number : ℕ) (front : List Entry) (line : Entry)
     → lines_said (seen_in_line side number front line) ≡ where_named side number (link_named line) line
 line_says side number front line =
     let named = where_named side number (link_named line) line in
-    flat_map-append line_said (heard_in_line side number front line) (map Says named)
+    let heard = heard_in_line side number front line in
+    flat_map-append line_said (asked_in_line side number front line) (heard ++ map Says named)
+    ∙ ap (λ xs. xs ++ lines_said (heard ++ map Says named)) (line_unsaid side number front line).lines
+    ∙ flat_map-append line_said heard (map Says named)
     ∙ ap (λ xs. xs ++ lines_said (map Says named)) (line_says_none side number front line)
     ∙ said_again named
 
@@ -84,9 +122,13 @@ line_slot : (side : Side) (number : ℕ) (front : List Entry) (before : Option �
     → heard_after number side front before line ≡ fold slot_after before (seen_in_line side number front line)
 line_slot side number front before line =
     let named = where_named side number (link_named line) line in
+    let asked = asked_in_line side number front line in
+    let heard = heard_in_line side number front line in
     line_heard side number front before line
-    ∙ sym (said_slot (fold slot_after before (heard_in_line side number front line)) named)
-    ∙ sym (fold-append slot_after before (heard_in_line side number front line) (map Says named))
+    ∙ sym (said_slot (fold slot_after before heard) named)
+    ∙ sym (fold-append slot_after before heard (map Says named))
+    ∙ ap (λ slot. fold slot_after slot (heard ++ map Says named)) (sym ((line_unsaid side number front line).slot before))
+    ∙ sym (fold-append slot_after before asked (heard ++ map Says named))
 
 from_slot : (side : Side) (number : ℕ) (front : List Entry) (before : Option ℕ) (lines : List Entry)
     → heard_from number side front before lines ≡ fold slot_after before (seen_from side number front lines)
@@ -106,14 +148,116 @@ some_stays : (slot : ℕ) (seen : List Seen) (X : Type 0) → fold slot_after (S
 some_stays slot [] X is = absurd cc
 some_stays slot (Says line ∷ seen) X is = some_stays slot seen X is
 some_stays slot (Hears later octets ∷ seen) X is = some_stays later seen X is
+some_stays slot (Asks step ∷ seen) X is = some_stays slot seen X is
 
--- an end that heard nothing only says lines
-pub only_says : (seen : List Seen) → fold slot_after None seen ≡ None → seen ≡ map Says (lines_said seen)
-only_says [] is = refl
-only_says (Says line ∷ seen) is = ap (λ xs. Says line ∷ xs) (only_says seen is)
-only_says (Hears slot octets ∷ seen) is = some_stays slot seen _ is
+-- ---- what an end is asked
 
--- a link on which nothing was heard
-pub seen_unheard : (side : Side) (number : ℕ) (journal : List Entry) → last_heard number side journal ≡ None → seen_on side number journal ≡ map Says (lines_of side number journal)
-seen_unheard side number journal none =
-    only_says (seen_on side number journal) (sym (last_is side number journal) ∙ none) ∙ ap (map Says) (says_its_lines side number journal)
+abbrev pub ask_seen : Seen → List Step
+ask_seen (Says line) = []
+ask_seen (Hears slot octets) = []
+ask_seen (Asks step) = step ∷ []
+
+abbrev pub asks_seen : List Seen → List Step
+asks_seen seen = flat_map ask_seen seen
+
+-- what a line asks is only that
+pub record AreAsks (seen : List Seen) : Type 0 where
+  pub steps : List Step
+  pub is : seen ≡ map Asks steps
+
+step_asks : (step : Step) → AreAsks (asked_in_step step)
+step_asks (ProcedureAsked ask) = record { steps = ProcedureAsked ask ∷ []; is = refl }
+step_asks (Disconnected reason slot) = record { steps = Disconnected reason slot ∷ []; is = refl }
+step_asks other = record { steps = []; is = refl }
+
+pub if_asks : (step : Option Step) → AreAsks (asked_if step)
+if_asks None = record { steps = []; is = refl }
+if_asks (Some step) = step_asks step
+
+all_asks : (steps : Command → Option Step) (commands : List Command) → AreAsks (flat_map (λ command. asked_if (steps command)) commands)
+all_asks steps [] = record { steps = []; is = refl }
+all_asks steps (command ∷ commands) =
+    let one = if_asks (steps command) in
+    let more = all_asks steps commands in record {
+      steps = one.steps ++ more.steps;
+      is = (λ i. one.is i ++ more.is i) ∙ sym (map-append Asks one.steps more.steps);
+    }
+
+pub line_are_asks : (side : Side) (number : ℕ) (front : List Entry) (line : Entry) → AreAsks (asked_in_line side number front line)
+line_are_asks side number front line = all_asks (step_asked side number front) (accepted_in side front line)
+
+-- an end that heard nothing and is asked nothing only says lines
+pub only_says : (seen : List Seen) → fold slot_after None seen ≡ None → asks_seen seen ≡ [] → seen ≡ map Says (lines_said seen)
+only_says [] is none = refl
+only_says (Says line ∷ seen) is none = ap (λ xs. Says line ∷ xs) (only_says seen is none)
+only_says (Hears slot octets ∷ seen) is none = some_stays slot seen _ is
+only_says (Asks step ∷ seen) is none = absurd cc
+
+-- nothing is asked in the turn in which a link begins, nor before
+said_asks : (lines : List Entry) → asks_seen (map Says lines) ≡ []
+said_asks [] = refl
+said_asks (line ∷ lines) = said_asks lines
+
+heard_asks : (good : Bool) (slot : ℕ) (octets : List ℕ) → asks_seen (heard_where good slot octets) ≡ []
+heard_asks true slot octets = refl
+heard_asks false slot octets = refl
+
+line_asks : (side : Side) (number : ℕ) (front : List Entry) (line : Entry) → asks_seen (heard_in_line side number front line) ≡ []
+line_asks side number front (Air sender channel octets fate verdict) =
+    heard_asks (is_of_link number front sender channel octets && (is_side sender (other_side side) && is_good verdict)) (length (turns_of front) - 1) octets
+line_asks side number front line = refl
+
+pub none_asked : (steps : Command → Option Step) (commands : List Command) → ((command : Command) → steps command ≡ None)
+    → flat_map (λ command. asked_if (steps command)) commands ≡ []
+none_asked steps [] none = refl
+none_asked steps (command ∷ commands) none = λ i. asked_if (none command i) ++ none_asked steps commands none i
+
+-- an earlier link, where it has its number already
+pub earlier_slot : (begun : Option LinkBegun) (slot : ℕ) (X : Type 0) → is_earlier begun slot ≡ true
+    → ((link : LinkBegun) → begun ≡ Some link → link.slot < slot → X) → X
+earlier_slot None slot X is then_so = absurd (let h : false ≡ true = is in absurd cc)
+earlier_slot (Some link) slot X is then_so = then_so link refl (ltb-true link.slot slot is)
+
+late_asks : (side : Side) (number : ℕ) (front rest : List Entry) (line : Entry) (link : LinkBegun) → link_numbered number (front ++ rest) ≡ Some link
+    → length (turns_of front) ≤ link.slot + 1 → asked_in_line side number front line ≡ []
+late_asks side number front rest line link is late = by (is_earlier (link_numbered number front) (length (turns_of front) - 1)) refl
+  where
+    by : (earlier : Bool) → is_earlier (link_numbered number front) (length (turns_of front) - 1) ≡ earlier → asked_in_line side number front line ≡ []
+    by false none = none_asked (step_asked side number front) (accepted_in side front line)
+        (λ command. ap (λ b. if b then step_by (lines_of side number front) (length (turns_of front) - 1) command else None) none)
+    by true one = earlier_slot (link_numbered number front) (length (turns_of front) - 1) _ one (λ begun is_begun before.
+        let both : Some begun ≡ Some link = sym (number_stays number front rest begun is_begun) ∙ is in
+        let same : begun ≡ link = cc in
+        let slot : begun.slot ≡ link.slot = ap (λ (l : LinkBegun). l.slot) same in
+        absurd (omega (arith, before, slot, late)))
+
+turns_front : (front rest : List Entry) → length (turns_of front) ≤ length (turns_of (front ++ rest))
+turns_front front rest =
+    let both = ap length (flat_map-append _ front rest) ∙ length-append (turns_of front) (turns_of rest) in omega (arith, both)
+
+late_from : (side : Side) (number : ℕ) (front lines : List Entry) (link : LinkBegun) → link_numbered number (front ++ lines) ≡ Some link
+    → length (turns_of (front ++ lines)) ≤ link.slot + 1 → asks_seen (seen_from side number front lines) ≡ []
+late_from side number front [] link is late = refl
+late_from side number front (line ∷ lines) link is late =
+    let named = where_named side number (link_named line) line in
+    let asked = asked_in_line side number front line in
+    let heard = heard_in_line side number front line in
+    let next = front ++ line ∷ [] in
+    let split = sym (append_assoc front (line ∷ []) lines) in
+    let before = turns_front front (line ∷ lines) in
+    let none = late_asks side number front (line ∷ lines) line link is (omega (arith, before, late)) in
+    flat_map-append ask_seen (asked ++ (heard ++ map Says named)) (seen_from side number next lines)
+    ∙ (λ i. asks_seen (none i ++ (heard ++ map Says named))
+    ++ late_from side number next lines link (ap (link_numbered number) (sym split) ∙ is)
+    (subst (λ (xs : List Entry). length (turns_of xs) ≤ link.slot + 1) split late) i)
+    ∙ append-nil (asks_seen (heard ++ map Says named))
+    ∙ flat_map-append ask_seen heard (map Says named)
+    ∙ (λ i. line_asks side number front line i ++ said_asks named i)
+
+-- a link that began in this turn, on which nothing was heard
+pub seen_unheard : (side : Side) (number : ℕ) (journal : List Entry) (link : LinkBegun) → link_numbered number journal ≡ Some link
+    → length (turns_of journal) ≤ link.slot + 1 → last_heard number side journal ≡ None → seen_on side number journal ≡ map Says (lines_of side number journal)
+unfolding seen_on
+seen_unheard side number journal link is late none =
+    only_says (seen_on side number journal) (sym (last_is side number journal) ∙ none) (late_from side number [] journal link is late)
+    ∙ ap (map Says) (says_its_lines side number journal)

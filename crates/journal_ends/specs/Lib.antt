@@ -1,5 +1,7 @@
 -- The definitions of this crate.
+pub mod Asked
 pub mod Seen
+pub mod Rows
 -- what the crates above use of those below
 pub use Rattle.journal_acks.specs as journal_acks
 pub use Rattle.journal_acks.specs.journal_links as journal_links

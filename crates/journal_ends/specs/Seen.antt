@@ -1,5 +1,6 @@
--- What an end of a link says and hears, in order: its lines, and between them the good packets that reach it (Core 5.2,
--- volume 6 part B, sections 2.1.2 and 4.5; the order is our choice).
+-- What an end of a link says and hears, and what its host asks of it, in order: its lines, and between them the good
+-- packets that reach it and the commands that are accepted (Core 5.2, volume 6 part B, sections 2.1.2, 4.5 and 5.1; the
+-- order is our choice).
 use Rattle.std.specs.Prelude.{ℕ, ◌-◌, ◌&&◌, Bool, true, false, List, [], ◌∷◌, ◌++◌, fold, length, map, Option, Some, None}
 use Rattle.std.specs.List.{flat_map}
 use Rattle.ble_base.specs.Side.{other_side}
@@ -10,30 +11,45 @@ use Rattle.journal.specs.declared.entries.Entry.TheVariants.{Air}
 use Rattle.controller_model.specs.Facts.{Facts as StationFacts}
 use Rattle.controller_model.specs.Links.{note_opened}
 use Rattle.controller_model.specs.Step.{Step as Call, PacketHeard}
+use Rattle.host_answers.specs.Answered.{accepted_in}
 use Rattle.journal_acks.specs.journal_links.LinkLines.{line_of, link_named, where_named}
 use Rattle.journal_acks.specs.journal_packets.Belonging.{is_side}
 use Rattle.journal_acks.specs.link_model.End.{facts_after, notes_after}
 use Rattle.journal_acks.specs.link_model.Facts.{Facts, first_facts}
 use Rattle.journal_acks.specs.link_model.Packets.{verdict_of}
 use Rattle.journal_acks.specs.link_model.Setup.{Setup}
-use Rattle.journal_acks.specs.link_model.Step.{Step, PacketReceived}
+use Rattle.journal_acks.specs.link_model.Step.{Step, Disconnected, PacketReceived, ProcedureAsked}
 use Rattle.journal_acks.specs.open_links.OpenLinks.{OpenLink, facts_in}
 use Rattle.journal_acks.specs.run_laws.Ends.{link_listened}
 use Rattle.journal_acks.specs.run_model.History.{is_good}
 use Rattle.journal_acks.specs.run_model.Readers.{turns_of}
 use Rattle.journal_acks.specs.Exchange.{is_number}
 use Rattle.journal_acks.specs.Shut.{is_of_link}
+use Rattle.journal_ends.specs.Asked.{step_asked}
 
 pub data Seen : Type 0 where
   -- a line of its side on its link
   Says : (line : Entry) → Seen
   -- a good packet of the other end, with these octets, reaches it in the turn of this slot
   Hears : (slot : ℕ) (octets : List ℕ) → Seen
+  -- its host asks this of it, by a command that is accepted
+  Asks : (step : Step) → Seen
 
 -- a packet is heard where it is good
 abbrev pub heard_where : Bool → ℕ → List ℕ → List Seen
 heard_where true slot octets = Hears slot octets ∷ []
 heard_where false slot octets = []
+
+-- a host asks for a procedure, or ends the link. A host answers no request of the peer yet: where that is withheld from
+-- the host it is refused at once (our choice)
+abbrev pub asked_in_step : Step → List Seen
+asked_in_step (ProcedureAsked ask) = Asks (ProcedureAsked ask) ∷ []
+asked_in_step (Disconnected reason slot) = Asks (Disconnected reason slot) ∷ []
+asked_in_step step = []
+
+abbrev pub asked_if : Option Step → List Seen
+asked_if None = []
+asked_if (Some step) = asked_in_step step
 
 -- ---- by the lines alone
 
@@ -44,10 +60,16 @@ heard_in_line side number front (Air sender channel octets fate verdict) =
     (length (turns_of front) - 1) octets
 heard_in_line side number front line = []
 
--- what the end of a side on the link with a number says and hears in a line that comes after these
+-- the line answers a command of its host, which asks this of it
+abbrev pub asked_in_line : Side → ℕ → List Entry → Entry → List Seen
+asked_in_line side number front line =
+    flat_map (λ command. asked_if (step_asked side number front command)) (accepted_in side front line)
+
+-- what the end of a side on the link with a number says, hears and is asked in a line that comes after these
 abbrev pub seen_in_line : Side → ℕ → List Entry → Entry → List Seen
 seen_in_line side number front line =
-    heard_in_line side number front line ++ map Says (where_named side number (link_named line) line)
+    asked_in_line side number front line
+    ++ (heard_in_line side number front line ++ map Says (where_named side number (link_named line) line))
 
 abbrev pub seen_from : Side → ℕ → List Entry → List Entry → List Seen
 seen_from side number front [] = []
@@ -57,10 +79,11 @@ seen_from side number front (line ∷ lines) =
 unfoldable pub seen_on : Side → ℕ → List Entry → List Seen
 seen_on side number journal = seen_from side number [] journal
 
--- the lines among what an end says and hears
+-- the lines among what is seen of an end
 abbrev pub line_said : Seen → List Entry
 line_said (Says line) = line ∷ []
 line_said (Hears slot octets) = []
+line_said (Asks step) = []
 
 abbrev pub lines_said : List Seen → List Entry
 lines_said seen = flat_map line_said seen
@@ -69,6 +92,7 @@ lines_said seen = flat_map line_said seen
 abbrev pub slot_after : Option ℕ → Seen → Option ℕ
 slot_after before (Says line) = before
 slot_after before (Hears slot octets) = Some slot
+slot_after before (Asks step) = before
 
 abbrev pub last_slot : List Seen → Option ℕ
 last_slot seen = fold slot_after None seen
@@ -85,17 +109,17 @@ heard_in_step setup facts (PacketReceived slot octets room) =
     heard_where (is_good (verdict_of setup facts octets)) slot octets
 heard_in_step setup facts step = []
 
--- what the end with these facts says and hears in a step
+-- what the end with these facts says, hears and is asked in a step
 abbrev pub seen_in : Side → ℕ → Setup → Facts → Step → List Seen
 seen_in side number setup facts step =
-    heard_in_step setup facts step ++ notes_said side number (notes_after setup facts step)
+    asked_in_step step ++ (heard_in_step setup facts step ++ notes_said side number (notes_after setup facts step))
 
 abbrev pub seen_in_steps : Side → ℕ → Setup → Facts → List Step → List Seen
 seen_in_steps side number setup facts [] = []
 seen_in_steps side number setup facts (step ∷ steps) =
     seen_in side number setup facts step ++ seen_in_steps side number setup (facts_after setup facts step) steps
 
--- what the end of a side on the link with a number says and hears, from the line that says that it was opened
+-- what is seen of the end of a side on the link with a number, from the line that says that it was opened
 unfoldable pub seen_of : Side → ℕ → Setup → List Step → List Seen
 seen_of side number setup past =
     Says (line_of side number (note_opened setup.link)) ∷ seen_in_steps side number setup (first_facts setup) past

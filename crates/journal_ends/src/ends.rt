@@ -1,5 +1,5 @@
-//! What each end of a link says and hears, as the lines of a journal and the past of that end have
-//! it. The body only calls the laws that it rests on: the contract is the law.
+//! What each end of a link says, hears and is asked, as the lines of a journal and the past of that
+//! end have it. The body only calls the laws that it rests on: the contract is the law.
 ghost use Rattle.std.specs.Prelude.{◌≡◌, ◌++◌, ◌∷◌, [], ℕ, Bool, List, Some};
 ghost use Rattle.std.specs.List.{Contains};
 ghost use Rattle.controller_model.specs.Step.{Step};
@@ -14,10 +14,11 @@ ghost use Rattle.journal_ends.specs.Seen.{heard_next, seen_of, seen_on};
 
 /// In a run of two stations, with any number of links each, the lines of the journal say in order
 /// what happened to each open end: what it noted, and between its notes each good packet of the
-/// other end that it received, with the slot of its turn. So it is before each call on the
+/// other end that it received, with the slot of its turn, and each procedure that its host asked for
+/// and each Disconnect, at the line that accepts the command. So it is before each call on the
 /// controller of its station, where the packet that the end takes in that call was already on the
 /// air; before each packet; before each turn; and at the end of a run, also where damage stops it
-/// (Core 5.2, volume 6 part B, sections 2.1.2 and 4.5).
+/// (Core 5.2, volume 4 part E, sections 7.1 and 7.8; volume 6 part B, sections 2.1.2, 4.5 and 5.1).
 pub fn what_is_seen_of_an_end_is_its_past()
     ensures before_a_call { (given : Given) (before rest : List Event) (step : Step)
         (station handle : ℕ) (link : OpenLink)

@@ -1,5 +1,6 @@
-//! What each end of a link says and hears, by the lines of a journal, and the law that in each run
-//! of two stations it is what happened to that end. Definitions and laws; no code.
+//! What each end of a link says and hears and what its host asks of it, by the lines of a journal,
+//! and the law that in each run of two stations it is what happened to that end. Definitions and
+//! laws; no code.
 #![tactic(auto)]
 
 mod ends;
@@ -10,4 +11,4 @@ pub use crate::ends::what_is_seen_of_an_end_is_its_past;
 pub use crate::lists::{
     what_an_end_hears_last_is_its_last_good_packet, what_an_end_says_is_its_lines,
 };
-pub use crate::rows::worked_ends;
+pub use crate::rows::{worked_asks, worked_ends};

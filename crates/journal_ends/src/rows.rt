@@ -1,4 +1,4 @@
-//! A worked example, which the definitions compute.
+//! Worked examples, which the definitions compute.
 ghost use Rattle.std.specs.Prelude.{◌≡◌, ◌∷◌, [], Some};
 ghost use Rattle.ble_base.specs.declared.roles.Role.TheVariants.{Central, Peripheral};
 ghost use Rattle.ble_base.specs.declared.roles.Side.TheVariants.{A, B};
@@ -6,7 +6,11 @@ ghost use Rattle.journal.specs.declared.entries.Entry.TheVariants.{Enter, Opened
 ghost use Rattle.journal_acks.specs.run_model.Rows.{first_reply};
 ghost use Rattle.journal_acks.specs.Rows.{data_acknowledged, data_packet, data_pdu, more_packet};
 ghost use Rattle.journal_acks.specs.Rows.{reply_packet};
-ghost use Rattle.journal_ends.specs.Seen.{Hears, Says, last_slot, seen_on};
+ghost use Rattle.journal_acks.specs.link_model.Step.{Disconnected, ProcedureAsked};
+ghost use Rattle.journal_acks.specs.link_model.procedure_values.declared.asks.Ask.TheVariants.{Version};
+ghost use Rattle.journal_ends.specs.Rows.{asked_of_central, ended_by_central, refused_to_central};
+ghost use Rattle.journal_ends.specs.Rows.{asked_again, version_body};
+ghost use Rattle.journal_ends.specs.Seen.{Asks, Hears, Says, last_slot, seen_on};
 
 /// The central sends a PDU of data in the second slot of an event, and the peripheral takes it.
 /// Each end says that the link is opened, that it enters the event, and what it sends or takes. It
@@ -21,4 +25,21 @@ pub fn worked_ends()
         ∷ Hears 3 data_packet ∷ Says (Took A 1 1 data_pdu.llid data_pdu.body) ∷ [] }
     ensures other_link { seen_on A 2 data_acknowledged ≡ [] }
     ensures last { last_slot (seen_on A 1 data_acknowledged) ≡ Some 3 }
+{}
+
+/// The host of the central sends Read Remote Version Information in turn 1, before the first event of
+/// the link. It is asked of the end at the line of its Command Status with status 00, and not where
+/// the command is refused, nor of the other end, nor on another link. A Disconnect after it ends the
+/// link in the same turn. Where the end knows the version of its peer, nothing is asked.
+pub fn worked_asks()
+    ensures central { seen_on B 1 asked_of_central
+        ≡ Says (Opened B 1 0 Central) ∷ Asks (ProcedureAsked Version) ∷ [] }
+    ensures refused { seen_on B 1 refused_to_central ≡ Says (Opened B 1 0 Central) ∷ [] }
+    ensures peripheral { seen_on A 1 asked_of_central ≡ Says (Opened A 1 0 Peripheral) ∷ [] }
+    ensures other_link { seen_on B 2 asked_of_central ≡ [] }
+    ensures ends { seen_on B 1 ended_by_central
+        ≡ Says (Opened B 1 0 Central) ∷ Asks (ProcedureAsked Version)
+        ∷ Asks (Disconnected (record { 0 = 0x13 }) 1) ∷ [] }
+    ensures known { seen_on B 1 asked_again
+        ≡ Says (Opened B 1 0 Central) ∷ Says (Took B 1 1 3 version_body) ∷ [] }
 {}

@@ -143,7 +143,7 @@ module _ (heard_whole : IsHeardWhole) (understood : IsUnderstood) (taken : AreTa
       let fixes = fixes_under handle doing in
       let sends = sends_under handle doing in
       let past = has.past_is ∙ begun_past slot handle doing base in
-      let lines = own_lines given station call history begun.lined begun.lined_after in_it handle link open_after number base has.was (steps_begun enters fixes sends slot) has.setup_is past in
+      let lines = own_lines given station call refl history begun.lined begun.lined_after in_it handle link open_after number base has.was (steps_begun enters fixes sends slot) has.setup_is past in
       let begun_facts : Bool → EndFacts = λ b. fold (end_after base.setup) (facts_in base) (first_if enters (EventEntered slot) (first_if b PduFixed [])) in
       let new = said_in given station call history earlier later handle count llid body notes_are opens (IsSaidBy sends (begun_facts fixes))
       (map (line_of side own) (notes_from base.setup (facts_in base) (steps_begun enters fixes sends slot))) lines

@@ -1,10 +1,15 @@
 -- What an event or a call does to the control part as the next PDU is fixed, and as it goes.
-use Rattle.std.proofs.Common.{◌≡◌, ℕ, ◌&&◌, ◌||◌, Bool, true, false, Some, List, [], ◌∷◌, ◌++◌, refl, sym, ap, subst, ◌∙◌, append-nil}
+use Rattle.std.proofs.Common.{◌≡◌, ℕ, ◌&&◌, ◌||◌, Bool, true, false, Some, List, [], ◌∷◌, ◌++◌, map, refl, sym, ap, subst, ◌∙◌, append-nil}
+use Rattle.std.specs.List.{AllByRecursion}
 use Rattle.std.specs.Option.{option_map}
 use Rattle.std.proofs.lemmas.List.{append_cancel_left}
 use Rattle.std.proofs.lemmas.Bool.{or_right}
+use Rattle.ble_base.specs.declared.notes.Note.{Note}
 use Rattle.ble_base.specs.declared.roles.Side.{Side}
+use Rattle.controller_model.specs.Side.{notes_after}
 use Rattle.controller_model.specs.Step.{Step as Call}
+use Rattle.host_answers.specs.Calls.{call_lines}
+use Rattle.host_answers.proofs.LineAnswers.{IsQuiet}
 use Rattle.journal.specs.declared.entries.Entry.{Entry}
 use Rattle.journal.specs.declared.entries.Entry.TheVariants.{Air, Fed, Turn}
 use Rattle.journal_controls.specs.LineSteps.{control_on, is_more_acked, turn_now, withholds}
@@ -16,14 +21,25 @@ use Rattle.journal_controls.specs.journal_links.LinkLines.{lines_of}
 use Rattle.journal_controls.specs.link_model.Data.{is_control}
 use Rattle.journal_controls.specs.link_model.Receiving.{control_acked_if}
 use Rattle.journal_controls.specs.link_model.control_model.Control.{Control}
-use Rattle.journal_controls.specs.run_model.History.{Event, Hearing, HostFed, Transmitted, TurnBegan}
-use Rattle.journal_controls.specs.run_model.Journal.{journal_of, mark_of, radio_in, side_of}
-use Rattle.journal_controls.specs.run_model.Run.{Given, after_call}
+use Rattle.journal_controls.specs.run_model.Feeding.{is_octet}
+use Rattle.journal_controls.specs.run_model.Links.{Links, links_after, links_of}
+use Rattle.journal_controls.specs.run_model.History.{Event, Hearing, Noted, HostFed, Transmitted, TurnBegan}
+use Rattle.journal_controls.specs.run_model.Journal.{journal_from, journal_of, mark_of, radio_in, side_of}
+use Rattle.journal_controls.specs.run_model.Run.{Given, after_call, facts_at, setup_at}
+use Rattle.journal_controls.proofs.EventMoves.{turn_answers}
+use Rattle.journal_controls.proofs.journal_ends.AskedCalls.{call_journal}
 use Rattle.journal_controls.proofs.journal_links.LinkLines.{lines_append}
 use Rattle.journal_controls.proofs.run_model.Parts.{call_adds, journal_event}
 use Rattle.journal_fixing.specs.OnLines.{acks_control_at, before_sending, control_fixing, control_going, has_heard, is_fixed, is_some_seen}
 use Rattle.journal_fixing.proofs.ControlKept.{fixed_is, fixing_begins, fixing_quiet, fixing_stays, going_answers, going_begins, going_now, going_quiet, heard_is, unfixed_begins, unheard_begins}
-use Rattle.journal_fixing.proofs.NotedLines.{notes_fix, notes_fixed, notes_fixing, notes_going, notes_heard, notes_still, notes_unheard}
+use Rattle.journal_fixing.proofs.NotedLines.{AreSilent, notes_fix, notes_fixed, notes_fixing, notes_going, notes_heard, notes_still, notes_unheard}
+
+-- lines of notes that say no answer to a side
+notes_silent : (side : Side) (station : ℕ) (links : Links) (notes : List Note) → AllByRecursion (IsQuiet side station) notes
+    → AreSilent side (journal_from links (map (Noted station) notes))
+notes_silent side station links [] quiet = tt
+notes_silent side station links (note ∷ notes) quiet =
+    (quiet.0 (links.link_of station) (links.last_of station), notes_silent side station (links_after links (Noted station note)) notes quiet.1)
 
 module _ (side : Side) (number : ℕ) (history : List Event) where
   abbrev before : List Entry
@@ -131,26 +147,34 @@ module _ (side : Side) (number : ℕ) (history : List Event) where
         let adds = call_adds given station call history in
         ap (is_fixed side number) adds.journal_is ∙ notes_fixed (side_of station) side number before adds.entries adds.are_notes is
 
-    pub call_fixes : (more : List Entry) (control : Control) → lines_of side number (journal_of called) ≡ lines_of side number before ++ more → NoneOpens more
+    -- a call of a turn answers no command
+    silent : is_octet call ≡ false → AreSilent side (call_adds given station call history).entries
+    silent turn =
+        let adds = call_adds given station call history in
+        subst (AreSilent side)
+        (append_cancel_left before (call_lines given station call history) adds.entries (sym (call_journal given station call history) ∙ adds.journal_is))
+        (notes_silent side station (links_of history) (notes_after (setup_at given station) (facts_at given station history) call) (turn_answers given side station call history turn))
+
+    pub call_fixes : is_octet call ≡ false → (more : List Entry) (control : Control) → lines_of side number (journal_of called) ≡ lines_of side number before ++ more → NoneOpens more
         → is_fixed side number before ≡ false → control_on side number before ≡ Some control
         → control_fixing side number (journal_of called) ≡ Some (moved_by (withholds side before) (turn_now before) (before_sending more) control)
-    call_fixes more control lines opens none was =
+    call_fixes turn more control lines opens none was =
         let adds = call_adds given station call history in
         let same : lines_of side number adds.entries ≡ more =
         append_cancel_left (lines_of side number before) (lines_of side number adds.entries) more
         (sym (lines_append side number before adds.entries) ∙ ap (lines_of side number) (sym adds.journal_is) ∙ lines) in
         ap (control_fixing side number) adds.journal_is
-        ∙ notes_fix (side_of station) side number before adds.entries control adds.are_notes (subst NoneOpens (sym same) opens) none was
+        ∙ notes_fix (side_of station) side number before adds.entries control adds.are_notes (silent turn) (subst NoneOpens (sym same) opens) none was
         ∙ ap (λ xs. Some (moved_by (withholds side before) (turn_now before) (before_sending xs) control)) same
 
     -- a call in which the end says nothing
-    pub call_still : lines_of side number (journal_of called) ≡ lines_of side number before → control_fixing side number (journal_of called) ≡ control_fixing side number before
-    call_still same =
+    pub call_still : is_octet call ≡ false → lines_of side number (journal_of called) ≡ lines_of side number before → control_fixing side number (journal_of called) ≡ control_fixing side number before
+    call_still turn same =
         let adds = call_adds given station call history in
         let none : lines_of side number adds.entries ≡ [] =
         append_cancel_left (lines_of side number before) (lines_of side number adds.entries) []
         (sym (lines_append side number before adds.entries) ∙ ap (lines_of side number) (sym adds.journal_is) ∙ same ∙ sym (append-nil (lines_of side number before))) in
-        ap (control_fixing side number) adds.journal_is ∙ notes_still (side_of station) side number before adds.entries adds.are_notes none
+        ap (control_fixing side number) adds.journal_is ∙ notes_still (side_of station) side number before adds.entries adds.are_notes (silent turn) none
 
     pub call_going : has_heard side number before ≡ true → control_going side number (journal_of called) ≡ control_going side number before
     call_going is =

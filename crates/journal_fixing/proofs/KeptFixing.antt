@@ -23,6 +23,7 @@ use Rattle.journal_controls.specs.link_model.control_model.Control.{Control}
 use Rattle.journal_controls.specs.journal_ends.open_links.OpenLinks.{OpenLink, facts_in, link_at}
 use Rattle.journal_controls.specs.journal_ends.open_links.Turns.{enters_in}
 use Rattle.journal_controls.specs.run_model.Due.{Each}
+use Rattle.journal_controls.specs.run_model.Feeding.{is_octet}
 use Rattle.journal_controls.specs.run_model.History.{Event, Called, HostFed, Noted, Transmitted, TurnBegan, packet_received, steps_in, turns_begun}
 use Rattle.journal_controls.specs.run_model.Journal.{journal_of, side_of}
 use Rattle.journal_controls.specs.run_model.LinkEnds.{HaveAddresses}
@@ -131,6 +132,10 @@ rests given history station is = unused given history station (λ handle. ap (us
 
 -- ---- events and calls that leave an end as it is
 
+received_turn : (received : Option (List ℕ)) → is_octet (step_of received) ≡ false
+received_turn None = refl
+received_turn (Some octets) = refl
+
 module _ (given : Given) where
   -- an event that is no call
   fixing_event : (history : List Event) (event : Event) → ((station : ℕ) → steps_in station event ≡ [])
@@ -144,7 +149,9 @@ module _ (given : Given) where
       (ap (λ (f : Facts). uses_under handle f.turn.doing) (sym facts) ∙ uses) in
       ap (λ n. fixing_at n (side_of station) after) (number station handle) ∙ same (number_at station handle history) (side_of station) ∙ is
 
-  module _ (station : ℕ) (call : Call) (history : List Event) (lined : AreLined given history) (lined_after : AreLined given (after_call given station call history)) where
+  -- a call of a turn
+  module _ (station : ℕ) (call : Call) (in_turn : is_octet call ≡ false) (history : List Event) (lined : AreLined given history)
+      (lined_after : AreLined given (after_call given station call history)) where
     abbrev after : List Event
     after = after_call given station call history
 
@@ -158,7 +165,7 @@ module _ (given : Given) where
         let was = ap (λ (f : Facts). link_at handle f.links) (sym facts) ∙ at in
         let now = subst (λ n. lines_of side n (journal_of after) ≡ map (line_of side n) (notes_opened_on link.setup link.past)) numbers (lined_after other handle link in_it at) in
         let is = are handle link was (ap (λ (f : Facts). uses_under handle f.turn.doing) (sym facts) ∙ uses) in
-        ap (λ n. fixing_at n side after) numbers ∙ call_still side number history given station call (now ∙ sym (lined other handle link in_it was)) ∙ is
+        ap (λ n. fixing_at n side after) numbers ∙ call_still side number history given station call in_turn (now ∙ sym (lined other handle link in_it was)) ∙ is
 
     fixing_call : AreFixingOf given after station → ((other : ℕ) → is_in other given.stations ≡ true → (other == station) ≡ false → AreFixingOf given history other)
         → AreFixing given after
@@ -192,7 +199,7 @@ module _ (given : Given) where
       own_still : link ≡ base → IsFixing history station handle base → IsFixing after station handle link
       own_still same is =
           ap (λ n. fixing_at n side after) number
-          ∙ call_still side own history given station call
+          ∙ call_still side own history given station call in_turn
           (own_lines [] (ap (λ (l : OpenLink). l.setup) same) (ap (λ (l : OpenLink). l.past) same ∙ sym (append-nil base.past)) ∙ append-nil (lines_of side own (journal_of history)))
           ∙ is ∙ ap (λ (l : OpenLink). Some (facts_fixing l.setup l.past).control) (sym same)
 
@@ -226,8 +233,8 @@ module _ (given : Given) (station slot : ℕ) (on : Bool) (history : List Event)
       let number = number_called given station call history handle (begin_noted (OpensNone handle) (opening_none handle) setup slot on facts) in
       let steps = steps_begun enters true sends slot in
       ap (λ n. fixing_at n side after) number
-      ∙ begun_fixes side own slot given station call history base.setup (facts_in base) enters true sends
-      (own_lines given station call history lined lined_after in_it handle link at number base has.was steps has.setup_is past) turn (unfixed own) (controls handle base has.was)
+      ∙ begun_fixes side own slot given station call history base.setup (facts_in base) enters true sends refl
+      (own_lines given station call refl history lined lined_after in_it handle link at number base has.was steps has.setup_is past) turn (unfixed own) (controls handle base has.was)
       ∙ ap (λ (f : EndFacts). Some f.control) (sym (facts_begun base.setup base.past enters sends slot))
       ∙ (λ i. Some (facts_fixing (sym has.setup_is i) (sym past i)).control)
 
@@ -256,7 +263,7 @@ module _ (given : Given) (station phases : ℕ) (history : List Event) (lined : 
   passed_fixing handle link at number uses (IsNew end made opened off) = absurd (let h : true ≡ false = sym (uses_on handle later.turn.doing uses) ∙ off in absurd cc)
   passed_fixing handle link at number uses (Stays was none nothing listened) =
       let sent = listened (listens_then handle later.turn.doing none uses) in
-      own_still given station (step_of received) history lined lined_after in_it handle link at number link was refl
+      own_still given station (step_of received) (received_turn received) history lined lined_after in_it handle link at number link was refl
       (are handle link was (sends_uses handle held.turn.doing sent))
   passed_fixing handle link at number uses (Takes base octets was some on same) =
       let side = side_of station in
@@ -437,7 +444,7 @@ module _ (understood : IsUnderstood) (taken : AreTaken) (nth : AreNth) (apart : 
                   apart_same (side_of other) number given station call history (other_apart given are_two other station in_other in_it (differs_back other station not.0))
                   ∙ has.unfixed other in_other not.1 number;
               aired = λ one octets in_one. none_received after one octets (seen.holds.hearing.hears one in_one);
-              fixing = fixing_call given station call history lined lined_after own (λ other in_other differs. has.fixing other in_other);
+              fixing = fixing_call given station call refl history lined lined_after own (λ other in_other differs. has.fixing other in_other);
               each = call_each given station call history has.each (record { unfixed = unfixed; lined = lined; lined_after = lined_after; fixing = own });
             };
         on_begun = λ history has.
@@ -477,7 +484,7 @@ module _ (understood : IsUnderstood) (taken : AreTaken) (nth : AreNth) (apart : 
               seen = seen;
               unfixed = tt;
               aired = received_aired given station call history has.aired;
-              fixing = fixing_call given station call history lined lined_after
+              fixing = fixing_call given station call (received_turn received) history lined lined_after
                   (passes_fixing given station phases history lined lined_after in_it phased (seen.holds.so_far.last.each station in_it)
                   (one_slot phases done left station history after in_it phased turns seen) (λ octets. has.aired station octets in_it) (has.fixing station in_it))
                   (λ other in_other differs. has.fixing other in_other);

@@ -1,8 +1,10 @@
 -- The control part as the next PDU is fixed, and as it goes, by a journal with the lines of notes more.
 use Rattle.std.proofs.Common.{◌≡◌, ℕ, ◌-◌, ◌==◌, ◌&&◌, ◌||◌, Bool, true, false, Option, Some, None, List, [], ◌∷◌, ◌++◌, length, map, refl, sym, ap, ◌∙◌, append-nil, append_assoc, if◌then◌else◌}
+use Rattle.std.specs.List.{AllByRecursion}
 use Rattle.std.proofs.lemmas.Grind.{flat_map-append}
 use Rattle.ble_base.specs.declared.roles.Side.{Side}
 use Rattle.ble_base.specs.declared.roles.Side.TheVariants.{A, B}
+use Rattle.host_answers.proofs.LineAnswers.{statuses_in}
 use Rattle.host_masks.specs.Masks.{masks_of, withholds_requests}
 use Rattle.journal.specs.declared.entries.Entry.{Entry}
 use Rattle.journal.specs.declared.entries.Entry.TheVariants.{Air, Fed, Sent, Turn}
@@ -15,6 +17,7 @@ use Rattle.journal_controls.specs.link_model.control_model.Control.{Control}
 use Rattle.journal_controls.specs.run_model.Order.{AreNotes, side_of_note}
 use Rattle.journal_controls.specs.run_model.Readers.{PairOpening, fed_in, fed_to_side, of_side, pair_openings_in, turns_of}
 use Rattle.journal_controls.proofs.LineFolds.{control_more, line_moves, moved_both}
+use Rattle.journal_controls.proofs.journal_ends.SeenEvents.{unasked_by}
 use Rattle.journal_fixing.specs.OnLines.{before_sending, begins_turn, control_fixing, control_going, has_heard, is_fixed, is_fixed_from, is_heard_at, is_sending, is_some_seen}
 use Rattle.journal_fixing.proofs.ControlKept.{fixed_is, fixing_now, fixing_quiet, fixing_stays, going_stays, heard_is}
 
@@ -51,6 +54,10 @@ none_both [] more none = (refl, none)
 none_both (line ∷ lines) more none = absurd cc
 
 -- ---- lines of notes
+
+-- they tell a side of no answer to a command of its host
+abbrev pub AreSilent : Side → List Entry → Type 0
+AreSilent side lines = AllByRecursion (λ line. statuses_in side line ≡ []) lines
 
 module _ (own side : Side) (number : ℕ) where
   pub notes_fixing : (journal lines : List Entry) → AreNotes own lines → is_fixed side number journal ≡ true
@@ -89,14 +96,15 @@ module _ (own side : Side) (number : ℕ) where
       ∙ going_stays side number journal line goes is
 
   -- notes of another end
-  pub notes_still : (journal lines : List Entry) → AreNotes own lines → lines_of side number lines ≡ [] → control_fixing side number (journal ++ lines) ≡ control_fixing side number journal
-  notes_still journal [] are none = ap (control_fixing side number) (append-nil journal)
-  notes_still journal (line ∷ lines) are none =
+  pub notes_still : (journal lines : List Entry) → AreNotes own lines → AreSilent side lines → lines_of side number lines ≡ []
+      → control_fixing side number (journal ++ lines) ≡ control_fixing side number journal
+  notes_still journal [] are silent none = ap (control_fixing side number) (append-nil journal)
+  notes_still journal (line ∷ lines) are silent none =
       let goes = note_goes line own are.0 in
       let parts = none_both (where_named side number (link_named line) line) (lines_of side number lines) none in
       ap (control_fixing side number) (sym (append_assoc journal (line ∷ []) lines))
-      ∙ notes_still (journal ++ line ∷ []) lines are.1 parts.1
-      ∙ fixing_quiet side number journal line goes (λ i. note_deaf line own side number journal are.0 i ++ map Says (parts.0 i))
+      ∙ notes_still (journal ++ line ∷ []) lines are.1 silent.1 parts.1
+      ∙ fixing_quiet side number journal line goes (λ i. unasked_by side number journal line silent.0 i ++ (note_deaf line own side number journal are.0 i ++ map Says (parts.0 i)))
 
   -- notes are no packets
   pub notes_unheard : (journal lines : List Entry) → AreNotes own lines → has_heard side number journal ≡ false → has_heard side number (journal ++ lines) ≡ false
@@ -169,13 +177,13 @@ module _ (own side : Side) (number : ℕ) where
         ap (λ named. before_sending (named ++ rest)) none ∙ sym (ap (λ named. named ++ before_sending rest) none)
     unsent_here line is = unsent_named (link_named line) line refl
 
-  pub notes_fix : (journal lines : List Entry) (control : Control) → AreNotes own lines → NoneOpens (lines_of side number lines)
+  pub notes_fix : (journal lines : List Entry) (control : Control) → AreNotes own lines → AreSilent side lines → NoneOpens (lines_of side number lines)
       → is_fixed side number journal ≡ false → control_on side number journal ≡ Some control
       → control_fixing side number (journal ++ lines) ≡ Some (moved_by (withholds side journal) (turn_now journal) (before_sending (lines_of side number lines)) control)
-  notes_fix journal [] control are opens none was = ap (control_fixing side number) (append-nil journal) ∙ fixing_now side number journal none ∙ was
-  notes_fix journal (line ∷ lines) control are opens none was =
+  notes_fix journal [] control are silent opens none was = ap (control_fixing side number) (append-nil journal) ∙ fixing_now side number journal none ∙ was
+  notes_fix journal (line ∷ lines) control are silent opens none was =
       by (is_fixed_from side number line) refl (λ moved none_yet now.
-      notes_fix (journal ++ line ∷ []) lines moved are.1 (last_none (where_named side number (link_named line) line) (lines_of side number lines) opens) none_yet now)
+      notes_fix (journal ++ line ∷ []) lines moved are.1 silent.1 (last_none (where_named side number (link_named line) line) (lines_of side number lines) opens) none_yet now)
     where
       by : (from : Bool) → is_fixed_from side number line ≡ from
           → ((moved : Control) → is_fixed side number (journal ++ line ∷ []) ≡ false → control_on side number (journal ++ line ∷ []) ≡ Some moved
@@ -201,7 +209,7 @@ module _ (own side : Side) (number : ℕ) where
           let unfixed : (is_fixed side number journal || is_fixed_from side number line) ≡ false = λ i. none i || from i in
           let moves : control_on side number next ≡ Some (moved_by held slot named control) =
           control_more side number journal line ∙ ap (λ before. control_after side number journal before line) was
-          ∙ line_moves side number journal line control (note_deaf line own side number journal are.0) (first_none named rest opens) in
+          ∙ line_moves side number journal line control (note_deaf line own side number journal are.0) (unasked_by side number journal line silent.0) (first_none named rest opens) in
           ap (control_fixing side number) (sym (append_assoc journal (line ∷ []) lines))
           ∙ later (moved_by held slot named control) (fixed_is side number journal line goes ∙ unfixed) moves
           ∙ (λ i. Some (moved_by (withholds_stay own side journal line are.0 i) (turn_stays journal line goes i) (before_sending rest) (moved_by held slot named control)))

@@ -27,6 +27,7 @@ use Rattle.journal_controls.specs.link_model.control_end.Held.{held_of}
 use Rattle.journal_controls.specs.link_model.control_end.declared.answers.Entry.{Entry as Entered}
 use Rattle.journal_controls.specs.link_model.control_model.Control.{Control, Enters, after}
 use Rattle.journal_controls.specs.link_model.declared.events.ConnectionEvent.{ConnectionEvent}
+use Rattle.journal_controls.specs.run_model.Feeding.{is_octet}
 use Rattle.journal_controls.specs.run_model.History.{Event}
 use Rattle.journal_controls.specs.run_model.Journal.{journal_of}
 use Rattle.journal_controls.specs.run_model.Run.{Given, after_call}
@@ -180,15 +181,15 @@ module _ (side : Side) (number : ℕ) (withheld : Bool) (slot : ℕ) where
 
 -- a call on the controller of its station
 pub begun_fixes : (side : Side) (number slot : ℕ) (given : Given) (station : ℕ) (call : Call) (history : List Event) (setup : Setup) (facts : Facts) (enters fixes sends : Bool)
-    → lines_of side number (journal_of (after_call given station call history))
+    → is_octet call ≡ false → lines_of side number (journal_of (after_call given station call history))
     ≡ lines_of side number (journal_of history) ++ map (line_of side number) (notes_from setup facts (steps_begun enters fixes sends slot))
     → turn_now (journal_of history) ≡ slot → is_fixed side number (journal_of history) ≡ false → control_on side number (journal_of history) ≡ Some facts.control
     → control_fixing side number (journal_of (after_call given station call history))
     ≡ Some (fold (facts_after setup) facts (first_if enters (EventEntered slot) [])).control
-begun_fixes side number slot given station call history setup facts enters fixes sends lines turn none was =
+begun_fixes side number slot given station call history setup facts enters fixes sends in_turn lines turn none was =
     let held = withholds side (journal_of history) in
     let steps = steps_begun enters fixes sends slot in
     let more = map (line_of side number) (notes_from setup facts steps) in
-    call_fixes side number history given station call more facts.control lines (steps_later side number setup facts steps) none was
+    call_fixes side number history given station call in_turn more facts.control lines (steps_later side number setup facts steps) none was
     ∙ ap (λ now. Some (moved_by held now (before_sending more) facts.control)) turn
     ∙ ap Some (begun_before side number held slot setup facts enters fixes sends)

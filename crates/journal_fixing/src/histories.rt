@@ -15,6 +15,7 @@ ghost use Rattle.journal_controls.specs.journal_links.LinkLines.{lines_of};
 ghost use Rattle.journal_controls.specs.link_model.Data.{is_control};
 ghost use Rattle.journal_controls.specs.link_model.Receiving.{control_acked_if};
 ghost use Rattle.journal_controls.specs.link_model.control_model.Control.{Control};
+ghost use Rattle.journal_controls.specs.run_model.Feeding.{is_octet};
 ghost use Rattle.journal_controls.specs.run_model.History.{Event, Hearing, HostFed, Transmitted};
 ghost use Rattle.journal_controls.specs.run_model.History.{TurnBegan};
 ghost use Rattle.journal_controls.specs.run_model.Journal.{journal_of, mark_of, side_of};
@@ -82,8 +83,8 @@ pub fn a_packet_keeps_the_control_part_that_fixed_a_pdu()
 {}
 
 /// A call on a controller, after any history, keeps the control part that fixed the next PDU of an
-/// end, once that is fixed, and else that is the control part before the line of a new PDU that the
-/// call adds for the end, or after all its lines. What is kept as a packet is heard stays as well,
+/// end, once that is fixed. Else, where the call is one of a turn, that is the control part before
+/// the line of a new PDU that the call adds for the end, or after all its lines. What is kept as a packet is heard stays as well,
 /// and else it is the control part after the call.
 pub fn calls_keep_the_control_part_that_fixed_a_pdu()
     ensures fixed { (given : Given) (side : Side) (number station : ℕ) (call : Call)
@@ -92,7 +93,7 @@ pub fn calls_keep_the_control_part_that_fixed_a_pdu()
         → control_fixing side number (journal_of (after_call given station call history))
         ≡ control_fixing side number (journal_of history) }
     ensures fixes { (given : Given) (side : Side) (number station : ℕ) (call : Call)
-        (history : List Event) (more : List Entry) (control : Control)
+        (history : List Event) (more : List Entry) (control : Control) → is_octet call ≡ false
         → lines_of side number (journal_of (after_call given station call history))
         ≡ lines_of side number (journal_of history) ++ more
         → NoneOpens more → is_fixed side number (journal_of history) ≡ false

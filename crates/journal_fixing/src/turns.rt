@@ -11,6 +11,7 @@ ghost use Rattle.journal_controls.specs.link_model.End.{facts_after, notes_from}
 ghost use Rattle.journal_controls.specs.link_model.Facts.{Facts};
 ghost use Rattle.journal_controls.specs.link_model.Setup.{Setup};
 ghost use Rattle.journal_controls.specs.link_model.Step.{EventEntered};
+ghost use Rattle.journal_controls.specs.run_model.Feeding.{is_octet};
 ghost use Rattle.journal_controls.specs.run_model.History.{Event};
 ghost use Rattle.journal_controls.specs.run_model.Journal.{journal_of};
 ghost use Rattle.journal_controls.specs.run_model.Run.{Given, after_call};
@@ -33,6 +34,7 @@ pub fn the_lines_before_a_new_pdu_move_the_control_part_that_fixes_it()
 pub fn a_call_that_begins_a_turn_keeps_the_control_part_that_fixes()
     ensures { (given : Given) (side : Side) (number station slot : ℕ) (call : Call)
         (history : List Event) (setup : Setup) (facts : Facts) (enters fixes sends : Bool)
+        → is_octet call ≡ false
         → lines_of side number (journal_of (after_call given station call history))
         ≡ lines_of side number (journal_of history) ++ map (line_of side number)
         (notes_from setup facts (steps_begun enters fixes sends slot))

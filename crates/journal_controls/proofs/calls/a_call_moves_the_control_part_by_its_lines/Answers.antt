@@ -1,6 +1,11 @@
 -- Proof of `calls::a_call_moves_the_control_part_by_its_lines`.
-use Rattle.journal_controls.proofs.EventMoves.{call_moves}
+use Rattle.journal_controls.proofs.AskedControls.{call_asks}
+use Rattle.journal_controls.proofs.EventMoves.{call_moves, turn_answers}
 use Rattle.journal_controls.proofs.calls.a_call_moves_the_control_part_by_its_lines.Goals as goal
 
 pub returns : goal.returns
-returns c = call_moves
+returns c = record {
+  turn = λ given side number station call history more control no_octet.
+      call_moves given side number station call history more control (turn_answers given side station call history no_octet);
+  asked = call_asks;
+}

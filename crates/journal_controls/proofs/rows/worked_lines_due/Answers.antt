@@ -5,6 +5,8 @@ use Rattle.adv_pdu.specs.Reading.{read_of}
 use Rattle.air_frame.specs.Hearing.{heard_in}
 use Rattle.frame_bits.specs.Crc.{crc, crc_octets, crc_of_bits, remainder}
 use Rattle.frame_bits.specs.Whitening.{mask_of, next_mask, whitening_bit, whitening_of}
+use Rattle.h4_frames.specs.Frames.{frames}
+use Rattle.hci_cmd.specs.Command.{command_of, layout_of, layouts}
 use Rattle.controller_model.specs.Packets.{pdu_heard}
 use Rattle.wire_fields.specs.Field.{little_endian}
 use Rattle.journal_ends.specs.journal_acks.Carried.{sent_line_of}
@@ -16,5 +18,5 @@ use Rattle.journal_controls.specs.LinesDue.{lines_due}
 use Rattle.journal_controls.proofs.rows.worked_lines_due.Goals as goal
 
 pub returns : goal.returns
-unfolding control_on lines_due exchange_of sent_line_of link_of_packet is_answer links_begun pdu_heard heard_in read_of kept_bits crc crc_octets crc_of_bits remainder mask_of next_mask whitening_bit whitening_of little_endian
+unfolding control_on lines_due exchange_of sent_line_of link_of_packet is_answer links_begun pdu_heard heard_in read_of kept_bits crc crc_octets crc_of_bits remainder mask_of next_mask whitening_bit whitening_of little_endian frames command_of layout_of layouts
 returns c = record { begins = refl; other = λ is. absurd cc; begun = refl; none = refl; no_indication = refl }

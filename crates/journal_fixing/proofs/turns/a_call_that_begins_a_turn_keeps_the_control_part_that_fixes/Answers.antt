@@ -3,5 +3,5 @@ use Rattle.journal_fixing.proofs.TurnFixing.{begun_fixes}
 use Rattle.journal_fixing.proofs.turns.a_call_that_begins_a_turn_keeps_the_control_part_that_fixes.Goals as goal
 
 pub returns : goal.returns
-returns c = λ given side number station slot call history setup facts enters fixes sends lines turn none was.
-    begun_fixes side number slot given station call history setup facts enters fixes sends lines turn none was
+returns c = λ given side number station slot call history setup facts enters fixes sends in_turn lines turn none was.
+    begun_fixes side number slot given station call history setup facts enters fixes sends in_turn lines turn none was

@@ -1,0 +1,61 @@
+-- What the host of a side asks of the end of a link by a command, from the lines of a journal (Core 5.2, volume 4 part E,
+-- sections 7.1 and 7.8).
+use Rattle.std.specs.Prelude.{ℕ, ◌-◌, nat_lt, Bool, true, false, List, fold, length, Option, Some, None, if◌then◌else◌}
+use Rattle.ble_base.specs.declared.roles.Role.{Role}
+use Rattle.ble_base.specs.declared.roles.Side.{Side}
+use Rattle.hci_cmd.specs.declared.command.Command.{Command}
+use Rattle.journal.specs.declared.entries.Entry.{Entry}
+use Rattle.journal.specs.declared.entries.Entry.TheVariants.{Opened, Shut, Took}
+use Rattle.controller_model.specs.link_commands.Commands.{step_on}
+use Rattle.journal_acks.specs.journal_links.Begun.{LinkBegun, link_numbered}
+use Rattle.journal_acks.specs.journal_links.LinkLines.{lines_of}
+use Rattle.journal_acks.specs.link_model.Acknowledgement.{Pdu}
+use Rattle.journal_acks.specs.link_model.Controls.{is_procedure_pdu, read_of}
+use Rattle.journal_acks.specs.link_model.Facts.{no_peer}
+use Rattle.journal_acks.specs.link_model.Receiving.{peer_from}
+use Rattle.journal_acks.specs.link_model.Step.{Step}
+use Rattle.journal_acks.specs.link_model.declared.state.PeerFacts.{PeerFacts}
+use Rattle.journal_acks.specs.run_model.Readers.{turns_of}
+
+-- ---- the end, by its lines
+
+-- the handle and the role of an end, while its link is open there
+abbrev pub opened_after : Option (ℕ × Role) → Entry → Option (ℕ × Role)
+opened_after before (Opened side link handle role) = Some (handle, role)
+opened_after before (Shut side link reason) = None
+opened_after before line = before
+
+abbrev pub opened_by : List Entry → Option (ℕ × Role)
+opened_by lines = fold opened_after None lines
+
+-- what an end knows of its peer, by the control PDUs that it took (volume 6 part B, sections 2.4.2.9 to 2.4.2.15)
+abbrev pub peer_taking : Pdu → PeerFacts → PeerFacts
+peer_taking pdu peer = if is_procedure_pdu pdu then peer_from (read_of pdu) peer else peer
+
+abbrev pub peer_after : PeerFacts → Entry → PeerFacts
+peer_after peer (Took side link count llid body) = peer_taking (record { llid = llid; body = body }) peer
+peer_after peer line = peer
+
+abbrev pub peer_by : List Entry → PeerFacts
+peer_by lines = fold peer_after no_peer lines
+
+-- ---- a command in the turn of a slot
+
+abbrev pub step_if_open : Option (ℕ × Role) → PeerFacts → ℕ → Command → Option Step
+step_if_open None peer slot command = None
+step_if_open (Some (handle, role)) peer slot command = step_on handle command slot role peer
+
+-- the step that a command asks of the end with these lines
+abbrev pub step_by : List Entry → ℕ → Command → Option Step
+step_by lines slot command = step_if_open (opened_by lines) (peer_by lines) slot command
+
+-- a host is fed before the packets of a turn, so it asks nothing of a link in the turn in which that begins
+abbrev pub is_earlier : Option LinkBegun → ℕ → Bool
+is_earlier None slot = false
+is_earlier (Some link) slot = nat_lt link.slot slot
+
+-- the step that a command asks of the end of a side on the link with a number, by the entries before its answer
+abbrev pub step_asked : Side → ℕ → List Entry → Command → Option Step
+step_asked side number front command =
+    let slot = length (turns_of front) - 1 in
+    if is_earlier (link_numbered number front) slot then step_by (lines_of side number front) slot command else None

@@ -1,0 +1,36 @@
+-- Journals in which a host sends commands on its link, as worked examples have them.
+use Rattle.std.specs.Prelude.{ℕ, List, [], ◌∷◌, ◌++◌}
+use Rattle.ble_base.specs.declared.roles.Side.TheVariants.{B}
+use Rattle.journal.specs.declared.entries.Entry.{Entry}
+use Rattle.journal.specs.declared.entries.Entry.TheVariants.{Fed, Took, Up}
+use Rattle.journal_acks.specs.run_model.Rows.{one_connection_journal, turn_entry}
+
+-- Read Remote Version Information, 041D, of handle 0, and its Command Status
+abbrev pub version_command : Entry
+version_command = Fed B (0x01 ∷ 0x1D ∷ 0x04 ∷ 0x02 ∷ 0x00 ∷ 0x00 ∷ [])
+
+abbrev pub version_answer : ℕ → Entry
+version_answer status = Up B (0x04 ∷ 0x0F ∷ 0x04 ∷ status ∷ 0x01 ∷ 0x1D ∷ 0x04 ∷ [])
+
+-- the turn after that of the CONNECT_IND
+abbrev pub next_turn : List Entry
+next_turn = one_connection_journal ++ turn_entry 1 ∷ []
+
+abbrev pub asked_of_central : List Entry
+asked_of_central = next_turn ++ version_command ∷ version_answer 0x00 ∷ []
+
+abbrev pub refused_to_central : List Entry
+refused_to_central = next_turn ++ version_command ∷ version_answer 0x0C ∷ []
+
+-- Disconnect, 0406, of handle 0 with reason 13, and its Command Status
+abbrev pub ended_by_central : List Entry
+ended_by_central =
+    asked_of_central ++ Fed B (0x01 ∷ 0x06 ∷ 0x04 ∷ 0x03 ∷ 0x00 ∷ 0x00 ∷ 0x13 ∷ [])
+    ∷ Up B (0x04 ∷ 0x0F ∷ 0x04 ∷ 0x00 ∷ 0x01 ∷ 0x06 ∷ 0x04 ∷ []) ∷ []
+
+-- LL_VERSION_IND was taken before
+abbrev pub version_body : List ℕ
+version_body = 0x0C ∷ 0x0B ∷ 0xFF ∷ 0xFF ∷ 0x01 ∷ 0x00 ∷ []
+
+abbrev pub asked_again : List Entry
+asked_again = next_turn ++ Took B 1 1 3 version_body ∷ version_command ∷ version_answer 0x00 ∷ []
