@@ -39,7 +39,7 @@ from_more side number front before (first ∷ lines) line =
     ∙ ap (λ xs. due_begun_after side number xs (due_begun_from side number (front ++ first ∷ []) (due_begun_after side number front before first) lines) line)
     (append_assoc front (first ∷ []) lines)
 
-due_more : (side : Side) (number : ℕ) (journal : List Entry) (line : Entry)
+pub due_more : (side : Side) (number : ℕ) (journal : List Entry) (line : Entry)
     → due_begun side number (journal ++ line ∷ []) ≡ due_begun_after side number journal (due_begun side number journal) line
 unfolding due_begun
 due_more side number journal line = from_more side number [] None journal line

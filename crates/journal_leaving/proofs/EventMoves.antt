@@ -1,5 +1,6 @@
 -- What an event or a call does to how an end is to leave its link, by a journal.
 use Rattle.std.proofs.Common.{◌≡◌, ℕ, ◌-◌, Bool, true, false, Option, Some, List, [], ◌∷◌, ◌++◌, length, map, refl, sym, ap, subst, ◌∙◌, append-nil, append_assoc}
+use Rattle.std.specs.List.{AllByRecursion}
 use Rattle.std.proofs.lemmas.Grind.{flat_map-append}
 use Rattle.std.proofs.lemmas.List.{append_cancel_left}
 use Rattle.ble_base.specs.declared.notes.Note.{Note}
@@ -8,13 +9,14 @@ use Rattle.ble_base.specs.declared.roles.Side.{Side}
 use Rattle.controller_model.specs.Side.{notes_after}
 use Rattle.controller_model.specs.Step.{Step as Call}
 use Rattle.host_masks.specs.Masks.{masks_of, withholds_requests}
+use Rattle.host_answers.proofs.LineAnswers.{IsQuiet}
 use Rattle.journal.specs.declared.entries.Entry.{Entry}
 use Rattle.journal.specs.declared.entries.Entry.TheVariants.{Fed, Turn}
 use Rattle.journal_controls.specs.LineSteps.{control_after, control_on, is_more_acked, turn_now, withholds}
 use Rattle.journal_controls.specs.SaidLines.{NoneOpens, moved_by}
 use Rattle.journal_controls.specs.journal_acks.Carried.{carried_of}
 use Rattle.journal_controls.specs.journal_acks.Exchange.{exchange_of}
-use Rattle.journal_controls.specs.journal_ends.Seen.{Hears, Says, heard_in_line}
+use Rattle.journal_controls.specs.journal_ends.Seen.{Hears, Says, asked_in_line, heard_in_line}
 use Rattle.journal_controls.specs.journal_links.LinkLines.{link_named, lines_of, where_named}
 use Rattle.journal_controls.specs.link_model.Receiving.{leaving_acked_if}
 use Rattle.journal_controls.specs.link_model.Sending.{leaving_sent}
@@ -25,9 +27,9 @@ use Rattle.journal_controls.specs.run_model.Journal.{entries_of, entry_of, journ
 use Rattle.journal_controls.specs.run_model.Links.{links_of}
 use Rattle.journal_controls.specs.run_model.Readers.{PairOpening, fed_in, fed_to_side, pair_openings_in, turns_of}
 use Rattle.journal_controls.specs.run_model.Run.{Given, after_call, facts_at, setup_at}
-use Rattle.journal_controls.proofs.EventMoves.{air_line, aired, control_at, turn_at, withholds_at}
+use Rattle.journal_controls.proofs.EventMoves.{AnswersNone, air_line, aired, control_at, turn_at, withholds_at}
 use Rattle.journal_controls.proofs.LineFolds.{control_more, line_moves as line_controls, moved_both}
-use Rattle.journal_controls.proofs.journal_ends.SeenEvents.{lines_at}
+use Rattle.journal_controls.proofs.journal_ends.SeenEvents.{lines_at, note_hears, unasked_by}
 use Rattle.journal_controls.proofs.journal_links.LinkLines.{line_more}
 use Rattle.journal_controls.proofs.run_model.Parts.{journal_event}
 use Rattle.journal_leaving.specs.Leaving.{acks_terminate, is_own_packet, leaving_after, leaving_on}
@@ -92,11 +94,12 @@ moving_then number side first second third one next = record {
   still = λ none. let both = none_of one.more next.more none in next.still both.second ∙ one.still both.first;
 }
 
--- an event with one line that begins no turn, is no packet, and is not of a host
+-- an event with one line that begins no turn, is no packet, and is not of a host, nor answers it
 line_moving : (number : ℕ) (side : Side) (history : List Event) (event : Event) (line : Entry) → entries_of (links_of history) event ≡ line ∷ []
-    → heard_in_line side number (journal_of history) line ≡ [] → is_own_packet side number (journal_of history) line ≡ false → pair_openings_in line ≡ []
-    → fed_in side line ≡ [] → IsMoving number side history (history ++ event ∷ [])
-line_moving number side history event line is deaf own begins feeds =
+    → heard_in_line side number (journal_of history) line ≡ [] → asked_in_line side number (journal_of history) line ≡ []
+    → is_own_packet side number (journal_of history) line ≡ false → pair_openings_in line ≡ [] → fed_in side line ≡ []
+    → IsMoving number side history (history ++ event ∷ [])
+line_moving number side history event line is deaf unasked own begins feeds =
     let front = journal_of history in
     let named = where_named side number (link_named line) line in
     let journal = journal_event history event ∙ ap (λ xs. front ++ xs) is in record {
@@ -108,18 +111,14 @@ line_moving number side history event line is deaf own begins feeds =
           (flat_map-append (fed_in side) front (line ∷ []) ∙ (λ i. fed_to_side side front ++ (feeds i ++ [])) ∙ append-nil (fed_to_side side front));
       control = λ c none was.
           ap (control_on side number) journal ∙ control_more side number front line ∙ ap (λ before. control_after side number front before line) was
-          ∙ line_controls side number front line c deaf none;
+          ∙ line_controls side number front line c deaf unasked none;
       leaving = λ c l none control was.
           ap (leaving_on side number) journal ∙ leaving_more side number front line ∙ ap (λ before. leaving_after side number front before line) was
-          ∙ line_moves side number front line c l deaf own none control;
+          ∙ line_moves side number front line c l deaf unasked own none control;
       still = λ none.
           ap (leaving_on side number) journal ∙ leaving_more side number front line
-          ∙ quiet_line side number front (leaving_on side number front) line (λ i. deaf i ++ map Says (none i)) own;
+          ∙ quiet_line side number front (leaving_on side number front) line (λ i. unasked i ++ (deaf i ++ map Says (none i))) own;
     }
-
-note_hears : (number : ℕ) (side other : Side) (front : List Entry) (link_of : ℕ → ℕ) (last : ℕ) (note : Note) → heard_in_line side number front (entry_of other link_of last note) ≡ []
-note_hears number side other front link_of last (Up packet) = refl
-note_hears number side other front link_of last note = refl
 
 note_sends : (number : ℕ) (side other : Side) (front : List Entry) (link_of : ℕ → ℕ) (last : ℕ) (note : Note) → is_own_packet side number front (entry_of other link_of last note) ≡ false
 note_sends number side other front link_of last (Up packet) = refl
@@ -133,12 +132,14 @@ note_feeds : (side other : Side) (link_of : ℕ → ℕ) (last : ℕ) (note : No
 note_feeds side other link_of last (Up packet) = refl
 note_feeds side other link_of last note = refl
 
-note_moving : (number : ℕ) (side : Side) (history : List Event) (station : ℕ) (note : Note) → IsMoving number side history (history ++ Noted station note ∷ [])
-note_moving number side history station note =
+note_moving : (number : ℕ) (side : Side) (history : List Event) (station : ℕ) (note : Note) → IsQuiet side station note
+    → IsMoving number side history (history ++ Noted station note ∷ [])
+note_moving number side history station note quiet =
     let links = links_of history in
     let front = journal_of history in
     line_moving number side history (Noted station note) _ refl
     (note_hears number side (side_of station) front (links.link_of station) (links.last_of station) note)
+    (unasked_by side number front _ (quiet (links.link_of station) (links.last_of station)))
     (note_sends number side (side_of station) front (links.link_of station) (links.last_of station) note)
     (note_begins (side_of station) (links.link_of station) (links.last_of station) note)
     (note_feeds side (side_of station) (links.link_of station) (links.last_of station) note)
@@ -154,45 +155,46 @@ none_moving number side history after same = record {
   still = λ none. ap (leaving_on side number) same;
 }
 
-notes_moving : (number : ℕ) (side : Side) (station : ℕ) (notes : List Note) (history after : List Event) → after ≡ history ++ map (Noted station) notes
-    → IsMoving number side history after
-notes_moving number side station [] history after is = none_moving number side history after (ap journal_of (is ∙ append-nil history))
-notes_moving number side station (note ∷ notes) history after is =
+notes_moving : (number : ℕ) (side : Side) (station : ℕ) (notes : List Note) (history after : List Event) → AllByRecursion (IsQuiet side station) notes
+    → after ≡ history ++ map (Noted station) notes → IsMoving number side history after
+notes_moving number side station [] history after quiet is = none_moving number side history after (ap journal_of (is ∙ append-nil history))
+notes_moving number side station (note ∷ notes) history after quiet is =
     let next = history ++ Noted station note ∷ [] in
-    moving_then number side history next after (note_moving number side history station note)
-    (notes_moving number side station notes next after (is ∙ sym (append_assoc history (Noted station note ∷ []) (map (Noted station) notes))))
+    moving_then number side history next after (note_moving number side history station note quiet.0)
+    (notes_moving number side station notes next after quiet.1 (is ∙ sym (append_assoc history (Noted station note ∷ []) (map (Noted station) notes))))
 
 -- a call, with the notes of it so far
-pub part_moving : (number : ℕ) (side : Side) (station : ℕ) (step : Call) (notes : List Note) (history : List Event)
+pub part_moving : (number : ℕ) (side : Side) (station : ℕ) (step : Call) (notes : List Note) (history : List Event) → AllByRecursion (IsQuiet side station) notes
     → IsMoving number side history (history ++ Called station step ∷ map (Noted station) notes)
-part_moving number side station step notes history =
+part_moving number side station step notes history quiet =
     let called = history ++ Called station step ∷ [] in
     let after = history ++ Called station step ∷ map (Noted station) notes in
     moving_then number side history called after
     (none_moving number side history called (journal_event history (Called station step) ∙ append-nil (journal_of history)))
-    (notes_moving number side station notes called after (sym (append_assoc history (Called station step ∷ []) (map (Noted station) notes))))
+    (notes_moving number side station notes called after quiet (sym (append_assoc history (Called station step ∷ []) (map (Noted station) notes))))
 
 -- and with all of them
-pub call_moving : (given : Given) (number : ℕ) (side : Side) (station : ℕ) (step : Call) (history : List Event)
+pub call_moving : (given : Given) (number : ℕ) (side : Side) (station : ℕ) (step : Call) (history : List Event) → AnswersNone given side station step history
     → IsMoving number side history (after_call given station step history)
-call_moving given number side station step history = part_moving number side station step (notes_after (setup_at given station) (facts_at given station history) step) history
+call_moving given number side station step history quiet =
+    part_moving number side station step (notes_after (setup_at given station) (facts_at given station history) step) history quiet
 
 -- by the lines that it adds
 pub call_moves : (given : Given) (side : Side) (number station : ℕ) (step : Call) (history : List Event) (more : List Entry) (c : Control) (l : Leaving)
-    → lines_at number side (after_call given station step history) ≡ lines_at number side history ++ more → NoneOpens more
+    → AnswersNone given side station step history → lines_at number side (after_call given station step history) ≡ lines_at number side history ++ more → NoneOpens more
     → control_at number side history ≡ Some c → leaving_at number side history ≡ Some l
     → leaving_at number side (after_call given station step history) ≡ Some (leaving_said (withholds_at side history) (turn_at history) more c l)
-call_moves given side number station step history more c l lines none control was =
-    let moving = call_moving given number side station step history in
+call_moves given side number station step history more c l quiet lines none control was =
+    let moving = call_moving given number side station step history quiet in
     let same = append_cancel_left (lines_at number side history) moving.more more (sym moving.lines ∙ lines) in
     moving.leaving c l (subst NoneOpens (sym same) none) control was ∙ ap (λ xs. Some (leaving_said (withholds_at side history) (turn_at history) xs c l)) same
 
 -- and by none
-pub call_stays : (given : Given) (number : ℕ) (side : Side) (station : ℕ) (step : Call) (history : List Event)
+pub call_stays : (given : Given) (number : ℕ) (side : Side) (station : ℕ) (step : Call) (history : List Event) → AnswersNone given side station step history
     → lines_at number side (after_call given station step history) ≡ lines_at number side history ++ []
     → leaving_at number side (after_call given station step history) ≡ leaving_at number side history
-call_stays given number side station step history lines =
-    let moving = call_moving given number side station step history in
+call_stays given number side station step history quiet lines =
+    let moving = call_moving given number side station step history quiet in
     moving.still (append_cancel_left (lines_at number side history) moving.more [] (sym moving.lines ∙ lines))
 
 -- ---- events that are no call

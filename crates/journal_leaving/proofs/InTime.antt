@@ -1,22 +1,20 @@
 -- In a run of two stations each open end is due as its lines tell until its station begins the turn, and then it is not.
 use Rattle.std.proofs.Common.{◌≡◌, ℕ, suc, ◌+◌, ◌-◌, ◌==◌, ◌⊎◌, inl, inr, not, Bool, true, false, Option, Some, None, List, [], ◌∷◌, ◌++◌, replicate, refl, sym, ap, subst, ◌∙◌, append_assoc, arith}
-use Rattle.std.specs.Prelude.{All, ⊤, map, take, if◌then◌else◌}
+use Rattle.std.specs.Prelude.{All, ⊤, fold, map, take, if◌then◌else◌}
 use Rattle.std.proofs.lemmas.Bool.{eqb-true}
+use Rattle.std.proofs.lemmas.List.Sums.{fold-append}
 use Rattle.ble_base.specs.declared.roles.Side.{Side}
 use Rattle.controller_model.specs.Facts.{Facts}
 use Rattle.controller_model.specs.Heard.{has_room}
 use Rattle.controller_model.specs.Side.{facts_after, facts_of, notes_after}
 use Rattle.controller_model.specs.Step.{Step as Call, HostOctet, TurnBegins, TurnEnds}
-use Rattle.journal_controls.specs.journal_acks.link_calls.Hosts.{HasHeardHost, GetsData, Unchanged}
 use Rattle.journal_controls.specs.journal_acks.link_calls.Phases.{HasPassed, IsNew, Stays, Takes}
 use Rattle.journal_controls.specs.journal_links.Begun.{link_numbered, links_begun}
-use Rattle.journal_controls.specs.link_model.Facts.{Facts as EndFacts}
-use Rattle.journal_controls.specs.link_model.Step.{DataGiven}
-use Rattle.journal_controls.specs.link_model.Times.{due_of}
-use Rattle.journal_controls.specs.open_links.OpenLinks.{Links, OpenLink, link_at}
+use Rattle.journal_controls.specs.open_links.OpenLinks.{OpenLink, link_at}
 use Rattle.journal_controls.specs.open_links.Turns.{due_in}
 use Rattle.journal_controls.specs.run_model.Due.{Each}
-use Rattle.journal_controls.specs.run_model.History.{Event, TurnBegan, HostFed, Called, Noted, Transmitted, packet_received, steps_in, turns_begun}
+use Rattle.journal_controls.specs.run_model.Feeding.{AreDistinct}
+use Rattle.journal_controls.specs.run_model.History.{Event, TurnBegan, HostFed, Called, Noted, Transmitted, packet_received, past_of, steps_in, turns_begun}
 use Rattle.journal_controls.specs.run_model.Journal.{entries_of, journal_from, journal_of, side_of}
 use Rattle.journal_controls.specs.run_model.LinkEnds.{HaveAddresses}
 use Rattle.journal_controls.specs.run_model.Links.{links_of}
@@ -33,29 +31,39 @@ use Rattle.journal_controls.proofs.journal_acks.link_calls.CallNotes.{OpensNone,
 use Rattle.journal_controls.proofs.journal_acks.link_calls.LinkCalls.{IsOpenedNow, begins_under, passes_under, phase_quiet}
 use Rattle.journal_controls.proofs.journal_acks.link_calls.UnderHandles.{end_under, host_under}
 use Rattle.journal_controls.proofs.journal_ends.EndsKnown.{begun_at}
+use Rattle.journal_controls.proofs.journal_ends.KeptSeen.{octet_next}
+use Rattle.journal_controls.proofs.journal_ends.StandingLinks.{older_at}
 use Rattle.journal_controls.proofs.journal_ends.RunSeen.{seen_before_turn}
-use Rattle.journal_controls.proofs.journal_ends.run_laws.Agreed.{step_facts}
 use Rattle.journal_controls.proofs.journal_ends.run_laws.DistinctAccess.{AreApart}
 use Rattle.journal_controls.proofs.journal_ends.run_laws.Hearings.{other_facts}
 use Rattle.journal_controls.proofs.journal_ends.run_laws.OpenSteps.{none_open, open_has}
-use Rattle.journal_controls.proofs.journal_ends.run_laws.TurnPlaces.{Within, at_stage}
+use Rattle.journal_controls.proofs.journal_ends.run_laws.TurnPlaces.{Between, Within, at_stage, event_past, standing, turned}
 use Rattle.journal_controls.proofs.journal_links.LinksBegun.{number_stays}
+use Rattle.journal_controls.proofs.journal_links.Ranges.{values_in_range}
 use Rattle.journal_controls.proofs.journal_links.OfTwo.{are_distinct}
 use Rattle.journal_controls.proofs.journal_packets.AccessOrder.{AreNth}
 use Rattle.journal_controls.proofs.link_model.Hearing.{IsHeardWhole}
-use Rattle.journal_controls.proofs.run_model.Calls.{same_station, turns_called, turns_more}
+use Rattle.journal_controls.proofs.run_model.Calls.{past_own, same_station, turns_called, turns_more}
 use Rattle.journal_controls.proofs.run_model.Fronts.{front_at}
 use Rattle.journal_controls.proofs.run_model.LinkEnds.{AreTaken, IsUnderstood}
 use Rattle.journal_controls.proofs.run_model.Parts.{journal_event, journal_more}
 use Rattle.journal_controls.proofs.run_model.Places.{each_at, each_called, each_event}
 use Rattle.journal_controls.proofs.run_model.Stations.{among, in_more_other, in_more_same, is_in, not_before}
 use Rattle.journal_controls.proofs.run_model.Walk.{AfterPhases, AtBegins, AtFeeds, AtListening, Ends, IsKept, IsStopped, IsWhole, NoTurn, Place, ends_whole, ends_with, feed_turns, run_kept}
+use Rattle.run_pairs.proofs.OneSide.{IsSetUp, StationAt, station_first, station_kept}
 use Rattle.journal_leaving.specs.Reasons.{due_begun}
 use Rattle.journal_leaving.proofs.DueBegun.{AreIn, IsNotDue, air_due, air_in, due_begun_at, none_in, none_not_due, not_due_grown, not_due_now, not_due_turn, still_due, still_links, turn_due, turn_in}
 use Rattle.journal_leaving.proofs.EventMoves.{turn_still}
+use Rattle.journal_leaving.proofs.HostDue.{IsAtRest, octet_due as link_due}
 use Rattle.journal_leaving.proofs.KeptLeavings.{AreLeftAt, all_left, leavings_first, leavings_kept, turn_is}
 use Rattle.journal_leaving.proofs.OtherLines.{call_reads, feed_reads, host_reads}
+use Rattle.journal_leaving.proofs.Timeouts.{end_timed}
 use Rattle.journal_leaving.proofs.RunLeavings.{TellsDue, due_by_lines, heard_by_lines}
+
+-- one call more
+fold_then : {A B : Type 0} (f : B → A → B) (start mid last : B) (past : List A) (x : A) → fold f start past ≡ mid → f mid x ≡ last
+    → fold f start (past ++ x ∷ []) ≡ last
+fold_then f start mid last past x is then_is = fold-append f start past (x ∷ []) ∙ ap (λ one. f one x) is ∙ then_is
 
 -- ---- what is kept
 
@@ -163,43 +171,75 @@ module _ (given : Given) where
 
   -- ---- what a host sends
 
-  given_due : (links : Links) (handle slot : ℕ) (now : OpenLink) → HasHeardHost links handle now → (X : Option ℕ)
-      → ((link : OpenLink) → link_at handle links ≡ Some link → X ≡ due_in slot link) → X ≡ due_in slot now
-  given_due links handle slot now (Unchanged same) X is = is now same
-  given_due links handle slot now (GetsData link start body was same) X is =
-      is link was ∙ sym (ap (due_in slot) same ∙ ap (λ (f : EndFacts). due_of link.setup f slot) (step_facts link (DataGiven start body)))
+  module _ (taken : AreTaken) (distinct : AreDistinct given.stations) where
+    -- before an octet each open end of its station lasts, and its timeout is not 0
+    rests_at : (history rest : List Event) (station handle : ℕ) (link : OpenLink) → is_in station given.stations ≡ true → history_of (run_of given) ≡ history ++ rest
+        → standing (past_of station history) ≡ Some (at_stage Between (turns_begun history - 1)) → link_at handle (facts_at given station history).links ≡ Some link → IsAtRest link
+    rests_at history rest station handle link in_it at stands is_open =
+        let setup = setup_at given station in
+        let past = past_of station history in
+        let begun = turns_begun history - 1 in
+        let is = turned setup (StationAt setup) (station_kept taken setup) past (at_stage Between begun) (station_first setup) stands in
+        let set_up = open_has IsSetUp 0 handle (facts_of setup past).links link is.each is_open in
+        let from = set_up.in_range.parameters.timeout_from in record {
+          lasts = (older_at setup past begun stands).goes_on handle link is_open;
+          timed = end_timed link.setup link.past (λ central. values_in_range taken given history rest station handle link distinct in_it at is_open) (omega (arith, from));
+        }
 
-  octet_due : (station octet : ℕ) (history : List Event) (flags : ℕ → Bool) → is_in station given.stations ≡ true → flags station ≡ true → AreDueSo given history flags
-      → AreDueSo given (after_call given station (HostOctet octet) history) flags
-  octet_due station octet history flags in_it on are =
-      let step = HostOctet octet in
-      let setup = setup_at given station in
-      let facts = facts_at given station history in
-      let next = after_call given station step history in
-      due_call station step history flags flags (λ handle link at.
-      due_called station step history station handle
-      (number_called given station step history handle (octet_noted (OpensNone handle) (opening_none handle).starts.feeds setup facts octet))
-      ∙ given_due facts.links handle (turns_begun history - 1) link (host_under setup facts octet handle link (own_at given station step history handle link at))
-      (due_begun_at (number_at station handle history) (side_of station) history)
-      (λ base was. are station handle base in_it was ∙ ap (λ b. due_if b (turns_begun history - 1) base) on)
-      ∙ (λ i. due_if (sym on i) (sym (turns_same station step history) i - 1) link))
-      (λ other differs. refl) are
+    octet_due : (station octet : ℕ) (history rest : List Event) (flags : ℕ → Bool) → is_in station given.stations ≡ true → flags station ≡ true
+        → history_of (run_of given) ≡ history ++ rest → standing (past_of station history) ≡ Some (at_stage Between (turns_begun history - 1)) → AreDueSo given history flags
+        → AreDueSo given (after_call given station (HostOctet octet) history) flags
+    octet_due station octet history rest flags in_it on at stands are =
+        let step = HostOctet octet in
+        let setup = setup_at given station in
+        let facts = facts_at given station history in
+        let begun = (older_at setup (past_of station history) (turns_begun history - 1) stands).in_turn.begun_is in
+        due_call station step history flags flags (λ handle link held.
+        due_called station step history station handle
+        (number_called given station step history handle (octet_noted (OpensNone handle) (opening_none handle).starts.feeds setup facts octet))
+        ∙ link_due setup (past_of station history) octet handle (turns_begun history - 1) link
+        (host_under setup facts octet handle link (own_at given station step history handle link held)) begun
+        (λ base was. rests_at history rest station handle base in_it at stands was)
+        (due_begun_at (number_at station handle history) (side_of station) history)
+        (λ base was. are station handle base in_it was ∙ ap (λ b. due_if b (turns_begun history - 1) base) on)
+        ∙ (λ i. due_if (sym on i) (sym (turns_same station step history) i - 1) link))
+        (λ other differs. refl) are
 
-  octets_due : (station : ℕ) (octets : List ℕ) (history : List Event) (flags : ℕ → Bool) → is_in station given.stations ≡ true → flags station ≡ true → AreDueSo given history flags
-      → AreDueSo given (after_octets given station octets history) flags
-  octets_due station [] history flags in_it on are = are
-  octets_due station (octet ∷ octets) history flags in_it on are =
-      octets_due station octets (after_call given station (HostOctet octet) history) flags in_it on (octet_due station octet history flags in_it on are)
+    -- a station stands before its turn after an octet too
+    octet_stands : (station octet : ℕ) (history : List Event) → standing (past_of station history) ≡ Some (at_stage Between (turns_begun history - 1))
+        → standing (past_of station (after_call given station (HostOctet octet) history))
+        ≡ Some (at_stage Between (turns_begun (after_call given station (HostOctet octet) history) - 1))
+    octet_stands station octet history stands =
+        let step = HostOctet octet in
+        let notes = notes_after (setup_at given station) (facts_at given station history) step in
+        ap standing (past_own station step notes history)
+        ∙ fold_then _ (Some (at_stage Between 0)) (Some (at_stage Between (turns_begun history - 1))) (Some (at_stage Between (turns_begun history - 1))) (past_of station history) step
+        stands refl
+        ∙ ap (λ n. Some (at_stage Between (n - 1))) (sym (turns_same station step history))
 
-  feed_due : (station : ℕ) (octets : List ℕ) (history : List Event) (flags : ℕ → Bool) → is_in station given.stations ≡ true → flags station ≡ true → AreDueSo given history flags
-      → AreDueSo given (after_feed given station octets history) flags
-  feed_due station [] history flags in_it on are = are
-  feed_due station (octet ∷ octets) history flags in_it on are =
-      let event = HostFed station (octet ∷ octets) in
-      octets_due station (octet ∷ octets) (history ++ event ∷ []) flags in_it on
-      (due_event history event flags (λ one. refl)
-      (λ number one. host_reads (Option ℕ) (due_begun (side_of one) number) (still_due (side_of one) number) history station (octet ∷ octets))
-      (λ one handle. number_quiet one handle history event (λ links. refl)) (let more = turns_more history event in omega (arith, more)) are)
+    octets_due : (station : ℕ) (octets : List ℕ) (history rest : List Event) (flags : ℕ → Bool) → is_in station given.stations ≡ true → flags station ≡ true
+        → history_of (run_of given) ≡ after_octets given station octets history ++ rest
+        → standing (past_of station history) ≡ Some (at_stage Between (turns_begun history - 1)) → AreDueSo given history flags
+        → AreDueSo given (after_octets given station octets history) flags
+    octets_due station [] history rest flags in_it on at stands are = are
+    octets_due station (octet ∷ octets) history rest flags in_it on at stands are =
+        let now = octet_next given station octet octets history rest at in
+        octets_due station octets (after_call given station (HostOctet octet) history) rest flags in_it on at (octet_stands station octet history stands)
+        (octet_due station octet history (Called station (HostOctet octet) ∷ now.rest) flags in_it on now.at stands are)
+
+    feed_due : (station : ℕ) (octets : List ℕ) (history rest : List Event) (flags : ℕ → Bool) → is_in station given.stations ≡ true → flags station ≡ true
+        → history_of (run_of given) ≡ after_feed given station octets history ++ rest
+        → standing (past_of station history) ≡ Some (at_stage Between (turns_begun history - 1)) → AreDueSo given history flags
+        → AreDueSo given (after_feed given station octets history) flags
+    feed_due station [] history rest flags in_it on at stands are = are
+    feed_due station (octet ∷ octets) history rest flags in_it on at stands are =
+        let event = HostFed station (octet ∷ octets) in
+        octets_due station (octet ∷ octets) (history ++ event ∷ []) rest flags in_it on at
+        (ap standing (event_past station history event refl) ∙ stands
+        ∙ ap (λ n. Some (at_stage Between (n - 1))) (let more = turns_more history event in omega (arith, more)))
+        (due_event history event flags (λ one. refl)
+        (λ number one. host_reads (Option ℕ) (due_begun (side_of one) number) (still_due (side_of one) number) history station (octet ∷ octets))
+        (λ one handle. number_quiet one handle history event (λ links. refl)) (let more = turns_more history event in omega (arith, more)) are)
 
   octets_each : (station : ℕ) (octets : List ℕ) (history : List Event) → Each (InTimeBefore given) [] history → Each (InTimeBefore given) [] (after_octets given station octets history)
   octets_each station [] history each = each
@@ -337,12 +377,16 @@ module _ (heard_whole : IsHeardWhole) (understood : IsUnderstood) (taken : AreTa
     on_feed = λ plan done left station history are some now has.
         let octets = take (plan.feed_of station) (octets_left given station history) in
         let after_on = after_feed given station octets history in
-        let turns : turns_begun after_on ≡ turns_begun history = feed_turns given (turns_begun history) station octets history refl in record {
-          left = kept.on_feed plan done left station history are some now has.left;
+        let turns : turns_begun after_on ≡ turns_begun history = feed_turns given (turns_begun history) station octets history refl in
+        let in_it = among given.stations done left station are in
+        let next = kept.on_feed plan done left station history are some now has.left in
+        let front = front_at given (AtFeeds (done ++ station ∷ []) left) after_on next.controls.seen.known.front in record {
+          left = next;
           begun = subst (λ n. AreIn n (links_begun (journal_of after_on))) (sym turns)
               (subst (AreIn (turns_begun history)) (sym (feed_reads _ links_begun still_links given station octets history)) has.begun);
           fresh = feed_fresh given station octets history has.fresh;
-          due = feed_due given station octets history (λ one. true) (among given.stations done left station are) refl has.due;
+          due = feed_due given taken (are_distinct given are_two) station octets history front.rest (λ one. true) in_it refl front.at
+              (has.left.controls.seen.holds.hearing.stand station in_it) has.due;
           each = feed_each given station octets history has.each;
         };
     on_fed = λ history has. record { left = kept.on_fed history has.left; begun = has.begun; fresh = has.fresh; due = has.due; each = has.each };

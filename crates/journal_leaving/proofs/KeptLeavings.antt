@@ -1,5 +1,5 @@
 -- Each step of a run of two stations keeps that each open end is, by the journal, to leave its link as the end holds it.
-use Rattle.std.proofs.Common.{◌≡◌, ℕ, zero, suc, ◌+◌, ◌-◌, ◌==◌, inl, inr, Bool, true, false, not, Option, Some, None, List, [], ◌∷◌, ◌++◌, length, replicate, refl, sym, ap, subst, ◌∙◌, append-nil, append_assoc}
+use Rattle.std.proofs.Common.{◌≡◌, ℕ, zero, suc, ◌+◌, ◌-◌, ◌==◌, inl, inr, Bool, true, false, not, Option, Some, None, List, [], ◌∷◌, ◌++◌, length, replicate, refl, sym, ap, subst, ◌∙◌, append_assoc}
 use Rattle.std.specs.Prelude.{◌&&◌, ◌⊎◌, map, take, if◌then◌else◌}
 use Rattle.std.proofs.lemmas.Bool.{eqb-true}
 use Rattle.ble_base.specs.declared.roles.Side.{Side}
@@ -8,6 +8,7 @@ use Rattle.controller_model.specs.Side.{facts_after, facts_of, notes_after}
 use Rattle.controller_model.specs.Step.{Step as Call, HostOctet, NothingHeard, PacketHeard, TurnBegins, TurnEnds}
 use Rattle.controller_model.specs.declared.doing.Doing.TheVariants.{Rests}
 use Rattle.controller_model.specs.declared.doing.Turn.{Turn}
+use Rattle.host_answers.specs.Calls.{answered_after}
 use Rattle.host_masks.specs.Masks.{view_masks, withholds_requests}
 use Rattle.host_masks.proofs.LineMasks.{line_masks}
 use Rattle.radio_replay.specs.declared.fates.Fate.{Fate}
@@ -36,9 +37,10 @@ use Rattle.journal_controls.proofs.journal_acks.KeptLines.{AreLinedAt}
 use Rattle.journal_controls.proofs.journal_acks.Known.{known_of}
 use Rattle.journal_controls.proofs.journal_acks.Standing.{PhasedBy, last_phase, listens_wanted, other_sends, phased_at, sends_on, sends_other, silent_sends}
 use Rattle.journal_controls.proofs.journal_acks.TwoStations.{IsOfTwo, hearing_of, one_hearing, other_is, other_of, same_number, side_same}
-use Rattle.journal_controls.proofs.journal_acks.link_calls.CallNotes.{OpensNone, begin_noted, end_noted, octet_noted, opening_none}
+use Rattle.journal_controls.proofs.journal_acks.link_calls.CallNotes.{OpensNone, begin_noted, end_noted, opening_none}
+use Rattle.journal_controls.proofs.journal_acks.link_calls.UnderHandles.{host_under}
 use Rattle.journal_controls.proofs.journal_ends.EndsKnown.{AreLined, begun_at, lined_at}
-use Rattle.journal_controls.proofs.journal_ends.KeptSeen.{AreSeenAt, lined_next, lined_octet}
+use Rattle.journal_controls.proofs.journal_ends.KeptSeen.{AreFed as AreSeenFed, AreSeenAt, apart_from, begin_fed, first_fed, lined_next, lined_octet, octet_asks, octet_fed as seen_fed, octet_next}
 use Rattle.journal_controls.proofs.journal_ends.SeenCalls.{IsSeenAt, held_at, moved as seen_moved, whole as seen_whole}
 use Rattle.journal_controls.proofs.journal_ends.run_laws.ByCalls.{last_turn}
 use Rattle.journal_controls.proofs.journal_ends.run_laws.DistinctAccess.{AreApart}
@@ -59,10 +61,11 @@ use Rattle.journal_controls.proofs.run_model.Stations.{among, in_more_other, in_
 use Rattle.journal_controls.proofs.run_model.Walk.{AtBegins, AtEnds, AtFeeds, AtListening, AtPackets, IsKept, NoTurn, Place}
 use Rattle.journal_leaving.specs.Hearing.{leaving_next}
 use Rattle.journal_leaving.specs.Leaving.{is_own_packet, leaving_sent_if}
+use Rattle.journal_leaving.proofs.AskedLeavings.{call_asks, end_asked}
 use Rattle.journal_leaving.proofs.EventMoves.{feed_still, leaving_at, turn_still}
-use Rattle.journal_leaving.proofs.LeavingEnds.{AreLeftSo, IsLeftAt, and_none, any_sending, leaves_own, left_call, left_event, left_same, moved, taking_next, whole}
+use Rattle.journal_leaving.proofs.LeavingEnds.{AreLeftSo, IsLeftAt, and_none, any_sending, asked_own, leaves_own, left_call, left_event, left_same, moved, taking_next, whole}
 use Rattle.journal_leaving.proofs.LeavingPackets.{other_left, own_left}
-use Rattle.journal_leaving.proofs.LinkLeaves.{LeavesTo, begin_leaves, end_leaves, octet_leaves}
+use Rattle.journal_leaving.proofs.LinkLeaves.{LeavesTo, begin_leaves, end_leaves}
 use Rattle.journal_leaving.proofs.PassedLeavings.{passes_own}
 use Rattle.journal_leaving.proofs.StayingLinks.{AreStaying, staying_first, staying_kept}
 
@@ -154,19 +157,6 @@ sender_apart : (station : ℕ) → is_side (side_of station) (side_of (other_of 
 sender_apart zero = refl
 sender_apart (suc station) = refl
 
--- octets add events to a history
-record HasMore (history later : List Event) : Type 0 where
-  events : List Event
-  is : later ≡ history ++ events
-
-octets_more : (given : Given) (station : ℕ) (octets : List ℕ) (history : List Event) → HasMore history (after_octets given station octets history)
-octets_more given station [] history = record { events = []; is = sym (append-nil history) }
-octets_more given station (octet ∷ octets) history =
-    let notes = notes_after (setup_at given station) (facts_at given station history) (HostOctet octet) in
-    let more = octets_more given station octets (after_call given station (HostOctet octet) history) in
-    let called = Called station (HostOctet octet) ∷ map (Noted station) notes in
-    record { events = called ++ more.events; is = more.is ∙ append_assoc history called more.events }
-
 abbrev NoneReceived : ℕ → Option (List ℕ)
 NoneReceived station = None
 
@@ -197,58 +187,62 @@ module _ (heard_whole : IsHeardWhole) (understood : IsUnderstood) (taken : AreTa
 
   -- ---- what a host sends
 
-  record AreFed (station : ℕ) (history : List Event) : Type 0 where
+  record AreFed (station begun : ℕ) (history : List Event) : Type 0 where
     rests : (facts_at given station history).turn.doing ≡ Rests
     left : AreLeftSo given history AllUnsent NoneReceived
     each : Each (LeftBefore given) [] history
+    seen : AreSeenFed understood taken nth apart given are_two six station begun history
 
-  octet_fed : (station octet : ℕ) (history : List Event) → is_in station given.stations ≡ true → AreLined given history → AreLined given (after_call given station (HostOctet octet) history)
-      → IsControlledBefore given history station (HostOctet octet) → AreFed station history → AreFed station (after_call given station (HostOctet octet) history)
-  octet_fed station octet history in_it lined lined_after controls fed =
+  octet_fed : (station octet begun : ℕ) (history rest : List Event) → is_in station given.stations ≡ true
+      → history_of (run_of given) ≡ history ++ Called station (HostOctet octet) ∷ rest → AreLined given history → AreLined given (after_call given station (HostOctet octet) history)
+      → AreFed station begun history → AreFed station begun (after_call given station (HostOctet octet) history)
+  octet_fed station octet begun history rest in_it at lined lined_after fed =
       let step = HostOctet octet in
       let setup = setup_at given station in
       let facts = facts_at given station history in
+      let side = side_of station in
       let rests = ap (λ (f : Facts). f.turn.doing) (own_facts given station step history) ∙ ap (λ (turn : Turn). turn.doing) (octet_turn setup facts octet).turn ∙ fed.rests in record {
         rests = rests;
-        left = left_call given station step history AllUnsent AllUnsent NoneReceived NoneReceived lined lined_after (λ handle link at.
+        left = left_call given station step history AllUnsent AllUnsent NoneReceived NoneReceived (apart_from understood taken nth apart given are_two six station in_it) lined lined_after
+            (λ handle link held.
             let number = number_at station handle history in
-            let has = octet_leaves (side_of station) number (withholds_at (side_of station) history) (turn_at history) setup facts octet handle link
-            (held_at given station step history in_it lined lined_after handle link at) in
-            let c = (facts_in has.base).control in
-            leaves_own given station step history in_it lined lined_after handle link at None refl
-            (number_called given station step history handle (octet_noted (OpensNone handle) (opening_none handle).starts.feeds setup facts octet)) has.base has.was
-            false c (facts_in has.base).leaving (has.is c) (ap (sends_under handle) rests) (controls in_it handle has.base has.was)
-            (whole_at given history AllUnsent NoneReceived station handle has.base in_it has.was (ap (sends_under handle) fed.rests) (λ on. refl) fed.left))
+            let asks = octet_asks understood taken nth apart given are_two six station octet begun history rest in_it at lined lined_after fed.seen handle link held in
+            asked_own given station step history in_it lined lined_after handle link held None refl asks.number asks.base asks.was
+            (call_asks given side number station step history asks.is.asked (facts_in asks.base).leaving asks.lines
+            (whole_at given history AllUnsent NoneReceived station handle asks.base in_it asks.was (ap (sends_under handle) fed.rests) (λ on. refl) fed.left)
+            ∙ ap Some (end_asked handle facts.turn.begun (answered_after facts step) asks.base link asks.is side number facts octet asks.was
+            (host_under setup facts octet handle link (held_at given station step history in_it lined lined_after handle link held))))
+            (ap (sends_under handle) rests))
             (λ other is_too differs. refl) (λ other is_too differs. refl) fed.left;
         each = call_each given station step history fed.each tt
             (whole_before given history AllUnsent NoneReceived station step (λ handle held link. refl) (λ handle. ap (sends_under handle) fed.rests) refl fed.left);
+        seen = seen_fed understood taken nth apart given are_two six station octet begun history rest in_it at lined lined_after fed.seen;
       }
 
-  octets_fed : (station : ℕ) (octets : List ℕ) (history rest : List Event) → is_in station given.stations ≡ true
+  octets_fed : (station : ℕ) (octets : List ℕ) (begun : ℕ) (history rest : List Event) → is_in station given.stations ≡ true
       → history_of (run_of given) ≡ after_octets given station octets history ++ rest → AreLined given (after_octets given station octets history)
-      → AreFed station history → AreFed station (after_octets given station octets history)
-  octets_fed station [] history rest in_it is lined fed = fed
-  octets_fed station (octet ∷ octets) history rest in_it is lined fed =
-      let step = HostOctet octet in
-      let next = after_call given station step history in
-      let notes = map (Noted station) (notes_after (setup_at given station) (facts_at given station history) step) in
-      let more = octets_more given station octets next in
-      octets_fed station octets next rest in_it is lined
-      (octet_fed station octet history in_it (lined_octet understood taken nth apart given are_two six station octet octets history rest is)
-      (lined_next understood taken nth apart given are_two six station octets next rest is lined)
-      (control_in history notes (more.events ++ rest) station step (is ∙ ap (λ xs. xs ++ rest) more.is ∙ append_assoc next more.events rest)) fed)
+      → AreFed station begun history → AreFed station begun (after_octets given station octets history)
+  octets_fed station [] begun history rest in_it is lined fed = fed
+  octets_fed station (octet ∷ octets) begun history rest in_it is lined fed =
+      let next = after_call given station (HostOctet octet) history in
+      let now = octet_next given station octet octets history rest is in
+      octets_fed station octets begun next rest in_it is lined
+      (octet_fed station octet begun history now.rest in_it now.at
+      (lined_octet understood taken nth apart given are_two six station octet octets history rest is)
+      (lined_next understood taken nth apart given are_two six station octets next rest is lined) fed)
 
-  feed_fed : (station : ℕ) (octets : List ℕ) (history rest : List Event) → is_in station given.stations ≡ true
-      → history_of (run_of given) ≡ after_feed given station octets history ++ rest → AreLined given (after_feed given station octets history)
-      → AreFed station history → AreFed station (after_feed given station octets history)
-  feed_fed station [] history rest in_it is lined fed = fed
-  feed_fed station (octet ∷ octets) history rest in_it is lined fed =
+  feed_fed : (station : ℕ) (octets : List ℕ) (begun : ℕ) (history rest : List Event) → is_in station given.stations ≡ true
+      → history_of (run_of given) ≡ after_feed given station octets history ++ rest → AreLined given history → AreLined given (after_feed given station octets history)
+      → AreFed station begun history → AreFed station begun (after_feed given station octets history)
+  feed_fed station [] begun history rest in_it is lined lined_after fed = fed
+  feed_fed station (octet ∷ octets) begun history rest in_it is lined lined_after fed =
       let event = HostFed station (octet ∷ octets) in
-      octets_fed station (octet ∷ octets) (history ++ event ∷ []) rest in_it is lined (record {
+      octets_fed station (octet ∷ octets) begun (history ++ event ∷ []) rest in_it is lined_after (record {
         rests = ap (λ (f : Facts). f.turn.doing) (facts_event given station history event refl) ∙ fed.rests;
         left = left_event given history event AllUnsent NoneReceived (λ one. refl) (λ number side. feed_still number side history station (octet ∷ octets))
             (λ one handle. number_quiet one handle history event (λ links. refl)) fed.left;
         each = each_event (LeftBefore given) history event fed.each tt;
+        seen = begin_fed understood taken nth apart given are_two six station octet octets begun history rest is lined fed.seen;
       })
 
   -- ---- a station that sends nothing
@@ -452,10 +446,13 @@ module _ (heard_whole : IsHeardWhole) (understood : IsUnderstood) (taken : AreTa
             let controls = kept.on_feed plan done left station history are some now has.controls in
             let hears = has.controls.seen.holds.hearing.hears in
             let front = front_at given place after controls.seen.known.front in
-            let fed = feed_fed station octets history front.rest in_it front.at (lined_at understood taken given are_two six place after controls.seen.known) (record {
+            let fed = feed_fed station octets (turns_begun history - 1) history front.rest in_it front.at
+            (lined_at understood taken given are_two six (AtFeeds done (station ∷ left)) history has.controls.seen.known)
+            (lined_at understood taken given are_two six place after controls.seen.known) (record {
               rests = (phased_at given (AtFeeds done (station ∷ left)) history has.controls.seen.holds.hearing.stand station in_it).phase;
               left = left_same given history AllUnsent AllUnsent (λ one. packet_received one history) NoneReceived (λ one in_one. refl) (λ one in_one. sym (hears one in_one)) has.left;
               each = has.each;
+              seen = first_fed understood taken nth apart given are_two six done left station history in_it has.controls.seen;
             }) in record {
               controls = controls;
               left = left_same given after AllUnsent AllUnsent NoneReceived (λ one. packet_received one after) (λ one in_one. refl)
@@ -481,7 +478,8 @@ module _ (heard_whole : IsHeardWhole) (understood : IsUnderstood) (taken : AreTa
             (not_before given.stations done left station distinct are) (phased_at given (AtBegins done (station ∷ left)) history has.controls.seen.holds.hearing.stand station in_it) in
             let before = control_in history notes front.rest station step front.at in record {
               controls = controls;
-              left = left_call given station step history AllUnsent AllUnsent (λ one. packet_received one history) (λ one. packet_received one after) lined lined_after (λ handle link at.
+              left = left_call given station step history AllUnsent AllUnsent (λ one. packet_received one history) (λ one. packet_received one after)
+                  (apart_from understood taken nth apart given are_two six station in_it) lined lined_after (λ handle link at.
                   let number = number_at station handle history in
                   let side = side_of station in
                   let withheld = withholds_at side history in
@@ -491,7 +489,7 @@ module _ (heard_whole : IsHeardWhole) (understood : IsUnderstood) (taken : AreTa
                   let l = (facts_in leaves.base).leaving in
                   leaves_own given station step history in_it lined lined_after handle link at (packet_received station after) (controls.seen.holds.hearing.hears station in_it)
                   (number_called given station step history handle (begin_noted (OpensNone handle) (opening_none handle) setup slot on facts)) leaves.base leaves.was
-                  sends c l (subst (λ n. LeavesTo side number withheld n leaves.base link sends c l) (sym (turn_is history slot due.slot_is)) (leaves.is c))
+                  tt sends c l (subst (λ n. LeavesTo side number withheld n leaves.base link sends c l) (sym (turn_is history slot due.slot_is)) (leaves.is c))
                   (ap (λ (f : Facts). sends_under handle f.turn.doing) (own_facts given station step history))
                   (before in_it handle leaves.base leaves.was)
                   (whole_at given history AllUnsent (λ one. packet_received one history) station handle leaves.base in_it leaves.was (ap (sends_under handle) phased.phase) (λ listens. none) has.left))
@@ -540,7 +538,7 @@ module _ (heard_whole : IsHeardWhole) (understood : IsUnderstood) (taken : AreTa
             (no_octet received))) in record {
               controls = controls;
               left = left_call given station step history (λ one. is_in one done) (λ one. is_in one (done ++ station ∷ [])) (λ one. packet_received one history) (λ one. packet_received one after)
-                  lined lined_after
+                  (apart_from understood taken nth apart given are_two six station in_it) lined lined_after
                   (λ handle link at. subst (λ b. IsLeftAt b (packet_received station after) handle (facts_at given station after).turn link (number_at station handle after) (side_of station) after)
                   (sym (in_more_same station station done (same_station station)))
                   (passes_own given station history phases in_it phased lined lined_after controls.seen.seen held
@@ -575,7 +573,8 @@ module _ (heard_whole : IsHeardWhole) (understood : IsUnderstood) (taken : AreTa
             let silent : (handle : ℕ) → sends_under handle facts.turn.doing ≡ false = λ handle. last_phase facts.links facts.turn.doing handle phased.phase in
             let before = control_in history notes front.rest station step front.at in record {
               controls = controls;
-              left = left_call given station step history AllUnsent AllUnsent (λ one. packet_received one history) (λ one. packet_received one after) lined lined_after (λ handle link at.
+              left = left_call given station step history AllUnsent AllUnsent (λ one. packet_received one history) (λ one. packet_received one after)
+                  (apart_from understood taken nth apart given are_two six station in_it) lined lined_after (λ handle link at.
                   let number = number_at station handle history in
                   let side = side_of station in
                   let leaves = end_leaves side number (withholds_at side history) (turn_at history) setup facts handle link
@@ -583,7 +582,7 @@ module _ (heard_whole : IsHeardWhole) (understood : IsUnderstood) (taken : AreTa
                   let c = (facts_in leaves.base).control in
                   leaves_own given station step history in_it lined lined_after handle link at (packet_received station after) (controls.seen.holds.hearing.hears station in_it)
                   (number_called given station step history handle (end_noted (OpensNone handle) (opening_none handle).starts.feeds setup facts)) leaves.base leaves.was
-                  false c (facts_in leaves.base).leaving (leaves.is c) (ap (λ (f : Facts). sends_under handle f.turn.doing) (own_facts given station step history)) (before in_it handle leaves.base leaves.was)
+                  tt false c (facts_in leaves.base).leaving (leaves.is c) (ap (λ (f : Facts). sends_under handle f.turn.doing) (own_facts given station step history)) (before in_it handle leaves.base leaves.was)
                   (whole_at given history AllUnsent (λ one. packet_received one history) station handle leaves.base in_it leaves.was (silent handle) (λ listens. none) has.left))
                   (λ other is_too differs. refl) (λ other is_too differs. received_by given other station step history false differs) has.left;
               each = call_each given station step history has.each tt

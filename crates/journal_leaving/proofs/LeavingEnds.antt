@@ -5,8 +5,11 @@ use Rattle.std.proofs.lemmas.List.{map-append}
 use Rattle.ble_base.specs.declared.roles.Side.{Side}
 use Rattle.controller_model.specs.Facts.{Facts}
 use Rattle.controller_model.specs.Since.{notes_opened_on}
+use Rattle.controller_model.specs.Side.{notes_after}
 use Rattle.controller_model.specs.Step.{Step as Call}
 use Rattle.controller_model.specs.declared.doing.Turn.{Turn}
+use Rattle.controller_model.proofs.Always.{IsInTurn}
+use Rattle.host_answers.proofs.LineAnswers.{far_quiet, turn_quiet}
 use Rattle.journal_controls.specs.journal_acks.link_calls.Uses.{listens_under, sends_under}
 use Rattle.journal_controls.specs.journal_links.LinkLines.{line_of}
 use Rattle.journal_controls.specs.link_model.End.{notes_from}
@@ -15,7 +18,7 @@ use Rattle.journal_controls.specs.link_model.declared.state.Leaving.{Leaving}
 use Rattle.journal_controls.specs.open_links.OpenLinks.{OpenLink, facts_in, link_at}
 use Rattle.journal_controls.specs.run_model.History.{Event, steps_in}
 use Rattle.journal_controls.specs.run_model.Journal.{side_of}
-use Rattle.journal_controls.specs.run_model.Run.{Given, after_call, facts_at, step_of}
+use Rattle.journal_controls.specs.run_model.Run.{Given, after_call, facts_at, setup_at, step_of}
 use Rattle.journal_controls.proofs.EndMoves.{steps_later}
 use Rattle.journal_controls.proofs.EventMoves.{control_at, turn_at, withholds_at}
 use Rattle.journal_controls.proofs.journal_ends.EndsKnown.{AreLined}
@@ -133,8 +136,9 @@ module _ (given : Given) where
       (λ l is. same (number_at station handle history) (side_of station) ∙ is)
       (are station handle link in_it (ap (λ (f : Facts). link_at handle f.links) (sym facts) ∙ at))
 
-  -- a call, by what it does to the ends of its station
-  pub left_call : (station : ℕ) (step : Call) (history : List Event) (unsent unsent_too : ℕ → Bool) (received received_too : ℕ → Option (List ℕ)) → AreLined given history
+  -- a call, by what it does to the ends of its station, and with no answer to the other one
+  pub left_call : (station : ℕ) (step : Call) (history : List Event) (unsent unsent_too : ℕ → Bool) (received received_too : ℕ → Option (List ℕ))
+      → ((other : ℕ) → is_in other given.stations ≡ true → (other == station) ≡ false → side_of other ≡ side_of station → ⊥) → AreLined given history
       → AreLined given (after_call given station step history)
       → ((handle : ℕ) (link : OpenLink) → link_at handle (facts_at given station (after_call given station step history)).links ≡ Some link
       → IsLeftAt (unsent_too station) (received_too station) handle (facts_at given station (after_call given station step history)).turn link
@@ -142,7 +146,7 @@ module _ (given : Given) where
       → ((other : ℕ) → is_in other given.stations ≡ true → (other == station) ≡ false → unsent_too other ≡ unsent other)
       → ((other : ℕ) → is_in other given.stations ≡ true → (other == station) ≡ false → received_too other ≡ received other)
       → AreLeftSo given history unsent received → AreLeftSo given (after_call given station step history) unsent_too received_too
-  left_call station step history unsent unsent_too received received_too lined lined_after own u r are = λ other handle link in_it at. by other handle link in_it at (other == station) refl
+  left_call station step history unsent unsent_too received received_too apart lined lined_after own u r are = λ other handle link in_it at. by other handle link in_it at (other == station) refl
     where
       by : (other handle : ℕ) (link : OpenLink) → is_in other given.stations ≡ true → link_at handle (facts_at given other (after_call given station step history)).links ≡ Some link
           → (same : Bool) → (other == station) ≡ same
@@ -164,7 +168,8 @@ module _ (given : Given) where
           let same = now ∙ sym (lined other handle link in_it was) ∙ sym (append-nil (lines_at number side history)) in
           let turn = (facts_at given other history).turn in
           still_at history next (unsent_too other) (received_too other) other handle link facts numbers
-          (λ l is. call_stays given number side station step history same ∙ is)
+          (λ l is. call_stays given number side station step history
+          (far_quiet side station (notes_after (setup_at given station) (facts_at given station history) step) (apart other in_it differs)) same ∙ is)
           (moved handle link side history (unsent other) (unsent_too other) (received other) (received_too other) turn turn number number (u other in_it differs) (r other in_it differs) refl refl
           (are other handle link in_it was))
 
@@ -183,12 +188,22 @@ module _ (given : Given) where
       abbrev own : ℕ
       own = number_at station handle history
 
-      -- what happened to an end moves it by the lines of the call, and a packet that it is to send comes after them
-      pub leaves_own : (sends : Bool) (from : Control) (left : Leaving) → LeavesTo side own (withholds_at side history) (turn_at history) base link sends from left
+      -- what its host asks moves it, and it sends nothing
+      pub asked_own : leaving_at own side after ≡ Some (facts_in link).leaving → sends_under handle (facts_at given station after).turn.doing ≡ false
+          → IsLeftAt true received handle (facts_at given station after).turn link (number_at station handle after) side after
+      asked_own is doing =
+          let turn = (facts_at given station after).turn in record {
+            leaving = (facts_in link).leaving;
+            on = ap (λ n. leaving_at n side after) number ∙ is;
+            is = ap (λ b. leaving_sent_if b (facts_in link).leaving) doing ∙ sym (takes_none (listens_under handle turn.doing) received turn.slot link (λ on. none));
+          }
+
+      -- what happened to an end in a call of a turn moves it by the lines of the call, and a packet that it is to send comes after them
+      pub leaves_own : IsInTurn step → (sends : Bool) (from : Control) (left : Leaving) → LeavesTo side own (withholds_at side history) (turn_at history) base link sends from left
           → sends_under handle (facts_at given station after).turn.doing ≡ sends
           → control_at own side history ≡ Some from → leaving_at own side history ≡ Some left
           → IsLeftAt true received handle (facts_at given station after).turn link (number_at station handle after) side after
-      leaves_own sends from left leaves doing control is =
+      leaves_own in_turn sends from left leaves doing control is =
           let notes = notes_from base.setup (facts_in base) leaves.steps in
           let now = subst (λ n. lines_at n side after ≡ map (line_of side n) (notes_opened_on link.setup link.past)) number (lined_after station handle link in_it at) in
           let lines : lines_at own side after ≡ lines_at own side history ++ map (line_of side own) notes =
@@ -200,6 +215,6 @@ module _ (given : Given) where
           let later = leaving_noted side own (withholds_at side history) (turn_at history) notes from left in record {
             leaving = later;
             on = ap (λ n. leaving_at n side after) number
-                ∙ call_moves given side own station step history (map (line_of side own) notes) from left lines (steps_later side own base.setup (facts_in base) leaves.steps) control is;
+                ∙ call_moves given side own station step history (map (line_of side own) notes) from left (turn_quiet given station step history in_turn) lines (steps_later side own base.setup (facts_in base) leaves.steps) control is;
             is = ap (λ b. leaving_sent_if b later) doing ∙ leaves.leaves ∙ sym (takes_none (listens_under handle turn.doing) received turn.slot link (λ on. none));
           }

@@ -1,4 +1,5 @@
 -- The lemmas of this crate.
+pub mod OtherLines
 pub mod LineFolds
 pub mod EventMoves
 pub mod EndLeaving
@@ -6,6 +7,8 @@ pub mod TurnLeaving
 pub mod DueReasons
 pub mod NotShut
 pub mod OpenedLeavings
+pub mod AskedSteps
+pub mod AskedLeavings
 pub mod LinkLeaves
 pub mod LeavingEnds
 pub mod LeavingPackets
@@ -15,10 +18,11 @@ pub mod KeptLeavings
 pub mod RunLeavings
 pub mod ShutCalls
 pub mod ShutNotes
-pub mod OtherLines
 pub mod QuietTurns
 pub mod ShutLines
 pub mod DueBegun
+pub mod Timeouts
+pub mod HostDue
 pub mod InTime
 pub mod OnlyOpen
 pub mod EndInTime

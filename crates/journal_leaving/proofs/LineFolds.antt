@@ -15,19 +15,20 @@ use Rattle.journal_controls.specs.SaidLines.{NoneOpens, is_opening, moved_by}
 use Rattle.journal_controls.specs.journal_acks.Carried.{carried_of}
 use Rattle.journal_controls.specs.journal_acks.Exchange.{exchange_of}
 use Rattle.journal_controls.specs.journal_acks.Shut.{is_of_link}
-use Rattle.journal_controls.specs.journal_ends.Seen.{Hears, Says, heard_in_line, heard_where, seen_in_line}
+use Rattle.journal_controls.specs.journal_ends.Seen.{Asks, Hears, Says, asked_in_line, heard_in_line, heard_where, seen_in_line}
 use Rattle.journal_controls.specs.journal_links.LinkLines.{link_named, where_named}
 use Rattle.journal_controls.specs.journal_packets.Belonging.{is_side}
 use Rattle.journal_controls.specs.link_model.Facts.{stays}
 use Rattle.journal_controls.specs.link_model.Receiving.{leaving_acked_if}
 use Rattle.journal_controls.specs.link_model.Sending.{leaving_sent}
+use Rattle.journal_controls.specs.link_model.Step.{Step}
 use Rattle.journal_controls.specs.link_model.control_model.Control.{Control, after_all}
 use Rattle.journal_controls.specs.link_model.declared.state.Leaving.{Leaving}
 use Rattle.journal_controls.specs.run_model.History.{is_good}
 use Rattle.journal_controls.specs.run_model.Readers.{of_side}
 use Rattle.journal_controls.proofs.LineFolds.{IsNamed, Others, Own, named_by}
 use Rattle.journal_controls.proofs.journal_acks.TwoStations.{same_number}
-use Rattle.journal_leaving.specs.Leaving.{acks_terminate, is_own_packet, leaving_after, leaving_from, leaving_moved, leaving_on, leaving_saying, leaving_seen, leaving_sent_if}
+use Rattle.journal_leaving.specs.Leaving.{acks_terminate, is_own_packet, leaving_after, leaving_asking, leaving_from, leaving_moved, leaving_on, leaving_saying, leaving_seen, leaving_sent_if}
 use Rattle.journal_leaving.specs.Said.{leaving_said}
 
 -- ---- a line more
@@ -108,19 +109,19 @@ module _ (side : Side) (number : ℕ) (front : List Entry) (line : Entry) (c : C
       ∙ (λ i. Some (fold (leaving_seen side number front line) (leaving_sent_if (own i) l) (is i)))
       ∙ ap (λ one. Some (leaving_saying (turn_now front) one l line)) control
 
--- a line in which the end hears and sends nothing
+-- a line in which the end hears and sends nothing, and is asked nothing
 pub line_moves : (side : Side) (number : ℕ) (front : List Entry) (line : Entry) (c : Control) (l : Leaving) → heard_in_line side number front line ≡ []
-    → is_own_packet side number front line ≡ false → let named = where_named side number (link_named line) line in NoneOpens named → control_on side number front ≡ Some c
+    → asked_in_line side number front line ≡ [] → is_own_packet side number front line ≡ false → let named = where_named side number (link_named line) line in NoneOpens named → control_on side number front ≡ Some c
     → leaving_after side number front (Some l) line ≡ Some (leaving_said (withholds side front) (turn_now front) named c l)
-line_moves side number front line c l deaf own opens control = by (named_by side number (link_named line) line)
+line_moves side number front line c l deaf unasked own opens control = by (named_by side number (link_named line) line)
   where
     by : IsNamed line (where_named side number (link_named line) line)
         → leaving_after side number front (Some l) line ≡ Some (leaving_said (withholds side front) (turn_now front) (where_named side number (link_named line) line) c l)
     by (Own is) =
-        said_line side number front line c l own control (subst NoneOpens is opens).0 (λ i. deaf i ++ map Says (is i))
+        said_line side number front line c l own control (subst NoneOpens is opens).0 (λ i. unasked i ++ (deaf i ++ map Says (is i)))
         ∙ ap (λ lines. Some (leaving_said (withholds side front) (turn_now front) lines c l)) (sym is)
     by (Others none) =
-        quiet_line side number front (Some l) line (λ i. deaf i ++ map Says (none i)) own ∙ ap (λ lines. Some (leaving_said (withholds side front) (turn_now front) lines c l)) (sym none)
+        quiet_line side number front (Some l) line (λ i. unasked i ++ (deaf i ++ map Says (none i))) own ∙ ap (λ lines. Some (leaving_said (withholds side front) (turn_now front) lines c l)) (sym none)
 
 -- ---- a good packet that the end hears, and one that it sends
 
@@ -157,6 +158,27 @@ module _ (side : Side) (number : ℕ) (front : List Entry) (sender : Side) (chan
   own_line l own =
       let deaf = own_deaf (is_of_link number front sender channel octets) (is_good verdict) sender side (turn_now front) octets own in
       λ i. Some (fold (leaving_seen side number front air) (leaving_sent_if (own i) l) (deaf i ++ []))
+
+-- ---- what its host asks
+
+-- no line that opens a link or shuts it asks
+named_unasked : (line : Entry) (named : List Entry) (step : Step) → IsNamed line named → map Says named ≡ Asks step ∷ [] → ⊥
+named_unasked line named step (Own is) asked = absurd (let h : Says line ∷ [] ≡ Asks step ∷ [] = ap (map Says) (sym is) ∙ asked in absurd cc)
+named_unasked line named step (Others none) asked = absurd (let h : [] ≡ Asks step ∷ [] = ap (map Says) (sym none) ∙ asked in absurd cc)
+
+opening_unasked : (side : Side) (number : ℕ) (front : List Entry) (line : Entry) (step : Step) → seen_in_line side number front line ≡ Asks step ∷ []
+    → is_opening line ≡ false
+opening_unasked side number front (Opened other link handle role) step asked =
+    absurd (named_unasked (Opened other link handle role) _ step (named_by side number (Some (other, link)) (Opened other link handle role)) asked)
+opening_unasked side number front (Shut other link reason) step asked =
+    absurd (named_unasked (Shut other link reason) _ step (named_by side number (Some (other, link)) (Shut other link reason)) asked)
+opening_unasked side number front line step asked = refl
+
+pub asked_line : (side : Side) (number : ℕ) (front : List Entry) (line : Entry) (l : Leaving) (step : Step) → is_own_packet side number front line ≡ false
+    → seen_in_line side number front line ≡ Asks step ∷ [] → leaving_after side number front (Some l) line ≡ Some (leaving_asking step l)
+asked_line side number front line l step own is =
+    moves side number front (Some l) line (opening_unasked side number front line step is)
+    ∙ (λ i. Some (fold (leaving_seen side number front line) (leaving_sent_if (own i) l) (is i)))
 
 -- ---- the lines that open the link and shut it
 

@@ -5,11 +5,10 @@ use Rattle.std.specs.Prelude.{nat_lt, if◌then◌else◌}
 use Rattle.ble_base.specs.declared.roles.Side.{Side}
 use Rattle.controller_model.specs.Facts.{Setup, Facts}
 use Rattle.controller_model.specs.Side.{facts_after}
-use Rattle.controller_model.specs.Step.{HostOctet, TurnBegins, TurnEnds}
+use Rattle.controller_model.specs.Step.{TurnBegins, TurnEnds}
 use Rattle.journal_controls.specs.Hearing.{control_hearing}
 use Rattle.journal_controls.specs.SaidLines.{moved_by}
 use Rattle.journal_controls.specs.TurnSteps.{first_if, steps_begun}
-use Rattle.journal_controls.specs.journal_acks.link_calls.Hosts.{HasHeardHost, GetsData, Unchanged}
 use Rattle.journal_controls.specs.journal_acks.link_calls.Phases.{link_receiving, refusal, refused_if, refuses_at}
 use Rattle.journal_controls.specs.journal_acks.link_calls.Turns.{sent_if}
 use Rattle.journal_controls.specs.journal_acks.link_calls.Uses.{fixes_under, sends_under}
@@ -18,7 +17,7 @@ use Rattle.journal_controls.specs.link_model.End.{facts_after as end_after, note
 use Rattle.journal_controls.specs.link_model.Facts.{Facts as EndFacts}
 use Rattle.journal_controls.specs.link_model.Packets.{good_pdu}
 use Rattle.journal_controls.specs.link_model.Setup.{Setup as EndSetup}
-use Rattle.journal_controls.specs.link_model.Step.{Step, DataGiven, DataReported, PacketReceived, PacketSent, RequestAnswered}
+use Rattle.journal_controls.specs.link_model.Step.{Step, DataReported, PacketReceived, PacketSent, RequestAnswered}
 use Rattle.journal_controls.specs.link_model.control_model.Control.{Control}
 use Rattle.journal_controls.specs.link_model.declared.state.Leaving.{Leaving}
 use Rattle.journal_controls.specs.open_links.Data.{complete_in, link_reported}
@@ -26,7 +25,7 @@ use Rattle.journal_controls.specs.open_links.OpenLinks.{Links, OpenLink, facts_i
 use Rattle.journal_controls.specs.open_links.Turns.{enters_in}
 use Rattle.journal_controls.proofs.FixedEnds.{begun_past, grown_facts}
 use Rattle.journal_controls.proofs.journal_acks.link_calls.LinkCalls.{turn_begun_under}
-use Rattle.journal_controls.proofs.journal_acks.link_calls.UnderHandles.{ended_under, host_under}
+use Rattle.journal_controls.proofs.journal_acks.link_calls.UnderHandles.{ended_under}
 use Rattle.journal_controls.proofs.journal_ends.run_laws.Agreed.{step_facts}
 use Rattle.journal_leaving.specs.Hearing.{leaving_hearing}
 use Rattle.journal_leaving.specs.Leaving.{leaving_sent_if}
@@ -50,29 +49,6 @@ pub record HasLeft (side : Side) (number : ℕ) (withheld : Bool) (slot : ℕ) (
 module _ (side : Side) (number : ℕ) (withheld : Bool) (slot : ℕ) where
   pub same_leaves : (link : OpenLink) (from : Control) → LeavesTo side number withheld slot link link false from (facts_in link).leaving
   same_leaves link from = record { setup_is = refl; steps = []; past_is = sym (append-nil link.past); leaves = refl }
-
-  -- ---- a host
-
-  given_leaves : (start : Bool) (body : List ℕ) (link : OpenLink) (from : Control)
-      → LeavesTo side number withheld slot link (link_after (DataGiven start body) link) false from (facts_in link).leaving
-  given_leaves start body link from = record {
-    setup_is = refl;
-    steps = DataGiven start body ∷ [];
-    past_is = refl;
-    leaves = sym (ap (λ (f : EndFacts). f.leaving) (step_facts link (DataGiven start body)));
-  }
-
-  fed_leaves : (links : Links) (handle : ℕ) (after : OpenLink) → HasHeardHost links handle after → HasLeft side number withheld slot links handle after false
-  fed_leaves links handle after (Unchanged same) = record { base = after; was = same; is = same_leaves after }
-  fed_leaves links handle after (GetsData link start body was is) = record {
-    base = link;
-    was = was;
-    is = λ from. subst (λ l. LeavesTo side number withheld slot link l false from (facts_in link).leaving) (sym is) (given_leaves start body link from);
-  }
-
-  pub octet_leaves : (setup : Setup) (facts : Facts) (octet handle : ℕ) (after : OpenLink) → link_at handle (facts_after setup facts (HostOctet octet)).links ≡ Some after
-      → HasLeft side number withheld slot facts.links handle after false
-  octet_leaves setup facts octet handle after at = fed_leaves facts.links handle after (host_under setup facts octet handle after at)
 
   -- ---- a turn ends
 

@@ -4,21 +4,16 @@ use Rattle.ble_base.specs.declared.roles.Role.{Role}
 use Rattle.ble_base.specs.declared.roles.Side.{Side}
 use Rattle.journal.specs.declared.entries.Entry.{Entry}
 use Rattle.journal.specs.declared.entries.Entry.TheVariants.{Air, Opened}
-use Rattle.journal_controls.specs.journal_ends.Seen.{Hears, Says, Seen, heard_in_line, heard_where, seen_from, seen_in_line, seen_on}
+use Rattle.journal_controls.specs.journal_ends.Seen.{Asks, Hears, Says, Seen, asked_in_line, heard_in_line, heard_where, seen_from, seen_in_line, seen_on}
 use Rattle.journal_controls.specs.journal_links.LinkLines.{link_named, where_named}
 use Rattle.journal_controls.specs.link_model.Facts.{stays}
+use Rattle.journal_controls.specs.link_model.Step.{Step}
 use Rattle.journal_controls.specs.link_model.declared.state.Leaving.{Leaving}
 use Rattle.journal_leaving.specs.Leaving.{leaving_after, leaving_from, leaving_on}
 use Rattle.journal_controls.proofs.LineFolds.{IsNamed, Others, Own, named_by}
+use Rattle.journal_controls.proofs.OpenedControls.{none_of}
+use Rattle.journal_controls.proofs.journal_ends.SeenLists.{AreAsks, line_are_asks}
 use Rattle.journal_leaving.proofs.LineFolds.{opened_line, stays_line}
-
-record AreNone (one other : List Seen) : Type 0 where
-  first : one ≡ []
-  second : other ≡ []
-
-none_of : (one other : List Seen) → one ++ other ≡ [] → AreNone one other
-none_of [] other is = record { first = refl; second = is }
-none_of (seen ∷ one) other is = absurd cc
 
 stays_quiet : (side : Side) (number : ℕ) (front lines : List Entry) → seen_from side number front lines ≡ []
     → leaving_from side number front (Some stays) lines ≡ Some stays
@@ -41,13 +36,22 @@ heard_so side number front (Air sender channel octets fate verdict) = by _ _
     by false slot = Unheard refl
 heard_so side number front line = Unheard refl
 
-same_line : (heard : List Seen) (named : List Entry) (line one : Entry) → IsHeardSo heard → IsNamed line named → heard ++ map Says named ≡ Says one ∷ [] → line ≡ one
-same_line heard named line one (Heard slot octets is) name said =
+same_heard : (heard : List Seen) (named : List Entry) (line one : Entry) → IsHeardSo heard → IsNamed line named → heard ++ map Says named ≡ Says one ∷ [] → line ≡ one
+same_heard heard named line one (Heard slot octets is) name said =
     absurd (let h : Hears slot octets ∷ map Says named ≡ Says one ∷ [] = ap (λ xs. xs ++ map Says named) (sym is) ∙ said in absurd cc)
-same_line heard named line one (Unheard none) (Own is) said =
+same_heard heard named line one (Unheard none) (Own is) said =
     let h : Says line ∷ [] ≡ Says one ∷ [] = (λ i. sym none i ++ map Says (sym is i)) ∙ said in cc
-same_line heard named line one (Unheard none) (Others is) said =
+same_heard heard named line one (Unheard none) (Others is) said =
     absurd (let h : [] ≡ Says one ∷ [] = (λ i. sym none i ++ map Says (sym is i)) ∙ said in absurd cc)
+
+same_line : (asked heard : List Seen) (named : List Entry) (line one : Entry) → AreAsks asked → IsHeardSo heard → IsNamed line named
+    → asked ++ (heard ++ map Says named) ≡ Says one ∷ [] → line ≡ one
+same_line asked heard named line one are so name said = by are.steps are.is
+  where
+    by : (steps : List Step) → asked ≡ map Asks steps → line ≡ one
+    by [] none = same_heard heard named line one so name (ap (λ xs. xs ++ (heard ++ map Says named)) (sym none) ∙ said)
+    by (step ∷ steps) is =
+        absurd (let h : Asks step ∷ (map Asks steps ++ (heard ++ map Says named)) ≡ Says one ∷ [] = ap (λ xs. xs ++ (heard ++ map Says named)) (sym is) ∙ said in absurd cc)
 
 opened_in : (side : Side) (number handle : ℕ) (role : Role) (front : List Entry) (before : Option Leaving) (lines : List Entry)
     → seen_from side number front lines ≡ Says (Opened side number handle role) ∷ [] → leaving_from side number front before lines ≡ Some stays
@@ -67,8 +71,8 @@ opened_in side number handle role front before (line ∷ lines) said =
         let tail : more ++ seen_from side number (front ++ line ∷ []) lines ≡ [] = cc in
         let both = none_of more (seen_from side number (front ++ line ∷ []) lines) tail in
         let alone : seen_in_line side number front line ≡ Says (Opened side number handle role) ∷ [] = is ∙ (λ i. head i ∷ both.first i) in
-        let same = same_line (heard_in_line side number front line) (where_named side number (link_named line) line) line (Opened side number handle role)
-        (heard_so side number front line) (named_by side number (link_named line) line) alone in
+        let same = same_line (asked_in_line side number front line) (heard_in_line side number front line) (where_named side number (link_named line) line) line (Opened side number handle role)
+        (line_are_asks side number front line) (heard_so side number front line) (named_by side number (link_named line) line) alone in
         ap (λ now. leaving_from side number (front ++ line ∷ []) now lines) (ap (leaving_after side number front before) same ∙ opened_line side number handle role front before)
         ∙ stays_quiet side number (front ++ line ∷ []) lines both.second
 

@@ -6,6 +6,7 @@ use Rattle.controller_model.specs.Facts.{Facts}
 use Rattle.controller_model.specs.Heard.{has_room}
 use Rattle.controller_model.specs.Links.{note_opened}
 use Rattle.controller_model.specs.Side.{facts_after, notes_after}
+use Rattle.controller_model.proofs.Always.{IsInTurn}
 use Rattle.host_masks.specs.Masks.{view_masks, withholds_requests}
 use Rattle.journal_controls.specs.journal_acks.link_calls.Phases.{HasPassed, IsNew, Stays, Takes}
 use Rattle.journal_controls.specs.journal_acks.link_calls.Uses.{listens_under, sends_under}
@@ -75,6 +76,10 @@ module _ (given : Given) (station : ℕ) (history : List Event) (phases : ℕ) (
   abbrev IsNow : ℕ → OpenLink → Type 0
   IsNow handle link = IsLeftAt true (packet_received station next) handle (facts_at given station next).turn link (number_at station handle next) side next
 
+  phase_turn : (may : Option (List ℕ)) → IsInTurn (step_of may)
+  phase_turn None = tt
+  phase_turn (Some octets) = tt
+
   none_next : packet_received station next ≡ None
   none_next = received_by given station station (step_of received) history true (same_station station)
 
@@ -103,7 +108,7 @@ module _ (given : Given) (station : ℕ) (history : List Event) (phases : ℕ) (
   passed handle link at number (Stays was none nothing listened) =
       let own = number_at station handle history in
       let c = (facts_in link).control in
-      leaves_own given station (step_of received) history in_it lined lined_after handle link at (packet_received station next) none_next number link was false c (facts_in link).leaving
+      leaves_own given station (step_of received) history in_it lined lined_after handle link at (packet_received station next) none_next number link was (phase_turn received) false c (facts_in link).leaving
       (same_leaves side own (withholds_at side history) (turn_at history) link c) (doing_is handle ∙ none)
       (control_whole received handle facts.turn link own side history nothing (controls station handle link in_it was))
       (whole (unsent station) received handle facts.turn link own side history (none_sent handle) nothing (are station handle link in_it was))
@@ -118,7 +123,7 @@ module _ (given : Given) (station : ℕ) (history : List Event) (phases : ℕ) (
       let l = leaving_hearing base.setup.link.role slot may (facts_in base) in
       let left = are station handle base in_it was in
       let leaves = taken_leaves side own withheld facts handle room octets base sends link same in
-      leaves_own given station (step_of received) history in_it lined lined_after handle link at (packet_received station next) none_next number base was sends c l
+      leaves_own given station (step_of received) history in_it lined lined_after handle link at (packet_received station next) none_next number base was (phase_turn received) sends c l
       (subst (λ w. LeavesTo side own w (turn_at history) base link sends c l) (sym held) (subst (λ n. LeavesTo side own withheld n base link sends c l) (sym slot_is) leaves))
       (doing_is handle)
       (controls station handle base in_it was ∙ (λ i. Some (control_taking (on i) (some i) slot base)))

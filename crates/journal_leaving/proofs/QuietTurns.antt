@@ -1,4 +1,4 @@
--- No packet was on the air yet in a turn that a controller is to begin.
+-- No packet was on the air yet in a turn as an octet of a host comes, and as a controller begins the turn.
 use Rattle.std.proofs.Common.{◌≡◌, ℕ, Bool, true, false, Option, Some, None, List, [], ◌∷◌, ◌++◌, refl, ap, ◌∙◌}
 use Rattle.std.specs.Prelude.{⊤, map, take}
 use Rattle.std.proofs.lemmas.List.Sums.{fold-append}
@@ -15,7 +15,7 @@ use Rattle.journal_controls.proofs.run_model.Parts.{journal_event}
 use Rattle.journal_controls.proofs.run_model.Places.{each_at, each_called, each_event}
 use Rattle.journal_controls.proofs.run_model.Walk.{Place, AtFeeds, AtBegins, IsKept, IsStopped, IsWhole, ends_with, run_kept}
 use Rattle.journal_leaving.specs.Reasons.{packets_passed, passed_after}
-use Rattle.journal_leaving.proofs.OtherLines.{call_reads, feed_reads, in_call_reads, is_other}
+use Rattle.journal_leaving.proofs.OtherLines.{call_reads, feed_reads, host_reads, in_call_reads, is_other}
 
 abbrev pub passed_at : List Event → Bool
 passed_at history = packets_passed (journal_of history)
@@ -41,7 +41,13 @@ pub in_call_passed : (station : ℕ) (step : Step) (history : List Event) (notes
     → passed_at (history ++ Called station step ∷ map (Noted station) notes) ≡ passed_at history
 in_call_passed station step history notes = in_call_reads Bool packets_passed still_passed station step history notes
 
--- ---- the calls in which a turn begins
+-- ---- the calls before the packets of a turn
+
+-- an octet of the host, or the beginning of a turn
+abbrev pub is_early : Step → Bool
+is_early (HostOctet octet) = true
+is_early (TurnBegins slot on) = true
+is_early step = false
 
 abbrev is_opening : Place → Bool
 is_opening (AtFeeds done left) = true
@@ -49,83 +55,85 @@ is_opening (AtBegins done left) = true
 is_opening place = false
 
 -- where such a call is made, no packet passed in its turn
-abbrev IsBegunQuietly : List Event → Event → Type 0
-IsBegunQuietly history (Called station (TurnBegins slot on)) = passed_at history ≡ false
-IsBegunQuietly history (Called station step) = ⊤
-IsBegunQuietly history (TurnBegan slot radios) = ⊤
-IsBegunQuietly history (HostFed station octets) = ⊤
-IsBegunQuietly history (Noted station note) = ⊤
-IsBegunQuietly history (Transmitted station channel octets hearings) = ⊤
+abbrev IsQuietCall : List Event → Event → Type 0
+IsQuietCall history (Called station step) = is_early step ≡ true → passed_at history ≡ false
+IsQuietCall history (TurnBegan slot radios) = ⊤
+IsQuietCall history (HostFed station octets) = ⊤
+IsQuietCall history (Noted station note) = ⊤
+IsQuietCall history (Transmitted station channel octets hearings) = ⊤
 
 record AreQuiet (place : Place) (history : List Event) : Type 0 where
   none : is_opening place ≡ true → passed_at history ≡ false
-  each : Each IsBegunQuietly [] history
+  each : Each IsQuietCall [] history
 
-any_heard : (received : Option (List ℕ)) (station : ℕ) (history : List Event) → IsBegunQuietly history (Called station (step_of received))
-any_heard None station history = tt
-any_heard (Some octets) station history = tt
+not_early : (received : Option (List ℕ)) (X : Type 0) → is_early (step_of received) ≡ true → X
+not_early None X is = absurd cc
+not_early (Some octets) X is = absurd cc
 
 module _ (given : Given) where
-  one_call : (station : ℕ) (step : Step) (history : List Event) → IsBegunQuietly history (Called station step) → Each IsBegunQuietly [] history
-      → Each IsBegunQuietly [] (after_call given station step history)
+  one_call : (station : ℕ) (step : Step) (history : List Event) → (is_early step ≡ true → passed_at history ≡ false) → Each IsQuietCall [] history
+      → Each IsQuietCall [] (after_call given station step history)
   one_call station step history is each =
-      each_called IsBegunQuietly station step (notes_after (setup_at given station) (facts_at given station history) step) history each is (λ before note. tt)
+      each_called IsQuietCall station step (notes_after (setup_at given station) (facts_at given station history) step) history each is (λ before note. tt)
 
-  each_octet : (station : ℕ) (octets : List ℕ) (history : List Event) → Each IsBegunQuietly [] history
-      → Each IsBegunQuietly [] (after_octets given station octets history)
-  each_octet station [] history each = each
-  each_octet station (octet ∷ octets) history each =
-      each_octet station octets (after_call given station (HostOctet octet) history) (one_call station (HostOctet octet) history tt each)
+  each_octet : (station : ℕ) (octets : List ℕ) (history : List Event) → passed_at history ≡ false → Each IsQuietCall [] history
+      → Each IsQuietCall [] (after_octets given station octets history)
+  each_octet station [] history none each = each
+  each_octet station (octet ∷ octets) history none each =
+      each_octet station octets (after_call given station (HostOctet octet) history)
+      (call_reads Bool packets_passed still_passed given station (HostOctet octet) history ∙ none) (one_call station (HostOctet octet) history (λ early. none) each)
 
-  each_fed : (station : ℕ) (octets : List ℕ) (history : List Event) → Each IsBegunQuietly [] history → Each IsBegunQuietly [] (after_feed given station octets history)
-  each_fed station [] history each = each
-  each_fed station (octet ∷ octets) history each =
+  each_fed : (station : ℕ) (octets : List ℕ) (history : List Event) → passed_at history ≡ false → Each IsQuietCall [] history
+      → Each IsQuietCall [] (after_feed given station octets history)
+  each_fed station [] history none each = each
+  each_fed station (octet ∷ octets) history none each =
       each_octet station (octet ∷ octets) (history ++ HostFed station (octet ∷ octets) ∷ [])
-      (each_event IsBegunQuietly history (HostFed station (octet ∷ octets)) each tt)
+      (host_reads Bool packets_passed still_passed history station (octet ∷ octets) ∙ none)
+      (each_event IsQuietCall history (HostFed station (octet ∷ octets)) each tt)
 
   quiet_kept : IsKept given AreQuiet
   quiet_kept = record {
     on_turn = λ slot plan history begun at has. record {
       none = λ opening. turn_passed history slot (map plan.radio_of given.stations);
-      each = each_event IsBegunQuietly history (TurnBegan slot (map plan.radio_of given.stations)) has.each tt;
+      each = each_event IsQuietCall history (TurnBegan slot (map plan.radio_of given.stations)) has.each tt;
     };
     on_feed = λ plan done left station history are some now has.
         let octets = take (plan.feed_of station) (octets_left given station history) in record {
           none = λ opening. feed_reads Bool packets_passed still_passed given station octets history ∙ has.none refl;
-          each = each_fed station octets history has.each;
+          each = each_fed station octets history (has.none refl) has.each;
         };
     on_fed = λ history has. record { none = λ opening. has.none refl; each = has.each };
     on_begin = λ slot plan done left station history are due has. record {
       none = λ opening. call_reads Bool packets_passed still_passed given station (TurnBegins slot (plan.radio_of station)) history ∙ has.none refl;
-      each = one_call station (TurnBegins slot (plan.radio_of station)) history (has.none refl) has.each;
+      each = one_call station (TurnBegins slot (plan.radio_of station)) history (λ early. has.none refl) has.each;
     };
     on_begun = λ history has. record { none = λ opening. absurd cc; each = has.each };
     on_phase = λ phases history few has. record { none = λ opening. absurd cc; each = has.each };
     on_silence = λ phases done left station history are none has. record { none = λ opening. absurd cc; each = has.each };
     on_packet = λ phases plan done left station channel octets history are some due has. record {
       none = λ opening. absurd cc;
-      each = each_event IsBegunQuietly history (Transmitted station channel octets (hearings_of given plan.fates station channel octets history)) has.each tt;
+      each = each_event IsQuietCall history (Transmitted station channel octets (hearings_of given plan.fates station channel octets history)) has.each tt;
     };
     on_air = λ phases history has. record { none = λ opening. absurd cc; each = has.each };
     on_hearing = λ phases done left station history are some has. record {
       none = λ opening. absurd cc;
-      each = one_call station (step_of (packet_received station history)) history (any_heard (packet_received station history) station history) has.each;
+      each = one_call station (step_of (packet_received station history)) history (not_early (packet_received station history) (passed_at history ≡ false)) has.each;
     };
     on_heard = λ phases history has. record { none = λ opening. absurd cc; each = has.each };
     on_phases = λ history has. record { none = λ opening. absurd cc; each = has.each };
     on_end = λ done left station history are some has. record {
       none = λ opening. absurd cc;
-      each = one_call station TurnEnds history tt has.each;
+      each = one_call station TurnEnds history (λ early. absurd cc) has.each;
     };
     on_ended = λ history has. record { none = λ opening. absurd cc; each = has.each };
   }
 
-  run_quiet : Each IsBegunQuietly [] (history_of (run_of given))
+  run_quiet : Each IsQuietCall [] (history_of (run_of given))
   run_quiet =
-      ends_with (run_of given) (IsWhole given AreQuiet) (IsStopped given AreQuiet) (Each IsBegunQuietly [])
+      ends_with (run_of given) (IsWhole given AreQuiet) (IsStopped given AreQuiet) (Each IsQuietCall [])
       (run_kept given AreQuiet quiet_kept (record { none = λ opening. absurd cc; each = tt }))
       (λ history wholly. wholly.is.each) (λ history stop stopped. stopped.kept.each)
 
-  pub none_passed : (before rest : List Event) (station slot : ℕ) (on : Bool) → history_of (run_of given) ≡ before ++ Called station (TurnBegins slot on) ∷ rest
-      → passed_at before ≡ false
-  none_passed before rest station slot on at = each_at IsBegunQuietly (history_of (run_of given)) before rest (Called station (TurnBegins slot on)) run_quiet at
+  pub none_passed : (before rest : List Event) (station : ℕ) (step : Step) → is_early step ≡ true
+      → history_of (run_of given) ≡ before ++ Called station step ∷ rest → passed_at before ≡ false
+  none_passed before rest station step early at = each_at IsQuietCall (history_of (run_of given)) before rest (Called station step) run_quiet at early

@@ -1,10 +1,12 @@
 -- Each line of a link that is shut has its reason by the lines before it.
 use Rattle.std.proofs.Common.{◌≡◌, ℕ, true, false, Some, List, [], ◌∷◌, ◌++◌, map, refl, sym, ap, subst, ◌∙◌, append-nil}
+use Rattle.std.specs.List.{AllByRecursion}
 use Rattle.std.proofs.lemmas.Bool.{or_left}
 use Rattle.std.proofs.lemmas.List.{append_cancel_left}
 use Rattle.std.proofs.lemmas.List.Folds.{list_any-append}
 use Rattle.std.proofs.lemmas.List.Sums.{fold-append}
 use Rattle.ble_base.specs.declared.error_codes.ErrCode.{ErrCode}
+use Rattle.ble_base.specs.declared.notes.Note.{Note}
 use Rattle.ble_base.specs.declared.notes.Note.TheVariants.{Shut as ShutNote}
 use Rattle.ble_base.specs.declared.roles.Side.{Side}
 use Rattle.journal.specs.declared.entries.Entry.{Entry}
@@ -14,6 +16,8 @@ use Rattle.controller_model.specs.Shutting.{IsShut, leaving as shut_leaving, ove
 use Rattle.controller_model.specs.Side.{notes_after}
 use Rattle.controller_model.specs.Since.{note_under, notes_under, opens_under, was_opened}
 use Rattle.controller_model.specs.Step.{Step as Call, TurnBegins, TurnEnds}
+use Rattle.controller_model.proofs.Shuts.{shuts_with_reason}
+use Rattle.host_answers.proofs.LineAnswers.{IsQuiet}
 use Rattle.journal_controls.specs.SaidLines.{NoneOpens, moved_by}
 use Rattle.journal_controls.specs.journal_links.Begun.{link_numbered}
 use Rattle.journal_controls.specs.journal_links.LinkLines.{line_of, lines_of}
@@ -21,18 +25,18 @@ use Rattle.journal_controls.specs.link_model.Times.{ending_of}
 use Rattle.journal_controls.specs.link_model.control_model.Control.{Control}
 use Rattle.journal_controls.specs.link_model.declared.state.Leaving.{Leaving}
 use Rattle.journal_controls.specs.open_links.OpenLinks.{OpenLink, facts_in, link_at}
-use Rattle.journal_controls.specs.run_model.History.{Event, Called, Noted, noted_by}
+use Rattle.journal_controls.specs.run_model.Feeding.{is_octet}
+use Rattle.journal_controls.specs.run_model.History.{Event, Called, Noted, noted_by, past_of}
 use Rattle.journal_controls.specs.run_model.Journal.{journal_of, side_of}
 use Rattle.journal_controls.specs.run_model.LinkEnds.{HaveAddresses}
 use Rattle.journal_controls.specs.run_model.NoteLines.{IsLineInCall, LinkLine, shut_line}
 use Rattle.journal_controls.specs.run_model.OnAir.{ends_phase}
 use Rattle.journal_controls.specs.run_model.Run.{Given, facts_at, history_of, run_of, setup_at}
-use Rattle.journal_controls.proofs.EventMoves.{control_at, turn_at, withholds_at}
+use Rattle.journal_controls.proofs.EventMoves.{control_at, turn_answers, turn_at, withholds_at}
 use Rattle.journal_controls.proofs.RunControls.{control_before_call}
 use Rattle.journal_controls.proofs.journal_acks.Exchanging.{number_at}
 use Rattle.journal_controls.proofs.journal_acks.HeardLines.{heard_in_call}
 use Rattle.journal_controls.proofs.journal_acks.ResetLines.{reset_completed}
-use Rattle.journal_controls.proofs.journal_acks.ShutLines.{shut_in}
 use Rattle.journal_controls.proofs.journal_acks.TwoStations.{IsOfTwo}
 use Rattle.journal_controls.proofs.journal_ends.SeenEvents.{lines_at}
 use Rattle.journal_controls.proofs.journal_ends.run_laws.DistinctAccess.{AreApart}
@@ -43,7 +47,7 @@ use Rattle.journal_controls.proofs.journal_packets.AccessOrder.{AreNth}
 use Rattle.journal_controls.proofs.link_model.Hearing.{IsHeardWhole}
 use Rattle.journal_controls.proofs.run_model.Calls.{noted_called, same_station}
 use Rattle.journal_controls.proofs.run_model.LinkEnds.{AreTaken, IsUnderstood}
-use Rattle.journal_controls.proofs.run_model.NoteLines.{line_in_call, number_then, to_line}
+use Rattle.journal_controls.proofs.run_model.NoteLines.{is_contained, line_in_call, number_then, to_line}
 use Rattle.journal_controls.proofs.run_model.Numbers.{numbered_at}
 use Rattle.journal_controls.proofs.run_model.OfStations.{OfStations, run_of_stations}
 use Rattle.journal_controls.proofs.run_model.Parts.{journal_more}
@@ -57,11 +61,25 @@ use Rattle.journal_leaving.proofs.RunLeavings.{TellsDue, due_by_lines, due_told,
 use Rattle.journal_leaving.proofs.ShutCalls.{handed, reported_ends, some_code}
 use Rattle.journal_leaving.proofs.ShutNotes.{Ascend, begins_ascend, else_same, ends_ascending, nothing_before}
 
+-- ---- its call
+
+-- why it is shut
+pub shut_in : (given : Given) (front : List Entry) (side : Side) (number : ℕ) (reason : ErrCode) (call : IsLineInCall given front (shut_line side number reason))
+    → IsShut (facts_at given call.station call.base) call.step call.handle reason.0
+shut_in given front side number reason call =
+    (shuts_with_reason (setup_at given call.station) (past_of call.station call.base) call.step call.handle reason.0).0
+    (is_contained given front (shut_line side number reason) call)
+
 -- ---- between the call and the line
+
+front_quiet : (side : Side) (station : ℕ) (notes more : List Note) → AllByRecursion (IsQuiet side station) (notes ++ more) → AllByRecursion (IsQuiet side station) notes
+front_quiet side station [] more quiet = tt
+front_quiet side station (note ∷ notes) more quiet = (quiet.0, front_quiet side station notes more quiet.1)
 
 -- nothing is said of the link
 module _ (understood : IsUnderstood) (taken : AreTaken) (given : Given) (are_two : IsOfTwo given) (six : HaveAddresses given) (front : List Entry) (side : Side) (number : ℕ) (reason : ErrCode)
     (call : IsLineInCall given front (shut_line side number reason)) (in_it : is_in call.station given.stations ≡ true) (outside : ends_phase call.step ≡ false)
+    (no_octet : is_octet call.step ≡ false)
     (ascend : Ascend 0 (notes_after (setup_at given call.station) (facts_at given call.station call.base) call.step)) (link : OpenLink)
     (is_open : link_at call.handle (facts_at given call.station call.base).links ≡ Some link) where
   abbrev own : ℕ
@@ -111,7 +129,10 @@ module _ (understood : IsUnderstood) (taken : AreTaken) (given : Given) (are_two
       ∙ sym (lines_are_notes understood taken given distinct six call.station apart call.base (called ∷ call.after) call.handle call.called was_open)
 
   moving : IsMoving own own_side call.base then_on
-  moving = part_moving own own_side call.station call.step call.earlier call.base
+  moving =
+      part_moving own own_side call.station call.step call.earlier call.base
+      (front_quiet own_side call.station call.earlier (ShutNote call.handle reason ∷ call.later)
+      (subst (AllByRecursion (IsQuiet own_side call.station)) call.notes_are (turn_answers given own_side call.station call.step call.base no_octet)))
 
   none : moving.more ≡ []
   none =
@@ -182,11 +203,11 @@ module _ (heard_whole : IsHeardWhole) (understood : IsUnderstood) (taken : AreTa
       let own = number_at station call.handle call.base in
       let then_on = call.base ++ Called station call.step ∷ map (Noted station) call.earlier in
       let told = due_told heard_whole understood taken nth apart given are_two six call.base call.after station slot on at in_it call.handle link is_open in
-      let turn = turn_then understood taken given are_two six front side number reason call in_it outside ascend link is_open in
+      let turn = turn_then understood taken given are_two six front side number reason call in_it outside (ap is_octet begins) ascend link is_open in
       at_line outside
       (overdue
-      (in_call_passed station call.step call.base call.earlier ∙ none_passed given call.base call.after station slot on at)
-      (due_by_lines own (side_of station) station then_on link slot (due_then understood taken given are_two six front side number reason call in_it outside ascend link is_open told)
+      (in_call_passed station call.step call.base call.earlier ∙ none_passed given call.base call.after station (TurnBegins slot on) refl at)
+      (due_by_lines own (side_of station) station then_on link slot (due_then understood taken given are_two six front side number reason call in_it outside (ap is_octet begins) ascend link is_open told)
       (turn ∙ turn_told heard_whole understood taken nth apart given are_two six call.base call.after station slot on at)
       ∙ overdue_due slot reason.0 link due))
   by_cause (shut_leaving link ends is_open leaves) =
@@ -203,8 +224,8 @@ module _ (heard_whole : IsHeardWhole) (understood : IsUnderstood) (taken : AreTa
       at_line outside
       (leaving
       (ending_by_lines own (side_of station) then_on was.link
-      (control_then understood taken given are_two six front side number reason call in_it outside ascend was.link was.was (facts_in was.link).control control)
-      (leaving_then understood taken given are_two six front side number reason call in_it outside ascend was.link was.was (facts_in was.link).leaving left)
+      (control_then understood taken given are_two six front side number reason call in_it outside (ap is_octet ends) ascend was.link was.was (facts_in was.link).control control)
+      (leaving_then understood taken given are_two six front side number reason call in_it outside (ap is_octet ends) ascend was.link was.was (facts_in was.link).leaving left)
       ∙ sym same ∙ some_code (ending_of (facts_in link)) reason (leaving_ends reason.0 link leaves)))
   by_cause (shut_reset link completed is_open code) = reset code (reset_completed given are_two front side number reason call completed)
 

@@ -5,31 +5,42 @@ use Rattle.ble_base.specs.declared.error_codes.ErrCode.{ErrCode}
 use Rattle.controller_model.specs.Data.{facts_handed}
 use Rattle.controller_model.specs.Facts.{Setup, Facts, first_facts}
 use Rattle.controller_model.proofs.Always.{leaving_is}
-use Rattle.journal_controls.specs.journal_acks.link_calls.Hosts.{HasHeardHost, GetsData, Unchanged}
+use Rattle.controller_model.proofs.Asked.{IsAskedStep}
+use Rattle.journal_controls.specs.journal_acks.link_calls.Hosts.{HasHeardHost, GetsData, IsAsked, Unchanged}
 use Rattle.journal_controls.specs.link_model.Facts.{Facts as EndFacts}
-use Rattle.journal_controls.specs.link_model.Step.{DataGiven}
+use Rattle.journal_controls.specs.link_model.Step.{Step as EndStep, DataGiven}
 use Rattle.journal_controls.specs.link_model.Times.{ending_of}
 use Rattle.journal_controls.specs.open_links.Data.{links_reported}
-use Rattle.journal_controls.specs.open_links.OpenLinks.{Links, OpenLink, link_at}
+use Rattle.journal_controls.specs.open_links.OpenLinks.{OpenLink, facts_in, link_after, link_at}
 use Rattle.journal_controls.specs.open_links.Turns.{ending_in, links_without}
+use Rattle.journal_controls.proofs.journal_acks.link_calls.HostSteps.{asked_is_well}
 use Rattle.journal_controls.proofs.journal_acks.link_calls.UnderHandles.{host_under, staying_under}
 use Rattle.journal_controls.proofs.journal_ends.run_laws.Agreed.{step_facts}
 use Rattle.journal_controls.proofs.journal_ends.run_laws.OpenSteps.{none_open, open_has}
 use Rattle.journal_controls.proofs.journal_ends.run_laws.TurnPlaces.{Between, IsTurned, Stage, Within}
+use Rattle.journal_leaving.proofs.AskedSteps.{step_ending}
 
 abbrev pub AreStaying : Stage → ℕ → Facts → Type 0
 AreStaying Between begun facts = (handle : ℕ) (link : OpenLink) → link_at handle facts.links ≡ Some link → ending_in link ≡ None
 AreStaying (Within phases) begun facts = Unit {0}
 
-given_stays : (links : Links) (handle : ℕ) (after : OpenLink) → HasHeardHost links handle after
-    → ((link : OpenLink) → link_at handle links ≡ Some link → ending_in link ≡ None) → ending_in after ≡ None
-given_stays links handle after (Unchanged same) stays = stays after same
-given_stays links handle after (GetsData link start body was is) stays =
+host_stays : (link : OpenLink) (step : EndStep) → IsAskedStep step → ending_in link ≡ None → ending_in (link_after step link) ≡ None
+host_stays link step by_host stays =
+    ap (λ (f : EndFacts). option_map (λ (code : ErrCode). code.0) (ending_of f)) (step_facts link step)
+    ∙ ap (option_map (λ (code : ErrCode). code.0)) (step_ending link.setup (facts_in link) step by_host) ∙ stays
+
+given_stays : (facts : Facts) (octet handle : ℕ) (after : OpenLink) → HasHeardHost facts octet handle after
+    → ((link : OpenLink) → link_at handle facts.links ≡ Some link → ending_in link ≡ None) → ending_in after ≡ None
+given_stays facts octet handle after (Unchanged same) stays = stays after same
+given_stays facts octet handle after (GetsData link start body was is) stays =
     ap ending_in is ∙ ap (λ (f : EndFacts). option_map (λ (code : ErrCode). code.0) (ending_of f)) (step_facts link (DataGiven start body)) ∙ stays link was
+given_stays facts octet handle after (IsAsked link command step was accepted asks is) stays =
+    ap ending_in is
+    ∙ host_stays link step (asked_is_well facts octet handle command link.setup.link.role (facts_in link).peer step accepted asks).by_host (stays link was)
 
 pub staying_kept : (setup : Setup) → IsTurned setup AreStaying
 staying_kept setup = record {
-  feeds = λ begun octet facts are. λ handle link at. given_stays facts.links handle link (host_under setup facts octet handle link at) (are handle);
+  feeds = λ begun octet facts are. λ handle link at. given_stays facts octet handle link (host_under setup facts octet handle link at) (are handle);
   begins = λ begun on facts are. tt;
   passes = λ phases begun received facts are. tt;
   ends = λ begun facts are. λ handle link at.

@@ -10,13 +10,14 @@ use Rattle.journal_controls.specs.LineSteps.{control_on, is_more_acked, turn_now
 use Rattle.journal_controls.specs.journal_acks.Carried.{carried_of}
 use Rattle.journal_controls.specs.journal_acks.Exchange.{exchange_of}
 use Rattle.journal_controls.specs.journal_acks.Shut.{is_of_link}
-use Rattle.journal_controls.specs.journal_ends.Seen.{Hears, Says, Seen, seen_in_line}
+use Rattle.journal_controls.specs.journal_ends.Seen.{Asks, Hears, Says, Seen, seen_in_line}
 use Rattle.journal_controls.specs.journal_packets.Belonging.{is_side}
 use Rattle.journal_controls.specs.link_model.Acknowledgement.{Pdu}
 use Rattle.journal_controls.specs.link_model.Controls.{is_procedure_pdu, is_terminate, read_of}
 use Rattle.journal_controls.specs.link_model.Facts.{stays}
 use Rattle.journal_controls.specs.link_model.Receiving.{code_of, leaving_acked_if, leaving_by}
 use Rattle.journal_controls.specs.link_model.Sending.{leaving_sent}
+use Rattle.journal_controls.specs.link_model.Step.{Step, Disconnected}
 use Rattle.journal_controls.specs.link_model.control_end.Answers.{taken_of}
 use Rattle.journal_controls.specs.link_model.control_end.Held.{held_of}
 use Rattle.journal_controls.specs.link_model.control_model.Control.{Control}
@@ -43,7 +44,6 @@ leaving_taking slot pdu (Some control) leaving =
     then leaving_by (code_of (taken_of (read_of pdu) slot true (held_of control)).effect) leaving
     else leaving
 
--- no line says yet that the host ended the link: the controller refuses HCI_Disconnect (our choice)
 abbrev pub leaving_saying : ℕ → Option Control → Leaving → Entry → Leaving
 leaving_saying slot control leaving (Took side link count llid body) =
     leaving_taking slot (record { llid = llid; body = body }) control leaving
@@ -55,7 +55,14 @@ leaving_saying slot control leaving line = leaving
 abbrev pub acks_terminate : Bool → Pdu → Bool
 acks_terminate acks last = acks && is_terminate last
 
--- ---- all that it says and hears in a line that comes after these
+-- ---- its host asks something of it
+
+-- the host ends the link in the turn of this slot
+abbrev pub leaving_asking : Step → Leaving → Leaving
+leaving_asking (Disconnected reason slot) leaving = record leaving { disconnected = Some slot }
+leaving_asking step leaving = leaving
+
+-- ---- all that is seen of it in a line that comes after these
 
 abbrev pub leaving_seen : Side → ℕ → List Entry → Entry → Leaving → Seen → Leaving
 leaving_seen side number front line leaving (Says own) =
@@ -65,6 +72,7 @@ leaving_seen side number front line leaving (Hears slot octets) =
     (acks_terminate (is_more_acked (exchange_of number front side) (exchange_of number (front ++ line ∷ []) side))
     (carried_of number front side))
     leaving
+leaving_seen side number front line leaving (Asks step) = leaving_asking step leaving
 
 -- ---- line by line
 

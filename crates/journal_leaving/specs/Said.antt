@@ -1,13 +1,15 @@
--- What the lines of an end do, in one turn, to how it is to leave its link (Core 5.2, volume 6 part B, section 5.1.6).
-use Rattle.std.specs.Prelude.{ℕ, Bool, List, [], ◌∷◌, map, Some}
+-- What the lines of an end do, in one turn, to how it is to leave its link, and what its host asks does to it (Core 5.2,
+-- volume 6 part B, section 5.1.6).
+use Rattle.std.specs.Prelude.{ℕ, Bool, List, [], ◌∷◌, map, Option, Some, None}
 use Rattle.ble_base.specs.declared.notes.Note.{Note}
 use Rattle.ble_base.specs.declared.roles.Side.{Side}
 use Rattle.journal.specs.declared.entries.Entry.{Entry}
 use Rattle.journal_controls.specs.LineSteps.{steps_said}
 use Rattle.journal_controls.specs.journal_links.LinkLines.{line_of}
+use Rattle.journal_controls.specs.link_model.Step.{Step}
 use Rattle.journal_controls.specs.link_model.control_model.Control.{Control, after_all}
 use Rattle.journal_controls.specs.link_model.declared.state.Leaving.{Leaving}
-use Rattle.journal_leaving.specs.Leaving.{leaving_saying}
+use Rattle.journal_leaving.specs.Leaving.{leaving_asking, leaving_saying}
 
 -- how an end with this control part is to leave its link after these lines, in this turn, where requests are withheld from
 -- its host or are not
@@ -21,3 +23,8 @@ leaving_said withheld slot (line ∷ lines) control leaving =
 abbrev pub leaving_noted : Side → ℕ → Bool → ℕ → List Note → Control → Leaving → Leaving
 leaving_noted side number withheld slot notes control leaving =
     leaving_said withheld slot (map (line_of side number) notes) control leaving
+
+-- how it is to leave its link after what its host asks of it, if anything
+abbrev pub leaving_if_asked : Option Step → Leaving → Leaving
+leaving_if_asked None leaving = leaving
+leaving_if_asked (Some step) leaving = leaving_asking step leaving

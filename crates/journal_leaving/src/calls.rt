@@ -1,37 +1,48 @@
 //! Laws of how an end leaves its link as a controller is called, by the lines that the call adds.
 //! The bodies are empty: the contracts are the laws.
-ghost use Rattle.std.specs.Prelude.{◌≡◌, ◌++◌, ℕ, Bool, List, Some};
+ghost use Rattle.std.specs.Prelude.{◌≡◌, ◌++◌, ℕ, Bool, List, Option, Some, false};
 ghost use Rattle.ble_base.specs.declared.roles.Side.{Side};
 ghost use Rattle.controller_model.specs.Step.{Step as Call};
+ghost use Rattle.host_answers.specs.Calls.{call_lines};
 ghost use Rattle.journal.specs.declared.entries.Entry.{Entry};
 ghost use Rattle.journal_controls.specs.LineSteps.{control_on, turn_now, withholds};
 ghost use Rattle.journal_controls.specs.SaidLines.{NoneOpens};
+ghost use Rattle.journal_controls.specs.journal_ends.Seen.{asked_if, seen_from};
 ghost use Rattle.journal_controls.specs.journal_links.LinkLines.{lines_of};
 ghost use Rattle.journal_controls.specs.link_model.End.{notes_after};
 ghost use Rattle.journal_controls.specs.link_model.Facts.{Facts};
 ghost use Rattle.journal_controls.specs.link_model.Setup.{Setup};
-ghost use Rattle.journal_controls.specs.link_model.Step.{EventEntered, PacketSent};
+ghost use Rattle.journal_controls.specs.link_model.Step.{EventEntered, PacketSent, Step};
 ghost use Rattle.journal_controls.specs.link_model.control_model.Control.{Control};
 ghost use Rattle.journal_controls.specs.link_model.declared.state.Leaving.{Leaving};
+ghost use Rattle.journal_controls.specs.run_model.Feeding.{is_octet};
 ghost use Rattle.journal_controls.specs.run_model.History.{Event};
 ghost use Rattle.journal_controls.specs.run_model.Journal.{journal_of};
 ghost use Rattle.journal_controls.specs.run_model.Run.{Given, after_call};
 ghost use Rattle.journal_leaving.specs.Leaving.{leaving_on};
-ghost use Rattle.journal_leaving.specs.Said.{leaving_noted, leaving_said};
+ghost use Rattle.journal_leaving.specs.Said.{leaving_if_asked, leaving_noted, leaving_said};
 
-/// A call on a controller, after any history, moves an end by the lines that it adds for that end,
-/// in order, where none of them opens the link or shuts it. The control part of the end moves with
-/// it.
+/// A call of a turn on a controller, after any history, moves an end by the lines that it adds for
+/// that end, in order, where none of them opens the link or shuts it. The control part of the end
+/// moves with it. A call in the lines of which nothing else is seen of an end than what its host
+/// asks moves it by that: a host that ends the link does so in this slot (Core 5.2, volume 6 part
+/// B, section 5.1.6).
 pub fn a_call_moves_how_an_end_leaves_by_its_lines()
-    ensures { (given : Given) (side : Side) (number station : ℕ) (call : Call)
+    ensures turn { (given : Given) (side : Side) (number station : ℕ) (call : Call)
         (history : List Event) (more : List Entry) (control : Control) (leaving : Leaving)
-        → lines_of side number (journal_of (after_call given station call history))
+        → is_octet call ≡ false → lines_of side number (journal_of (after_call given station call history))
         ≡ lines_of side number (journal_of history) ++ more
         → NoneOpens more → control_on side number (journal_of history) ≡ Some control
         → leaving_on side number (journal_of history) ≡ Some leaving
         → leaving_on side number (journal_of (after_call given station call history))
         ≡ Some (leaving_said (withholds side (journal_of history))
         (turn_now (journal_of history)) more control leaving) }
+    ensures asked { (given : Given) (side : Side) (number station : ℕ) (call : Call)
+        (history : List Event) (asked : Option Step) (leaving : Leaving)
+        → seen_from side number (journal_of history) (call_lines given station call history)
+        ≡ asked_if asked → leaving_on side number (journal_of history) ≡ Some leaving
+        → leaving_on side number (journal_of (after_call given station call history))
+        ≡ Some (leaving_if_asked asked leaving) }
 {}
 
 /// The lines that an end says as it enters an event, and as it sends a packet, leave it as it is.

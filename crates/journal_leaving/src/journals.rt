@@ -11,7 +11,8 @@ ghost use Rattle.journal_controls.specs.link_model.Facts.{stays};
 ghost use Rattle.journal_leaving.specs.Leaving.{is_own_packet, leaving_on};
 
 /// An end stays as its link is opened, and is none any more once the link is shut. A line in which
-/// it says and hears nothing, and which is no packet of its own, leaves it as it is.
+/// it says and hears nothing and is asked nothing, and which is no packet of its own, leaves it as
+/// it is.
 pub fn only_its_lines_and_packets_move_how_an_end_leaves()
     ensures begins { (side : Side) (number handle : ℕ) (role : Role) (journal : List Entry)
         → leaving_on side number (journal ++ Opened side number handle role ∷ []) ≡ Some stays }

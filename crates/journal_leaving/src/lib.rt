@@ -27,7 +27,7 @@ pub use crate::events::{
     a_packet_moves_how_its_two_ends_leave, turns_and_hosts_leave_an_end_as_it_is,
 };
 pub use crate::journals::only_its_lines_and_packets_move_how_an_end_leaves;
-pub use crate::rows::{worked_leavings, worked_reasons};
+pub use crate::rows::{worked_disconnects, worked_leavings, worked_reasons};
 pub use crate::runs::{
     a_link_is_shut_for_what_is_due_by_its_lines, an_end_leaves_by_lines_as_it_holds,
     no_open_end_is_leaving_between_turns, what_is_due_by_lines_is_due_to_an_end,

@@ -2,6 +2,7 @@
 ghost use Rattle.std.specs.Prelude.{◌≡◌, None, Some, true};
 ghost use Rattle.ble_base.specs.declared.roles.Side.TheVariants.{A, B};
 ghost use Rattle.journal_controls.specs.journal_acks.Rows.{central_says_more, second_slot};
+ghost use Rattle.journal_controls.specs.journal_ends.Rows.{asked_of_central, ended_by_central};
 ghost use Rattle.journal_controls.specs.link_model.Facts.{stays};
 ghost use Rattle.journal_leaving.specs.Leaving.{leaving_on};
 ghost use Rattle.journal_leaving.specs.Reasons.{AllStayOpen, IsShutAs, StaysOpen};
@@ -36,4 +37,13 @@ pub fn worked_reasons()
     ensures too_long { AllStayOpen terminate_acknowledged → ⊥ }
     ensures unanswered { due_unanswered 32003 ≡ Some 0x22 }
     ensures early { due_unanswered 32002 ≡ None }
+{}
+
+/// The host of the central ends the link by a Disconnect that is accepted, in slot 1. That moves no
+/// other end, and a command that asks for a procedure moves none.
+pub fn worked_disconnects()
+    ensures ended { leaving_on B 1 ended_by_central
+        ≡ Some (record stays { disconnected = Some 1 }) }
+    ensures asked { leaving_on B 1 asked_of_central ≡ Some stays }
+    ensures peripheral { leaving_on A 1 ended_by_central ≡ Some stays }
 {}

@@ -1,6 +1,12 @@
 -- Proof of `calls::a_call_moves_how_an_end_leaves_by_its_lines`.
+use Rattle.journal_controls.proofs.EventMoves.{turn_answers}
+use Rattle.journal_leaving.proofs.AskedLeavings.{call_asks}
 use Rattle.journal_leaving.proofs.EventMoves.{call_moves}
 use Rattle.journal_leaving.proofs.calls.a_call_moves_how_an_end_leaves_by_its_lines.Goals as goal
 
 pub returns : goal.returns
-returns c = call_moves
+returns c = record {
+  turn = λ given side number station call history more control leaving none lines opens was left.
+      call_moves given side number station call history more control leaving (turn_answers given side station call history none) lines opens was left;
+  asked = λ given side number station call history asked leaving seen was. call_asks given side number station call history asked leaving seen was;
+}

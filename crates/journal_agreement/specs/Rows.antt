@@ -1,0 +1,15 @@
+-- Lines in which a peripheral takes an update of its central, or another one.
+use Rattle.std.specs.Prelude.{List, [], ◌∷◌, ◌++◌}
+use Rattle.ble_base.specs.declared.roles.Side.TheVariants.{A}
+use Rattle.journal.specs.declared.entries.Entry.{Entry}
+use Rattle.journal.specs.declared.entries.Entry.TheVariants.{Applied, Took}
+use Rattle.link_changes.specs.Worked.{update_octets}
+use Rattle.journal_links.specs.Rows.{update_in_force, update_sent}
+
+-- A lets the update hold that it took
+abbrev pub update_followed : List Entry
+update_followed = update_in_force ++ Applied A 1 1 6 ∷ []
+
+-- A lets one hold whose Instant is event 7, where B sent one for event 6
+abbrev pub another_followed : List Entry
+another_followed = update_sent ++ Took A 1 1 3 (update_octets 7) ∷ Applied A 1 1 7 ∷ []
