@@ -28,7 +28,7 @@ use Rattle.controller_model.proofs.OpenNotes.{open_before}
 use Rattle.controller_model.proofs.PiecesBelow.{all_pieces}
 use Rattle.journal_acks.specs.run_model.History.{Event, Called, Noted, noted_by, past_of}
 use Rattle.journal_acks.specs.run_model.Run.{Given, after_call, facts_at, setup_at}
-use Rattle.journal_acks.proofs.run_model.Calls.{noted_called, same_station}
+use Rattle.journal_acks.proofs.run_model.Calls.{noted_called, same_station, with_notes}
 use Rattle.journal_acks.proofs.run_laws.Agreed.{ack_of, ack_reported, step_facts}
 use Rattle.journal_acks.proofs.Counting.{HaveOwnNumbers}
 use Rattle.journal_acks.proofs.Exchanging.{map_both, number_at}
@@ -147,22 +147,31 @@ module _ (given : Given) (station : ℕ) (history : List Event) (few : (setup_at
       (subst (λ (number : ℕ → ℕ). AreApart number before_open) (sym (called_numbers station TurnEnds history)) apart) (λ handle on. on) none_opens
       (front_all (IsOfBase before_open) handed leaving of_notes) (called_booked given station TurnEnds history well.booked)
 
-  then_is : with_noted station mid leaving ≡ then_on
-  then_is =
-      append_assoc called (map (Noted station) handed) (map (Noted station) leaving) ∙ ap (λ more. called ++ more) (sym (map_both station handed leaving))
-      ∙ called_then station TurnEnds history (handed ++ leaving)
+  -- and once these of the ends of links are noted
+  abbrev ending_on : List Note → List Event
+  ending_on part = with_notes station TurnEnds (handed ++ part) history
+
+  then_is : (part : List Note) → with_noted station mid part ≡ ending_on part
+  then_is part =
+      append_assoc called (map (Noted station) handed) (map (Noted station) part) ∙ ap (λ more. called ++ more) (sym (map_both station handed part))
+      ∙ called_then station TurnEnds history (handed ++ part)
 
   -- the ends of links say nothing of their data
-  leaving_same : (number : ℕ) → IsSameOn number (lines_at station mid) (lines_at station then_on)
-  leaving_same number =
-      let kept = notes_kept many station mid mid_open before_open leaving (subst (λ (of : ℕ → ℕ). AreApart of before_open) (sym numbers_mid) apart)
-      (λ handle on. sym (mid_same handle) ∙ on) (leaving_not is_opening (λ octets. refl) (λ handle reason. refl) facts)
-      (all_back (IsOfBase before_open) handed leaving of_notes) kept_handed.booked in
-      subst (λ (all : List Event). IsSameOn number (lines_at station mid) (lines_at station all)) then_is
-      (kept.same number (each_in (IsNotOf number (numbers_at station mid)) leaving (λ note inside handle names.
+  ending_same : (part rest : List Note) → leaving ≡ part ++ rest → (number : ℕ) → IsSameOn number (lines_at station mid) (lines_at station (ending_on part))
+  ending_same part rest parts number =
+      let kept = notes_kept many station mid mid_open before_open part (subst (λ (of : ℕ → ℕ). AreApart of before_open) (sym numbers_mid) apart)
+      (λ handle on. sym (mid_same handle) ∙ on)
+      (front_all (λ note. is_opening note ≡ false) part rest (subst (AreNot is_opening) parts (leaving_not is_opening (λ octets. refl) (λ handle reason. refl) facts)))
+      (front_all (IsOfBase before_open) part rest (subst (AllByRecursion (IsOfBase before_open)) parts (all_back (IsOfBase before_open) handed leaving of_notes))) kept_handed.booked in
+      subst (λ (all : List Event). IsSameOn number (lines_at station mid) (lines_at station all)) (then_is part)
+      (kept.same number (front_all (IsNotOf number (numbers_at station mid)) part rest (subst (AllByRecursion (IsNotOf number (numbers_at station mid))) parts
+      (each_in (IsNotOf number (numbers_at station mid)) leaving (λ note inside handle names.
       absurd (let h : true ≡ false =
       sym names ∙ All-contains (λ one. is_data_note handle one ≡ false) leaving note
-      (All-from_recursion (λ one. is_data_note handle one ≡ false) leaving (leaving_no_data handle facts)) inside in absurd cc))))
+      (All-from_recursion (λ one. is_data_note handle one ≡ false) leaving (leaving_no_data handle facts)) inside in absurd cc))))))
+
+  leaving_same : (number : ℕ) → IsSameOn number (lines_at station mid) (lines_at station then_on)
+  leaving_same number = ending_same leaving [] (sym (append-nil leaving)) number
 
   -- of a link that was not open nothing is said
   pub others_same : (number : ℕ) → IsNoneOf given station number history → IsSameOn number (lines_at station history) (lines_at station then_on)
@@ -199,9 +208,6 @@ module _ (given : Given) (station : ℕ) (history : List Event) (few : (setup_at
     abbrev since_past : List Note
     since_past = since_opened handle (notes_of setup (past_of station history))
 
-    abbrev lines_then : Lines
-    lines_then = lines_at station then_on
-
     noted : since ≡ since_past
     noted = ap (since_opened handle) well.noted
 
@@ -210,21 +216,6 @@ module _ (given : Given) (station : ℕ) (history : List Event) (few : (setup_at
         ap (since_opened handle) (ap (noted_by station) (called_then station TurnEnds history handed)
         ∙ noted_called station station TurnEnds handed history true (same_station station))
         ∙ fold-append (note_since handle) [] (noted_by station history) handed ∙ since_more handle since handed none_opens
-
-    book : IsBook handle number lines_then (since ++ handed)
-    book =
-        let on = mid_same handle ∙ ap (λ (place : Option OpenLink). is_some place) at in
-        let here : IsBook handle number (lines_at station mid) (since ++ handed) =
-        subst (IsBook handle number (lines_at station mid)) since_mid
-        (subst (λ n. IsBook handle n (lines_at station mid) (since_opened handle (noted_by station mid))) (ap (λ (of : ℕ → ℕ). of handle) numbers_mid)
-        (kept_handed.booked.book handle on)) in
-        let same = leaving_same number in
-        record {
-          sent = same.sent ∙ here.sent;
-          taken = same.taken ∙ here.taken;
-          received = same.received ∙ here.received;
-          credited = same.credited ∙ here.credited;
-        }
 
     kind_same : (kind : Note → Bool) → ((octets : List ℕ) → kind (Up (record { items = octets })) ≡ false) → filter kind (since ++ handed) ≡ filter kind since_past
     kind_same kind up =
@@ -237,27 +228,54 @@ module _ (given : Given) (station : ℕ) (history : List Event) (few : (setup_at
         ∙ credited_handed setup (past_of station history) handle link few (omega (arith, eight)) well.few.fed at
         ∙ ap (λ n. (facts_in reported).outgoing.reported + n) (count_same handle (empties_of setup handle (past_of station history)) handed none_opens)
 
-    empties : empties_on number lines_then ≡ empties_of setup handle (past_of station history)
-    empties =
-        ap (λ all. empties_on number (record (lines_at station history) { submitted = all })) (call_submits station TurnEnds (handed ++ leaving) history)
-        ∙ well.submitted.empties_are handle link at
+    -- where these of the ends of links are noted
+    module _ (part rest : List Note) (parts : leaving ≡ part ++ rest) where
+      abbrev lines_then : Lines
+      lines_then = lines_at station (ending_on part)
 
-    pub booked_then : IsEndBooked number lines_then (facts_in reported) []
-    booked_then =
-        let ack = ack_of link in
-        let same = sym (reported_ack link) in
-        record {
-          sent = book.sent
-              ∙ noted_sent handle number (since ++ handed) (nonempty is_empty ack.sent)
-              (kind_same (is_sent_on handle) (λ octets. refl) ∙ sent_notes_are setup (past_of station history) handle link at)
-              ∙ ap (λ (a : Acknowledgement). pdu_lines number 1 (nonempty is_empty a.sent)) same;
-          taken = book.taken
-              ∙ noted_took handle number (since ++ handed) (nonempty is_empty ack.accepted)
-              (kind_same (is_took_on handle) (λ octets. refl) ∙ took_notes_are setup (past_of station history) handle link at)
-              ∙ ap (λ (a : Acknowledgement). pdu_lines number 1 (nonempty is_empty a.accepted)) same;
-          received = append-nil (received_on number lines_then) ∙ book.received ∙ flat_map-append (data_up handle) since handed
-              ∙ (λ i. flat_map (data_up handle) (noted i) ++ handed_data many handle few facts (all_pieces setup (past_of station history)).below i)
-              ∙ data_is_handed setup (past_of station history) handle link few at ∙ ap (λ (a : Acknowledgement). data_of a.accepted) same;
-          credited = book.credited ∙ credits ∙ ap (λ n. (facts_in reported).outgoing.reported + n) (sym empties);
-          submitted = ap (filter has_octets) (submits_same number) ∙ well.submitted.data_is handle link at ∙ sym (reported_given link);
-        }
+      submits_then : lines_then.submitted ≡ (lines_at station history).submitted
+      submits_then = call_submits station TurnEnds (handed ++ part) history
+
+      book : IsBook handle number lines_then (since ++ handed)
+      book =
+          let on = mid_same handle ∙ ap (λ (place : Option OpenLink). is_some place) at in
+          let here : IsBook handle number (lines_at station mid) (since ++ handed) =
+          subst (IsBook handle number (lines_at station mid)) since_mid
+          (subst (λ n. IsBook handle n (lines_at station mid) (since_opened handle (noted_by station mid))) (ap (λ (of : ℕ → ℕ). of handle) numbers_mid)
+          (kept_handed.booked.book handle on)) in
+          let same = ending_same part rest parts number in
+          record {
+            sent = same.sent ∙ here.sent;
+            taken = same.taken ∙ here.taken;
+            received = same.received ∙ here.received;
+            credited = same.credited ∙ here.credited;
+          }
+
+      empties : empties_on number lines_then ≡ empties_of setup handle (past_of station history)
+      empties =
+          ap (λ all. empties_on number (record (lines_at station history) { submitted = all })) submits_then
+          ∙ well.submitted.empties_are handle link at
+
+      pub booked_within : IsEndBooked number lines_then (facts_in reported) []
+      booked_within =
+          let ack = ack_of link in
+          let same = sym (reported_ack link) in
+          record {
+            sent = book.sent
+                ∙ noted_sent handle number (since ++ handed) (nonempty is_empty ack.sent)
+                (kind_same (is_sent_on handle) (λ octets. refl) ∙ sent_notes_are setup (past_of station history) handle link at)
+                ∙ ap (λ (a : Acknowledgement). pdu_lines number 1 (nonempty is_empty a.sent)) same;
+            taken = book.taken
+                ∙ noted_took handle number (since ++ handed) (nonempty is_empty ack.accepted)
+                (kind_same (is_took_on handle) (λ octets. refl) ∙ took_notes_are setup (past_of station history) handle link at)
+                ∙ ap (λ (a : Acknowledgement). pdu_lines number 1 (nonempty is_empty a.accepted)) same;
+            received = append-nil (received_on number lines_then) ∙ book.received ∙ flat_map-append (data_up handle) since handed
+                ∙ (λ i. flat_map (data_up handle) (noted i) ++ handed_data many handle few facts (all_pieces setup (past_of station history)).below i)
+                ∙ data_is_handed setup (past_of station history) handle link few at ∙ ap (λ (a : Acknowledgement). data_of a.accepted) same;
+            credited = book.credited ∙ credits ∙ ap (λ n. (facts_in reported).outgoing.reported + n) (sym empties);
+            submitted = ap (λ all. filter has_octets (submitted_on number (record (lines_at station history) { submitted = all }))) submits_then
+                ∙ well.submitted.data_is handle link at ∙ sym (reported_given link);
+          }
+
+    pub booked_then : IsEndBooked number (lines_at station then_on) (facts_in reported) []
+    booked_then = booked_within leaving [] (sym (append-nil leaving))

@@ -1,6 +1,6 @@
 -- In a turn the packets of a link that wait, with those that are complete and not reported, do not become more. Where hosts
 -- send only between turns, no link ever has more complete packets than its controller has buffers.
-use Rattle.std.proofs.Common.{◌≡◌, ℕ, ◌+◌, ◌≤◌, Bool, true, false, Option, Some, None, List, [], ◌∷◌, ◌++◌, length, cond, refl, sym, subst, ◌∙◌, append-nil, append_assoc, arith}
+use Rattle.std.proofs.Common.{◌≡◌, ℕ, ◌+◌, ◌≤◌, Bool, true, false, Option, Some, None, List, [], ◌∷◌, ◌++◌, length, cond, refl, ap, sym, subst, ◌∙◌, append-nil, append_assoc, arith}
 use Rattle.std.specs.Prelude.{◌&&◌, fold, is_some, nat_lt, ⊤}
 use Rattle.std.specs.List.{find}
 use Rattle.std.proofs.lemmas.List.Sums.{fold-append, sum_by-cons}
@@ -30,10 +30,11 @@ use Rattle.controller_model.specs.Radio.{links_fixing}
 use Rattle.controller_model.specs.Side.{facts_after, facts_of}
 use Rattle.controller_model.specs.Step.{Step, HostOctet, TurnBegins, PacketHeard, NothingHeard, TurnEnds}
 use Rattle.controller_model.proofs.Always.{IsInTurn, IsKeptInTurns, links_won, opening_passes, turn_keeps}
+use Rattle.controller_model.proofs.Asked.{asked_leaves_data}
 use Rattle.controller_model.proofs.BetweenTurns.{none_complete}
 use Rattle.controller_model.proofs.Buffers.{fits_buffers}
 use Rattle.controller_model.proofs.Pasts.{facts_more}
-use Rattle.journal_acks.proofs.run_laws.OpenSteps.{AtOpen, EachOpen, IsKeptByHosts, changed, enter_open, none_open, octet_open, open_more, opened}
+use Rattle.journal_acks.proofs.run_laws.OpenSteps.{AtOpen, EachOpen, IsKeptByHosts, KeepsAsked, changed, enter_open, none_open, octet_open, open_more, opened}
 use Rattle.controller_model.specs.Entering.{all_entered}
 use Rattle.journal_data.proofs.DataSteps.{IsKeptByEnd, IsOwnStep, end_keeps}
 use Rattle.controller_model.proofs.Places.{refusal, refuses_at}
@@ -179,6 +180,12 @@ had_given most start body link had =
 pub had_reported : (most : ℕ) (link : OpenLink) → HasHadFew most link → HasHadFew most (link_after DataReported link)
 had_reported most link had = had_more most link.setup link.past DataReported had (omega arith)
 
+had_asked : (most : ℕ) → KeepsAsked (HasHadFew most)
+had_asked most step link well had =
+    let same = ap (λ (outgoing : Data). outgoing.complete) ((asked_leaves_data step well.by_host).outgoing link.setup (facts_in link)) in
+    let last = had_last most link.setup link.past had in
+    had_more most link.setup link.past step had (omega (arith, same, last))
+
 -- ---- the links of a controller, in a turn
 
 module _ (most : ℕ) where
@@ -288,7 +295,7 @@ module _ (most : ℕ) where
   octet_had : (setup : Setup) (facts : Facts) (octet : ℕ) → AreFewAt facts.links
       → EachOpen (HasHadFew most) (facts_after setup facts (HostOctet octet)).links
   octet_had setup facts octet each =
-      octet_open (HasHadFew most) hosts_kept setup facts octet
+      octet_open (HasHadFew most) hosts_kept (had_asked most) setup facts octet
       (open_more (IsFew most) (HasHadFew most) facts.links (λ link few. few.1) each)
 
   -- a fact of what is under each handle

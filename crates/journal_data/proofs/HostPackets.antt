@@ -21,6 +21,7 @@ use Rattle.h4_frames.specs.declared.packet.HostPacket.TheVariants.{Command, Acl}
 use Rattle.h4_frames.proofs.Feeding.{frames_step}
 use Rattle.h4_frames.proofs.Growing.{frames_more as frames_grown}
 use Rattle.h4_frames.proofs.Steps.{fed_of, found_fed}
+use Rattle.journal_acks.specs.link_model.Data.{Data}
 use Rattle.journal_acks.specs.link_model.Facts.{Facts as EndFacts}
 use Rattle.journal_acks.specs.link_model.Step.{DataGiven}
 use Rattle.journal_acks.proofs.link_model.Pasts.{grows}
@@ -35,7 +36,7 @@ use Rattle.hci_cmd.specs.declared.command.CmdRead.{CmdRead}
 use Rattle.hci_cmd.specs.declared.command.CmdRead.TheVariants.{Known, UnknownOpcode, BadLength}
 use Rattle.hci_cmd.specs.Command.{command_of, layout_of, layouts}
 use Rattle.host_view.specs.Unbuilt.{status_of}
-use Rattle.controller_model.specs.Commands.{facts_commanded, facts_known, links_after}
+use Rattle.controller_model.specs.Commands.{facts_asking, facts_commanded, facts_known, is_asking, links_after}
 use Rattle.controller_model.specs.Data.{facts_offered, offer_of}
 use Rattle.controller_model.specs.Facts.{Setup, Facts}
 use Rattle.controller_model.specs.Host.{commands_accepted_by, commands_accepted_in}
@@ -46,7 +47,7 @@ use Rattle.controller_model.proofs.Feds.{frames_more}
 use Rattle.controller_model.proofs.Resets.{resets}
 use Rattle.controller_model.specs.Since.{count_fed}
 use Rattle.journal_data.specs.HostLines.{OpenUnder, Submitted, buffers_of, has_octets, is_dropped, is_reset, kept_of, kept_one, link_under, packet_in, packets_framed}
-use Rattle.controller_model.proofs.Unasked.{of_unasked}
+use Rattle.journal_data.proofs.AskedLinks.{HasSameData, HaveSameData, commanded_same, same_buffers, same_links, same_under}
 
 -- ---- octet by octet
 
@@ -546,14 +547,31 @@ reset_taken number links held opcode body is = record {
   has = λ submitted count has handle link at. absurd (let h : None ≡ Some link = sym (shut_at handle links) ∙ at in absurd cc);
 }
 
--- any other
-other_command : (number : ℕ → ℕ) (links : Links) (held : List OpenUnder) (opcode : ℕ) (body : ArrayVec ℕ) → is_reset opcode body.items ≡ false
-    → AreUnder number links held → Takes number links links held held (Command opcode body ∷ []) (λ handle. 0)
-other_command number links held opcode body is under = record {
+-- any other: the links have the same data after it
+same_data : (number : ℕ) (submitted : List Submitted) (count : ℕ) (link : OpenLink) (place : Option OpenLink) → HasSameData place (Some link)
+    → ((old : OpenLink) → place ≡ Some old → HasAll number submitted count old) → HasAll number (submitted ++ []) (0 + count) link
+same_data number submitted count link None same has = absurd same
+same_data number submitted count link (Some old) same has =
+    has_more number submitted [] count 0 old link
+    (ap (λ (outgoing : Data). outgoing.given) same ∙ sym (append-nil (facts_in old).outgoing.given)) refl (has old refl)
+
+same_number : (number : ℕ) (place after : Option OpenLink) → HasSameData place after
+    → option_map (λ (link : OpenLink). number) after ≡ option_map (λ (link : OpenLink). number) place
+same_number number None None same = refl
+same_number number None (Some after) same = absurd same
+same_number number (Some link) None same = absurd same
+same_number number (Some link) (Some after) same = refl
+
+other_command : (number : ℕ → ℕ) (links after : Links) (held : List OpenUnder) (opcode : ℕ) (body : ArrayVec ℕ) → is_reset opcode body.items ≡ false
+    → HaveSameData links after → AreUnder number links held → Takes number links after held held (Command opcode body ∷ []) (λ handle. 0)
+other_command number links after held opcode body is same under = record {
   kept = [];
-  under = under;
-  ahead = λ later. ap (λ (b : Bool). if b then [] else kept_of 8 held (buffers_taken links) later) is;
-  has = λ submitted count has handle link at. has_none_of (number handle) submitted [] (count handle) link refl (has handle link at);
+  under = λ handle. under handle ∙ sym (same_number (number handle) (link_at handle links) (link_at handle after) (same_under 0 handle links after same));
+  ahead = λ later. ap (λ (b : Bool). if b then [] else kept_of 8 held (buffers_taken links) later) is
+      ∙ ap (λ (n : ℕ). kept_of 8 held n later) (sym (same_buffers links after same));
+  has = λ submitted count has handle link at.
+      same_data (number handle) submitted (count handle) link (link_at handle links)
+      (subst (HasSameData (link_at handle links)) at (same_under 0 handle links after same)) (λ old was. has handle old was);
 }
 
 -- ---- an octet of the host
@@ -595,11 +613,17 @@ known_leaves : (accepted : Bool) (setup : Setup) (facts : Facts) (command : HciC
 known_leaves false setup facts command differs = refl
 known_leaves true setup facts command differs = others_leave command facts.links differs
 
-read_leaves : (setup : Setup) (facts : Facts) (read : CmdRead) → (read ≡ Known Reset → ⊥) → (facts_commanded setup facts read).links ≡ facts.links
+asked_leaves : (asks accepted : Bool) (setup : Setup) (facts : Facts) (command : HciCommand) → (command ≡ Reset → ⊥)
+    → HaveSameData facts.links (facts_asking asks facts command (facts_known accepted setup facts command)).links
+asked_leaves true accepted setup facts command differs = commanded_same command facts.turn.begun 0 facts.links
+asked_leaves false accepted setup facts command differs =
+    subst (HaveSameData facts.links) (sym (known_leaves accepted setup facts command differs)) (same_links facts.links)
+
+read_leaves : (setup : Setup) (facts : Facts) (read : CmdRead) → (read ≡ Known Reset → ⊥) → HaveSameData facts.links (facts_commanded setup facts read).links
 read_leaves setup facts (Known command) differs =
-    of_unasked setup facts command (λ (after : Facts). after.links ≡ facts.links) (known_leaves (status_of facts.view command == 0) setup facts command (λ is. differs (ap Known is)))
-read_leaves setup facts UnknownOpcode differs = refl
-read_leaves setup facts BadLength differs = refl
+    asked_leaves (is_asking facts.view command) (status_of facts.view command == 0) setup facts command (λ is. differs (ap Known is))
+read_leaves setup facts UnknownOpcode differs = same_links facts.links
+read_leaves setup facts BadLength differs = same_links facts.links
 
 reset_shuts : (setup : Setup) (facts : Facts) → (facts_commanded setup facts (command_of 0x0C03 [])).links ≡ without_links facts.links
 unfolding command_of layout_of layouts status_of
@@ -628,9 +652,8 @@ command_taken number setup facts held opcode body only under true is =
     subst (λ (after : Links). Takes number facts.links after held [] (Command opcode body ∷ []) (λ handle. 0)) (sym (reset_links setup facts opcode body.items is))
     (reset_taken number facts.links held opcode body is)
 command_taken number setup facts held opcode body only under false is =
-    subst (λ (after : Links). Takes number facts.links after held held (Command opcode body ∷ []) (λ handle. 0))
-    (sym (read_leaves setup facts (command_of opcode body.items) (λ read. false≢true (sym is ∙ only read))))
-    (other_command number facts.links held opcode body is under)
+    other_command number facts.links (facts_commanded setup facts (command_of opcode body.items)).links held opcode body is
+    (read_leaves setup facts (command_of opcode body.items) (λ read. false≢true (sym is ∙ only read))) under
 
 offered_links : (offer : Offer) (handle : ℕ) (start : Bool) (octets : List ℕ) (facts : Facts)
     → (facts_offered offer handle start octets facts).links ≡ links_offered offer handle start octets facts.links

@@ -1,4 +1,5 @@
 -- The lemmas of this crate.
+pub mod AskedLinks
 pub mod FewLinks
 pub mod EachLine
 pub mod HeldLinks
@@ -34,7 +35,7 @@ pub mod Ends
 pub mod ClearLines
 mod SameView
 mod NotedStays
-mod EndedLinks
+pub mod EndedLinks
 pub mod OneCall
 mod EndCalls
 pub mod Moves
@@ -52,6 +53,5 @@ pub use Rattle.journal_acks.proofs.journal_links as journal_links
 pub use Rattle.journal_acks.proofs.journal_packets as journal_packets
 pub use Rattle.journal_acks.proofs.link_model as link_model
 pub use Rattle.journal_acks.proofs.open_links as open_links
-pub use Rattle.journal_acks.proofs.plain_links as plain_links
 pub use Rattle.journal_acks.proofs.run_laws as run_laws
 pub use Rattle.journal_acks.proofs.run_model as run_model

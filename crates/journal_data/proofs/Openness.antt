@@ -45,7 +45,7 @@ use Rattle.controller_model.specs.declared.doing.Doing.TheVariants.{Advertises, 
 use Rattle.controller_model.specs.Step.{Step, HostOctet, TurnBegins, PacketHeard, NothingHeard, TurnEnds}
 use Rattle.controller_model.specs.Facts.{Setup, Facts}
 use Rattle.controller_model.specs.Answers.{AreOneAnswer, HasNoAnswer, IsAnswerTo, answer_to}
-use Rattle.controller_model.specs.Commands.{events_caused, facts_commanded, facts_known, links_after, notes_before, notes_commanded, notes_known}
+use Rattle.controller_model.specs.Commands.{events_caused, facts_commanded, facts_known, is_asking, links_after, notes_before, notes_commanded, notes_known}
 use Rattle.controller_model.specs.Data.{event_completed, facts_offered, note_received, notes_offered, offer_of, facts_handed, notes_handed}
 use Rattle.controller_model.specs.Events.{notes_of_events, passes}
 use Rattle.controller_model.specs.Heard.{events_reported, has_room, link_heard, link_taken, notes_taken, opens as opening, report_event, report_events, scanner_heard, events_received}
@@ -67,7 +67,8 @@ use Rattle.journal_acks.proofs.link_calls.CallNotes.{is_taking}
 use Rattle.controller_model.proofs.EndNotes.{sent_each, received_each, entered_each}
 use Rattle.controller_model.proofs.ProcedureEvents.{AreOfProcedures, IsOfProcedure, entering_events, reception_events}
 use Rattle.controller_model.specs.Entering.{events_entering, notes_all_entering}
-use Rattle.controller_model.proofs.Unasked.{both_unasked}
+use Rattle.controller_model.specs.link_commands.LinksCommanded.{events_commanded_on, links_commanded}
+use Rattle.controller_model.proofs.Asked.{asked_same, asking_shuts_none, both_asking, events_at_once_are, notes_at_once}
 
 -- ---- what a note says
 
@@ -390,11 +391,29 @@ known_as true setup facts opcode command = accepted_as setup facts opcode comman
 known_as false setup facts opcode command =
     stays_quiet (is_open facts.links) (is_open facts.links) _ (answer_quiet setup facts opcode (Known command)) (λ handle. refl)
 
+-- one that asks something of links, too, opens and shuts none
+asked_as : (setup : Setup) (facts : Facts) (opcode : ℕ) (command : Command) → is_asking facts.view command ≡ true
+    → IsNotedAs (is_open facts.links) (is_open (links_commanded command facts.turn.begun facts.links))
+    (notes_known true setup facts opcode command ++ notes_at_once facts command)
+asked_as setup facts opcode command asks =
+    let before = notes_before facts command in
+    let answer = notes_of_events facts.view (answer_to setup facts opcode (Known command)) in
+    let caused = notes_of_events facts.view (events_caused facts command) in
+    let events = events_commanded_on command facts.links in
+    let after = links_commanded command facts.turn.begun facts.links in
+    stays_quiet (is_open facts.links) (is_open after) (((before ++ answer) ++ caused) ++ notes_at_once facts command)
+    (both_quiet ((before ++ answer) ++ caused) (notes_at_once facts command)
+    (both_quiet (before ++ answer) caused
+    (both_quiet before answer (subst AreQuiet (sym (asking_shuts_none facts command asks)) tt) (answer_quiet setup facts opcode (Known command)))
+    (caused_quiet facts command))
+    (events_quiet facts.view events (procedures_other events (events_at_once_are command facts.links))))
+    (same_open facts.links after (asked_same (λ place. is_some place) (λ link step asks. refl) command facts.turn.begun 0 facts.links))
+
 read_as : (setup : Setup) (facts : Facts) (opcode : ℕ) (read : CmdRead)
     → IsNotedAs (is_open facts.links) (is_open (facts_commanded setup facts read).links) (notes_commanded setup facts opcode read)
 read_as setup facts opcode (Known command) =
-    both_unasked setup facts command opcode (λ (after : Facts) (notes : List Note). IsNotedAs (is_open facts.links) (is_open after.links) notes)
-    (known_as (status_of facts.view command == 0) setup facts opcode command)
+    both_asking setup facts command opcode (λ (after : Facts) (notes : List Note). IsNotedAs (is_open facts.links) (is_open after.links) notes)
+    (known_as (status_of facts.view command == 0) setup facts opcode command) (asked_as setup facts opcode command)
 read_as setup facts opcode UnknownOpcode =
     stays_quiet (is_open facts.links) (is_open facts.links) _ (answer_quiet setup facts opcode UnknownOpcode) (λ handle. refl)
 read_as setup facts opcode BadLength =

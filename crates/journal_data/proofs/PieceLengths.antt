@@ -110,6 +110,7 @@ IsShort facts = AreShort facts.received
 short_kept : (setup : Setup) → IsKept setup IsShort IsShort
 short_kept setup = record {
   accepted = λ facts opcode octets command is accepted are. commanded_short command facts.received are;
+  asked = λ facts command asks before are. are;
   given = λ facts handle count start octets is are. are;
   octet = λ facts octet are. are;
   turns = record {

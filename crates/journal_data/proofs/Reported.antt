@@ -29,6 +29,8 @@ use Rattle.journal_acks.specs.open_links.OpenLinks.{handles_from}
 use Rattle.wire_fields.specs.Field.{little_endian}
 use Rattle.controller_model.specs.Answers.{answer_to}
 use Rattle.controller_model.specs.Commands.{events_caused, notes_commanded, notes_known}
+use Rattle.controller_model.specs.link_commands.LinksCommanded.{events_commanded_on}
+use Rattle.controller_model.proofs.Asked.{noted_asking, notes_at_once}
 use Rattle.controller_model.specs.Data.{notes_offered, offer_of, event_completed, note_received, facts_handed, notes_handed}
 use Rattle.controller_model.specs.Events.{notes_of_events, passes}
 use Rattle.controller_model.specs.Facts.{Facts, Setup}
@@ -43,7 +45,6 @@ use Rattle.controller_model.proofs.TurnNotes.{EachNote, turn_noted}
 use Rattle.journal_data.specs.Held.{IsOfOneHandle}
 use Rattle.journal_data.proofs.PieceLengths.{AreShort, all_short, packet_length}
 use Rattle.journal_data.proofs.Openness.{AreNot, NoReport, begun_reports, is_report, phase_reports, all_append, leaving_reports}
-use Rattle.controller_model.proofs.Unasked.{noted_unasked}
 
 -- a Number Of Completed Packets event is of one handle
 abbrev pub NamesOneHandle : Note → Type 0
@@ -104,7 +105,8 @@ module _ (P : Note → Type 0) (of_event : (event : Event) → P (Up (record { i
 
   of_read : (setup : Setup) (facts : Facts) (opcode : ℕ) (read : CmdRead) → AllByRecursion P (notes_commanded setup facts opcode read)
   of_read setup facts opcode (Known command) =
-      noted_unasked setup facts command opcode (AllByRecursion P) (of_known (status_of facts.view command == 0) setup facts opcode command)
+      noted_asking setup facts command opcode (AllByRecursion P) (of_known (status_of facts.view command == 0) setup facts opcode command)
+      (λ notes asks all. both notes (notes_at_once facts command) all (of_events facts.view (events_commanded_on command facts.links)))
   of_read setup facts opcode UnknownOpcode = of_events facts.view (answer_to setup facts opcode UnknownOpcode)
   of_read setup facts opcode BadLength = of_events facts.view (answer_to setup facts opcode BadLength)
 

@@ -11,6 +11,5 @@ pub use Rattle.journal_acks.specs.journal_packets as journal_packets
 pub use Rattle.journal_acks.specs.link_end as link_end
 pub use Rattle.journal_acks.specs.link_model as link_model
 pub use Rattle.journal_acks.specs.open_links as open_links
-pub use Rattle.journal_acks.specs.plain_links as plain_links
 pub use Rattle.journal_acks.specs.run_laws as run_laws
 pub use Rattle.journal_acks.specs.run_model as run_model

@@ -1,13 +1,14 @@
 -- The filter policy and the accept list that a controller holds are those that its host has set, by its commands and the
 -- statuses in their answers.
-use Rattle.std.proofs.Common.{◌≡◌, ℕ, suc, ◌+◌, ◌%◌, ◌==◌, ◌||◌, Bool, true, false, List, [], ◌∷◌, ◌++◌, cond, length, refl, sym, ap, subst, ◌∙◌, append-nil, append_assoc, arith}
-use Rattle.std.specs.Prelude.{fold, flat_map}
+use Rattle.std.proofs.Common.{◌≡◌, ℕ, suc, ◌+◌, ◌%◌, ◌==◌, ◌||◌, Bool, true, false, List, [], ◌∷◌, ◌++◌, cond, length, map, refl, sym, ap, subst, ◌∙◌, append-nil, append_assoc, arith}
+use Rattle.std.specs.Prelude.{filter, fold, flat_map}
 use Rattle.std.proofs.lemmas.List.{length-append}
 use Rattle.std.proofs.lemmas.List.Concat.{flat_map-append}
 use Rattle.std.proofs.lemmas.List.Sums.{fold-append}
-use Rattle.std.proofs.lemmas.Bool.{eqb-true}
+use Rattle.std.proofs.lemmas.Bool.{eq-eqb, eqb-true}
 use Rattle.ble_base.specs.declared.addresses.Address.{Address}
 use Rattle.ble_base.specs.declared.notes.Note.{Note}
+use Rattle.ble_base.specs.declared.notes.Note.TheVariants.{Up}
 use Rattle.h4_frames.specs.Frames.{frames, frame_entry}
 use Rattle.h4_frames.specs.declared.packet.HostPacket.TheVariants.{Command as HostCommand, Acl}
 use Rattle.h4_frames.specs.declared.packet.Fed.{Fed}
@@ -19,6 +20,9 @@ use Rattle.hci_cmd.specs.declared.command.Command.TheVariants.{HostCompleted, Re
 use Rattle.hci_cmd.specs.declared.command.CmdRead.{CmdRead}
 use Rattle.hci_cmd.specs.declared.command.CmdRead.TheVariants.{Known, UnknownOpcode, BadLength}
 use Rattle.hci_cmd.specs.Command.{command_of}
+use Rattle.hci_evt.specs.Event.{mask_bit_of, written}
+use Rattle.hci_evt.specs.declared.event.Event.{Event}
+use Rattle.hci_evt.specs.declared.event.Event.TheVariants.{CommandComplete, CommandStatus}
 use Rattle.host_view.specs.View.{View}
 use Rattle.host_view.specs.Changes.{view_after}
 use Rattle.host_view.specs.Unbuilt.{status_of}
@@ -29,18 +33,22 @@ use Rattle.controller_model.specs.Facts.{Setup, Facts, Advertising, first_facts}
 use Rattle.controller_model.specs.Answers.{accepted_answer, complete_answer, has_status_answer, is_host_completed, refused_fields, returned, status_answer}
 use Rattle.controller_model.specs.Commands.{advertising_after, facts_accepted, facts_commanded, facts_known, notes_commanded, notes_known}
 use Rattle.controller_model.specs.Data.{facts_offered, offer_of}
-use Rattle.controller_model.specs.Events.{notes_of_events}
 use Rattle.controller_model.specs.Heard.{link_taken}
 use Rattle.controller_model.specs.Side.{facts_after, facts_fed, facts_of, notes_after, notes_fed, notes_from, notes_of, result_of}
 use Rattle.controller_model.proofs.Accepted.{same_after_counts}
 use Rattle.controller_model.proofs.Always.{IsInTurn, IsKeptInTurns, opening_passes, holds_step, turn_keeps}
+use Rattle.controller_model.proofs.Following.{receiving_passes}
 use Rattle.controller_model.proofs.Feds.{frames_more, more_octets, no_frames, turn_octets}
 use Rattle.controller_model.proofs.NoAnswers.{answer_alone, none_in_loss, none_in_turn, none_of_offers}
 use Rattle.controller_model.proofs.Handles.{HaveOwnHandles, handles_kept, own_handles}
 use Rattle.journal_hearings.specs.Settings.{accepted_commands, accepted_command, commands_sent, command_read, is_left_out, list_after, policy_after, status_unless}
 use Rattle.journal_hearings.proofs.AnswerStatuses.{command_status, complete_status, reads_statuses, statuses_append, statuses_noted, statuses_of}
 use Rattle.journal_hearings.proofs.CommandCodes.{FitsCode, FitsRead, IsPlain, read_fits}
-use Rattle.controller_model.proofs.Unasked.{both_unasked}
+use Rattle.controller_model.proofs.NoAnswers.{IsNoAnswer}
+use Rattle.controller_model.proofs.ProcedureEvents.{AreOfProcedures, IsOfProcedure}
+use Rattle.controller_model.specs.Events.{notes_of_events, passes}
+use Rattle.controller_model.specs.link_commands.LinksCommanded.{events_commanded_on}
+use Rattle.controller_model.proofs.Asked.{asking_accepted, both_asking, events_at_once_are, facts_asked, notes_at_once}
 
 -- ---- what a controller holds
 
@@ -261,12 +269,44 @@ module _ (setup : Setup) (facts : Facts) (opcode : ℕ) where
 
 -- ---- what an octet of the host completes
 
+-- what is answered at once is no answer
+no_answer : (event : Event) → IsOfProcedure event → IsNoAnswer event
+no_answer (CommandComplete number opcode fields) is = absurd is
+no_answer (CommandStatus status number opcode) is = absurd is
+no_answer other is = tt
+
+events_none : (view : View) (events : List Event) → AreOfProcedures events → statuses_of (notes_of_events view events) ≡ []
+events_none view [] are = refl
+events_none view (event ∷ events) are = by (passes view (mask_bit_of event)) (events_none view events are.1)
+  where
+    later : List Event
+    later = filter (λ one. passes view (mask_bit_of one)) events
+
+    by : (passed : Bool) → statuses_of (notes_of_events view events) ≡ []
+        → statuses_of (map (λ one. Up (record { items = written one })) (cond passed (event ∷ later) later)) ≡ []
+    by true rest = (λ i. reads_statuses.event event (no_answer event are.0) i ++ rest i)
+    by false rest = rest
+
+-- and what is asked changes neither
+asked_set : (setup : Setup) (facts : Facts) (opcode : ℕ) (command : Command) (reads : List CmdRead)
+    → IsAnsweredSet facts (facts_accepted setup facts command) reads (statuses_of (notes_known true setup facts opcode command))
+    → IsAnsweredSet facts (facts_asked setup facts command) reads (statuses_of (notes_known true setup facts opcode command ++ notes_at_once facts command))
+asked_set setup facts opcode command reads answered =
+    let notes = notes_known true setup facts opcode command in
+    let none = events_none facts.view (events_commanded_on command facts.links) (events_at_once_are command facts.links) in
+    subst (IsAnsweredSet facts (facts_asked setup facts command) reads)
+    (sym (statuses_append notes (notes_at_once facts command) ∙ ap (λ more. statuses_of notes ++ more) none ∙ append-nil (statuses_of notes)))
+    (record { lengths = answered.lengths; set = λ policy list holds. answered.set policy list holds })
+
 command_set : (setup : Setup) (facts : Facts) (opcode : ℕ) (read : CmdRead) → FitsRead opcode read
     → IsAnsweredSet facts (facts_commanded setup facts read) (reads_of (is_left_out opcode) read) (statuses_of (notes_commanded setup facts opcode read))
 command_set setup facts opcode (Known command) fits =
-    both_unasked setup facts command opcode
-    (λ (after : Facts) (notes : List Note). IsAnsweredSet facts after (reads_of (is_left_out opcode) (Known command)) (statuses_of notes))
-    (known_set setup facts opcode command fits)
+    let reads = reads_of (is_left_out opcode) (Known command) in
+    let answered = known_set setup facts opcode command fits in
+    both_asking setup facts command opcode (λ (after : Facts) (notes : List Note). IsAnsweredSet facts after reads (statuses_of notes)) answered
+    (λ asks. asked_set setup facts opcode command reads
+    (subst (λ b. IsAnsweredSet facts (facts_known b setup facts command) reads (statuses_of (notes_known b setup facts opcode command)))
+    (eq-eqb (status_of facts.view command) 0 (asking_accepted facts.view command asks)) answered))
 command_set setup facts opcode UnknownOpcode fits =
     subst (IsAnsweredSet facts facts (reads_of (is_left_out opcode) UnknownOpcode)) (sym (command_status facts.view 0x01 opcode))
     (refused_set (is_left_out opcode) facts UnknownOpcode (0x01 % 256) refl)
@@ -332,7 +372,7 @@ settings_kept setup policy list = record {
     scanned = λ channel heard pdu on doing is_on hears. is;
     answered = λ channel heard pdu on doing is_on hears. is;
     connects = λ channel heard pdu on access handle doing is_on hears answers next free in_range. is;
-    received = λ handle heard. is;
+    received = λ handle heard. receiving_passes (Holds policy list) setup handle heard facts is;
   };
 }
 

@@ -1,6 +1,6 @@
 -- The credits of a side in the turn that is under way, by the lines, and whether each note fits them.
-use Rattle.std.proofs.Common.{◌≡◌, ℕ, zero, suc, ◌+◌, ◌<◌, ◌≤◌, ◌&&◌, ◌||◌, ◌⊎◌, inl, inr, Bool, true, false, Option, Some, None, List, [], ◌∷◌, ◌++◌, length, map, refl, sym, ap, subst, ◌∙◌, append-nil, append_assoc, arith}
-use Rattle.std.specs.Prelude.{⊤, filter, flat_map, fold, if◌then◌else◌}
+use Rattle.std.proofs.Common.{◌≡◌, ℕ, zero, suc, ◌+◌, ◌<◌, ◌≤◌, ◌&&◌, ◌⊎◌, inl, inr, Bool, true, false, Option, Some, None, List, [], ◌∷◌, ◌++◌, length, map, cond, refl, sym, ap, subst, ◌∙◌, append-nil, append_assoc, arith}
+use Rattle.std.specs.Prelude.{⊤, flat_map, fold, if◌then◌else◌}
 use Rattle.std.specs.List.{AllByRecursion}
 use Rattle.std.specs.Option.{option_map}
 use Rattle.std.proofs.lemmas.Bool.{and_from}
@@ -24,7 +24,7 @@ use Rattle.acl_banks.specs.declared.pieces.Piece.{Piece}
 use Rattle.journal_data.specs.controller_model.Data.{acl_packet, event_completed, note_received}
 use Rattle.journal_data.specs.controller_model.Events.{notes_of_events, passes}
 use Rattle.journal_data.specs.controller_model.Links.{note_shut, notes_ended}
-use Rattle.journal_data.specs.controller_model.Step.{Step}
+use Rattle.journal_data.specs.controller_model.Step.{Step, HostOctet, TurnBegins}
 use Rattle.run_model.specs.Due.{Each}
 use Rattle.run_model.specs.History.{Event, TurnBegan, HostFed, Called, Noted, Transmitted}
 use Rattle.run_model.specs.Journal.{entries_of, entry_of, journal_from, journal_of, side_of}
@@ -242,38 +242,112 @@ count_held : (handle count : ℕ) → count ≤ 65535 → 0 < count → 0 < cred
 unfolding little_endian
 count_held handle count fits some = omega (arith, fits, some)
 
--- ---- the links that a side shuts
+-- ---- whether a side has shut a link since its first credit after that packet
 
--- since the last credit of the side in a turn
-abbrev pub shut_after : Side → Bool → Entry → Bool
-shut_after side shut (Turn slot a_on b_on) = false
-shut_after side shut (Up other octets) = if is_side other side && is_credit octets then false else shut
-shut_after side shut (Shut other link reason) = is_side other side || shut
-shut_after side shut entry = shut
+abbrev pub with_credit : Option Bool → Option Bool
+with_credit None = Some false
+with_credit (Some shut) = Some shut
 
-abbrev pub shut_at : Side → List Event → Bool
-shut_at side history = fold (shut_after side) false (journal_of history)
+abbrev pub with_shut : Option Bool → Option Bool
+with_shut None = None
+with_shut (Some shut) = Some true
 
-shut_event : (side : Side) (history : List Event) (event : Event)
-    → shut_at side (history ++ event ∷ []) ≡ fold (shut_after side) (shut_at side history) (entries_of (links_of history) event)
-shut_event side history event =
-    ap (fold (shut_after side) false) (journal_event history event) ∙ fold-append (shut_after side) false (journal_of history) (entries_of (links_of history) event)
+-- after an entry; there is nothing before that packet, and then nothing before the first credit
+abbrev pub ended_after : Side → Option (Option Bool) → Entry → Option (Option Bool)
+ended_after side ended (Turn slot a_on b_on) = None
+ended_after side None (Air sender channel octets fate verdict) = Some None
+ended_after side (Some ended) (Air sender channel octets fate verdict) = Some ended
+ended_after side ended (Up other octets) = if is_side other side && is_credit octets then option_map with_credit ended else ended
+ended_after side ended (Shut other link reason) = if is_side other side then option_map with_shut ended else ended
+ended_after side ended entry = ended
 
-shut_now : (station handle : ℕ) (reason : ErrCode) (history : List Event) → shut_at (side_of station) (history ++ Noted station (ShutNote handle reason) ∷ []) ≡ true
-shut_now station handle reason history =
-    shut_event (side_of station) history (Noted station (ShutNote handle reason))
-    ∙ ap (λ (own : Bool). own || shut_at (side_of station) history) (side_same station)
+abbrev pub ended_of : Side → List Entry → Option (Option Bool)
+ended_of side journal = fold (ended_after side) None journal
 
-still_shut : (station : ℕ) (packet : ArrayVec ℕ) (history : List Event) → is_credit packet.items ≡ false → shut_at (side_of station) history ≡ true
-    → shut_at (side_of station) (history ++ Noted station (UpNote packet) ∷ []) ≡ true
-still_shut station packet history none shut =
-    shut_event (side_of station) history (Noted station (UpNote packet))
-    ∙ by (is_side (side_of station) (side_of station)) (is_credit packet.items) none ∙ shut
+-- it has shut none
+abbrev pub IsUnended : Side → List Entry → Type 0
+IsUnended side journal = ended_of side journal ≡ Some (Some true) → ⊥
+
+pub record IsPast (ended : Option (Option Bool)) : Type 0 where
+  pub since : Option Bool
+  pub is : ended ≡ Some since
+
+-- both begin with that packet, and with the first credit
+abbrev AreTogether : Option (List ℕ) → Option (Option Bool) → Type 0
+AreTogether None ended = ended ≡ None
+AreTogether (Some []) ended = ended ≡ Some None
+AreTogether (Some (handle ∷ handles)) ended = IsPast ended
+
+together_credit : (test : Bool) (handle : ℕ) (handles : Option (List ℕ)) (ended : Option (Option Bool)) → AreTogether handles ended
+    → AreTogether (if test then option_map (λ some. some ++ handle ∷ []) handles else handles) (if test then option_map with_credit ended else ended)
+together_credit false handle handles ended is = is
+together_credit true handle None ended is = ap (option_map with_credit) is
+together_credit true handle (Some []) ended is = record { since = Some false; is = ap (option_map with_credit) is }
+together_credit true handle (Some (one ∷ handles)) ended is = record { since = with_credit is.since; is = ap (option_map with_credit) is.is }
+
+together_shut : (test : Bool) (handles : Option (List ℕ)) (ended : Option (Option Bool)) → AreTogether handles ended
+    → AreTogether handles (if test then option_map with_shut ended else ended)
+together_shut false handles ended is = is
+together_shut true None ended is = ap (option_map with_shut) is
+together_shut true (Some []) ended is = ap (option_map with_shut) is
+together_shut true (Some (handle ∷ handles)) ended is = record { since = with_shut is.since; is = ap (option_map with_shut) is.is }
+
+together_after : (side : Side) (entry : Entry) (handles : Option (List ℕ)) (ended : Option (Option Bool)) → AreTogether handles ended
+    → AreTogether (handles_after side handles entry) (ended_after side ended entry)
+together_after side (Turn slot a_on b_on) handles ended is = refl
+together_after side (Air sender channel octets fate verdict) None None is = refl
+together_after side (Air sender channel octets fate verdict) None (Some since) is = absurd cc
+together_after side (Air sender channel octets fate verdict) (Some []) None is = absurd cc
+together_after side (Air sender channel octets fate verdict) (Some (handle ∷ handles)) None is = absurd (let h : None ≡ Some is.since = is.is in absurd cc)
+together_after side (Air sender channel octets fate verdict) (Some handles) (Some since) is = is
+together_after side (Up other octets) handles ended is = together_credit (is_side other side && is_credit octets) (credit_handle octets) handles ended is
+together_after side (Shut other link reason) handles ended is = together_shut (is_side other side) handles ended is
+together_after side entry handles ended is = is
+
+together_from : (side : Side) (entries : List Entry) (handles : Option (List ℕ)) (ended : Option (Option Bool)) → AreTogether handles ended
+    → AreTogether (fold (handles_after side) handles entries) (fold (ended_after side) ended entries)
+together_from side [] handles ended is = is
+together_from side (entry ∷ entries) handles ended is =
+    together_from side entries (handles_after side handles entry) (ended_after side ended entry) (together_after side entry handles ended is)
+
+together_of : (side : Side) (journal : List Entry) → AreTogether (handles_of side journal) (ended_of side journal)
+together_of side journal = together_from side journal None None refl
+
+-- before the first credit there is none
+pub unended_first : (side : Side) (journal : List Entry) → some_handles (handles_of side journal) ≡ [] → IsUnended side journal
+unended_first side journal none = by (handles_of side journal) (ended_of side journal) none (together_of side journal)
   where
-    by : (own credit : Bool) → credit ≡ false → (if own && credit then false else shut_at (side_of station) history) ≡ shut_at (side_of station) history
-    by own true is = absurd cc
-    by true false is = refl
-    by false false is = refl
+    by : (handles : Option (List ℕ)) (ended : Option (Option Bool)) → some_handles handles ≡ [] → AreTogether handles ended → ended ≡ Some (Some true) → ⊥
+    by None ended none is on = absurd (let h : None ≡ Some (Some true) = sym is ∙ on in absurd cc)
+    by (Some []) ended none is on = absurd (let h : Some None ≡ Some (Some true) = sym is ∙ on in absurd cc)
+    by (Some (handle ∷ handles)) ended none is on = absurd cc
+
+-- after that packet there is one, or there was no credit yet
+pub is_past : (side : Side) (journal : List Entry) (handles : List ℕ) → handles_of side journal ≡ Some handles → IsPast (ended_of side journal)
+is_past side journal handles are = by (handles_of side journal) (ended_of side journal) are (together_of side journal)
+  where
+    by : (found : Option (List ℕ)) (ended : Option (Option Bool)) → found ≡ Some handles → AreTogether found ended → IsPast ended
+    by None ended are is = absurd cc
+    by (Some []) ended are is = record { since = None; is = is }
+    by (Some (handle ∷ more)) ended are is = is
+
+ended_event : (side : Side) (history : List Event) (event : Event)
+    → ended_of side (journal_of (history ++ event ∷ [])) ≡ fold (ended_after side) (ended_of side (journal_of history)) (entries_of (links_of history) event)
+ended_event side history event =
+    ap (ended_of side) (journal_event history event) ∙ fold-append (ended_after side) None (journal_of history) (entries_of (links_of history) event)
+
+unended_credit : (test : Bool) (ended : Option (Option Bool)) → (if test then option_map with_credit ended else ended) ≡ Some (Some true) → ended ≡ Some (Some true)
+unended_credit false ended on = on
+unended_credit true None on = absurd cc
+unended_credit true (Some None) on = absurd (let h : Some (Some false) ≡ Some (Some true) = on in absurd cc)
+unended_credit true (Some (Some shut)) on = on
+
+-- a packet to a host shuts none
+pub unended_up : (side : Side) (station : ℕ) (packet : ArrayVec ℕ) (history : List Event) → IsUnended side (journal_of history)
+    → IsUnended side (journal_of (history ++ Noted station (UpNote packet) ∷ []))
+unended_up side station packet history none = λ on.
+    none (unended_credit (is_side (side_of station) side && is_credit packet.items) (ended_of side (journal_of history))
+    (sym (ended_event side history (Noted station (UpNote packet))) ∙ on))
 
 -- no side has a credit after that packet yet
 abbrev pub HaveNone : List Event → Type 0
@@ -286,6 +360,23 @@ no_front (x ∷ xs) ys none = (none.0, no_front xs ys none.1)
 no_back : (xs ys : List Note) → AreNoCredits (xs ++ ys) → AreNoCredits ys
 no_back [] ys none = none
 no_back (x ∷ xs) ys none = no_back xs ys none.1
+
+-- octets of a host come, and turns begin, before the first packet of a turn
+abbrev pub IsBeforePackets : List Event → Type 0
+IsBeforePackets history = (side : Side) → handles_at side history ≡ None
+
+abbrev pub FitsCall : List Event → Step → Type 0
+FitsCall history (HostOctet octet) = IsBeforePackets history
+FitsCall history (TurnBegins slot on) = IsBeforePackets history
+FitsCall history step = ⊤
+
+-- the event of a link that was shut in the note before
+pub record IsReported (station : ℕ) (history : List Event) (octets : List ℕ) : Type 0 where
+  pub before : List Event
+  pub handle : ℕ
+  pub reason : ErrCode
+  pub is : history ≡ before ++ Noted station (ShutNote handle reason) ∷ []
+  pub octets_are : octets ≡ written (DisconnectionComplete 0x00 handle reason.0)
 
 module _ (Few Fit : Type 0) where
   -- before the first packet of the turn it is of one packet; after it, where handles fit into two octets, it is above all
@@ -300,12 +391,14 @@ module _ (Few Fit : Type 0) where
     pub fed : handles_of side front ≡ None → is_being_fed side front ≡ true
     -- where counts fit into two octets, it is of at least one packet
     pub some : Fit → 0 < credit_count octets
+    -- after that packet it comes before its side shuts a link
+    pub unended : IsUnended side front
 
-  -- a packet to the host that is no credit comes before all credits of its side after that packet, or after its side shut
-  -- a link
+  -- a packet to the host that is no credit comes before all credits of its side after that packet, or reports the end of
+  -- the link that its station has just shut
   pub record IsFit (station : ℕ) (history : List Event) (octets : List ℕ) : Type 0 where
     pub credit : is_credit octets ≡ true → HasPlace (side_of station) (journal_of history) octets
-    pub other : is_credit octets ≡ false → (some_handles (handles_at (side_of station) history) ≡ []) ⊎ (shut_at (side_of station) history ≡ true)
+    pub other : is_credit octets ≡ false → (some_handles (handles_at (side_of station) history) ≡ []) ⊎ IsReported station history octets
 
   -- and what is neither a packet to a host nor the end of a link before those of both sides
   abbrev pub FitsNote : ℕ → List Event → Note → Type 0
@@ -315,7 +408,7 @@ module _ (Few Fit : Type 0) where
 
   abbrev pub CreditsFit : List Event → Event → Type 0
   CreditsFit history (Noted station note) = FitsNote station history note
-  CreditsFit history (Called station step) = ⊤
+  CreditsFit history (Called station step) = FitsCall history step
   CreditsFit history (TurnBegan slot radios) = ⊤
   CreditsFit history (HostFed station octets) = HaveNone history
   CreditsFit history (Transmitted station channel octets hearings) = HaveNone history
@@ -346,6 +439,7 @@ module _ (Few Fit : Type 0) where
       fits = subst (λ handles. Fits handles packet.items) (sym (early (side_of station))) count;
       fed = λ none. fed;
       some = λ fit. omega (arith, count);
+      unended = unended_first (side_of station) (journal_of history) (ap some_handles (early (side_of station)));
     };
     other = λ is. inl (ap some_handles (early (side_of station)));
   }
@@ -362,14 +456,26 @@ module _ (Few Fit : Type 0) where
   )
 
   -- what is noted of links that end as a turn ends
-  packets_each : (station : ℕ) (events : List HostEvent) (history : List Event) → AreNoCredits (map (λ event. UpNote (record { items = written event })) events)
-      → shut_at (side_of station) history ≡ true
-      → Each CreditsFit history (map (Noted station) (map (λ event. UpNote (record { items = written event })) events))
-  packets_each station [] history none shut = tt
-  packets_each station (event ∷ events) history none shut =
-      let packet : ArrayVec ℕ = record { items = written event } in (
-        record { credit = λ is. absurd (let h : false ≡ true = sym none.0 ∙ is in absurd cc); other = λ is. inr shut },
-        packets_each station events (history ++ Noted station (UpNote packet) ∷ []) none.1 (still_shut station packet history none.0 shut),
+  ended_each : (station : ℕ) (view : View) (handle reason : ℕ) (history : List Event)
+      → AreNoCredits (notes_of_events view (DisconnectionComplete 0 handle reason ∷ []))
+      → Each CreditsFit (history ++ Noted station (note_shut handle reason) ∷ []) (map (Noted station) (notes_of_events view (DisconnectionComplete 0 handle reason ∷ [])))
+  ended_each station view handle reason history none = by (passes view (mask_bit_of event)) none
+    where
+      event : HostEvent
+      event = DisconnectionComplete 0 handle reason
+
+      packets : Bool → List Note
+      packets passed = map (λ one. UpNote (record { items = written one })) (cond passed (event ∷ []) [])
+
+      by : (passed : Bool) → AreNoCredits (packets passed)
+          → Each CreditsFit (history ++ Noted station (note_shut handle reason) ∷ []) (map (Noted station) (packets passed))
+      by false none = tt
+      by true none = (
+        record {
+          credit = λ is. absurd (let h : false ≡ true = sym none.0 ∙ is in absurd cc);
+          other = λ is. inr (record { before = history; handle = handle; reason = record { 0 = reason }; is = refl; octets_are = refl });
+        },
+        tt,
       )
 
   pub leaving_each : (station : ℕ) (view : View) (ended : List LinkEnded) (history : List Event) → AreNoCredits (flat_map (notes_ended view) ended)
@@ -378,13 +484,9 @@ module _ (Few Fit : Type 0) where
   leaving_each station view (one ∷ ended) history none =
       let notes = notes_ended view one in
       let more = flat_map (notes_ended view) ended in
-      let events = filter (λ event. passes view (mask_bit_of event)) (DisconnectionComplete 0 one.handle one.reason.0 ∷ []) in
       subst (Each CreditsFit history) (sym (map_both station notes more))
-      (each_append CreditsFit history (map (Noted station) notes) (map (Noted station) more) (
-        tt,
-        packets_each station events (history ++ Noted station (note_shut one.handle one.reason.0) ∷ []) (no_front notes more none).1
-            (shut_now station one.handle (record { 0 = one.reason.0 }) history),
-      )
+      (each_append CreditsFit history (map (Noted station) notes) (map (Noted station) more)
+      (tt, ended_each station view one.handle one.reason.0 history (no_front notes more none).1)
       (leaving_each station view ended (history ++ map (Noted station) notes) (no_back notes more none)))
 
   -- ---- the credits as a turn ends
@@ -404,16 +506,16 @@ module _ (Few Fit : Type 0) where
     Ascend history first links = Each CreditsFit history (map (Noted station) (notes_of_events view (map event_completed (completed_from first links))))
 
     pub ascend : (first : ℕ) (links : Links) (history : List Event) (handles : List ℕ) → handles_at (side_of station) history ≡ Some handles
-        → (Few → AllByRecursion (λ handle. handle < first) handles) → (Few → first + length links ≤ 65536)
+        → IsUnended (side_of station) (journal_of history) → (Few → AllByRecursion (λ handle. handle < first) handles) → (Few → first + length links ≤ 65536)
         → (Fit → EachOpen (λ link. complete_in link ≤ 65535) links) → Ascend history first links
-    ascend first [] history handles are less room fits = tt
-    ascend first (None ∷ links) history handles are less room fits =
-        ascend (first + 1) links history handles are (λ few. less_more first handles (less few)) (λ few. let below = room few in omega (arith, below)) (λ fit. (fits fit).1)
-    ascend first (Some link ∷ links) history handles are less room fits =
+    ascend first [] history handles are unended less room fits = tt
+    ascend first (None ∷ links) history handles are unended less room fits =
+        ascend (first + 1) links history handles are unended (λ few. less_more first handles (less few)) (λ few. let below = room few in omega (arith, below)) (λ fit. (fits fit).1)
+    ascend first (Some link ∷ links) history handles are unended less room fits =
         by (complete_in link) (λ fit. (fits fit).0)
-        (ascend (first + 1) links history handles are (λ few. less_more first handles (less few)) (λ few. let below = room few in omega (arith, below)) (λ fit. (fits fit).1))
+        (ascend (first + 1) links history handles are unended (λ few. less_more first handles (less few)) (λ few. let below = room few in omega (arith, below)) (λ fit. (fits fit).1))
         (λ count. ascend (first + 1) links (history ++ Noted station (note_of first count) ∷ []) (handles ++ credit_handle (written (CompletedPackets first count)) ∷ [])
-        (noted_credit station first count history handles are)
+        (noted_credit station first count history handles are) (unended_up (side_of station) station _ history unended)
         (λ few. subst (λ n. AllByRecursion (λ handle. handle < first + 1) (handles ++ n ∷ []))
         (sym (handle_held first count (let below = room few in omega (arith, below)))) (less_push first handles (less few)))
         (λ few. let below = room few in omega (arith, below)) (λ fit. (fits fit).1))
@@ -429,6 +531,7 @@ module _ (Few Fit : Type 0) where
                   (sym (handle_held first (suc count) (let below = room few in omega (arith, below)))) (less few));
               fed = λ none. absurd (let h : None ≡ Some handles = sym none ∙ are in absurd cc);
               some = λ fit. count_held first (suc count) (most fit) (omega arith);
+              unended = unended;
             };
             other = λ is. absurd (let h : false ≡ true = sym is ∙ is_one first (suc count) in absurd cc);
           },

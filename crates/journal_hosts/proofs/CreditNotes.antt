@@ -52,7 +52,8 @@ use Rattle.journal_hosts.specs.Credits.{credit_count, is_credit}
 use Rattle.journal_data.proofs.controller_model.ProcedureEvents.{entering_events, reception_events}
 use Rattle.journal_data.proofs.controller_model.EndNotes.{sent_each, received_each, entered_each}
 use Rattle.journal_data.specs.controller_model.Entering.{events_entering, notes_all_entering}
-use Rattle.journal_data.proofs.controller_model.Unasked.{noted_unasked}
+use Rattle.journal_data.specs.controller_model.link_commands.LinksCommanded.{events_commanded_on}
+use Rattle.journal_data.proofs.controller_model.Asked.{events_at_once_are, noted_asking, notes_at_once}
 
 abbrev pub IsNoCredit : Note → Type 0
 IsNoCredit (Up packet) = is_credit packet.items ≡ false
@@ -272,7 +273,10 @@ known_ones true setup facts opcode command =
 
 command_ones : (setup : Setup) (facts : Facts) (opcode : ℕ) (read : CmdRead) → AllByRecursion IsOfOctet (notes_commanded setup facts opcode read)
 command_ones setup facts opcode (Known command) =
-    noted_unasked setup facts command opcode (AllByRecursion IsOfOctet) (known_ones (status_of facts.view command == 0) setup facts opcode command)
+    noted_asking setup facts command opcode (AllByRecursion IsOfOctet) (known_ones (status_of facts.view command == 0) setup facts opcode command)
+    (λ notes asks all.
+    let events = events_commanded_on command facts.links in
+    all_append IsOfOctet notes (notes_at_once facts command) all (plain_ones facts.view events (procedures_other events (events_at_once_are command facts.links))))
 command_ones setup facts opcode UnknownOpcode = answer_ones setup facts opcode UnknownOpcode
 command_ones setup facts opcode BadLength = answer_ones setup facts opcode BadLength
 

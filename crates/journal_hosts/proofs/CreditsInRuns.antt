@@ -5,6 +5,7 @@ use Rattle.std.specs.List.{AllByRecursion}
 use Rattle.std.specs.Option.{option_map}
 use Rattle.std.proofs.lemmas.List.Sums.{fold-append}
 use Rattle.arrayvec.specs.ArrayVec.{ArrayVec}
+use Rattle.ble_base.specs.declared.error_codes.ErrCode.{ErrCode}
 use Rattle.ble_base.specs.declared.notes.Note.{Note}
 use Rattle.ble_base.specs.declared.notes.Note.TheVariants.{Shut as ShutNote, Up as UpNote}
 use Rattle.ble_base.specs.declared.roles.Side.{Side}
@@ -28,9 +29,10 @@ use Rattle.run_model.specs.Readers.{turn_packets, turn_packets_after, turns_of}
 use Rattle.run_model.specs.Run.{Given, after_call, after_feed, after_octets, facts_at, hearings_of, history_of, octets_left, run_of, setup_at, step_of}
 use Rattle.run_model.proofs.EntryEvents.{is_of_event}
 use Rattle.run_model.proofs.NoteLines.{note_line}
+use Rattle.run_model.proofs.Parts.{journal_event}
 use Rattle.run_model.proofs.Places.{each_append, each_at, each_event}
 use Rattle.run_model.proofs.Stations.{among, in_more_other, in_more_same, is_in, not_before}
-use Rattle.run_model.proofs.Walk.{Place, NoTurn, AtFeeds, AtEnds, IsKept, IsStopped, IsWhole, ends_with, run_kept}
+use Rattle.run_model.proofs.Walk.{Place, NoTurn, AtBegins, AtFeeds, AtEnds, IsKept, IsStopped, IsWhole, ends_with, run_kept}
 use Rattle.journal_data.proofs.run_laws.OpenSteps.{EachOpen, open_more}
 use Rattle.journal_data.proofs.run_laws.TurnPlaces.{Standing, standing, stands_at}
 use Rattle.journal_data.specs.journal_packets.Belonging.{is_side}
@@ -40,9 +42,10 @@ use Rattle.journal_data.proofs.journal_acks.TwoStations.{IsOfTwo, other_apart}
 use Rattle.journal_data.proofs.FedInRuns.{fed_standing}
 use Rattle.journal_data.proofs.FewComplete.{IsFew, few_always}
 use Rattle.journal_data.proofs.FewLinks.{HaveFewLinks}
-use Rattle.journal_hosts.specs.Credits.{AllCreditsAreOfOne, AllCreditsAreOfSome, AllCreditsAscend, AllEarlyCreditsComeAtOnce, AllLateCreditsComeLast, MayFollowCredit, credit_handle, has_shut, is_being_fed, is_credit}
-use Rattle.journal_hosts.proofs.CreditLines.{CreditsFit, Fits, FitsNote, HasPlace, HaveNone, pieces_each, fed_by_host, fed_called, fed_notes, ascend, early_called, early_each, handles_after, handles_at, handles_event, handles_of, other_called, quiet_called, quiet_each, quiet_more, shut_after, shut_at, some_handles, leaving_each}
+use Rattle.journal_hosts.specs.Credits.{AllCreditsAreOfOne, AllCreditsAreOfSome, AllCreditsAscend, AllEarlyCreditsComeAtOnce, AllLateCreditsComeLast, IsLatePacket, IsOpenedUnder, IsCredit, MayFollowCredit, ReportsEnd, credit_handle, has_shut, is_being_fed, is_credit}
+use Rattle.journal_hosts.proofs.CreditLines.{CreditsFit, Fits, FitsCall, FitsNote, IsBeforePackets, HasPlace, HaveNone, pieces_each, fed_by_host, fed_called, fed_notes, ascend, early_called, early_each, handles_after, handles_at, handles_event, handles_of, other_called, quiet_called, quiet_each, quiet_more, IsReported, ended_after, ended_of, is_past, some_handles, unended_first, with_credit, with_shut, leaving_each}
 use Rattle.journal_hosts.proofs.CreditNotes.{IsBeforeEnd, octet_ones, pieces_none, turn_none, leaving_none}
+use Rattle.journal_hosts.proofs.EndsReported.{lines_more, shut_was_opened}
 use Rattle.journal_hosts.proofs.QuietTurns.{AreQuiet, IsSilent, ends_calm, quiet_first, quiet_kept}
 use Rattle.journal_data.specs.controller_model.Links.{ends_for, notes_leaving}
 use Rattle.journal_data.specs.open_links.Turns.{ending_in}
@@ -50,7 +53,7 @@ use Rattle.journal_hosts.proofs.Calm.{nothing_handed}
 
 -- ---- whether a packet was on the air in the turn
 
-abbrev Counts : ℕ → Option (List ℕ) → Type 0
+abbrev pub Counts : ℕ → Option (List ℕ) → Type 0
 Counts count None = count ≡ 0
 Counts count (Some handles) = 0 < count
 
@@ -75,7 +78,7 @@ counts_from side [] count handles counts = counts
 counts_from side (entry ∷ entries) count handles counts =
     counts_from side entries (turn_packets_after count entry) (handles_after side handles entry) (counts_after side entry count handles counts)
 
-counts_of : (side : Side) (journal : List Entry) → Counts (turn_packets journal) (handles_of side journal)
+pub counts_of : (side : Side) (journal : List Entry) → Counts (turn_packets journal) (handles_of side journal)
 counts_of side journal = counts_from side journal 0 None refl
 
 none_yet : (count : ℕ) (handles : Option (List ℕ)) → Counts count handles → count ≡ 0 → handles ≡ None
@@ -97,7 +100,7 @@ pub record HaveFewBuffers (given : Given) : Type 0 where
   pub buffers : (station : ℕ) → (setup_at given station).host_buffers ≤ 65535
 
 -- each credit of a run fits
-abbrev AllFit : Given → List Event → Event → Type 0
+abbrev pub AllFit : Given → List Event → Event → Type 0
 AllFit given history event = CreditsFit (HaveFewLinks given) (HaveFewBuffers given) history event
 
 load_few : (most : ℕ) (links : Links) → EachOpen (IsFew most) links → EachOpen (λ link. complete_in link ≤ most) links
@@ -129,7 +132,9 @@ module _ (given : Given) (station : ℕ) (history : List Event) where
       (each_append (AllFit given) called_first (map (Noted station) pieces) (map (Noted station) events)
       (pieces_each (HaveFewLinks given) (HaveFewBuffers given) station facts.received called_first (ap some_handles (same_called ∙ none)))
       (ascend (HaveFewLinks given) (HaveFewBuffers given) station facts.view 0 facts.links (called_first ++ map (Noted station) pieces) []
-      (quiet_more (side_of station) station pieces called_first (pieces_none facts.received) ∙ same_called ∙ none) (λ few. tt) (λ few. let most = few.links station in omega (arith, many, most)) fits))
+      (quiet_more (side_of station) station pieces called_first (pieces_none facts.received) ∙ same_called ∙ none)
+      (unended_first (side_of station) (journal_of (called_first ++ map (Noted station) pieces))
+      (ap some_handles (quiet_more (side_of station) station pieces called_first (pieces_none facts.received) ∙ same_called ∙ none))) (λ few. tt) (λ few. let most = few.links station in omega (arith, many, most)) fits))
 
   handed_by : (HaveFewBuffers given → EachOpen (λ link. complete_in link ≤ 65535) facts.links) → (IsSilent history → notes_handed facts ≡ []) → (handles : Option (List ℕ)) → handles_at (side_of station) history ≡ handles → some_handles handles ≡ []
       → Each (AllFit given) called_first (map (Noted station) (notes_handed facts))
@@ -154,7 +159,8 @@ module _ (given : Given) (station : ℕ) (history : List Event) where
 
 abbrev HandlesAt : Given → Place → List Event → Type 0
 HandlesAt given NoTurn history = ⊤
-HandlesAt given (AtFeeds done left) history = (side : Side) → handles_at side history ≡ None
+HandlesAt given (AtFeeds done left) history = IsBeforePackets history
+HandlesAt given (AtBegins done left) history = IsBeforePackets history
 HandlesAt given (AtEnds done left) history =
     (station : ℕ) → is_in station given.stations ≡ true → is_in station done ≡ false → some_handles (handles_at (side_of station) history) ≡ []
 HandlesAt given place history = (side : Side) → some_handles (handles_at side history) ≡ []
@@ -184,7 +190,7 @@ octet_early given station octet history feeding =
     let fed = fed_called station history step feeding.fed in record {
       early = record {
         each = each_append (AllFit given) [] history (Called station step ∷ map (Noted station) notes) feeding.early.each (
-          tt,
+          feeding.early.none,
           early_each (HaveFewLinks given) (HaveFewBuffers given) station notes called
               (λ side. handles_event side history (Called station step) ∙ feeding.early.none side) fed ones,
         );
@@ -213,13 +219,13 @@ feed_early given station (octet ∷ octets) history early =
     })
 
 -- a call before the end of the turn
-turn_each : (given : Given) (station : ℕ) (step : Step) (history : List Event) → IsBeforeEnd step → HaveNone history
+turn_each : (given : Given) (station : ℕ) (step : Step) (history : List Event) → IsBeforeEnd step → FitsCall history step → HaveNone history
     → Each (AllFit given) [] history
     → Each (AllFit given) [] (after_call given station step history)
-turn_each given station step history is none each =
+turn_each given station step history is fits none each =
     let notes = notes_after (setup_at given station) (facts_at given station history) step in
     each_append (AllFit given) [] history (Called station step ∷ map (Noted station) notes) each (
-      tt,
+      fits,
       quiet_each (HaveFewLinks given) (HaveFewBuffers given) station notes (history ++ Called station step ∷ [])
           (turn_none (setup_at given station) (facts_at given station history) step is)
           (λ side. ap some_handles (handles_event side history (Called station step)) ∙ none side),
@@ -234,6 +240,10 @@ turn_handles given station step history is side =
 heard_before : (received : Option (List ℕ)) → IsBeforeEnd (step_of received)
 heard_before None = tt
 heard_before (Some octets) = tt
+
+heard_fits : (history : List Event) (received : Option (List ℕ)) → FitsCall history (step_of received)
+heard_fits history None = tt
+heard_fits history (Some octets) = tt
 
 -- a packet on the air
 air_handles : (side sender : Side) (channel : ℕ) (octets : List ℕ) (hearings : List Hearing) (handles : Option (List ℕ))
@@ -278,18 +288,18 @@ order_kept given are_two distinct = let kept = quiet_kept given are_two distinct
   on_fed = λ history is. record {
     quiet = kept.on_fed history is.quiet;
     each = is.each;
-    within = λ side. ap some_handles (is.within side);
+    within = is.within;
   };
   on_begin = λ slot plan done left station history are due is.
       let step = TurnBegins slot (plan.radio_of station) in record {
         quiet = kept.on_begin slot plan done left station history are due is.quiet;
-        each = turn_each given station step history tt is.within is.each;
-        within = λ side. ap some_handles (turn_handles given station step history tt side) ∙ is.within side;
+        each = turn_each given station step history tt is.within (λ side. ap some_handles (is.within side)) is.each;
+        within = λ side. turn_handles given station step history tt side ∙ is.within side;
       };
   on_begun = λ history is. record {
     quiet = kept.on_begun history is.quiet;
     each = is.each;
-    within = is.within;
+    within = λ side. ap some_handles (is.within side);
   };
   on_phase = λ phases history many is. record {
     quiet = kept.on_phase phases history many is.quiet;
@@ -317,7 +327,7 @@ order_kept given are_two distinct = let kept = quiet_kept given are_two distinct
   on_hearing = λ phases done left station history are some is.
       let received = packet_received station history in record {
         quiet = kept.on_hearing phases done left station history are some is.quiet;
-        each = turn_each given station (step_of received) history (heard_before received) is.within is.each;
+        each = turn_each given station (step_of received) history (heard_before received) (heard_fits history received) is.within is.each;
         within = λ side. ap some_handles (turn_handles given station (step_of received) history (heard_before received) side) ∙ is.within side;
       };
   on_heard = λ phases history is. record {
@@ -349,7 +359,7 @@ order_kept given are_two distinct = let kept = quiet_kept given are_two distinct
   };
 }
 
-run_in_order : (given : Given) → IsOfTwo given → AreDistinct given.stations → Each (AllFit given) [] (history_of (run_of given))
+pub run_in_order : (given : Given) → IsOfTwo given → AreDistinct given.stations → Each (AllFit given) [] (history_of (run_of given))
 run_in_order given are_two distinct =
     ends_with (run_of given) (IsWhole given (AreInOrder given)) (IsStopped given (AreInOrder given)) (Each (AllFit given) [])
     (run_kept given (AreInOrder given) (order_kept given are_two distinct) (record { quiet = quiet_first given; each = tt; within = tt }))
@@ -461,87 +471,164 @@ fits_all Few Fit few (Some handles) octets fits = fits few
 
 -- ---- what comes after a credit in its turn
 
--- where a side has shut a link since its last credit, by lines of one turn, it did so in these lines, or before them
-shut_then : (side : Side) (between : List Entry) (shut : Bool) → turns_of between ≡ [] → fold (shut_after side) shut between ≡ true
-    → (shut ≡ true) ⊎ (has_shut side between ≡ true)
-shut_then side [] shut no_turn is = inl is
-shut_then side (Turn slot a_on b_on ∷ between) shut no_turn is = absurd cc
-shut_then side (Up other packet ∷ between) shut no_turn is =
-    by (is_side other side && is_credit packet)
-    (shut_then side between (if is_side other side && is_credit packet then false else shut) no_turn is)
+-- once a side has shut a link after a credit, it stays so in these lines of one turn
+stays_ended : (side : Side) (between : List Entry) → turns_of between ≡ [] → fold (ended_after side) (Some (Some true)) between ≡ Some (Some true)
+stays_ended side [] no_turn = refl
+stays_ended side (Turn slot a_on b_on ∷ between) no_turn = absurd cc
+stays_ended side (Air sender channel sent fate verdict ∷ between) no_turn = stays_ended side between no_turn
+stays_ended side (Up other packet ∷ between) no_turn =
+    by (is_side other side && is_credit packet) (stays_ended side between no_turn)
   where
-    by : (credit : Bool) → ((if credit then false else shut) ≡ true) ⊎ (has_shut side between ≡ true) → (shut ≡ true) ⊎ (has_shut side between ≡ true)
-    by true (inl none) = absurd (let h : false ≡ true = none in absurd cc)
-    by false (inl before) = inl before
-    by credit (inr later) = inr later
-shut_then side (Shut other link reason ∷ between) shut no_turn is =
-    by (is_side other side) (shut_then side between (is_side other side || shut) no_turn is)
+    by : (test : Bool) → fold (ended_after side) (Some (Some true)) between ≡ Some (Some true)
+        → fold (ended_after side) (if test then option_map with_credit (Some (Some true)) else Some (Some true)) between ≡ Some (Some true)
+    by true rest = rest
+    by false rest = rest
+stays_ended side (Shut other link reason ∷ between) no_turn = by (is_side other side) (stays_ended side between no_turn)
   where
-    by : (own : Bool) → ((own || shut) ≡ true) ⊎ (has_shut side between ≡ true) → (shut ≡ true) ⊎ ((own || has_shut side between) ≡ true)
-    by true now = inr refl
-    by false (inl before) = inl before
-    by false (inr later) = inr later
-shut_then side (entry ∷ between) shut no_turn is = shut_then side between shut no_turn is
+    by : (own : Bool) → fold (ended_after side) (Some (Some true)) between ≡ Some (Some true)
+        → fold (ended_after side) (if own then option_map with_shut (Some (Some true)) else Some (Some true)) between ≡ Some (Some true)
+    by true rest = rest
+    by false rest = rest
+stays_ended side (entry ∷ between) no_turn = stays_ended side between no_turn
 
--- so it did so after the credit
-shut_since : (side : Side) (front : List Entry) (octets : List ℕ) (between : List Entry) → is_credit octets ≡ true → turns_of between ≡ []
-    → fold (shut_after side) false (front ++ Up side octets ∷ between) ≡ true → has_shut side between ≡ true
-shut_since side front octets between credit no_turn is =
-    by (shut_then side between false no_turn
-    (sym (ap (λ (own : Bool). fold (shut_after side) (if own && is_credit octets then false else before) between) (same_side side)
-    ∙ ap (λ (credits : Bool). fold (shut_after side) (if credits then false else before) between) credit)
-    ∙ sym (fold-append (shut_after side) false front (Up side octets ∷ between)) ∙ is))
+ended_then : (side : Side) (between : List Entry) (shut : Bool) → turns_of between ≡ [] → has_shut side between ≡ true
+    → fold (ended_after side) (Some (Some shut)) between ≡ Some (Some true)
+ended_then side [] shut no_turn is = absurd (let h : false ≡ true = is in absurd cc)
+ended_then side (Turn slot a_on b_on ∷ between) shut no_turn is = absurd cc
+ended_then side (Air sender channel sent fate verdict ∷ between) shut no_turn is = ended_then side between shut no_turn is
+ended_then side (Up other packet ∷ between) shut no_turn is =
+    by (is_side other side && is_credit packet) (ended_then side between shut no_turn is)
   where
-    before : Bool
-    before = fold (shut_after side) false front
+    by : (test : Bool) → fold (ended_after side) (Some (Some shut)) between ≡ Some (Some true)
+        → fold (ended_after side) (if test then option_map with_credit (Some (Some shut)) else Some (Some shut)) between ≡ Some (Some true)
+    by true rest = rest
+    by false rest = rest
+ended_then side (Shut other link reason ∷ between) shut no_turn is =
+    by (is_side other side) is (stays_ended side between no_turn) (ended_then side between shut no_turn)
+  where
+    by : (own : Bool) → (own || has_shut side between) ≡ true → fold (ended_after side) (Some (Some true)) between ≡ Some (Some true)
+        → (has_shut side between ≡ true → fold (ended_after side) (Some (Some shut)) between ≡ Some (Some true))
+        → fold (ended_after side) (if own then option_map with_shut (Some (Some shut)) else Some (Some shut)) between ≡ Some (Some true)
+    by true now ended rest = ended
+    by false later ended rest = rest later
+ended_then side (entry ∷ between) shut no_turn is = ended_then side between shut no_turn is
 
-    by : (◌≡◌ {A = Bool} false true) ⊎ (has_shut side between ≡ true) → has_shut side between ≡ true
-    by (inl none) = absurd cc
-    by (inr later) = later
+-- so it is after a credit that comes after the first packet of a turn
+ended_since : (side : Side) (front : List Entry) (octets : List ℕ) (between : List Entry) → is_credit octets ≡ true → 0 < turn_packets front → turns_of between ≡ []
+    → has_shut side between ≡ true → ended_of side (front ++ Up side octets ∷ between) ≡ Some (Some true)
+ended_since side front octets between credit packets no_turn shut =
+    let handles = some_now (turn_packets front) (handles_of side front) (counts_of side front) packets in
+    let past = is_past side front handles.some handles.is in
+    fold-append (ended_after side) None front (Up side octets ∷ between)
+    ∙ ap (λ ended. fold (ended_after side) ended (Up side octets ∷ between)) past.is
+    ∙ ap (λ b. fold (ended_after side) (if b && is_credit octets then Some (with_credit past.since) else Some past.since) between) (same_side side)
+    ∙ ap (λ b. fold (ended_after side) (if b then Some (with_credit past.since) else Some past.since) between) credit
+    ∙ by past.since
+  where
+    by : (since : Option Bool) → fold (ended_after side) (Some (with_credit since)) between ≡ Some (Some true)
+    by None = ended_then side between false no_turn shut
+    by (Some before) = ended_then side between before no_turn shut
 
-module _ (Few Fit : Type 0) (side : Side) (before : List Event) (shut : Bool) (some : some_handles (handles_at side before) ≡ [] → ⊥)
-    (known : shut_at side before ≡ true → shut ≡ true) where
-  up_follows : (test : Bool) → shut ≡ test → (station : ℕ) (packet : ArrayVec ℕ) → FitsNote Few Fit station before (UpNote packet)
-      → MayFollowCredit side test (Up (side_of station) packet.items)
-  up_follows true is station packet fit = tt
-  up_follows false is station packet fit = λ own. by (is_credit packet.items) refl own
+-- the last of some lines
+abbrev last_of : Entry → List Entry → Entry
+last_of first lines = fold (λ before line. line) first lines
+
+record EndsWith (lines : List Entry) (last : Entry) : Type 0 where
+  earlier : List Entry
+  is : lines ≡ earlier ++ last ∷ []
+
+ends_so : (first : Entry) (lines : List Entry) → EndsWith (first ∷ lines) (last_of first lines)
+ends_so first [] = record { earlier = []; is = refl }
+ends_so first (line ∷ lines) =
+    let later = ends_so line lines in
+    record { earlier = first ∷ later.earlier; is = ap (λ xs. first ∷ xs) later.is }
+
+-- what comes after a packet to a host ends with a line that is none
+ends_after_up : (front between before : List Entry) (side own : Side) (octets : List ℕ) (link : ℕ) (reason : ErrCode)
+    → front ++ Up side octets ∷ between ≡ before ++ Shut own link reason ∷ [] → EndsWith between (Shut own link reason)
+ends_after_up front between before side own octets link reason is = by between
+    (sym (fold-append (λ before line. line) (Up side octets) front (Up side octets ∷ between)) ∙ ap (last_of (Up side octets)) is
+    ∙ fold-append (λ before line. line) (Up side octets) before (Shut own link reason ∷ []))
+  where
+    by : (lines : List Entry) → last_of (Up side octets) lines ≡ Shut own link reason → EndsWith lines (Shut own link reason)
+    by [] same = absurd cc
+    by (line ∷ lines) same = subst (EndsWith (line ∷ lines)) same (ends_so line lines)
+
+module _ (given : Given) (side : Side) (front between : List Entry) (octets : List ℕ)
+    (late : is_credit octets ≡ true) (packets : 0 < turn_packets front) (no_turn : turns_of between ≡ []) where
+  abbrev lines : List Entry
+  lines = front ++ Up side octets ∷ between
+
+  abbrev fits : ℕ → List Event → Note → Type 0
+  fits station before note = FitsNote (HaveFewLinks given) (HaveFewBuffers given) station before note
+
+  some_before : (before : List Event) → lines ≡ journal_of before → some_handles (handles_at side before) ≡ [] → ⊥
+  some_before before is none =
+      held_by (λ handle. ⊥) side front octets between late packets no_turn
+      (subst (λ handles. AllByRecursion (λ handle. ⊥) handles) (sym (ap (λ entries. some_handles (handles_of side entries)) is ∙ none)) tt)
+
+  -- the event of a link that was shut
+  reported : (before rest : List Event) (station : ℕ) (own : List ℕ) → lines ≡ journal_of before → side_of station ≡ side
+      → history_of (run_of given) ≡ before ++ rest → IsReported station before own → IsLatePacket side lines between own
+  reported before rest station own is same at end =
+      let note = ShutNote end.handle end.reason in
+      let number = (links_of end.before).link_of station end.handle in
+      let shut = Shut (side_of station) number end.reason in
+      let said = is ∙ ap journal_of end.is ∙ journal_event end.before (Noted station note) in
+      let ends = ends_after_up front between (journal_of end.before) side (side_of station) octets number end.reason said in
+      let opened = shut_was_opened given end.before rest station end.handle end.reason
+      (at ∙ ap (λ (xs : List Event). xs ++ rest) end.is ∙ append_assoc end.before (Noted station note ∷ []) rest) in
+      ReportsEnd number end.reason ends.earlier (ends.is ∙ ap (λ s. ends.earlier ++ Shut s number end.reason ∷ []) same) (record {
+        handle = end.handle;
+        opened = subst (λ s. IsOpenedUnder s number end.handle lines) same
+            (subst (IsOpenedUnder (side_of station) number end.handle) (sym said)
+            (lines_more (side_of station) number end.handle (journal_of end.before) (shut ∷ []) opened));
+        octets_are = end.octets_are;
+      })
+
+  up_follows : (before rest : List Event) (station : ℕ) (packet : ArrayVec ℕ) → lines ≡ journal_of before → history_of (run_of given) ≡ before ++ rest
+      → fits station before (UpNote packet) → MayFollowCredit side lines between (Up (side_of station) packet.items)
+  up_follows before rest station packet is at fit = λ same. by same (is_credit packet.items) refl (has_shut side between) refl
     where
-      last : (side_of station ≡ side) → (some_handles (handles_at (side_of station) before) ≡ []) ⊎ (shut_at (side_of station) before ≡ true) → ◌≡◌ {A = Bool} false true
-      last own (inl none) = absurd (some (ap (λ s. some_handles (handles_at s before)) (sym own) ∙ none))
-      last own (inr now) = sym is ∙ known (subst (λ s. shut_at s before ≡ true) own now)
+      by : side_of station ≡ side → (credits : Bool) → is_credit packet.items ≡ credits → (shut : Bool) → has_shut side between ≡ shut
+          → IsLatePacket side lines between packet.items
+      by same true is_one false none = IsCredit none is_one
+      by same true is_one true ended =
+          absurd ((fit.credit is_one).unended
+          (subst (λ s. ended_of s (journal_of before) ≡ Some (Some true)) (sym same)
+          (ap (ended_of side) (sym is) ∙ ended_since side front octets between late packets no_turn ended)))
+      by same false is_none shut shuts = last same (fit.other is_none)
+        where
+          last : side_of station ≡ side → (some_handles (handles_at (side_of station) before) ≡ []) ⊎ IsReported station before packet.items
+              → IsLatePacket side lines between packet.items
+          last same (inl none) = absurd (some_before before is (ap (λ s. some_handles (handles_at s before)) (sym same) ∙ none))
+          last same (inr end) = reported before rest station packet.items is same at end
 
-      by : (credit : Bool) → is_credit packet.items ≡ credit → side_of station ≡ side → credit ≡ true
-      by true is_one own = refl
-      by false is_none own = last own (fit.other is_none)
+  note_follows : (before rest : List Event) (station : ℕ) (link_of : ℕ → ℕ) (last : ℕ) (note : Note) → lines ≡ journal_of before
+      → history_of (run_of given) ≡ before ++ rest → fits station before note → MayFollowCredit side lines between (entry_of (side_of station) link_of last note)
+  note_follows before rest station link_of last (UpNote packet) is at fit = up_follows before rest station packet is at fit
+  note_follows before rest station link_of last (ShutNote handle reason) is at fit = tt
+  note_follows before rest station link_of last note is at fit = absurd (some_before before is (fit side))
 
-  note_follows : (station : ℕ) (link_of : ℕ → ℕ) (last : ℕ) (note : Note) → FitsNote Few Fit station before note
-      → MayFollowCredit side shut (entry_of (side_of station) link_of last note)
-  note_follows station link_of last (UpNote packet) fit = up_follows shut refl station packet fit
-  note_follows station link_of last (ShutNote handle reason) fit = tt
-  note_follows station link_of last note fit = absurd (some (fit side))
-
-  event_follows : (links : Numbers) (event : Event) (entry : Entry) → CreditsFit Few Fit before event → entries_of links event ≡ entry ∷ [] → MayFollowCredit side shut entry
-  event_follows links (TurnBegan slot radios) entry fit is =
-      let same : Turn slot (radio_in 0 radios) (Some (radio_in 1 radios)) ≡ entry = cc in subst (MayFollowCredit side shut) same tt
-  event_follows links (HostFed station octets) entry fit is = absurd (some (fit side))
-  event_follows links (Called station step) entry fit is = absurd cc
-  event_follows links (Noted station note) entry fit is =
+  event_follows : (before rest : List Event) (links : Numbers) (event : Event) (entry : Entry) → lines ≡ journal_of before → history_of (run_of given) ≡ before ++ rest
+      → AllFit given before event → entries_of links event ≡ entry ∷ [] → MayFollowCredit side lines between entry
+  event_follows before rest links (TurnBegan slot radios) entry is at fit one =
+      let same : Turn slot (radio_in 0 radios) (Some (radio_in 1 radios)) ≡ entry = cc in subst (MayFollowCredit side lines between) same tt
+  event_follows before rest links (HostFed station octets) entry is at fit one = absurd (some_before before is (fit side))
+  event_follows before rest links (Called station step) entry is at fit one = absurd cc
+  event_follows before rest links (Noted station note) entry is at fit one =
       let same : entry_of (side_of station) (links.link_of station) (links.last_of station) note ≡ entry = cc in
-      subst (MayFollowCredit side shut) same (note_follows station (links.link_of station) (links.last_of station) note fit)
-  event_follows links (Transmitted station channel octets hearings) entry fit is = absurd (some (fit side))
+      subst (MayFollowCredit side lines between) same (note_follows before rest station (links.link_of station) (links.last_of station) note is at fit)
+  event_follows before rest links (Transmitted station channel octets hearings) entry is at fit one = absurd (some_before before is (fit side))
 
 module _ (given : Given) (are_two : IsOfTwo given) (distinct : AreDistinct given.stations) where
   pub come_last : AllLateCreditsComeLast (journal_of (history_of (run_of given)))
   come_last = λ front between rest side octets entry is credit packets no_turn.
-      let before = front ++ Up side octets ∷ between in
       let history = history_of (run_of given) in
-      let one = is_of_event history before rest entry (is ∙ sym (append_assoc front (Up side octets ∷ between) (entry ∷ rest))) in
+      let one = is_of_event history (front ++ Up side octets ∷ between) rest entry (is ∙ sym (append_assoc front (Up side octets ∷ between) (entry ∷ rest))) in
       let fit = each_at (AllFit given) history one.before one.after one.event (run_in_order given are_two distinct) one.is_at in
-      event_follows (HaveFewLinks given) (HaveFewBuffers given) side one.before (has_shut side between)
-      (λ none. held_by (λ handle. ⊥) side front octets between credit packets no_turn
-      (subst (λ handles. AllByRecursion (λ handle. ⊥) handles) (sym (ap (λ entries. some_handles (handles_of side entries)) one.front_is ∙ none)) tt))
-      (λ now. shut_since side front octets between credit no_turn (ap (fold (shut_after side) false) one.front_is ∙ now))
-      (links_of one.before) one.event entry fit one.entry_is
+      event_follows given side front between octets credit packets no_turn one.before (one.event ∷ one.after) (links_of one.before) one.event entry
+      one.front_is one.is_at fit one.entry_is
 
   pub ascends : HaveFewLinks given → AllCreditsAscend (journal_of (history_of (run_of given)))
   ascends few = λ front between rest side one other is credit credit_too packets no_turn.

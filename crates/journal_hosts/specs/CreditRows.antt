@@ -3,7 +3,7 @@ use Rattle.std.specs.Prelude.{ℕ, List, [], ◌∷◌, ◌++◌}
 use Rattle.ble_base.specs.declared.roles.Side.TheVariants.{A, B}
 use Rattle.ble_base.specs.declared.verdicts.Verdict.TheVariants.{Good, Missed}
 use Rattle.journal.specs.declared.entries.Entry.{Entry}
-use Rattle.journal.specs.declared.entries.Entry.TheVariants.{Air, Enter, Fed, Sent, Took, Up}
+use Rattle.journal.specs.declared.entries.Entry.TheVariants.{Air, Enter, Fed, Sent, Shut, Took, Up}
 use Rattle.journal.specs.declared.entries.Mark.TheVariants.{Pass}
 use Rattle.run_model.specs.Rows.{one_connection_journal, one_event_journal, turn_entry}
 use Rattle.journal_data.specs.journal_acks.Rows.{data_acknowledged, data_packet, host_packet, more_packet, more_reply}
@@ -84,3 +84,35 @@ both_taken =
 -- a credit comes before data for its host
 abbrev pub before_data : List Entry
 before_data = both_taken ++ Up B (credit_of 0 1) ∷ Up B data_up ∷ []
+
+-- ---- a link is shut as a turn ends
+
+-- the event that link 1 of B, under handle 0, has ended: with the reason 16, and with another one
+abbrev pub end_report : List ℕ
+end_report = 0x04 ∷ 0x05 ∷ 0x04 ∷ 0x00 ∷ 0x00 ∷ 0x00 ∷ 0x16 ∷ []
+
+abbrev pub other_report : List ℕ
+other_report = 0x04 ∷ 0x05 ∷ 0x04 ∷ 0x00 ∷ 0x00 ∷ 0x00 ∷ 0x13 ∷ []
+
+-- B shuts it after a credit
+abbrev pub shut_late : List Entry
+shut_late = data_arrived ++ Up B (credit_of 0 1) ∷ Shut B 1 (record { 0 = 0x16 }) ∷ []
+
+-- the event has another reason than the line
+abbrev pub other_reason : List Entry
+other_reason = shut_late ++ Up B other_report ∷ []
+
+-- B gets data, or one more credit, once it has shut the link
+abbrev pub data_after_shut : List Entry
+data_after_shut = shut_late ++ Up B data_up ∷ []
+
+abbrev pub credit_after_shut : List Entry
+credit_after_shut = shut_late ++ Up B (credit_of 1 1) ∷ []
+
+-- or the event comes a second time
+abbrev pub reported_again : List Entry
+reported_again = shut_late ++ Up B end_report ∷ Up B end_report ∷ []
+
+-- no event of the link comes: the next turn begins
+abbrev pub unreported : List Entry
+unreported = data_arrived ++ Shut B 1 (record { 0 = 0x16 }) ∷ turn_entry 4 ∷ []

@@ -1,4 +1,5 @@
 -- The definitions of this crate.
 pub mod Answered
 pub mod Credits
+pub mod Ends
 pub mod CreditRows

@@ -20,9 +20,10 @@ use Rattle.journal_acks.specs.link_model.Entering.{facts_entered_if}
 use Rattle.journal_acks.specs.link_model.Facts.{Facts as EndFacts}
 use Rattle.journal_acks.specs.link_model.Packets.{good_pdu, more_sent}
 use Rattle.journal_acks.specs.link_model.Receiving.{facts_received}
-use Rattle.journal_acks.specs.link_model.Step.{Step as EndStep, DataGiven, DataReported, EventEntered, PacketReceived, PacketSent, PduFixed, RequestAnswered}
+use Rattle.journal_acks.specs.link_model.Step.{Step as EndStep, DataGiven, DataReported, EventEntered, PacketReceived, PacketSent, PduFixed, ProcedureAsked, RequestAnswered}
 use Rattle.journal_acks.specs.link_model.Times.{has_second_exchange}
 use Rattle.journal_acks.specs.open_links.OpenLinks.{OpenLink, facts_in, in_event, link_after, link_at, new_link}
+use Rattle.journal_acks.specs.open_links.procedure_values.declared.asks.Ask.TheVariants.{Map}
 use Rattle.journal_acks.specs.open_links.Turns.{entered_if, enters_in, is_anchor, link_entered, wants_entering, wants_if}
 use Rattle.journal_acks.proofs.open_links.Anchors.{enters, stays_in_place}
 use Rattle.journal_acks.proofs.open_links.Unmoved.{entered_setup}
@@ -40,12 +41,14 @@ use Rattle.controller_model.specs.Side.{facts_after}
 use Rattle.controller_model.specs.Step.{TurnBegins}
 use Rattle.controller_model.proofs.Always.{ending_is}
 use Rattle.controller_model.proofs.Places.{link_receiving}
+use Rattle.controller_model.proofs.Asked.{IsAskedStep}
 use Rattle.journal_acks.specs.run_model.Run.{step_of}
 use Rattle.journal_acks.proofs.run_laws.Agreed.{step_facts}
-use Rattle.journal_acks.proofs.run_laws.OpenSteps.{EachOpen, IsKeptByHosts, IsKeptOpen, IsKeptServed, MayOpen, begin_open, end_open, none_open, octet_open, phase_open}
+use Rattle.journal_acks.proofs.run_laws.OpenSteps.{AsksForMap, EachOpen, IsKeptByHosts, IsKeptOpen, IsKeptServed, KeepsAsked, MayOpen, begin_open, end_open, none_open, octet_open, phase_open}
 use Rattle.journal_acks.proofs.run_laws.TurnPlaces.{Between, IsTurned, Stage}
 use Rattle.journal_acks.proofs.run_laws.TurnSteps.{begins_slot, phase_turn}
 use Rattle.journal_acks.proofs.link_calls.EnteredLinks.{open_in_event}
+use Rattle.journal_acks.proofs.link_calls.HostSteps.{asked_leaves}
 use Rattle.journal_acks.proofs.link_calls.HeardSteps.{fixed_same, received_same, sent_in}
 use Rattle.journal_acks.specs.link_calls.Phases.{HasPassed, IsNew, Stays, Takes}
 use Rattle.journal_acks.proofs.link_calls.LinkCalls.{begins_under, passes_under, receiving_event}
@@ -201,6 +204,20 @@ track_hosts = record {
   given = λ start body link is. track_stays link (DataGiven start body) refl (slot_after link (DataGiven start body) refl) tt is;
   reported = λ link is. track_stays link DataReported refl (slot_after link DataReported refl) tt is;
 }
+
+-- a step that a host makes by a command
+asked_enters : (step : EndStep) → IsAskedStep step → enters step ≡ false
+asked_enters (EventEntered slot) by_host = absurd by_host
+asked_enters other by_host = refl
+
+asked_map : (step : EndStep) → AsksForMap step → AsksMap step
+asked_map (ProcedureAsked (Map map)) is = is
+asked_map other is = tt
+
+track_asked : KeepsAsked IsOnTrack
+track_asked step link well is =
+    track_stays link step (asked_enters step well.by_host) (slot_after link step (asked_leaves link.setup (facts_in link) step well.by_host).event)
+    (asked_map step well.map) is
 
 track_served : IsKeptServed IsOnTrack
 track_served = record {
@@ -387,7 +404,7 @@ exchanges_kept setup = record {
   feeds = λ begun octet facts is.
       let phased = (phased_kept setup).feeds begun octet facts is.phased in record {
         phased = phased;
-        tracks = octet_open IsOnTrack track_hosts setup facts octet is.tracks;
+        tracks = octet_open IsOnTrack track_hosts track_asked setup facts octet is.tracks;
         in_exchange = λ handle link at uses. rests_uses handle _ _ phased.phase uses;
       };
   begins = λ begun on facts is. record {
