@@ -1,27 +1,8 @@
 -- The lemmas of this crate.
-mod Together
-mod NextPieces
-mod FixedNow
-mod FixedData
 mod SettledEnds
 mod SettledRuns
+mod SettledShut
 mod SettledEarly
-mod EndingLater
-mod PendingLines
-mod TakenNotes
-mod TakenPdus
-mod TakenInRuns
-mod SendingEnd
-mod ToldLines
-mod Told
-mod ToldPackets
-mod ToldInRuns
-mod Resting
-mod ShutEarly
-mod NextPdus
-mod WhatWaits
-mod WhatWaitsInRuns
-mod StoppedRuns
 mod Law
 mod Awaited
 mod AnswersHeard
@@ -29,3 +10,5 @@ mod CentralsOpen
 mod PacketTurns
 mod ResetAnswers
 mod ResetsLeaveNone
+-- what the crates above use of those below
+pub use Rattle.journal_leaving.proofs as journal_leaving

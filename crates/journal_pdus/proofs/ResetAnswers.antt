@@ -1,6 +1,6 @@
 -- A controller answers a Reset as done only where it has shut all its links, in the notes before.
 use Rattle.std.proofs.Common.{◌≡◌, ℕ, zero, suc, ◌+◌, ◌*◌, ◌/◌, ◌%◌, ◌==◌, ◌||◌, Bool, true, false, Option, Some, None, List, [], ◌∷◌, ◌++◌, map, cond, refl, sym, ap, ◌∙◌, subst, append-nil, arith, rules}
-use Rattle.std.specs.Prelude.{◌&&◌, ⊤, slice_index}
+use Rattle.std.specs.Prelude.{◌&&◌, ⊤, filter, slice_index}
 use Rattle.std.specs.List.{AllByRecursion}
 use Rattle.std.proofs.lemmas.Bool.{eqb-true}
 use Rattle.std.proofs.lemmas.List.Elements.{recursion_from_All}
@@ -20,10 +20,11 @@ use Rattle.hci_cmd.specs.declared.command.HandleCount.{HandleCount}
 use Rattle.hci_cmd.specs.declared.command.CmdRead.{CmdRead}
 use Rattle.hci_cmd.specs.declared.command.CmdRead.TheVariants.{Known, UnknownOpcode, BadLength}
 use Rattle.hci_cmd.specs.Command.{are_parameters, command_of, counts_layout, layout_of, layouts, read_with}
-use Rattle.hci_evt.specs.Event.{written}
+use Rattle.hci_evt.specs.Event.{mask_bit_of, written}
 use Rattle.hci_evt.specs.declared.event.Event.{Event}
-use Rattle.hci_evt.specs.declared.event.Event.TheVariants.{DisconnectionComplete, HardwareError, CompletedPackets, BufferOverflow, ConnectionComplete, AdvertisingReport, EnhancedConnection, ChannelSelection, EncryptionChange, RemoteVersion, UpdateComplete, RemoteFeatures, ParamRequest, LengthChange, PhyComplete}
+use Rattle.hci_evt.specs.declared.event.Event.TheVariants.{CommandComplete, DisconnectionComplete, HardwareError, CompletedPackets, BufferOverflow, ConnectionComplete, AdvertisingReport, EnhancedConnection, ChannelSelection, EncryptionChange, RemoteVersion, UpdateComplete, RemoteFeatures, ParamRequest, LengthChange, PhyComplete}
 use Rattle.host_view.specs.Noted.{two_octets}
+use Rattle.host_view.specs.OnLinks.{asks_links}
 use Rattle.host_view.specs.View.{View}
 use Rattle.host_view.specs.Unbuilt.{status_of}
 use Rattle.journal_data.specs.open_links.OpenLinks.{Links, handles_from, without_links}
@@ -34,17 +35,19 @@ use Rattle.controller_model.specs.Facts.{Setup, Facts}
 use Rattle.controller_model.specs.Answers.{accepted_answer, answer_to, complete_answer, has_status_answer, refused_fields, returned, status_answer}
 use Rattle.controller_model.specs.Commands.{events_caused, facts_commanded, facts_known, notes_before, notes_commanded, notes_known}
 use Rattle.controller_model.specs.Data.{notes_offered, offer_of}
-use Rattle.controller_model.specs.Events.{notes_of_events}
+use Rattle.controller_model.specs.Events.{notes_of_events, passes}
 use Rattle.controller_model.specs.Links.{connection_failed, note_shut, notes_reset, wants_enhanced}
 use Rattle.controller_model.specs.Notes.{is_event}
 use Rattle.controller_model.specs.Side.{facts_after, facts_fed, notes_after, notes_fed, result_of}
 use Rattle.controller_model.proofs.Always.{IsInTurn}
 use Rattle.controller_model.proofs.Handles.{HaveOwnHandles}
 use Rattle.controller_model.proofs.OpenPlaces.{is_reset}
+use Rattle.controller_model.proofs.ProcedureEvents.{AreOfProcedures, IsOfProcedure}
+use Rattle.controller_model.specs.link_commands.LinksCommanded.{events_commanded_on}
+use Rattle.controller_model.proofs.Asked.{asking_links, both_asking, events_at_once_are, notes_at_once}
 use Rattle.controller_model.proofs.TurnNotes.{EachNote, IsOfTurn, event_noted, turn_noted}
 use Rattle.journal_data.proofs.Openness.{all_append}
 use Rattle.journal_pdus.specs.Resetting.{answers_reset}
-use Rattle.controller_model.proofs.Unasked.{both_unasked}
 
 -- ---- what is no such answer
 
@@ -203,6 +206,28 @@ caused_quiet view =
     let event = connection_failed (wants_enhanced view) 0x02 in
     recursion_from_All IsQuiet (notes_of_events view (event ∷ [])) (event_noted 0 IsQuiet (each_quiet 0) view event (failed_is (wants_enhanced view) 0x02))
 
+-- the events that answer a command at once are none either
+procedure_quiet : (event : Event) → IsOfProcedure event → answers_reset (written event) ≡ false
+unfolding little_endian
+procedure_quiet (CommandComplete number opcode fields) is = absurd is
+procedure_quiet event is = refl
+
+procedures_quiet : (view : View) (events : List Event) → AreOfProcedures events → AllByRecursion IsQuiet (notes_of_events view events)
+procedures_quiet view [] are = tt
+procedures_quiet view (event ∷ events) are = by (passes view (mask_bit_of event)) (procedures_quiet view events are.1)
+  where
+    later : List Event
+    later = filter (λ one. passes view (mask_bit_of one)) events
+
+    by : (passed : Bool) → AllByRecursion IsQuiet (notes_of_events view events)
+        → AllByRecursion IsQuiet (map (λ one. Up (record { items = written one })) (cond passed (event ∷ later) later))
+    by true rest = (procedure_quiet event are.0, rest)
+    by false rest = rest
+
+asks_no_reset : (view : View) (command : Command) → asks_links view command ≡ true → is_reset command ≡ false
+asks_no_reset view Reset asks = absurd (let h : false ≡ true = asks in absurd cc)
+asks_no_reset view other asks = refl
+
 -- the notes on a command, by its answer
 abbrev noted_if : Bool → Facts → Command → List Note → List Note
 noted_if false facts command answer = answer
@@ -224,6 +249,18 @@ reset_so false true setup facts opcode status links is none =
     Resets (record { items = written (complete_answer 0x00 opcode []) }) (append-nil _) none
 reset_so false false setup facts opcode status links is none = absurd cc
 
+-- any other that is accepted
+known_quiet : (inner starts : Bool) (setup : Setup) (facts : Facts) (opcode status : ℕ) (command : Command) → is_reset command ≡ false → (status == 0x00) ≡ inner
+    → is_reset command ≡ (opcode % 65536 == 0x0C03)
+    → AllByRecursion IsQuiet (noted_if true facts command (notes_of_events facts.view (answer_if starts inner setup facts opcode status command)))
+known_quiet inner starts setup facts opcode status Reset other is_zero only = absurd (let h : true ≡ false = other in absurd cc)
+known_quiet inner starts setup facts opcode status LeCreateCancel other is_zero only =
+    all_append IsQuiet (notes_of_events facts.view (answer_if starts inner setup facts opcode status LeCreateCancel)) _
+    (answer_quiet starts inner setup facts facts.view opcode status LeCreateCancel (λ refused. is_zero ∙ refused) (λ yes. sym only)) (caused_quiet facts.view)
+known_quiet inner starts setup facts opcode status command other is_zero only =
+    all_append IsQuiet (notes_of_events facts.view (answer_if starts inner setup facts opcode status command)) []
+    (answer_quiet starts inner setup facts facts.view opcode status command (λ refused. is_zero ∙ refused) (λ yes. sym only)) tt
+
 known_so : (accepted inner starts : Bool) (setup : Setup) (facts : Facts) (opcode status : ℕ) (command : Command) → inner ≡ accepted → (status == 0x00) ≡ inner
     → is_reset command ≡ (opcode % 65536 == 0x0C03)
     → IsAnsweredSo facts (noted_if accepted facts command (notes_of_events facts.view (answer_if starts inner setup facts opcode status command)))
@@ -232,12 +269,8 @@ known_so false inner starts setup facts opcode status command same is_zero only 
     Quiet (answer_quiet starts inner setup facts facts.view opcode status command (λ refused. is_zero ∙ refused)
     (λ yes. absurd (let h : true ≡ false = sym yes ∙ same in absurd cc)))
 known_so true inner starts setup facts opcode status Reset same is_zero only = reset_so starts inner setup facts opcode status _ same refl
-known_so true inner starts setup facts opcode status LeCreateCancel same is_zero only =
-    Quiet (all_append IsQuiet (notes_of_events facts.view (answer_if starts inner setup facts opcode status LeCreateCancel)) _
-    (answer_quiet starts inner setup facts facts.view opcode status LeCreateCancel (λ refused. is_zero ∙ refused) (λ yes. sym only)) (caused_quiet facts.view))
 known_so true inner starts setup facts opcode status other same is_zero only =
-    Quiet (all_append IsQuiet (notes_of_events facts.view (answer_if starts inner setup facts opcode status other)) []
-    (answer_quiet starts inner setup facts facts.view opcode status other (λ refused. is_zero ∙ refused) (λ yes. sym only)) tt)
+    Quiet (known_quiet inner starts setup facts opcode status other refl is_zero only)
 
 short_quiet : (starts : Bool) (view : View) (opcode : ℕ)
     → AllByRecursion IsQuiet (notes_of_events view ((cond starts (status_answer 0x12 opcode) (complete_answer 0x12 opcode [])) ∷ []))
@@ -251,9 +284,15 @@ command_so setup facts opcode octets BadLength is = Quiet (short_quiet (has_stat
 command_so setup facts opcode octets (Known command) is =
     let status = status_of facts.view command in
     let accepted = status == 0x00 in
-    both_unasked setup facts command opcode (λ (after : Facts) (notes : List Note). IsAnsweredSo facts notes after.links)
+    let starts = (status == 0x01) || has_status_answer opcode in
+    let only = known_only opcode octets command is in
+    both_asking setup facts command opcode (λ (after : Facts) (notes : List Note). IsAnsweredSo facts notes after.links)
     (subst (λ notes. IsAnsweredSo facts notes (facts_known accepted setup facts command).links) (noted_is accepted setup facts opcode command)
-    (known_so accepted accepted ((status == 0x01) || has_status_answer opcode) setup facts opcode status command refl refl (known_only opcode octets command is)))
+    (known_so accepted accepted starts setup facts opcode status command refl refl only))
+    (λ asks. Quiet (all_append IsQuiet (notes_known true setup facts opcode command) (notes_at_once facts command)
+    (subst (AllByRecursion IsQuiet) (noted_is true setup facts opcode command)
+    (known_quiet accepted starts setup facts opcode status command (asks_no_reset facts.view command (asking_links facts.view command asks)) refl only))
+    (procedures_quiet facts.view (events_commanded_on command facts.links) (events_at_once_are command facts.links))))
 
 overflow_quiet : (passed : Bool) → AllByRecursion IsQuiet (map (λ event. Up (record { items = written event })) (cond passed (BufferOverflow 1 ∷ []) []))
 unfolding little_endian

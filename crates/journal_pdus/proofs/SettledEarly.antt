@@ -38,7 +38,7 @@ use Rattle.journal_pdus.specs.AtOnce.{AllAreCreditedAtOnce}
 use Rattle.journal_pdus.specs.Settled.{AreSettled, IsSettled}
 use Rattle.journal_pdus.proofs.SettledEnds.{settled_end}
 use Rattle.journal_pdus.proofs.SettledRuns.{by_side, open_in}
-use Rattle.journal_pdus.proofs.Together.{IsKnownAt, known_first, known_kept}
+use Rattle.journal_sending.proofs.Together.{IsKnownAt, known_first, known_kept}
 
 -- ---- what is acknowledged to an end that heard nothing in the turn
 

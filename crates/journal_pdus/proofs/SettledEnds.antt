@@ -26,7 +26,7 @@ use Rattle.journal_acks.proofs.KeptLines.{IsLined}
 use Rattle.journal_data.specs.Lines.{Lines, PduLine, data_on, line_after, lines_after, lines_of, no_lines, pdus_on, received_on}
 use Rattle.journal_data.proofs.Arriving.{IsEndBooked, data_nonempty, lines_data, pdu_lines}
 use Rattle.journal_pdus.specs.Settled.{IsSettled, acked_on, count_out}
-use Rattle.journal_pdus.specs.Waiting.{data_of_lines}
+use Rattle.journal_sending.specs.Outgoing.{data_of_lines}
 
 -- ---- the last line of a new PDU
 

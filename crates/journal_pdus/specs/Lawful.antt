@@ -1,17 +1,14 @@
 -- What is promised of the turns, the links and the data of each journal.
 use Rattle.std.specs.Prelude.{◌≡◌, ℕ, List, ◌∷◌, ◌++◌}
-use Rattle.ble_base.specs.declared.ErrCode.{ErrCode}
 use Rattle.ble_base.specs.declared.roles.Role.{Role}
 use Rattle.ble_base.specs.declared.roles.Side.{Side}
 use Rattle.journal.specs.declared.entries.Entry.{Entry}
-use Rattle.journal.specs.declared.entries.Entry.TheVariants.{Enter, Opened, Shut}
+use Rattle.journal.specs.declared.entries.Entry.TheVariants.{Opened}
 use Rattle.radio_replay.specs.Script.{Script}
-use Rattle.journal_links.specs.Entered.{IsEnteredInTime}
+use Rattle.journal_links.specs.Entered.{AllAreEntered}
 use Rattle.journal_links.specs.Opened.{IsOpenedInTime}
-use Rattle.journal_links.specs.Procedures.{NoneNamesAProcedure}
 use Rattle.journal_packets.specs.Addresses.{AllAddressesAreNext}
 use Rattle.journal_acks.specs.EventOrder.{AllAreInOrder}
-use Rattle.journal_acks.specs.Shut.{IsShutWithReason}
 use Rattle.journal_data.specs.Delivered.{AllDataArrives}
 use Rattle.journal_data.specs.Held.{LinesAreOfOpenLinks}
 use Rattle.journal_due.specs.ProcedureLines.{AllIndicationsAreDue, AllProceduresAreDue, NoneIsDue, NoneIsLeftOut}
@@ -19,14 +16,16 @@ use Rattle.journal_hearings.specs.Openings.{AllHeardLinksAreOpened, HeardLinksAr
 use Rattle.journal_hearings.specs.Requests.{AllRequestsAreHeard}
 use Rattle.journal_hosts.specs.Answered.{AllAreAnswered}
 use Rattle.journal_hosts.specs.Credits.{AllCreditsAreOfOne, AllCreditsAreOfSome, AllCreditsAscend, AllEarlyCreditsComeAtOnce, AllLateCreditsComeLast}
+use Rattle.journal_hosts.specs.Ends.{AllLateEndsAreReported}
+use Rattle.journal_leaving.specs.Reasons.{AllAreShutAs, AllEndInTime, AllStayOpen}
+use Rattle.journal_sending.specs.Resting.{IsAtRest}
 use Rattle.journal_slots.specs.SecondSlot.{AllAreContinued}
 use Rattle.journal_turns.specs.Follows.{FollowsSchedule}
 use Rattle.journal_turns.specs.Scheduled.{AreAllTurns}
 use Rattle.journal_pdus.specs.Answered.{AllAnswersAreHeard}
 use Rattle.journal_pdus.specs.AtOnce.{AllAreCreditedAtOnce}
-use Rattle.journal_pdus.specs.Exchanged.{IsAtRest, PdusAreDue}
+use Rattle.journal_pdus.specs.Exchanged.{PdusAreDue}
 use Rattle.journal_pdus.specs.InEvent.{AllAreInEvents}
-use Rattle.journal_pdus.specs.InTime.{AllEndInTime, NoneIsOverdue}
 use Rattle.journal_pdus.specs.OpenedLinks.{AllAreOpenedByThen, AreOpened}
 use Rattle.journal_pdus.specs.Resetting.{ResetsLeaveNoLink}
 use Rattle.journal_pdus.specs.Settled.{AreSettled}
@@ -36,16 +35,6 @@ abbrev pub AllAreOpened : List Entry → Type 0
 AllAreOpened journal = (front rest : List Entry) (side : Side) (number handle : ℕ) (role : Role)
     → journal ≡ front ++ Opened side number handle role ∷ rest → IsOpenedInTime front side number role
 
--- each event is entered in the turn of its anchor, on its channel
-abbrev pub AllAreEntered : List Entry → Type 0
-AllAreEntered journal = (front rest : List Entry) (side : Side) (number event channel : ℕ)
-    → journal ≡ front ++ Enter side number event channel ∷ rest → IsEnteredInTime front side number event channel
-
--- each link that is shut has its reason
-abbrev pub AllHaveReasons : List Entry → Type 0
-AllHaveReasons journal = (front rest : List Entry) (side : Side) (number : ℕ) (reason : ErrCode)
-    → journal ≡ front ++ Shut side number reason ∷ rest → IsShutWithReason front side number reason.0
-
 -- when complete packets are reported to a host, and in which order
 pub record CreditsAreInOrder (journal : List Entry) : Type 0 where
   pub of_some : AllCreditsAreOfSome journal
@@ -53,9 +42,10 @@ pub record CreditsAreInOrder (journal : List Entry) : Type 0 where
   pub of_one : AllCreditsAreOfOne journal
   pub early : AllEarlyCreditsComeAtOnce journal
   pub at_once : AllAreCreditedAtOnce journal
-  -- after it they come last, by ascending handle
+  -- after it they come last, by ascending handle, but for the ends of links, each of which is reported at once
   pub ascend : AllCreditsAscend journal
   pub late : AllLateCreditsComeLast journal
+  pub ends : AllLateEndsAreReported journal
 
 -- a line of a control procedure comes exactly where it is due by the lines before
 pub record ProcedureLinesAreDue (journal : List Entry) : Type 0 where
@@ -86,14 +76,12 @@ pub record IsLawful (a b : List ℕ) (script : Script) (journal : List Entry) : 
   pub continued : AllAreContinued journal
   -- lines name links that are open at their side, and a link is opened under the next free handle
   pub held : LinesAreOfOpenLinks journal
-  -- each link that is shut has its reason, and one that is not shut has none: it ends later
-  pub shut : AllHaveReasons journal
+  -- each link that is shut has its reason, and one that is open as a turn begins had none in the turn before
+  pub shut : AllAreShutAs journal
   pub in_time : AllEndInTime journal
   -- and a Reset leaves none
   pub resets : ResetsLeaveNoLink journal
-  -- no line is of a control procedure
-  pub procedures : NoneNamesAProcedure journal
-  -- where there is one, it is due, and each that is due is there
+  -- each line of a control procedure is due, and each that is due is there
   pub procedure_lines : ProcedureLinesAreDue journal
   -- an answer on a link that passes is heard, and so are requests and responses on the advertising channels
   pub answered : AllAnswersAreHeard journal
@@ -113,7 +101,7 @@ pub record IsWhole (script : Script) (journal : List Entry) : Type 0 where
   pub turns : AreAllTurns script journal
   pub at_rest : IsAtRest journal
   pub settled : AreSettled journal
-  pub in_time : NoneIsOverdue journal
+  pub in_time : AllStayOpen journal
   pub procedure_lines : NoneIsDue journal
   pub begun : AreOpened journal
   pub taken : HeardLinksAreOpened journal

@@ -1,10 +1,6 @@
 -- The definitions of this crate.
-pub mod Waiting
 pub mod Settled
 pub mod AtOnce
-pub mod InTime
-pub mod Announced
-pub mod Pending
 pub mod Exchanged
 pub mod Undelivered
 pub mod Answered
@@ -18,8 +14,10 @@ pub use Rattle.journal_acks.specs as journal_acks
 pub use Rattle.journal_data.specs as journal_data
 pub use Rattle.journal_hearings.specs as journal_hearings
 pub use Rattle.journal_hosts.specs as journal_hosts
+pub use Rattle.journal_leaving.specs as journal_leaving
 pub use Rattle.journal_links.specs as journal_links
 pub use Rattle.journal_packets.specs as journal_packets
+pub use Rattle.journal_sending.specs as journal_sending
 pub use Rattle.journal_slots.specs as journal_slots
 pub use Rattle.journal_turns.specs as journal_turns
 pub use Rattle.journal_data.specs.link_end as link_end

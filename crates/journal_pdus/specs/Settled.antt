@@ -1,17 +1,16 @@
 -- What a host has received of a link, and what is reported to it, between the turns of a run (Core 5.2, volume 4
 -- part E, section 7.7.19; when it is done is our choice).
-use Rattle.std.specs.Prelude.{◌≡◌, ℕ, ◌+◌, ◌-◌, ◌==◌, Bool, true, false, List, ◌∷◌, ◌++◌, fold, length, take, Option, Some, None, if◌then◌else◌}
+use Rattle.std.specs.Prelude.{◌≡◌, ℕ, ◌+◌, ◌-◌, ◌==◌, List, ◌∷◌, ◌++◌, length, take, Option, Some, None, if◌then◌else◌}
 use Rattle.ble_base.specs.declared.roles.Side.{Side}
 use Rattle.acl_banks.specs.History.{whole_packets}
 use Rattle.acl_banks.specs.Packets.{Marked}
 use Rattle.journal.specs.declared.entries.Entry.{Entry}
-use Rattle.journal.specs.declared.entries.Entry.TheVariants.{Turn, Air}
 use Rattle.journal_acks.specs.Carried.{SentLine, sent_line_of}
 use Rattle.journal_acks.specs.Exchange.{exchange_of}
 use Rattle.journal_data.specs.Delivered.{host_buffers}
 use Rattle.journal_data.specs.HostLines.{OpenUnder}
 use Rattle.journal_data.specs.Lines.{accepted_on, credited_on, data_on, empties_on, lines_of, pdus_on, received_on}
-use Rattle.journal_pdus.specs.Waiting.{data_of_lines}
+use Rattle.journal_sending.specs.Outgoing.{data_of_lines}
 
 -- 1 where the PDU of the last `sent` line is not acknowledged: no PDU of its side was, since that line
 abbrev pub count_out : Option SentLine → ℕ → ℕ
@@ -33,15 +32,6 @@ pub record IsSettled (link : ℕ) (side : Side) (front : List Entry) : Type 0 wh
   pub credited : credited_on link (lines_of host_buffers side front)
       ≡ empties_on link (lines_of host_buffers side front)
       + whole_packets (data_on link (lines_of host_buffers side front)) (length (acked_on link side front))
-
--- a packet was on the air in the turn that began last
-abbrev pub passed_after : Bool → Entry → Bool
-passed_after before (Turn slot a_on b_on) = false
-passed_after before (Air sender channel octets fate verdict) = true
-passed_after before entry = before
-
-unfoldable pub packets_passed : List Entry → Bool
-packets_passed front = fold passed_after false front
 
 -- so it is on each link that a side has open
 abbrev pub AreSettled : List Entry → Type 0

@@ -6,8 +6,8 @@ use Rattle.journal.specs.declared.entries.Entry.{Entry}
 use Rattle.radio_replay.specs.Script.{Script}
 use Rattle.run_model.specs.Links.{is_advertising}
 use Rattle.journal_turns.specs.Stopped.{IsStoppedAt}
-use Rattle.journal_pdus.specs.Announced.{announced_pdu, new_pdu_on}
-use Rattle.journal_pdus.specs.Waiting.{TellsWhatWaits}
+use Rattle.journal_sending.specs.Announced.{announced_pdu, new_pdu_on}
+use Rattle.journal_sending.specs.WhatWaits.{TellsWhatWaits}
 
 -- after this journal a side sends these octets as this packet of this turn, and others reach the other side
 pub record IsUndelivered (script : Script) (turn packet : ℕ) (sent heard : List ℕ) (journal : List Entry) : Type 0 where

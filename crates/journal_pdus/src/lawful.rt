@@ -21,26 +21,30 @@ use crate::links::{
 /// before the next turn; each side enters the events of a link one after another, and sends on it
 /// only in the turn of the last one, or in the next turn where MD says that more waits; lines name
 /// links that are open at their side; each link that is shut has its reason, none that is to end
-/// stays open after that turn, and a Reset leaves none; no line is of a control procedure, since no
-/// host can ask for one yet, and a line of one comes where it is due by the lines before and nowhere
-/// else (`journal_due`); an answer on a link that passes is heard, and so are requests on the
-/// advertising channels; a side opens a link as its peripheral exactly where it heard the
-/// CONNECT_IND and is to open it (`journal_hearings`); each command is answered once, and complete
-/// packets are reported in their order (`journal_hosts`); and data arrives in order
+/// stays open after that turn (`journal_leaving`), and a Reset leaves none; a line of a control
+/// procedure comes where it is due by the lines before and nowhere else (`journal_due`); an answer
+/// on a link that passes is heard, and so are requests on the advertising channels; a side opens a
+/// link as its peripheral exactly where it heard the CONNECT_IND and is to open it
+/// (`journal_hearings`); each command is answered once, and complete packets are reported in their
+/// order (`journal_hosts`); and data arrives in order
 /// (`journal_data::data_arrives_in_order_in_every_journal`). The packet at which damage ends a run
-/// is due as those before it are. Line by line (Core 5.2, volume 6 part B, sections 4.5.6 and
-/// 4.5.9, and volume 4 part E, section 7.7.19):
+/// is due as those before it are. Line by line (Core 5.2, volume 6 part B, sections 2.4, 4.5.6, 4.5.9,
+/// 4.5.10 and 5.1.6, and volume 4 part E, section 7.7.19):
 ///
 /// - each packet of a link has the channel, the access address, the CRCInit, SN and NESN that the
 ///   lines before it give, and carries the PDU that its side sent last, until that is acknowledged;
 /// - each line of a new PDU comes after all PDUs before it on its side are acknowledged;
-/// - each new PDU is the next piece of what the host of its side submitted on the link, of at most
-///   27 octets of one packet, with the next number;
-/// - MD of each packet of a link says whether more data of the host waits there, and a new empty
-///   PDU goes out only where none waits;
+/// - each new PDU has the next number: it is the next control PDU where one waited as the PDU was
+///   fixed, else the next piece of one packet that the host of the side submitted on the link, of at
+///   most the effective length of that time; no data is sent after a Disconnect is accepted;
+/// - MD of each packet of a link says whether a control PDU or data of the host waits there, by the
+///   control part with which the PDU was fixed, so MD of an answer does not count what the packet
+///   before it queued; and a new empty PDU goes out only where neither may go;
 /// - the line of a new PDU is the last of its side before the packet that the PDU first goes out
 ///   in;
-/// - the next line of a side after the first good packet that brings a PDU is that it takes it;
+/// - the next line of a side after the first good packet that brings a PDU is that it takes it, but
+///   for the lines that a procedure is done on that link; it takes nothing more on a link once its
+///   LL_TERMINATE_IND is acknowledged there;
 /// - before each turn, and at the end of a whole run, the packet of each line of a new PDU was on
 ///   the air, and what reached a side was taken; and the host of each side has received all data
 ///   that its side took, and each of its packets that the other side acknowledged whole is reported
@@ -62,25 +66,30 @@ pub fn each_journal_is_lawful()
     advertise::laws::connections_are_taken();
     scan_init::laws::searches_give_each_valid_address();
     air_frame::laws::packet_tells_its_pdu();
-    run_model::each_packet_on_the_air_is_due();
     journal_turns::each_journal_follows_its_schedule();
     journal_turns::a_run_stops_in_its_turn();
     journal_links::each_opened_line_names_its_link();
     journal_links::each_enter_line_is_at_its_anchor();
-    journal_links::no_line_names_a_procedure();
     journal_packets::each_link_has_the_next_address();
     journal_acks::each_sent_line_is_of_a_new_pdu();
     journal_acks::each_side_enters_its_events_in_order();
-    journal_acks::each_shut_line_has_its_reason();
     journal_data::lines_are_of_open_links_in_every_journal();
     journal_data::data_arrives_in_order_in_every_journal();
     journal_due::each_line_of_a_procedure_is_where_it_is_due();
+    journal_leaving::each_shut_line_has_its_reason_by_the_lines();
+    journal_leaving::links_end_in_time_by_the_lines();
+    journal_sending::each_new_pdu_is_next_by_the_lines();
+    journal_sending::each_packet_of_a_link_tells_what_waits();
+    journal_sending::the_line_of_each_new_pdu_is_just_before_its_packet();
+    journal_sending::each_pdu_is_taken_at_once();
+    journal_sending::nothing_is_under_way_between_turns();
     journal_slots::each_second_slot_has_its_reason();
     journal_hosts::each_command_is_answered();
     journal_hosts::each_credit_is_of_some_packets();
     journal_hosts::each_early_credit_is_of_one_packet();
     journal_hosts::credits_of_a_turn_are_in_the_order_of_handles();
     journal_hosts::each_late_credit_comes_as_its_turn_ends();
+    journal_hosts::each_late_end_is_reported_at_once();
     journal_hearings::each_request_is_heard();
     journal_hearings::each_heard_link_is_opened();
     journal_hearings::each_opened_link_was_to_open();

@@ -13,7 +13,4 @@ pub use crate::links::{
     a_reset_leaves_no_link, each_answer_on_a_link_is_heard, each_link_is_opened_at_its_central,
     each_packet_is_in_its_event,
 };
-pub use crate::rows::{
-    worked_acknowledged, worked_control_pdus, worked_new_pdu, worked_next_pdu, worked_taking,
-    worked_waiting,
-};
+pub use crate::rows::worked_acknowledged;

@@ -3,13 +3,14 @@ use Rattle.std.proofs.Common.{◌≤◌, ℕ, zero, suc, List, refl, arith, subs
 use Rattle.host_view.specs.declared.view.TheConstants.{MOST_LINKS}
 use Rattle.radio_replay.specs.Script.{Script}
 use Rattle.run_model.specs.Run.{history_of, setup_at}
-use Rattle.run_model.specs.Journal.{journal_of}
+use Rattle.run_model.specs.Journal.{journal_of, side_of}
 use Rattle.run_model.specs.Pair.{given_of}
 use Rattle.run_model.proofs.LinkEnds.{pair_addresses}
 use Rattle.journal_data.proofs.FewLinks.{pair_links}
 use Rattle.journal_data.proofs.Law.{eight_of}
 use Rattle.journal_due.specs.ProcedureLines.{NoneIsDue}
-use Rattle.journal_pdus.proofs.Law.{journal_at_rest, journal_due, journal_ends_in_time, journal_in_time, journal_settled, journal_undelivered}
+use Rattle.journal_sending.proofs.TakenInRuns.{some_air}
+use Rattle.journal_pdus.proofs.Law.{journal_settled, journal_settled_as_shut, settled_at_the_end}
 use Rattle.journal_pdus.proofs.lawful.each_journal_is_lawful.Goals as goal
 
 few_of : (a b : List ℕ) (script : Script) (station : ℕ) → (setup_at (given_of a b script) station).links ≤ MOST_LINKS
@@ -33,11 +34,9 @@ returns-clause-lawful c = λ a b script six six_too. record {
   in_events = c.each_packet_is_in_its_event.ensures (given_of a b script) refl (pair_addresses a b script six six_too);
   continued = c.each_second_slot_has_its_reason.ensures (given_of a b script) refl (pair_addresses a b script six six_too);
   held = c.lines_are_of_open_links_in_every_journal.ensures a b script six six_too;
-  shut = λ front rest side number reason at. c.each_shut_line_has_its_reason.ensures a b script front rest side number reason six six_too at;
-  in_time = journal_in_time c.packet_tells_its_pdu.ensures.heard c.a_pdu_is_understood.ensures.says c.connections_are_taken.ensures.taken
-      c.searches_give_each_valid_address.ensures.valid c.searches_give_each_valid_address.ensures.distinct a b script six six_too;
+  shut = c.each_shut_line_has_its_reason_by_the_lines.ensures (given_of a b script) refl (pair_addresses a b script six six_too);
+  in_time = c.links_end_in_time_by_the_lines.ensures.in_time (given_of a b script) refl (pair_addresses a b script six six_too);
   resets = c.a_reset_leaves_no_link.ensures (given_of a b script) refl (pair_addresses a b script six six_too) (pair_links a b script).links (eight_of a b script);
-  procedures = c.no_line_names_a_procedure.ensures a b script six six_too;
   procedure_lines = record {
     procedures = c.each_line_of_a_procedure_is_where_it_is_due.ensures.procedures (given_of a b script) refl (pair_addresses a b script six six_too);
     indications = c.each_line_of_a_procedure_is_where_it_is_due.ensures.indications (given_of a b script) refl (pair_addresses a b script six six_too);
@@ -54,23 +53,36 @@ returns-clause-lawful c = λ a b script six six_too. record {
         (pair_links a b script).links (eight_of a b script);
     ascend = c.credits_of_a_turn_are_in_the_order_of_handles.ensures (given_of a b script) refl (pair_links a b script).links;
     late = c.each_late_credit_comes_as_its_turn_ends.ensures (given_of a b script) refl;
+    ends = c.each_late_end_is_reported_at_once.ensures (given_of a b script) refl;
   };
-  due = journal_due c.packet_tells_its_pdu.ensures.heard c.a_pdu_is_understood.ensures.says c.connections_are_taken.ensures.taken
-      c.searches_give_each_valid_address.ensures.valid c.searches_give_each_valid_address.ensures.distinct a b script six six_too
-      (λ front rest side link count llid body at. c.each_sent_line_is_of_a_new_pdu.ensures a b script front rest side link count llid body six six_too at)
-      (c.each_packet_on_the_air_is_due.ensures.due (given_of a b script));
+  due = record {
+    new = λ front rest side link count llid body at. c.each_sent_line_is_of_a_new_pdu.ensures a b script front rest side link count llid body six six_too at;
+    next = c.each_new_pdu_is_next_by_the_lines.ensures (given_of a b script) refl (pair_addresses a b script six six_too)
+        (pair_links a b script).links (eight_of a b script);
+    tell_what_waits = c.each_packet_of_a_link_tells_what_waits.ensures.aired (given_of a b script) refl (pair_addresses a b script six six_too)
+        (pair_links a b script).links (eight_of a b script);
+    go_out_at_once = c.the_line_of_each_new_pdu_is_just_before_its_packet.ensures.aired (given_of a b script) refl (pair_addresses a b script six six_too)
+        (pair_links a b script).links (eight_of a b script);
+    taken_at_once = c.each_pdu_is_taken_at_once.ensures (given_of a b script) refl (pair_addresses a b script six six_too)
+        (pair_links a b script).links (eight_of a b script) (some_air a b script);
+    at_rest = c.nothing_is_under_way_between_turns.ensures.before_a_turn (given_of a b script) refl (pair_addresses a b script six six_too)
+        (pair_links a b script).links (eight_of a b script) (some_air a b script);
+    settled = journal_settled c.packet_tells_its_pdu.ensures.heard c.a_pdu_is_understood.ensures.says c.connections_are_taken.ensures.taken
+        c.searches_give_each_valid_address.ensures.valid c.searches_give_each_valid_address.ensures.distinct a b script six six_too;
+    settled_as_shut = journal_settled_as_shut c.packet_tells_its_pdu.ensures.heard c.a_pdu_is_understood.ensures.says c.connections_are_taken.ensures.taken
+        c.searches_give_each_valid_address.ensures.valid c.searches_give_each_valid_address.ensures.distinct a b script six six_too;
+  };
   arrives = c.data_arrives_in_order_in_every_journal.ensures a b script six six_too;
 }
 
 pub returns-clause-whole : goal.returns-clause-whole
 returns-clause-whole c = λ a b script history six six_too whole. record {
   turns = c.each_journal_follows_its_schedule.ensures.whole a b script history whole;
-  at_rest = journal_at_rest c.packet_tells_its_pdu.ensures.heard c.a_pdu_is_understood.ensures.says c.connections_are_taken.ensures.taken
+  at_rest = c.nothing_is_under_way_between_turns.ensures.at_the_end (given_of a b script) history refl (pair_addresses a b script six six_too)
+      (pair_links a b script).links (eight_of a b script) (some_air a b script) whole;
+  settled = settled_at_the_end c.packet_tells_its_pdu.ensures.heard c.a_pdu_is_understood.ensures.says c.connections_are_taken.ensures.taken
       c.searches_give_each_valid_address.ensures.valid c.searches_give_each_valid_address.ensures.distinct a b script six six_too history whole;
-  settled = journal_settled c.packet_tells_its_pdu.ensures.heard c.a_pdu_is_understood.ensures.says c.connections_are_taken.ensures.taken
-      c.searches_give_each_valid_address.ensures.valid c.searches_give_each_valid_address.ensures.distinct a b script six six_too history whole;
-  in_time = journal_ends_in_time c.packet_tells_its_pdu.ensures.heard c.a_pdu_is_understood.ensures.says c.connections_are_taken.ensures.taken
-      c.searches_give_each_valid_address.ensures.valid c.searches_give_each_valid_address.ensures.distinct a b script six six_too history whole;
+  in_time = c.links_end_in_time_by_the_lines.ensures.at_the_end (given_of a b script) history refl (pair_addresses a b script six six_too) whole;
   procedure_lines = subst (λ run. NoneIsDue (journal_of (history_of run))) whole
       (c.each_line_of_a_procedure_is_where_it_is_due.ensures.at_the_end (given_of a b script) refl (pair_addresses a b script six six_too));
   begun = c.each_link_is_opened_at_its_central.ensures.at_the_end (given_of a b script) history refl (pair_addresses a b script six six_too) whole;
@@ -78,7 +90,12 @@ returns-clause-whole c = λ a b script history six six_too whole. record {
 }
 
 pub returns-clause-stopped : goal.returns-clause-stopped
-returns-clause-stopped c = λ a b script history stop six six_too stops.
-    journal_undelivered c.packet_tells_its_pdu.ensures.heard c.a_pdu_is_understood.ensures.says c.connections_are_taken.ensures.taken
-    c.searches_give_each_valid_address.ensures.valid c.searches_give_each_valid_address.ensures.distinct a b script six six_too history stop stops
-    (c.a_run_stops_in_its_turn.ensures a b script history stop stops)
+returns-clause-stopped c = λ a b script history stop six six_too stops. record {
+  side = side_of stop.sender;
+  channel = stop.channel;
+  stopped = c.a_run_stops_in_its_turn.ensures a b script history stop stops;
+  tells = c.each_packet_of_a_link_tells_what_waits.ensures.stopped (given_of a b script) history stop refl (pair_addresses a b script six six_too)
+      (pair_links a b script).links (eight_of a b script) stops;
+  announced = c.the_line_of_each_new_pdu_is_just_before_its_packet.ensures.stopped (given_of a b script) history stop refl (pair_addresses a b script six six_too)
+      (pair_links a b script).links (eight_of a b script) stops;
+}
