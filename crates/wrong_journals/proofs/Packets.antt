@@ -3,14 +3,21 @@ use Rattle.std.proofs.Common.{◌≡◌, ℕ, Bool, true, false, List, Some, sym
 use Rattle.ble_base.specs.declared.roles.Side.{Side}
 use Rattle.journal.specs.declared.entries.Entry.{Entry}
 use Rattle.air_frame.specs.Packet.{on_air}
+use Rattle.journal_pdus.specs.link_model.Acknowledgement.{Pdu}
 use Rattle.journal_pdus.specs.link_model.Data.{is_empty}
+use Rattle.journal_pdus.specs.link_model.control_model.Control.{Control}
 use Rattle.journal_pdus.specs.journal_links.Begun.{LinkBegun, link_numbered}
 use Rattle.journal_pdus.specs.journal_packets.Belonging.{link_of_packet}
 use Rattle.journal_pdus.specs.journal_acks.Carried.{bits_of, carried_of, channel_entered, pdu_octets}
 use Rattle.journal_pdus.specs.journal_acks.Exchange.{exchange_of}
+use Rattle.journal_controls.specs.LineSteps.{control_on}
 use Rattle.journal_pdus.specs.journal_data.Delivered.{host_buffers}
 use Rattle.journal_pdus.specs.journal_data.Lines.{lines_of}
-use Rattle.journal_pdus.specs.Waiting.{TellsWhatWaits, data_waits}
+use Rattle.journal_pdus.specs.journal_sending.NextPdus.{IsNextPdu}
+use Rattle.journal_pdus.specs.journal_sending.Outgoing.{octets_wait, piece_by_lines}
+use Rattle.journal_pdus.specs.journal_sending.WhatWaits.{TellsWhatWaits, has_payload_next, is_next_new, tells_more}
+use Rattle.journal_pdus.specs.journal_sending.journal_fixing.NextPdu.{pdu_next, piece_limit}
+use Rattle.journal_pdus.specs.journal_sending.journal_fixing.OnLines.{control_fixing, control_going}
 
 -- the octets of a packet of this link with this MD
 abbrev pub octets_with : ℕ → LinkBegun → List Entry → Side → ℕ → Bool → List ℕ
@@ -21,22 +28,31 @@ octets_with number link front side channel md =
 pub some_is : {X : Type 0} (one other : X) → Some one ≡ Some other → one ≡ other
 some_is one other same = cc
 
--- a packet of this link has these octets, where data waits or not
+-- a packet of this link has these octets, by the control part with which it was fixed and that of now
 pub octets_are : (front : List Entry) (side : Side) (channel : ℕ) (octets : List ℕ) (number : ℕ) (link : LinkBegun)
-    (waits : Bool)
+    (fixing now : Control) (md : Bool)
     → link_of_packet front side octets ≡ Some number → link_numbered number front ≡ Some link
-    → data_waits number (lines_of host_buffers side front) ≡ waits
+    → control_fixing side number front ≡ Some fixing → control_on side number front ≡ Some now
+    → tells_more (is_next_new number front side) fixing now (octets_wait number (lines_of host_buffers side front)) ≡ md
     → TellsWhatWaits front side channel octets
-    → octets ≡ octets_with number link front side channel waits
-octets_are front side channel octets number link waits belongs numbered is_waiting tells =
+    → octets ≡ octets_with number link front side channel md
+octets_are front side channel octets number link fixing now md belongs numbered is_fixing is_now is_md tells =
     let packet = tells.packet in
     let same = some_is packet.number number (sym packet.belongs ∙ belongs) in
     let one = some_is packet.link link (sym packet.is_link ∙ ap (λ (n : ℕ). link_numbered n front) same ∙ numbered) in
-    let more = tells.more ∙ ap (λ (n : ℕ). data_waits n (lines_of host_buffers side front)) same ∙ is_waiting in
+    let fixed = some_is tells.fixing fixing (sym tells.fixing_is ∙ ap (λ (n : ℕ). control_fixing side n front) same ∙ is_fixing) in
+    let current = some_is tells.now now (sym tells.now_is ∙ ap (λ (n : ℕ). control_on side n front) same ∙ is_now) in
+    let waits : ℕ → Bool = λ n. octets_wait n (lines_of host_buffers side front) in
+    let more =
+    tells.more
+    ∙ ap (λ (n : ℕ). tells_more (is_next_new n front side) tells.fixing tells.now (waits n)) same
+    ∙ ap (λ (c : Control). tells_more (is_next_new number front side) c tells.now (waits number)) fixed
+    ∙ ap (λ (c : Control). tells_more (is_next_new number front side) fixing c (waits number)) current
+    ∙ is_md in
     packet.carries
     ∙ ap (λ (n : ℕ). octets_with n packet.link front side channel packet.md) same
     ∙ ap (λ (l : LinkBegun). octets_with number l front side channel packet.md) one
-    ∙ ap (λ (md : Bool). octets_with number link front side channel md) more
+    ∙ ap (λ (b : Bool). octets_with number link front side channel b) more
 
 -- and the channel of its event
 pub channel_is : (front : List Entry) (side : Side) (channel : ℕ) (octets : List ℕ) (number : ℕ)
@@ -48,15 +64,31 @@ channel_is front side channel octets number belongs tells =
     let same = some_is packet.number number (sym packet.belongs ∙ belongs) in
     ap (λ (n : ℕ). channel_entered n side front) (sym same) ∙ packet.in_event
 
--- where a packet of this link has an empty PDU as a new one, no data waits
-pub none_waits : (front : List Entry) (side : Side) (channel : ℕ) (octets : List ℕ) (number : ℕ)
-    → link_of_packet front side octets ≡ Some number
-    → (exchange_of number front side).acked ≡ (exchange_of number front side).sent
-    → is_empty (carried_of number front side) ≡ true → TellsWhatWaits front side channel octets
-    → data_waits number (lines_of host_buffers side front) ≡ false
-none_waits front side channel octets number belongs new empty tells =
-    let same : number ≡ tells.packet.number = some_is number tells.packet.number (sym belongs ∙ tells.packet.belongs) in
-    ap (λ (n : ℕ). data_waits n (lines_of host_buffers side front)) same
+-- where a packet of this link has an empty PDU as a new one, nothing is to go
+pub none_waits : (front : List Entry) (side : Side) (channel : ℕ) (octets : List ℕ) (number : ℕ) (fixing : Control)
+    → link_of_packet front side octets ≡ Some number → control_fixing side number front ≡ Some fixing
+    → is_next_new number front side ≡ true → is_empty (carried_of number front side) ≡ true
+    → TellsWhatWaits front side channel octets
+    → has_payload_next fixing (octets_wait number (lines_of host_buffers side front)) ≡ false
+none_waits front side channel octets number fixing belongs is_fixing new empty tells =
+    let packet = tells.packet in
+    let same : number ≡ packet.number = some_is number packet.number (sym belongs ∙ packet.belongs) in
+    let fixed : fixing ≡ tells.fixing =
+    some_is fixing tells.fixing (sym is_fixing ∙ ap (λ (n : ℕ). control_fixing side n front) same ∙ tells.fixing_is) in
+    ap (λ (c : Control). has_payload_next c (octets_wait number (lines_of host_buffers side front))) fixed
+    ∙ ap (λ (n : ℕ). has_payload_next tells.fixing (octets_wait n (lines_of host_buffers side front))) same
     ∙ tells.empty_last
-    (subst (λ (n : ℕ). (exchange_of n front side).acked ≡ (exchange_of n front side).sent) same new)
+    (subst (λ (n : ℕ). is_next_new n front side ≡ true) same new)
     (subst (λ (n : ℕ). is_empty (carried_of n front side) ≡ true) same empty)
+
+-- a new PDU is the next one by the control parts with which it was fixed and went
+pub next_is : (link : ℕ) (front : List Entry) (side : Side) (count : ℕ) (pdu : Pdu) (fixing going : Control)
+    → control_fixing side link front ≡ Some fixing → control_going side link front ≡ Some going
+    → IsNextPdu link front side count pdu
+    → pdu ≡ pdu_next fixing going (piece_by_lines side link front (piece_limit fixing))
+next_is link front side count pdu fixing going is_fixing is_going next =
+    let fixed = some_is next.fixing fixing (sym next.fixing_is ∙ is_fixing) in
+    let gone = some_is next.going going (sym next.going_is ∙ is_going) in
+    next.next
+    ∙ ap (λ (c : Control). pdu_next c next.going (piece_by_lines side link front (piece_limit c))) fixed
+    ∙ ap (λ (c : Control). pdu_next fixing c (piece_by_lines side link front (piece_limit fixing))) gone

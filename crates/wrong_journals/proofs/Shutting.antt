@@ -1,11 +1,14 @@
 -- What a line of a link that is shut cannot say.
-use Rattle.std.proofs.Common.{◌≡◌, ℕ, nat_eq, ◌⊎◌, inl, inr, Bool, true, false, Some, List, [], ◌∷◌, ◌++◌, refl, sym, ap, ◌∙◌}
+use Rattle.std.proofs.Common.{◌≡◌, ℕ, Bool, true, false, Option, Some, None, List, [], ◌∷◌, ◌++◌, refl, sym, ap, ◌∙◌}
+use Rattle.ble_base.specs.ErrorCodes.{success}
+use Rattle.ble_base.specs.declared.error_codes.ErrCode.{ErrCode}
 use Rattle.ble_base.specs.declared.roles.Side.{Side}
 use Rattle.journal.specs.declared.entries.Entry.{Entry}
 use Rattle.journal.specs.declared.entries.Entry.TheVariants.{Turn, Fed}
 use Rattle.run_model.specs.Order.{AreNotes, side_of_note}
 use Rattle.journal_pdus.specs.journal_acks.Shut.{CompletesReset}
-use Rattle.wrong_journals.proofs.Differing.{numbers_differ, truths_differ}
+use Rattle.journal_pdus.specs.journal_leaving.Reasons.{IsShutAs, due_on, ending_on, leaving, overdue, packets_passed, reset}
+use Rattle.wrong_journals.proofs.Differing.{truths_differ}
 
 abbrev pub is_turn : Entry → Bool
 is_turn (Turn slot a b) = true
@@ -40,9 +43,14 @@ pub no_octets_yet : (front : List Entry) (side : Side) → turn_last front ≡ t
 no_octets_yet front side last resets =
     truths_differ (sym last ∙ ap turn_last resets.front_is ∙ fed_last side resets.octets resets.before resets.notes resets.are_notes)
 
--- ---- a code that is none of three
+-- ---- no reason holds
 
-pub one_code : (code : ℕ) → nat_eq code 0x00 ≡ false → nat_eq code 0x3E ≡ false → nat_eq code 0x08 ≡ false → (code ≡ 0x00) ⊎ ((code ≡ 0x3E) ⊎ (code ≡ 0x08)) → ⊥
-one_code code a b c (inl is) = numbers_differ code 0x00 a is
-one_code code a b c (inr (inl is)) = numbers_differ code 0x3E b is
-one_code code a b c (inr (inr is)) = numbers_differ code 0x08 c is
+-- no host completed a Reset, no other code is due, and the end is not leaving
+pub no_reason : (front : List Entry) (side : Side) (number : ℕ) (reason : ErrCode) (due : Option ℕ)
+    → (reason.0 ≡ success → CompletesReset front side → ⊥) → due_on side number front ≡ due
+    → (packets_passed front ≡ false → due ≡ Some reason.0 → ⊥) → ending_on side number front ≡ None
+    → IsShutAs front side number reason → ⊥
+no_reason front side number reason due no_reset is not_due stays (reset code completes) = no_reset code completes
+no_reason front side number reason due no_reset is not_due stays (overdue before same) = not_due before (sym is ∙ same)
+no_reason front side number reason due no_reset is not_due stays (leaving same) =
+    let h : None ≡ Some reason = sym stays ∙ same in absurd cc

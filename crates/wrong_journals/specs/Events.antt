@@ -1,10 +1,9 @@
 -- Journals of a link whose lines of links and events are not those of its CONNECT_IND.
 use Rattle.std.specs.Prelude.{ℕ, zero, suc, ◌+◌, List, [], ◌∷◌, ◌++◌}
-use Rattle.ble_base.specs.declared.procedure_kinds.Kind.TheVariants.{Version}
 use Rattle.ble_base.specs.declared.roles.Role.TheVariants.{Central, Peripheral}
 use Rattle.ble_base.specs.declared.roles.Side.TheVariants.{A, B}
 use Rattle.journal.specs.declared.entries.Entry.{Entry}
-use Rattle.journal.specs.declared.entries.Entry.TheVariants.{Applied, Began, Enter, Opened}
+use Rattle.journal.specs.declared.entries.Entry.TheVariants.{Enter, Opened}
 use Rattle.run_model.specs.Rows.{connect_packet, one_connection_journal, turn_entry}
 use Rattle.journal_pdus.specs.journal_links.Rows.{answered_by, unoffered_packet}
 use Rattle.wrong_journals.specs.Hearings.{passed_connect}
@@ -46,14 +45,6 @@ entered_unoffered = unoffered_connection ++ Enter A 1 0 25 ∷ []
 -- event 1 comes in the place of event 0
 abbrev pub entered_misnumbered : List Entry
 entered_misnumbered = one_connection_journal ++ turn_entry 1 ∷ turn_entry 2 ∷ Enter A 1 1 25 ∷ []
-
--- a control procedure begins
-abbrev pub procedure_begun : List Entry
-procedure_begun = one_connection_journal ++ Began A 1 Version ∷ []
-
--- an indication takes effect
-abbrev pub indication_applied : List Entry
-indication_applied = one_connection_journal ++ Applied A 1 1 0 ∷ []
 
 -- ---- an order of events
 

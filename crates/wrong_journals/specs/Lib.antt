@@ -1,5 +1,6 @@
 -- The journals of this crate.
 pub mod Answers
+pub mod Commanded
 pub mod Events
 pub mod Exchanges
 pub mod Hearings

@@ -13,7 +13,7 @@ use Rattle.journal_controls.specs.link_model.Controls.{read_of}
 use Rattle.journal_controls.specs.link_model.control_model.Control.{Asks, Control, Enters, Sends, Takes, after_all}
 use Rattle.journal_controls.specs.link_model.procedure_values.declared.asks.Ask.TheVariants.{Features as ask_features, Map as ask_map}
 use Rattle.journal_pdus.specs.journal_acks.Rows.{second_slot}
-use Rattle.run_model.specs.Rows.{one_event_journal, turn_entry}
+use Rattle.run_model.specs.Rows.{one_connection_journal, one_event_journal, turn_entry}
 use Rattle.wrong_journals.specs.Events.{turn_entries}
 
 -- ---- journals
@@ -21,6 +21,10 @@ use Rattle.wrong_journals.specs.Events.{turn_entries}
 -- a procedure begins that no host asked for
 abbrev pub begun_unasked : List Entry
 begun_unasked = one_event_journal ++ Began B 1 Version ∷ []
+
+-- a procedure begins before the first event
+abbrev pub begun_before_events : List Entry
+begun_before_events = one_connection_journal ++ Began A 1 Version ∷ []
 
 -- a procedure is done as its first PDU is sent
 abbrev pub done_untaken : List Entry
@@ -42,6 +46,10 @@ map_taken =
 -- it comes into force at once, in a turn in which no event is entered any more
 abbrev pub applied_at_once : List Entry
 applied_at_once = map_taken ++ Applied A 1 1 0 ∷ turn_entry 4 ∷ []
+
+-- an indication comes into force before the first event
+abbrev pub applied_before_events : List Entry
+applied_before_events = one_connection_journal ++ Applied A 1 1 0 ∷ turn_entry 1 ∷ []
 
 -- it comes into force in the turn of event 1, which is turn 26
 abbrev pub before_instant : List Entry

@@ -1,16 +1,15 @@
 //! Lines of links and events that do not follow from a CONNECT_IND, or do not come in their order.
 ghost use Rattle.journal_pdus.specs.journal_acks.EventOrder.{AllAreInOrder};
-ghost use Rattle.journal_pdus.specs.journal_links.Procedures.{NoneNamesAProcedure};
-ghost use Rattle.journal_pdus.specs.Lawful.{AllAreEntered, AllAreOpened};
+ghost use Rattle.journal_pdus.specs.journal_links.Entered.{AllAreEntered};
+ghost use Rattle.journal_pdus.specs.Lawful.{AllAreOpened};
 ghost use Rattle.wrong_journals.specs.Events.{entered_by_other, entered_elsewhere, entered_late};
 ghost use Rattle.wrong_journals.specs.Events.{entered_by_hopping, entered_unoffered};
 ghost use Rattle.wrong_journals.specs.Events.{entered_misnumbered, entered_twice, left_out};
-ghost use Rattle.wrong_journals.specs.Events.{indication_applied, opened_from_nothing};
-ghost use Rattle.wrong_journals.specs.Events.{opened_late, procedure_begun, roles_exchanged};
+ghost use Rattle.wrong_journals.specs.Events.{opened_from_nothing, opened_late, roles_exchanged};
 
 /// A link is opened in the turn of its CONNECT_IND, by the side that sent it as the central; and an
 /// event is entered in the turn of its anchor and on its channel, by the algorithm that both sides
-/// offer. No line is of a control procedure.
+/// offer.
 pub fn wrong_links_are_refused()
     ensures roles { AllAreOpened roles_exchanged → ⊥ }
     ensures late { AllAreOpened opened_late → ⊥ }
@@ -20,8 +19,6 @@ pub fn wrong_links_are_refused()
     ensures hopping { AllAreEntered entered_by_hopping → ⊥ }
     ensures unoffered { AllAreEntered entered_unoffered → ⊥ }
     ensures another_event { AllAreEntered entered_misnumbered → ⊥ }
-    ensures procedure { NoneNamesAProcedure procedure_begun → ⊥ }
-    ensures indication { NoneNamesAProcedure indication_applied → ⊥ }
 {}
 
 /// A side enters each event of a link once, and leaves none out, whatever the other side enters.

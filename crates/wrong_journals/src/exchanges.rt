@@ -1,7 +1,10 @@
 //! PDUs that are sent or taken against the rules, and packets that carry what they must not.
-ghost use Rattle.journal_pdus.specs.Exchanged.{AllAreAtRest, AllAreNew, AllAreNext};
-ghost use Rattle.journal_pdus.specs.Exchanged.{AllAreTakenAtOnce, AllGoOutAtOnce};
-ghost use Rattle.journal_pdus.specs.Exchanged.{AllTellWhatWaits};
+ghost use Rattle.journal_pdus.specs.Exchanged.{AllAreNew};
+ghost use Rattle.journal_pdus.specs.journal_sending.Announced.{AllGoOutAtOnce};
+ghost use Rattle.journal_pdus.specs.journal_sending.NextPdus.{AllNewPdusAreNext};
+ghost use Rattle.journal_pdus.specs.journal_sending.Pending.{AllAreTakenAtOnce};
+ghost use Rattle.journal_pdus.specs.journal_sending.Resting.{AllAreAtRest};
+ghost use Rattle.journal_pdus.specs.journal_sending.WhatWaits.{AllTellWhatWaits};
 ghost use Rattle.wrong_journals.specs.Exchanges.{another_channel, empty_while_data_waits};
 ghost use Rattle.wrong_journals.specs.Exchanges.{less_than_waits, more_than_waits, never_taken};
 ghost use Rattle.wrong_journals.specs.Exchanges.{number_stays, packet_otherwise};
@@ -24,10 +27,10 @@ pub fn wrong_taking_is_refused()
 /// A `sent` line is of the next piece of what the host submitted, with the next number, once all
 /// before it is acknowledged, and its packet is the next line of its side.
 pub fn wrong_sending_is_refused()
-    ensures otherwise { AllAreNext sent_otherwise → ⊥ }
-    ensures misnumbered { AllAreNext sent_misnumbered → ⊥ }
-    ensures continuation { AllAreNext sent_as_continuation → ⊥ }
-    ensures from_nothing { AllAreNext sent_from_nothing → ⊥ }
+    ensures otherwise { AllNewPdusAreNext sent_otherwise → ⊥ }
+    ensures misnumbered { AllNewPdusAreNext sent_misnumbered → ⊥ }
+    ensures continuation { AllNewPdusAreNext sent_as_continuation → ⊥ }
+    ensures from_nothing { AllNewPdusAreNext sent_from_nothing → ⊥ }
     ensures too_early { AllAreNew sent_too_early → ⊥ }
     ensures no_packet { AllGoOutAtOnce sent_without_packet → ⊥ }
 {}

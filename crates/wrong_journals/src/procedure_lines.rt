@@ -1,5 +1,5 @@
-//! Lines of control procedures that are not due. No host can ask for a procedure yet. So where one
-//! runs, what is said is of the lines that are due by the control part of an end.
+//! Lines of control procedures that are not due. Where a procedure runs, what is said is of the
+//! lines that are due by the control part of an end.
 ghost use Rattle.std.specs.Prelude.{◌≡◌, [], ◌∷◌, Some};
 ghost use Rattle.ble_base.specs.declared.procedure_kinds.Kind.{Kind};
 ghost use Rattle.ble_base.specs.declared.roles.Side.TheVariants.{A, B};
@@ -9,9 +9,10 @@ ghost use Rattle.journal_controls.specs.Rows.{version_pdu, version_wanted};
 ghost use Rattle.journal_due.specs.ProcedureLines.{AllIndicationsAreDue};
 ghost use Rattle.journal_due.specs.ProcedureLines.{AllProceduresAreDue, NoneIsLeftOut};
 ghost use Rattle.journal_due.specs.ProcedureLines.{first_of, procedure_line};
-ghost use Rattle.wrong_journals.specs.ProcedureLines.{applied_at_once, applied_early};
-ghost use Rattle.wrong_journals.specs.ProcedureLines.{applied_misnumbered, applied_never};
-ghost use Rattle.wrong_journals.specs.ProcedureLines.{applied_unentered, begun_unasked};
+ghost use Rattle.wrong_journals.specs.ProcedureLines.{applied_at_once, applied_before_events};
+ghost use Rattle.wrong_journals.specs.ProcedureLines.{applied_early, applied_misnumbered};
+ghost use Rattle.wrong_journals.specs.ProcedureLines.{applied_never, applied_unentered};
+ghost use Rattle.wrong_journals.specs.ProcedureLines.{begun_before_events, begun_unasked};
 ghost use Rattle.wrong_journals.specs.ProcedureLines.{done_untaken, map_awaited, map_sent};
 ghost use Rattle.wrong_journals.specs.ProcedureLines.{refused_untaken, version_running};
 
@@ -20,9 +21,11 @@ ghost use Rattle.wrong_journals.specs.ProcedureLines.{refused_untaken, version_r
 /// entered (Core 5.2, volume 6 part B, sections 5.1 and 5.5).
 pub fn wrong_lines_of_procedures_are_refused()
     ensures unasked { AllProceduresAreDue begun_unasked → ⊥ }
+    ensures no_event { AllProceduresAreDue begun_before_events → ⊥ }
     ensures done { AllProceduresAreDue done_untaken → ⊥ }
     ensures refused { AllProceduresAreDue refused_untaken → ⊥ }
     ensures at_once { NoneIsLeftOut applied_at_once → ⊥ }
+    ensures untaken { NoneIsLeftOut applied_before_events → ⊥ }
     ensures early { AllIndicationsAreDue applied_early → ⊥ }
     ensures misnumbered { AllIndicationsAreDue applied_misnumbered → ⊥ }
     ensures never { AllIndicationsAreDue applied_never → ⊥ }

@@ -16,15 +16,20 @@ ghost use Rattle.run_model.specs.Rows.{first_reset_journal, one_connection_journ
 ghost use Rattle.run_model.specs.Rows.{one_event_journal, report, reset};
 ghost use Rattle.wrong_journals.specs.Hosts.{data_settled};
 ghost use Rattle.wrong_journals.specs.Resetting.{shut_by_reset};
-ghost use Rattle.wrong_journals.specs.Right.{answering_octets, both_script, both_settled};
-ghost use Rattle.wrong_journals.specs.Right.{data_script, more_octets, more_script, more_settled};
+ghost use Rattle.wrong_journals.specs.Right.{answering_octets, asking_octets, asking_script};
+ghost use Rattle.wrong_journals.specs.Right.{both_script, both_settled, both_shut, data_script};
+ghost use Rattle.wrong_journals.specs.Right.{ending_octets, ending_script, giving_octets};
+ghost use Rattle.wrong_journals.specs.Right.{more_octets, more_script, more_settled};
 ghost use Rattle.wrong_journals.specs.Right.{reset_script, resetting_octets, script_with};
-ghost use Rattle.wrong_journals.specs.Right.{sending_octets, turn_with};
+ghost use Rattle.wrong_journals.specs.Right.{sending_octets, turn_with, update_taken};
+ghost use Rattle.wrong_journals.specs.Right.{updating_octets, updating_script, version_replied};
 
-/// The journals of four runs. In three of them the central has a packet of its host to send. It
+/// The journals of seven runs. In three of them the central has a packet of its host to send. It
 /// says so in its first packet, and the event goes on in the next turn: there the packet is taken,
 /// acknowledged, handed up and credited. In one of these its host gives another packet in that
-/// turn, and in one the peripheral has a packet as well. In the last run the peripheral is reset.
+/// turn, and in one the peripheral has a packet as well. In three runs the host of the central gives
+/// a command on the link: it asks for the version of the peripheral or for other parameters, or ends
+/// the link. In the last run the peripheral is reset.
 pub fn worked_link_runs()
     ensures one { journal_of (history_of (run_of
         (given_of enabling_octets sending_octets data_script))) ≡ data_settled }
@@ -32,15 +37,21 @@ pub fn worked_link_runs()
         (given_of enabling_octets more_octets more_script))) ≡ more_settled }
     ensures both { journal_of (history_of (run_of
         (given_of answering_octets sending_octets both_script))) ≡ both_settled }
+    ensures version { journal_of (history_of (run_of
+        (given_of enabling_octets asking_octets asking_script))) ≡ version_replied }
+    ensures update { journal_of (history_of (run_of
+        (given_of enabling_octets updating_octets updating_script))) ≡ update_taken }
+    ensures ended { journal_of (history_of (run_of
+        (given_of giving_octets ending_octets ending_script))) ≡ both_shut }
     ensures reset { journal_of (history_of (run_of
         (given_of resetting_octets connecting_octets reset_script))) ≡ shut_by_reset A }
 {}
 
-/// Nine journals are lawful, which were written by hand: a first HCI_Reset; an advertisement that
+/// Twelve journals are lawful, which were written by hand: a first HCI_Reset; an advertisement that
 /// is reported, and one that the radio loses; a link that opens; its first event, with an empty PDU
-/// each way; three with data, and one with a Reset of a side with a link. Many of the wrong
-/// journals begin with lines of the last four. So the definition of a lawful journal does not
-/// refuse what is right.
+/// each way; three with data; an exchange of versions, an update of the connection, and a link that
+/// a host ends; and one with a Reset of a side with a link. Many of the wrong journals begin with
+/// lines of the last seven. So the definition of a lawful journal does not refuse what is right.
 pub fn right_journals_are_lawful()
     ensures reset { IsLawful reset []
         (script_with (turn_with 0 0 [] ∷ turn_with 4 0 [] ∷ [])) first_reset_journal }
@@ -59,6 +70,9 @@ pub fn right_journals_are_lawful()
     ensures one_packet { IsLawful enabling_octets sending_octets data_script data_settled }
     ensures more_packets { IsLawful enabling_octets more_octets more_script more_settled }
     ensures both_sides { IsLawful answering_octets sending_octets both_script both_settled }
+    ensures versions { IsLawful enabling_octets asking_octets asking_script version_replied }
+    ensures updates { IsLawful enabling_octets updating_octets updating_script update_taken }
+    ensures ends { IsLawful giving_octets ending_octets ending_script both_shut }
     ensures link_reset { IsLawful resetting_octets connecting_octets reset_script
         (shut_by_reset A) }
 {

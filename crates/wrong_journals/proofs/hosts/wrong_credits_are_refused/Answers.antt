@@ -17,8 +17,6 @@ use Rattle.journal_pdus.specs.journal_packets.Belonging.{is_answer, link_of_pack
 use Rattle.journal_pdus.specs.journal_acks.Carried.{channel_entered, sent_line_of}
 use Rattle.journal_pdus.specs.journal_acks.Exchange.{exchange_of}
 use Rattle.journal_pdus.specs.journal_data.Lines.{lines_of}
-use Rattle.journal_pdus.specs.Announced.{announced_pdu}
-use Rattle.journal_pdus.specs.Pending.{pending_pdu}
 use Rattle.ble_base.specs.declared.verdicts.Verdict.TheVariants.{Good}
 use Rattle.journal.specs.declared.entries.Mark.TheVariants.{Pass}
 use Rattle.run_model.specs.Rows.{first_packet, one_event_journal}
@@ -28,29 +26,29 @@ use Rattle.wrong_journals.proofs.Differing.{numbers_differ}
 use Rattle.wrong_journals.proofs.hosts.wrong_credits_are_refused.Goals as goal
 
 pub returns-clause-from_nothing : goal.returns-clause-from_nothing
-unfolding announced_pdu pending_pdu channel_entered lines_of frames exchange_of sent_line_of link_of_packet is_answer links_begun pdu_heard heard_in read_of kept_bits crc crc_octets crc_of_bits remainder mask_of next_mask whitening_bit whitening_of little_endian data_channels used_channels reversed_octet perm mam stage prn channel_of
+unfolding channel_entered lines_of frames exchange_of sent_line_of link_of_packet is_answer links_begun pdu_heard heard_in read_of kept_bits crc crc_octets crc_of_bits remainder mask_of next_mask whitening_bit whitening_of little_endian data_channels used_channels reversed_octet perm mam stage prn channel_of
 returns-clause-from_nothing c lawful =
     let few : 1 ≤ 0 = (lawful (one_event_journal ++ credit ∷ []) [] refl B 1).delivered.credited in omega arith
 
 pub returns-clause-twice : goal.returns-clause-twice
-unfolding announced_pdu pending_pdu channel_entered lines_of frames exchange_of sent_line_of link_of_packet is_answer links_begun pdu_heard heard_in read_of kept_bits crc crc_octets crc_of_bits remainder mask_of next_mask whitening_bit whitening_of little_endian data_channels used_channels reversed_octet perm mam stage prn channel_of
+unfolding channel_entered lines_of frames exchange_of sent_line_of link_of_packet is_answer links_begun pdu_heard heard_in read_of kept_bits crc crc_octets crc_of_bits remainder mask_of next_mask whitening_bit whitening_of little_endian data_channels used_channels reversed_octet perm mam stage prn channel_of
 returns-clause-twice c lawful =
     let few : 2 ≤ 1 = (lawful credit_twice [] refl B 1).delivered.credited in omega arith
 
 pub returns-clause-too_early : goal.returns-clause-too_early
-unfolding announced_pdu pending_pdu channel_entered lines_of frames exchange_of sent_line_of link_of_packet is_answer links_begun pdu_heard heard_in read_of kept_bits crc crc_octets crc_of_bits remainder mask_of next_mask whitening_bit whitening_of little_endian data_channels used_channels reversed_octet perm mam stage prn channel_of
+unfolding channel_entered lines_of frames exchange_of sent_line_of link_of_packet is_answer links_begun pdu_heard heard_in read_of kept_bits crc crc_octets crc_of_bits remainder mask_of next_mask whitening_bit whitening_of little_endian data_channels used_channels reversed_octet perm mam stage prn channel_of
 returns-clause-too_early c lawful =
     numbers_differ 1 0 refl
     (lawful (data_taken ++ data_up ∷ credit ∷ []) [] 4 true (Some true) refl B [] [] (record { link = 1; handle = 0 }) refl).credited
 
 pub returns-clause-never : goal.returns-clause-never
-unfolding announced_pdu pending_pdu channel_entered lines_of frames exchange_of sent_line_of link_of_packet is_answer links_begun pdu_heard heard_in read_of kept_bits crc crc_octets crc_of_bits remainder mask_of next_mask whitening_bit whitening_of little_endian data_channels used_channels reversed_octet perm mam stage prn channel_of
+unfolding channel_entered lines_of frames exchange_of sent_line_of link_of_packet is_answer links_begun pdu_heard heard_in read_of kept_bits crc crc_octets crc_of_bits remainder mask_of next_mask whitening_bit whitening_of little_endian data_channels used_channels reversed_octet perm mam stage prn channel_of
 returns-clause-never c lawful =
     numbers_differ 0 1 refl
     (lawful (data_acknowledged ++ data_up ∷ []) [] 4 true (Some true) refl B [] [] (record { link = 1; handle = 0 }) refl).credited
 
 pub returns-clause-after_packet : goal.returns-clause-after_packet
-unfolding announced_pdu pending_pdu channel_entered lines_of frames exchange_of sent_line_of link_of_packet is_answer links_begun pdu_heard heard_in read_of kept_bits crc crc_octets crc_of_bits remainder mask_of next_mask whitening_bit whitening_of little_endian data_channels used_channels reversed_octet perm mam stage prn channel_of
+unfolding channel_entered lines_of frames exchange_of sent_line_of link_of_packet is_answer links_begun pdu_heard heard_in read_of kept_bits crc crc_octets crc_of_bits remainder mask_of next_mask whitening_bit whitening_of little_endian data_channels used_channels reversed_octet perm mam stage prn channel_of
 returns-clause-after_packet c lawful =
     numbers_differ 0 1 refl
     (lawful before_credit (credit ∷ []) B 25 first_packet Pass Good refl refl B [] [] (record { link = 1; handle = 0 }) refl).credited

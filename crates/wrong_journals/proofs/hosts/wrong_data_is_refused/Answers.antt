@@ -19,9 +19,7 @@ use Rattle.journal_pdus.specs.journal_packets.Belonging.{is_answer, link_of_pack
 use Rattle.journal_pdus.specs.journal_acks.Carried.{channel_entered, sent_line_of}
 use Rattle.journal_pdus.specs.journal_acks.Exchange.{exchange_of}
 use Rattle.journal_pdus.specs.journal_data.Lines.{lines_of}
-use Rattle.journal_pdus.specs.Announced.{announced_pdu}
-use Rattle.journal_pdus.specs.Pending.{pending_pdu}
-use Rattle.journal_pdus.specs.Settled.{packets_passed}
+use Rattle.journal_pdus.specs.journal_leaving.Reasons.{packets_passed}
 use Rattle.run_model.specs.Rows.{one_event_journal}
 use Rattle.journal_pdus.specs.journal_acks.Rows.{data_acknowledged}
 use Rattle.wrong_journals.specs.Hosts.{credit, data_up}
@@ -29,19 +27,19 @@ use Rattle.wrong_journals.proofs.Differing.{numbers_differ, truths_differ}
 use Rattle.wrong_journals.proofs.hosts.wrong_data_is_refused.Goals as goal
 
 pub returns-clause-from_nothing : goal.returns-clause-from_nothing
-unfolding announced_pdu pending_pdu channel_entered lines_of frames exchange_of sent_line_of link_of_packet is_answer links_begun pdu_heard heard_in read_of kept_bits crc crc_octets crc_of_bits remainder mask_of next_mask whitening_bit whitening_of little_endian data_channels used_channels reversed_octet perm mam stage prn channel_of
+unfolding channel_entered lines_of frames exchange_of sent_line_of link_of_packet is_answer links_begun pdu_heard heard_in read_of kept_bits crc crc_octets crc_of_bits remainder mask_of next_mask whitening_bit whitening_of little_endian data_channels used_channels reversed_octet perm mam stage prn channel_of
 returns-clause-from_nothing c lawful =
     numbers_differ 1 0 refl
     (ap (λ (xs : List Marked). length xs) (lawful (one_event_journal ++ data_up ∷ []) [] refl B 1).delivered.received)
 
 pub returns-clause-twice : goal.returns-clause-twice
-unfolding announced_pdu pending_pdu channel_entered lines_of frames exchange_of sent_line_of link_of_packet is_answer links_begun pdu_heard heard_in read_of kept_bits crc crc_octets crc_of_bits remainder mask_of next_mask whitening_bit whitening_of little_endian data_channels used_channels reversed_octet perm mam stage prn channel_of
+unfolding channel_entered lines_of frames exchange_of sent_line_of link_of_packet is_answer links_begun pdu_heard heard_in read_of kept_bits crc crc_octets crc_of_bits remainder mask_of next_mask whitening_bit whitening_of little_endian data_channels used_channels reversed_octet perm mam stage prn channel_of
 returns-clause-twice c lawful =
     numbers_differ 2 1 refl
     (ap (λ (xs : List Marked). length xs) (lawful (data_acknowledged ++ data_up ∷ data_up ∷ []) [] refl B 1).delivered.received)
 
 pub returns-clause-continuation : goal.returns-clause-continuation
-unfolding announced_pdu pending_pdu channel_entered lines_of frames exchange_of sent_line_of link_of_packet is_answer links_begun pdu_heard heard_in read_of kept_bits crc crc_octets crc_of_bits remainder mask_of next_mask whitening_bit whitening_of little_endian data_channels used_channels reversed_octet perm mam stage prn channel_of
+unfolding channel_entered lines_of frames exchange_of sent_line_of link_of_packet is_answer links_begun pdu_heard heard_in read_of kept_bits crc crc_octets crc_of_bits remainder mask_of next_mask whitening_bit whitening_of little_endian data_channels used_channels reversed_octet perm mam stage prn channel_of
 returns-clause-continuation c lawful =
     truths_differ (sym (ap starts
     (lawful (data_acknowledged ++ Up A (0x02 ∷ 0x00 ∷ 0x10 ∷ 0x01 ∷ 0x00 ∷ 0xAA ∷ []) ∷ []) [] refl B 1).delivered.received))
@@ -51,13 +49,13 @@ returns-clause-continuation c lawful =
     starts (octet ∷ octets) = octet.0
 
 pub returns-clause-never : goal.returns-clause-never
-unfolding announced_pdu pending_pdu channel_entered lines_of frames exchange_of sent_line_of link_of_packet is_answer links_begun pdu_heard heard_in read_of kept_bits crc crc_octets crc_of_bits remainder mask_of next_mask whitening_bit whitening_of little_endian data_channels used_channels reversed_octet perm mam stage prn channel_of
+unfolding channel_entered lines_of frames exchange_of sent_line_of link_of_packet is_answer links_begun pdu_heard heard_in read_of kept_bits crc crc_octets crc_of_bits remainder mask_of next_mask whitening_bit whitening_of little_endian data_channels used_channels reversed_octet perm mam stage prn channel_of
 returns-clause-never c lawful =
     numbers_differ 0 1 refl
     (ap (λ (xs : List Marked). length xs) (lawful (data_acknowledged ++ credit ∷ []) [] 4 true (Some true) refl A [] [] (record { link = 1; handle = 0 }) refl).received)
 
 pub returns-clause-shut : goal.returns-clause-shut
-unfolding packets_passed announced_pdu pending_pdu channel_entered lines_of frames exchange_of sent_line_of link_of_packet is_answer links_begun pdu_heard heard_in read_of kept_bits crc crc_octets crc_of_bits remainder mask_of next_mask whitening_bit whitening_of little_endian data_channels used_channels reversed_octet perm mam stage prn channel_of
+unfolding packets_passed channel_entered lines_of frames exchange_of sent_line_of link_of_packet is_answer links_begun pdu_heard heard_in read_of kept_bits crc crc_octets crc_of_bits remainder mask_of next_mask whitening_bit whitening_of little_endian data_channels used_channels reversed_octet perm mam stage prn channel_of
 returns-clause-shut c lawful =
     numbers_differ 0 1 refl
     (ap (λ (xs : List Marked). length xs) (lawful data_acknowledged [] A 1 (record { 0 = 0x16 }) refl refl).received)

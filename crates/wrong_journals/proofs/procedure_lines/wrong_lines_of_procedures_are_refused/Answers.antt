@@ -1,5 +1,5 @@
 -- No line of a procedure is due there, and no indication comes into force.
-use Rattle.std.proofs.Common.{[], ◌∷◌, ◌++◌, Some, None, refl, sym}
+use Rattle.std.proofs.Common.{[], ◌∷◌, ◌++◌, None, refl, sym}
 use Rattle.ble_base.specs.ErrorCodes.{unsupported_remote_feature}
 use Rattle.ble_base.specs.declared.procedure_kinds.Kind.TheVariants.{Features, Version}
 use Rattle.ble_base.specs.declared.roles.Side.TheVariants.{A, B}
@@ -21,7 +21,7 @@ use Rattle.journal_pdus.specs.journal_acks.Exchange.{exchange_of}
 use Rattle.journal_due.specs.ProcedureLines.{applied_by, applied_last, applied_line}
 use Rattle.journal_pdus.specs.journal_links.Begun.{links_begun}
 use Rattle.journal_pdus.specs.journal_packets.Belonging.{is_answer, link_of_packet}
-use Rattle.run_model.specs.Rows.{one_event_journal, turn_entry}
+use Rattle.run_model.specs.Rows.{one_connection_journal, one_event_journal, turn_entry}
 use Rattle.wire_fields.specs.Field.{little_endian}
 use Rattle.wrong_journals.specs.ProcedureLines.{at_instant, before_instant, map_taken}
 use Rattle.wrong_journals.proofs.Differing.{some_is_none}
@@ -33,6 +33,12 @@ unfolding lines_due control_on exchange_of sent_line_of link_of_packet is_answer
 returns-clause-unasked c lawful =
     let line = Began B 1 Version in
     none_due (lines_due B 1 one_event_journal) line refl (lawful one_event_journal [] line B 1 refl refl)
+
+pub returns-clause-no_event : goal.returns-clause-no_event
+unfolding lines_due control_on exchange_of sent_line_of link_of_packet is_answer links_begun pdu_heard heard_in read_of kept_bits crc crc_octets crc_of_bits remainder mask_of next_mask whitening_bit whitening_of little_endian ctrl_of makers length_of data_channels used_channels
+returns-clause-no_event c lawful =
+    let line = Began A 1 Version in
+    none_due (lines_due A 1 one_connection_journal) line refl (lawful one_connection_journal [] line A 1 refl refl)
 
 pub returns-clause-done : goal.returns-clause-done
 unfolding lines_due control_on exchange_of sent_line_of link_of_packet is_answer links_begun pdu_heard heard_in read_of kept_bits crc crc_octets crc_of_bits remainder mask_of next_mask whitening_bit whitening_of little_endian ctrl_of makers length_of data_channels used_channels
@@ -51,6 +57,12 @@ unfolding applied_last
 returns-clause-at_once c lawful =
     let front = map_taken ++ Applied A 1 1 0 ∷ [] in
     some_is_none (applied_line 1 0 1) (applied_last A front) None refl refl (lawful front [] (turn_entry 4) refl refl A).indication
+
+pub returns-clause-untaken : goal.returns-clause-untaken
+unfolding applied_last
+returns-clause-untaken c lawful =
+    let front = one_connection_journal ++ Applied A 1 1 0 ∷ [] in
+    some_is_none (applied_line 1 0 1) (applied_last A front) None refl refl (lawful front [] (turn_entry 1) refl refl A).indication
 
 pub returns-clause-early : goal.returns-clause-early
 unfolding applied_last control_on exchange_of sent_line_of link_of_packet is_answer links_begun pdu_heard heard_in read_of kept_bits crc crc_octets crc_of_bits remainder mask_of next_mask whitening_bit whitening_of little_endian ctrl_of makers length_of data_channels used_channels

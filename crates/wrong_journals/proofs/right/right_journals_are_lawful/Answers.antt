@@ -4,7 +4,7 @@ use Rattle.journal_pdus.specs.controller_model.Rows.{advertising_octets, scannin
 use Rattle.journal_pdus.specs.Lawful.{IsLawful}
 use Rattle.radio_replay.specs.declared.fates.Fate.TheVariants.{Lost}
 use Rattle.run_model.specs.Rows.{connecting_octets, enabling_octets, reset}
-use Rattle.wrong_journals.specs.Right.{answering_octets, both_script, data_script, more_octets, more_script, reset_script, resetting_octets, script_with, sending_octets, turn_with}
+use Rattle.wrong_journals.specs.Right.{answering_octets, asking_octets, asking_script, both_script, data_script, ending_octets, ending_script, giving_octets, more_octets, more_script, reset_script, resetting_octets, script_with, sending_octets, turn_with, updating_octets, updating_script}
 use Rattle.wrong_journals.proofs.right.right_journals_are_lawful.Goals as goal
 
 pub returns : goal.returns
@@ -28,5 +28,8 @@ returns c =
       one_packet = subst (IsLawful enabling_octets sending_octets data_script) more.one (lawful enabling_octets sending_octets data_script refl refl);
       more_packets = subst (IsLawful enabling_octets more_octets more_script) more.more (lawful enabling_octets more_octets more_script refl refl);
       both_sides = subst (IsLawful answering_octets sending_octets both_script) more.both (lawful answering_octets sending_octets both_script refl refl);
+      versions = subst (IsLawful enabling_octets asking_octets asking_script) more.version (lawful enabling_octets asking_octets asking_script refl refl);
+      updates = subst (IsLawful enabling_octets updating_octets updating_script) more.update (lawful enabling_octets updating_octets updating_script refl refl);
+      ends = subst (IsLawful giving_octets ending_octets ending_script) more.ended (lawful giving_octets ending_octets ending_script refl refl);
       link_reset = subst (IsLawful resetting_octets connecting_octets reset_script) more.reset (lawful resetting_octets connecting_octets reset_script refl refl);
     }

@@ -1,6 +1,8 @@
 -- Proof of `right::worked_link_runs`: the definitions compute.
 use Rattle.std.proofs.Common.{refl}
 use Rattle.ble_base.specs.ChannelMap.{data_channels, used_channels}
+use Rattle.data_pdu.specs.Layouts.{makers}
+use Rattle.data_pdu.specs.Reading.{ctrl_of, length_of}
 use Rattle.h4_frames.specs.Frames.{frames}
 use Rattle.wire_fields.specs.Field.{little_endian}
 use Rattle.hci_cmd.specs.Command.{command_of, layout_of, layouts}
@@ -28,5 +30,5 @@ use Rattle.run_model.specs.Journal.{journal_of}
 use Rattle.wrong_journals.proofs.right.worked_link_runs.Goals as goal
 
 pub returns : goal.returns
-unfolding facts_of result_of frames little_endian command_of layout_of layouts view_after status_of use_of fates_used packet_received packets_on_air turns_begun after_opening after_phase after_phases after_turn run_of journal_of verdict_of pdu_heard heard_in read_of kept_bits crc crc_octets crc_of_bits remainder mask_of next_mask whitening_bit whitening_of begins_link bit_count is_valid_access next_access_of view_noted data_channels used_channels end_facts effect_of replies_of acked_of given_of packet_sent good_pdu end_verdict reversed_octet perm mam stage prn channel_of
-returns c = record { one = refl; more = refl; both = refl; reset = refl }
+unfolding ctrl_of length_of makers facts_of result_of frames little_endian command_of layout_of layouts view_after status_of use_of fates_used packet_received packets_on_air turns_begun after_opening after_phase after_phases after_turn run_of journal_of verdict_of pdu_heard heard_in read_of kept_bits crc crc_octets crc_of_bits remainder mask_of next_mask whitening_bit whitening_of begins_link bit_count is_valid_access next_access_of view_noted data_channels used_channels end_facts effect_of replies_of acked_of given_of packet_sent good_pdu end_verdict reversed_octet perm mam stage prn channel_of
+returns c = record { one = refl; more = refl; both = refl; version = refl; update = refl; ended = refl; reset = refl }

@@ -1,63 +1,44 @@
 -- A link is shut for a reason that the lines before do not give.
-use Rattle.std.proofs.Common.{◌≡◌, [], ◌∷◌, ◌++◌, ◌+◌, ◌*◌, is_some, refl, sym, ap, ◌∙◌}
+use Rattle.std.proofs.Common.{Some, None, [], ◌∷◌, ◌++◌, refl, arith}
 use Rattle.ble_base.specs.declared.roles.Side.TheVariants.{A}
-use Rattle.ble_base.specs.ChannelMap.{data_channels, used_channels}
 use Rattle.adv_pdu.specs.Header.{kept_bits}
 use Rattle.adv_pdu.specs.Reading.{read_of}
 use Rattle.air_frame.specs.Hearing.{heard_in}
+use Rattle.ble_base.specs.ChannelMap.{data_channels, used_channels}
+use Rattle.data_pdu.specs.Layouts.{makers}
+use Rattle.data_pdu.specs.Reading.{ctrl_of}
 use Rattle.frame_bits.specs.Crc.{crc, crc_octets, crc_of_bits, remainder}
 use Rattle.frame_bits.specs.Whitening.{mask_of, next_mask, whitening_bit, whitening_of}
 use Rattle.h4_frames.specs.Frames.{frames}
+use Rattle.journal_controls.specs.LineSteps.{control_on}
 use Rattle.journal_pdus.specs.controller_model.Packets.{pdu_heard}
-use Rattle.journal_pdus.specs.controller_model.Side.{result_of}
 use Rattle.wire_fields.specs.Field.{little_endian}
-use Rattle.journal_pdus.specs.journal_links.Begun.{LinkBegun, links_begun}
-use Rattle.journal_pdus.specs.journal_links.Rows.{one_link}
-use Rattle.journal_pdus.specs.journal_packets.Belonging.{is_answer, link_of_packet}
+use Rattle.journal_pdus.specs.journal_acks.Carried.{sent_line_of}
+use Rattle.journal_pdus.specs.journal_acks.Exchange.{exchange_of}
 use Rattle.journal_pdus.specs.journal_acks.Shut.{last_heard}
+use Rattle.journal_pdus.specs.journal_leaving.Leaving.{leaving_on}
+use Rattle.journal_pdus.specs.journal_links.Begun.{links_begun}
+use Rattle.journal_pdus.specs.journal_packets.Belonging.{is_answer, link_of_packet}
+use Rattle.journal_pdus.specs.controller_model.Side.{result_of}
+use Rattle.journal_pdus.specs.journal_leaving.Reasons.{due_on, ending_on, overdue, packets_passed, reset as by_reset}
 use Rattle.run_model.specs.Rows.{one_connection_journal, reset, turn_entry}
-use Rattle.wrong_journals.specs.Shuts.{failing}
+use Rattle.wrong_journals.specs.Shuts.{before_failing, before_silent, failing, failing_after_packet, heard_once}
 use Rattle.wrong_journals.proofs.Differing.{numbers_differ, truths_differ}
 use Rattle.wrong_journals.proofs.Packets.{some_is}
-use Rattle.wrong_journals.proofs.Shutting.{no_octets_yet, one_code}
+use Rattle.wrong_journals.proofs.Shutting.{no_octets_yet, no_reason}
 use Rattle.wrong_journals.proofs.shuts.wrong_reasons_are_refused.Goals as goal
 
 pub returns-clause-failed : goal.returns-clause-failed
-unfolding last_heard link_of_packet is_answer links_begun pdu_heard heard_in read_of kept_bits crc crc_octets crc_of_bits remainder mask_of next_mask whitening_bit whitening_of little_endian data_channels used_channels
-returns-clause-failed c = record { link = one_link; is_link = refl; none_heard = refl; in_turn = refl }
-
-pub returns-clause-fails_early : goal.returns-clause-fails_early
-unfolding last_heard link_of_packet is_answer links_begun pdu_heard heard_in read_of kept_bits crc crc_octets crc_of_bits remainder mask_of next_mask whitening_bit whitening_of little_endian data_channels used_channels
-returns-clause-fails_early c shut =
-    let so = shut.not_established refl in
-    let same : so.link ≡ one_link = some_is so.link one_link (sym so.is_link) in
-    numbers_differ 144 145 refl (so.in_turn ∙ ap (λ (l : LinkBegun). l.slot + 6 * l.fields.interval + 1) same)
-
-pub returns-clause-heard : goal.returns-clause-heard
-unfolding last_heard link_of_packet is_answer links_begun pdu_heard heard_in read_of kept_bits crc crc_octets crc_of_bits remainder mask_of next_mask whitening_bit whitening_of little_endian data_channels used_channels
-returns-clause-heard c shut = truths_differ (ap is_some (shut.not_established refl).none_heard)
-
-pub returns-clause-another_code : goal.returns-clause-another_code
-returns-clause-another_code c shut = one_code 0x13 refl refl refl shut.one_of
-
-pub returns-clause-no_reset : goal.returns-clause-no_reset
-returns-clause-no_reset c shut = no_octets_yet failing A refl (shut.reset refl)
-
-pub returns-clause-times_out_early : goal.returns-clause-times_out_early
-unfolding last_heard link_of_packet is_answer links_begun pdu_heard heard_in read_of kept_bits crc crc_octets crc_of_bits remainder mask_of next_mask whitening_bit whitening_of little_endian data_channels used_channels
-returns-clause-times_out_early c shut =
-    let so = shut.timed_out refl in
-    let same : so.link ≡ one_link = some_is so.link one_link (sym so.is_link) in
-    let last : so.slot ≡ 2 = some_is so.slot 2 (sym so.heard) in
-    numbers_differ 578 579 refl (so.in_turn ∙ (λ i. last i + 8 * (same i).fields.timeout + 1))
+unfolding packets_passed ending_on due_on leaving_on control_on last_heard exchange_of sent_line_of link_of_packet is_answer links_begun pdu_heard heard_in read_of kept_bits crc crc_octets crc_of_bits remainder mask_of next_mask whitening_bit whitening_of little_endian ctrl_of makers data_channels used_channels
+returns-clause-failed c = overdue refl refl
 
 pub returns-clause-timed_out : goal.returns-clause-timed_out
-unfolding last_heard link_of_packet is_answer links_begun pdu_heard heard_in read_of kept_bits crc crc_octets crc_of_bits remainder mask_of next_mask whitening_bit whitening_of little_endian data_channels used_channels
-returns-clause-timed_out c = record { link = one_link; is_link = refl; slot = 2; heard = refl; in_turn = refl }
+unfolding packets_passed ending_on due_on leaving_on control_on last_heard exchange_of sent_line_of link_of_packet is_answer links_begun pdu_heard heard_in read_of kept_bits crc crc_octets crc_of_bits remainder mask_of next_mask whitening_bit whitening_of little_endian ctrl_of makers data_channels used_channels
+returns-clause-timed_out c = overdue refl refl
 
-pub returns-clause-reset : goal.returns-clause-reset
+pub returns-clause-completes : goal.returns-clause-completes
 unfolding result_of frames
-returns-clause-reset c = record {
+returns-clause-completes c = record {
   before = one_connection_journal ++ turn_entry 1 ∷ [];
   octets = reset;
   notes = [];
@@ -69,3 +50,33 @@ returns-clause-reset c = record {
   octets_are = refl;
   completes = refl;
 }
+
+pub returns-clause-reset : goal.returns-clause-reset
+returns-clause-reset c = by_reset refl (returns-clause-completes c)
+
+pub returns-clause-fails_early : goal.returns-clause-fails_early
+unfolding packets_passed ending_on due_on leaving_on control_on last_heard exchange_of sent_line_of link_of_packet is_answer links_begun pdu_heard heard_in read_of kept_bits crc crc_octets crc_of_bits remainder mask_of next_mask whitening_bit whitening_of little_endian ctrl_of makers data_channels used_channels
+returns-clause-fails_early c = no_reason before_failing A 1 (record { 0 = 0x3E }) None (λ code. omega (arith, code)) refl (λ before same. absurd cc) refl
+
+pub returns-clause-times_out_early : goal.returns-clause-times_out_early
+unfolding packets_passed ending_on due_on leaving_on control_on last_heard exchange_of sent_line_of link_of_packet is_answer links_begun pdu_heard heard_in read_of kept_bits crc crc_octets crc_of_bits remainder mask_of next_mask whitening_bit whitening_of little_endian ctrl_of makers data_channels used_channels
+returns-clause-times_out_early c = no_reason before_silent A 1 (record { 0 = 0x08 }) None (λ code. omega (arith, code)) refl (λ before same. absurd cc) refl
+
+pub returns-clause-heard : goal.returns-clause-heard
+unfolding packets_passed ending_on due_on leaving_on control_on last_heard exchange_of sent_line_of link_of_packet is_answer links_begun pdu_heard heard_in read_of kept_bits crc crc_octets crc_of_bits remainder mask_of next_mask whitening_bit whitening_of little_endian ctrl_of makers data_channels used_channels
+returns-clause-heard c = no_reason heard_once A 1 (record { 0 = 0x3E }) None (λ code. omega (arith, code)) refl (λ before same. absurd cc) refl
+
+pub returns-clause-after_packet : goal.returns-clause-after_packet
+unfolding packets_passed ending_on due_on leaving_on control_on last_heard exchange_of sent_line_of link_of_packet is_answer links_begun pdu_heard heard_in read_of kept_bits crc crc_octets crc_of_bits remainder mask_of next_mask whitening_bit whitening_of little_endian ctrl_of makers data_channels used_channels
+returns-clause-after_packet c =
+    no_reason failing_after_packet A 1 (record { 0 = 0x3E }) (Some 0x3E) (λ code. omega (arith, code)) refl (λ before same. truths_differ before) refl
+
+pub returns-clause-another_code : goal.returns-clause-another_code
+unfolding packets_passed ending_on due_on leaving_on control_on last_heard exchange_of sent_line_of link_of_packet is_answer links_begun pdu_heard heard_in read_of kept_bits crc crc_octets crc_of_bits remainder mask_of next_mask whitening_bit whitening_of little_endian ctrl_of makers data_channels used_channels
+returns-clause-another_code c =
+    no_reason failing A 1 (record { 0 = 0x13 }) (Some 0x3E) (λ code. omega (arith, code)) refl (λ before same. numbers_differ 0x3E 0x13 refl (some_is 0x3E 0x13 same)) refl
+
+pub returns-clause-no_reset : goal.returns-clause-no_reset
+unfolding packets_passed ending_on due_on leaving_on control_on last_heard exchange_of sent_line_of link_of_packet is_answer links_begun pdu_heard heard_in read_of kept_bits crc crc_octets crc_of_bits remainder mask_of next_mask whitening_bit whitening_of little_endian ctrl_of makers data_channels used_channels
+returns-clause-no_reset c =
+    no_reason failing A 1 (record { 0 = 0x00 }) (Some 0x3E) (λ code. no_octets_yet failing A refl) refl (λ before same. numbers_differ 0x3E 0x00 refl (some_is 0x3E 0x00 same)) refl
