@@ -11,9 +11,13 @@ JOURNAL is a file with a journal; without one, those of all examples are looked 
   handle, of an open link;
 - each side enters the events 0, 1, 2, .. of a link, each once;
 - a link is shut with 3E six intervals after its CONNECT_IND, where its side heard nothing good on it; with 08 as the
-  supervision timeout has passed since the last good packet; and with 00 where its host completes a Reset. None that is to
-  end is open after that turn;
-- no line is of a control procedure.
+  supervision timeout has passed since the last good packet; with 00 where its host completes a Reset; with 16 where its
+  side sent LL_TERMINATE_IND; with 28 where it took an indication whose Instant has passed; and with the code of an
+  LL_TERMINATE_IND that it took, once it has sent a packet after that. None that is overdue is open after that turn;
+- a side runs one control procedure of its own at a time, and what is done or refused is the one that it began, or a
+  version exchange that it has not begun;
+- an indication comes into force just before the event of its Instant, or the one after that at a peripheral that took it
+  in the event of its Instant; and each side takes the indications in their order.
 
 These are clauses of a lawful journal (docs/lawful-journals.md), for links whose access addresses differ. It shares no code
 with the program. The last line is `links as they must be`; otherwise the first line that is not is named, and the status
@@ -79,6 +83,15 @@ class Side:
         self.open = {}
         self.entered = {}
         self.heard = {}
+        self.ends = {}
+        self.overdue = set()
+        self.times = {}
+        self.applied = {}
+        self.next_event = {}
+        self.running = {}
+        self.terminates = set()
+        self.peer_code = {}
+        self.passed = set()
         self.fed = b""
         self.since = 0
 
@@ -93,22 +106,20 @@ class Reader:
     def __init__(self):
         self.slot = -1
         self.links = []
+        self.indications = {}
         self.sides = {"a": Side(), "b": Side()}
 
     def turn(self, slot, _radios):
-        self.no_link_is_overdue()
+        if any(side.overdue for side in self.sides.values()):
+            raise Fault("a link is open after the turn in which it ends")
         self.slot = int(slot)
-
-    def no_link_is_overdue(self):
         for side in self.sides.values():
-            for link in side.open:
-                if self.slot >= self.end_of(side, link):
-                    raise Fault("a link is open after the turn in which it ends")
+            side.overdue = {link for link in side.open if self.slot >= self.end_of(side, link)}
 
     def end_of(self, side, link):
-        _, interval, timeout, slot = self.links[link - 1]
         heard = side.heard.get(link)
-        return slot + 6 * interval if heard is None else heard + timeout
+        interval, timeout = side.times[link]
+        return self.links[link - 1][3] + 6 * interval if heard is None else heard + timeout
 
     def fed(self, side, octets):
         side = self.sides[side]
@@ -135,6 +146,9 @@ class Reader:
             for link, (address, _, _, _) in enumerate(self.links, 1):
                 if address == packet_address(packet):
                     self.sides[OTHER[side]].heard[link] = self.slot
+        for link in list(self.sides[side].peer_code):
+            if int(channel) < 37 and self.links[link - 1][0] == packet_address(packet):
+                self.sides[side].ends[link] = self.sides[side].peer_code[link]
 
     def open(self, side, link, handle, _role):
         side = self.sides[side]
@@ -142,35 +156,82 @@ class Reader:
         if int(link) in side.open or int(handle) != free or not 1 <= int(link) <= len(self.links):
             raise Fault("not a new link under the next free handle")
         side.open[int(link)] = int(handle)
+        side.times[int(link)] = self.links[int(link) - 1][1:3]
 
     def enter(self, side, link, event, _channel):
         side, link = self.sides[side], int(link)
         side.name(link)
         if int(event) != side.entered.get(link, 0):
             raise Fault("not the next event of the link")
+        if side.next_event.pop(link, int(event)) != int(event):
+            raise Fault("not the event in which an indication came into force")
         side.entered[link] = int(event) + 1
 
-    def pdu(self, side, link, *_words):
+    def sent(self, side, link, _number, llid, body):
         self.sides[side].name(int(link))
+        body = bytes.fromhex(body)
+        if llid == "3" and body[0] in (0, 1):
+            self.indications.setdefault(int(link), []).append(body)
+        if llid == "3" and body[0] == 2:
+            self.sides[side].terminates.add(int(link))
+
+    def took(self, side, link, _number, llid, body):
+        side, link, body = self.sides[side], int(link), bytes.fromhex(body)
+        side.name(link)
+        if llid == "3" and body[0] == 2:
+            side.peer_code[link] = f"{body[1]:02x}"
+        if llid == "3" and body[0] in (0, 1):
+            gap = (number(body[-2:]) - (side.entered[link] - 1)) % 65536
+            if gap >= 32767:
+                side.passed.add(link)
+
+    def applied(self, side, link, count, event):
+        side, link, count, event = self.sides[side], int(link), int(count), int(event)
+        side.name(link)
+        if count != side.applied.get(link, 0) + 1 or count > len(self.indications.get(link, [])):
+            raise Fault("not the next indication of the link")
+        body = self.indications[link][count - 1]
+        if (event - number(body[-2:])) % 65536 not in (0, 1):
+            raise Fault("not the event of its Instant, nor the next one")
+        side.applied[link] = count
+        side.next_event[link] = event
+        if body[0] == 0:
+            side.times[link] = number(body[4:6]), 8 * number(body[8:10])
+
+    def began(self, side, link, kind):
+        side, link = self.sides[side], int(link)
+        side.name(link)
+        if link in side.running:
+            raise Fault("a procedure that begins while another one runs")
+        side.running[link] = kind
+
+    def ended(self, side, link, kind, *_code):
+        side, link = self.sides[side], int(link)
+        side.name(link)
+        if side.running.get(link) == kind:
+            del side.running[link]
+        elif kind != "version":
+            raise Fault("a procedure that does not run")
 
     def shut(self, side, link, reason):
         side, link = self.sides[side], int(link)
         side.name(link)
         heard = link in side.heard
-        ends = self.slot == self.end_of(side, link)
         due = {
-            "3e": ends and not heard,
-            "08": ends and heard,
+            "3e": link in side.overdue and not heard,
+            "08": link in side.overdue and heard,
             "00": completes_reset(side.fed, side.since),
+            "16": link in side.terminates,
+            "28": link in side.passed,
         }
-        if not due.get(reason, False):
+        if not due.get(reason, False) and side.ends.get(link) != reason:
             raise Fault("a link that is shut without this reason")
-        del side.open[link]
+        side.overdue.discard(link)
+        for kept in (side.open, side.running, side.peer_code):
+            kept.pop(link, None)
 
     def line(self, text):
         kind, *words = text.split(" ")
-        if kind in ("applied", "began", "refused", "done"):
-            raise Fault("a line of a control procedure")
         steps = {
             "turn": self.turn,
             "in": self.fed,
@@ -178,8 +239,12 @@ class Reader:
             "air": self.air,
             "open": self.open,
             "enter": self.enter,
-            "sent": self.pdu,
-            "took": self.pdu,
+            "sent": self.sent,
+            "took": self.took,
+            "applied": self.applied,
+            "began": self.began,
+            "refused": self.ended,
+            "done": self.ended,
             "shut": self.shut,
         }
         steps[kind](*words)
