@@ -9,13 +9,15 @@ use Rattle.h4_frames.specs.Frames.{frames, frame_entry}
 use Rattle.h4_frames.specs.Machine.{framer_after}
 use Rattle.controller_model.specs.declared.doing.Doing.{Doing}
 use Rattle.controller_model.specs.declared.doing.Doing.TheVariants.{Advertises, Rests}
+use Rattle.controller_model.specs.declared.doing.Turn.{Turn}
 use Rattle.controller_model.specs.Data.{facts_ended_turn, notes_ended_turn}
 use Rattle.controller_model.specs.Entering.{IsInEvent}
-use Rattle.controller_model.specs.Step.{Step, HostOctet, TurnEnds}
-use Rattle.controller_model.specs.Facts.{Setup, Facts, Use}
+use Rattle.controller_model.specs.Step.{Step, HostOctet, NothingHeard, TurnEnds}
+use Rattle.controller_model.specs.Facts.{Setup, Facts, Use, Idle}
+use Rattle.controller_model.specs.Heard.{unheard}
 use Rattle.controller_model.specs.Outcome.{Outcome, facts_passed, notes_passed}
 use Rattle.controller_model.specs.Packets.{facts_doing, notes_doing, use_for, use_of}
-use Rattle.controller_model.specs.Side.{facts_after, facts_fed, facts_of, first_result, notes_after, notes_fed, result_of, with_octet}
+use Rattle.controller_model.specs.Side.{facts_after, facts_fed, facts_of, first_result, notes_after, notes_fed, outcome_unheard, result_of, with_octet}
 use Rattle.controller_model.proofs.Feds.{fed_octets, turn_octets}
 use Rattle.controller_model.proofs.Pasts.{facts_more}
 use Rattle.controller_model.proofs.Always.{IsInTurn}
@@ -176,6 +178,46 @@ unfolding use_of
 wants_then setup past step new heard noted next wanted outcome facts_are does prepares =
     prepares.wants ∙ ap (use_for outcome.facts) does
     ∙ sym (ap (λ (facts : Facts). facts.wanted) (facts_more setup past step ∙ facts_are))
+
+-- ---- a phase in which it did nothing, and nothing was heard
+
+module _ (setup : Setup) (past : List Step) (held : Held) (noted : List Note) (rests : held.turn.doing ≡ Rests) (knows : Knows setup held past) where
+  abbrev facts : Facts
+  facts = facts_of setup past
+
+  rests_then : facts.turn.doing ≡ Rests
+  rests_then = sym (ap (λ (turn : Turn). turn.doing) (at_facts setup held past knows).turn) ∙ rests
+
+  rests_next : Rests ≡ (outcome_unheard facts).next
+  rests_next = sym (ap (λ (doing : Doing). (unheard doing facts).next) rests_then)
+
+  rests_on : Prepares setup held noted noted Rests Idle (outcome_unheard facts).facts
+  rests_on = subst (λ (doing : Doing). Prepares setup held noted noted Rests Idle (unheard doing facts).facts) (sym rests_then)
+      (let k = at_facts setup held past knows in record {
+        at = record {
+          setup = k.setup;
+          view = k.view;
+          place = k.place;
+          access = k.access;
+          turn = k.turn ∙ (λ i. record facts.turn { doing = rests_then i });
+          activities = k.activities;
+          links = k.links;
+        };
+        notes = sym (append-nil noted);
+        wants = refl;
+      })
+
+  pub resting_goes : noted ≡ [] → Goes setup held past NothingHeard noted
+  resting_goes empty =
+      turn_goes setup past NothingHeard held held noted noted noted Rests Idle (outcome_unheard facts)
+      tt refl refl empty
+      (sym (append-nil noted) ∙ ap (λ (doing : Doing). noted ++ (unheard doing facts).notes) (sym rests_then))
+      rests_next rests_on refl knows
+
+  pub resting_wants : Idle ≡ use_of (facts_of setup (past ++ NothingHeard ∷ []))
+  resting_wants =
+      wants_then setup past NothingHeard held noted noted Rests Idle (outcome_unheard facts)
+      refl rests_next rests_on
 
 -- the turn ends
 pub end_goes : (setup : Setup) (past : List Step) (was new : Held) (noted : List Note)

@@ -175,6 +175,7 @@ impl<const L: usize, const T: usize, const R: usize> Controller<L, T, R> {
     /// Takes a packet that was heard in this phase, and gives what is wanted in the next one. The
     /// octets are in the order of the air, without preamble (Core 5.2, volume 6 part B, section
     /// 2.1).
+    #[inline(never)]
     pub fn heard(&mut self, octets: &[u8], out: &mut Outbox) -> Intent
         requires empty { out.old.items ≡ [] }
         ensures goes { (setup : Setup) (past : List Step) → Knows setup self.old past
@@ -189,6 +190,22 @@ impl<const L: usize, const T: usize, const R: usize> Controller<L, T, R> {
 
     /// Takes that nothing was heard in this phase, and gives what is wanted in the next one.
     pub fn unheard(&mut self, out: &mut Outbox) -> Intent
+        requires empty { out.old.items ≡ [] }
+        ensures goes { (setup : Setup) (past : List Step) → Knows setup self.old past
+            → Goes setup self.new past NothingHeard out.new.items }
+        ensures wants { (setup : Setup) (past : List Step) → Knows setup self.old past
+            → use_wanted result ≡ use_of (facts_of setup (past ++ NothingHeard ∷ [])) }
+        ensures begun { self.new.turn.begun ≡ self.old.turn.begun }
+    {
+        if let Doing::Rests = self.turn.doing {
+            return Intent::Idle;
+        }
+        self.unheard_in_use(out)
+    }
+
+    /// The same where it used the radio. Most phases are idle, so this is kept out of their code.
+    #[inline(never)]
+    fn unheard_in_use(&mut self, out: &mut Outbox) -> Intent
         requires empty { out.old.items ≡ [] }
         ensures goes { (setup : Setup) (past : List Step) → Knows setup self.old past
             → Goes setup self.new past NothingHeard out.new.items }

@@ -72,6 +72,21 @@ impl<const L: usize, const T: usize, const R: usize> Controller<L, T, R> {
             ≡ out.old.items ++ flat_map (notes_ended self.old.view) ended.now }
         ensures few { array_vec_len out.new ≤ array_vec_len out.old + 2 * length ended.now }
     {
+        if !ended.is_empty() {
+            self.end_some(ended, out);
+        }
+    }
+
+    /// The same where some links were taken out. Links end seldom, so this is kept out of the code
+    /// of all turns.
+    #[inline(never)]
+    fn end_some(&mut self, ended: &[LinkEnded], out: &mut Outbox)
+        requires room { array_vec_len out.old + 2 * length ended.now ≤ 64 }
+        ensures held { self.new ≡ fold held_shut self.old ended.now }
+        ensures notes { out.new.items
+            ≡ out.old.items ++ flat_map (notes_ended self.old.view) ended.now }
+        ensures few { array_vec_len out.new ≤ array_vec_len out.old + 2 * length ended.now }
+    {
         tell_ends(&self.view, ended, out);
         self.shut_all(ended);
     }

@@ -1,6 +1,7 @@
 //! Links that enter their events as a turn begins, and what the host receives of that (Core 5.2,
 //! volume 6 part B, section 4.5.1, and volume 4 part E, section 7.7.65.3).
 ghost use Rattle.std.specs.Prelude.{◌≡◌, ◌≤◌, ◌<◌, ◌+◌, ◌-◌, ◌*◌, ◌^◌, ◌++◌, ℕ, List, length};
+ghost use Rattle.std.specs.Prelude.{Some};
 ghost use Rattle.arrayvec.specs.ArrayVec.{array_vec_len};
 ghost use Rattle.acl_banks.specs.declared.pieces.Piece.{Piece};
 ghost use Rattle.open_links.specs.Knowing.{Knows as KnowsLinks};
@@ -9,37 +10,58 @@ ghost use Rattle.open_links.specs.Turns.{links_entered, notes_entering, want_ent
 ghost use Rattle.controller_model.specs.Entering.{all_entered, events_entering};
 ghost use Rattle.controller_model.specs.Entering.{notes_all_entering, wants_from};
 ghost use Rattle.controller_model.specs.Events.{notes_of_events};
-ghost use Rattle.host_notes.specs.Entering.{EntersRest, events_told};
+ghost use Rattle.host_notes.specs.Entering.{EntersRest, events_told, params_at};
 
 use crate::masks::tell_if;
 use ble_base::{Outbox, SlotNo};
 use host_view::HostView;
-use instants::Params;
 use open_links::{Entry, OpenLinks};
 use procedure_events::event_of_entry;
 use slot_plan::Plan;
 
-/// Sends the host the event for what came of an event of the link under a handle, with the
-/// parameters in it, if the link entered one.
-fn tell_entry(
+/// Sends the host the event for an update of the parameters that holds from the event on that the
+/// link under a handle entered. Updates are rare, so this is kept out of the code of other events.
+#[inline(never)]
+fn tell_update<const L: usize, const T: usize, const R: usize>(
     view: &HostView,
+    links: &OpenLinks<L, T, R>,
     handle: u16,
-    entry: Option<Entry>,
-    params: Option<Params>,
+    entry: Entry,
     out: &mut Outbox,
 )
     requires room { array_vec_len out.old < 64 }
-    ensures notes { out.new.items
-        ≡ out.old.items ++ notes_of_events view.now (events_told handle entry params) }
+    ensures notes { (known : Links) (received : List (ℕ × Piece))
+        → KnowsLinks links.now known received → out.new.items ≡ out.old.items
+        ++ notes_of_events view.now (events_told handle (Some entry) (params_at handle known)) }
+    ensures few { array_vec_len out.new ≤ array_vec_len out.old + 1 }
+{
+    let Some(params) = links.params(handle) else {
+        return;
+    };
+    tell_if(view, &event_of_entry(handle, entry.updated, &params), out);
+}
+
+/// Sends the host the event for what came of an event of the link under a handle, with the
+/// parameters in it, if the link entered one.
+fn tell_entry<const L: usize, const T: usize, const R: usize>(
+    view: &HostView,
+    links: &OpenLinks<L, T, R>,
+    handle: u16,
+    entry: Option<Entry>,
+    out: &mut Outbox,
+)
+    requires room { array_vec_len out.old < 64 }
+    ensures notes { (known : Links) (received : List (ℕ × Piece))
+        → KnowsLinks links.now known received → out.new.items ≡ out.old.items
+        ++ notes_of_events view.now (events_told handle entry (params_at handle known)) }
     ensures few { array_vec_len out.new ≤ array_vec_len out.old + 1 }
 {
     let Some(entry) = entry else {
         return;
     };
-    let Some(params) = params else {
-        return;
-    };
-    tell_if(view, &event_of_entry(handle, entry.updated, &params), out);
+    if entry.updated {
+        tell_update(view, links, handle, entry, out);
+    }
 }
 
 /// The link under a handle enters its event, if its anchor is in this slot, and the host hears of
@@ -72,7 +94,7 @@ fn enter_link<const L: usize, const T: usize, const R: usize>(
         × (links.new.unreported ≡ links.old.unreported) }
 {
     let entry = links.enter(handle, slot, plan, out);
-    tell_entry(view, handle, entry, links.params(handle), out);
+    tell_entry(view, links, handle, entry, out);
 }
 
 /// The links from this handle on enter their events, one after another.

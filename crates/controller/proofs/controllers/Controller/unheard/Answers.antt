@@ -1,36 +1,13 @@
 -- Proof of `controllers::Controller::unheard`.
-use Rattle.std.proofs.Common.{refl, ◌∙◌}
-use Rattle.controller_model.specs.Side.{facts_of, outcome_unheard}
-use Rattle.controller_model.specs.Step.{NothingHeard}
-use Rattle.controller_model.proofs.Exchanges.{always_in_event, unheard_in_event}
-use Rattle.controller.proofs.Going.{at_facts, next_in_event, turn_goes, wants_then}
+use Rattle.std.proofs.Common.{ap, sym, ◌∙◌}
+use Rattle.controller.specs.Held.{Held}
+use Rattle.controller.proofs.Going.{resting_goes, resting_wants}
 use Rattle.controller.proofs.controllers.Controller.unheard.Goals as goal
 
-pub returns-clause-goes : goal.returns-clause-goes
-returns-clause-goes g c = λ setup past knows.
-    let facts = facts_of setup past in
-    let outcome = outcome_unheard facts in
-    let passes = c.hear_nothing-doing.ensures.passes setup _ (at_facts setup _ past knows) in
-    let in_event = next_in_event outcome _ passes.doing (unheard_in_event facts.turn.doing facts refl (always_in_event setup past)) in
-    turn_goes setup past NothingHeard _ _ _ _ _ _ _ outcome
-    tt refl refl c.requires.empty passes.notes passes.doing
-    (record {
-      at = c.prepare.ensures.at setup _ passes.at in_event;
-      notes = c.prepare.ensures.notes setup _ passes.at in_event;
-      wants = c.prepare.ensures.wanted setup _ passes.at in_event;
-    })
-    (c.prepare.ensures.stays.framer ∙ c.hear_nothing-doing.ensures.stays.framer) knows
+pub returns-in-Rests-clause-goes : goal.returns-in-Rests-clause-goes
+returns-in-Rests-clause-goes g c = λ setup past knows.
+    resting_goes setup past _ _ (sym (ap (λ (held : Held). held.turn.doing) c.self.view_is) ∙ c.in-Rests.is) knows c.requires.empty
 
-pub returns-clause-wants : goal.returns-clause-wants
-returns-clause-wants g c = λ setup past knows.
-    let facts = facts_of setup past in
-    let outcome = outcome_unheard facts in
-    let passes = c.hear_nothing-doing.ensures.passes setup _ (at_facts setup _ past knows) in
-    let in_event = next_in_event outcome _ passes.doing (unheard_in_event facts.turn.doing facts refl (always_in_event setup past)) in
-    wants_then setup past NothingHeard _ _ _ _ _ outcome
-    refl passes.doing
-    (record {
-      at = c.prepare.ensures.at setup _ passes.at in_event;
-      notes = c.prepare.ensures.notes setup _ passes.at in_event;
-      wants = c.prepare.ensures.wanted setup _ passes.at in_event;
-    })
+pub returns-in-Rests-clause-wants : goal.returns-in-Rests-clause-wants
+returns-in-Rests-clause-wants g c = λ setup past knows.
+    resting_wants setup past _ c.args.out.now.items (sym (ap (λ (held : Held). held.turn.doing) c.self.view_is) ∙ c.in-Rests.is) knows
