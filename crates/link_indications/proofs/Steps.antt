@@ -1,0 +1,216 @@
+-- An end and its notes, step by step.
+use Rattle.std.proofs.Common.{◌≡◌, ℕ, ◌+◌, ◌≤◌, ◌==◌, ◌&&◌, not, Bool, true, false, List, [], ◌∷◌, ◌++◌, length, Option, Some, None, is_none, is_some, fold, refl, sym, ap, subst, ◌∙◌, if◌then◌else◌}
+use Rattle.std.specs.List.{All, AllByRecursion}
+use Rattle.std.proofs.lemmas.List.{append-nil, append_assoc}
+use Rattle.ble_base.specs.declared.notes.Note.{Note}
+use Rattle.ble_base.specs.declared.notes.Note.TheVariants.{Sent}
+use Rattle.ble_base.specs.declared.roles.Role.{Role}
+use Rattle.ble_base.specs.declared.roles.Role.TheVariants.{Central, Peripheral}
+use Rattle.data_pdu.specs.Layouts.{written}
+use Rattle.data_pdu.specs.declared.ctrl.Ctrl.{Ctrl}
+use Rattle.data_pdu.specs.declared.ctrl.Ctrl.TheVariants.{StartEncReq}
+use Rattle.wire_fields.specs.Field.{little_endian}
+use Rattle.instants.specs.Track.{event_of}
+use Rattle.link_model.specs.procedure_values.declared.asks.Ask.{Ask}
+use Rattle.link_model.specs.procedures.Queue.{next_of}
+use Rattle.link_model.specs.procedures.Sending.{next_ctrl_of}
+use Rattle.link_model.specs.control_model.Control.{Control, Answers, Asks, Disconnects, Enters, Sends, after, went}
+use Rattle.link_model.specs.control_end.Answers.{entry_of}
+use Rattle.link_model.specs.control_end.Held.{held_of}
+use Rattle.link_model.specs.Acknowledgement.{Pdu, is_acked}
+use Rattle.link_model.specs.ControlSteps.{IsAskInRange}
+use Rattle.link_model.specs.Controls.{goes_on, next_control, pdu_fixed, pdu_of_control}
+use Rattle.link_model.specs.Data.{is_control, is_empty, numbered}
+use Rattle.link_model.specs.End.{facts_after, facts_of, notes_after, notes_from, notes_of}
+use Rattle.link_model.specs.Entering.{event_notes, facts_entered, facts_entered_if}
+use Rattle.link_model.specs.Facts.{Facts, first_facts}
+use Rattle.link_model.specs.Fixing.{fixed_anew}
+use Rattle.link_model.specs.Hosts.{asked_unless, is_to_come}
+use Rattle.link_model.specs.Packets.{good_pdu}
+use Rattle.link_model.specs.Sending.{control_gone_if, facts_sent, sent_notes, sent_notes_if, takes_leave}
+use Rattle.link_model.specs.Setup.{Setup, first_anchor, first_params}
+use Rattle.link_model.specs.Step.{Step, DataGiven, DataReported, Disconnected, EventEntered, PacketReceived, PacketSent, PduFixed, ProcedureAsked, RequestAnswered}
+use Rattle.link_changes.specs.InForce.{AsksMap, HasRanges}
+use Rattle.link_changes.specs.Noted.{indication_noted, indications_noted, taking_if, takings_noted}
+use Rattle.link_changes.proofs.Readable.{next_goes}
+use Rattle.link_changes.proofs.Reached.{reached_reads, reached_role}
+use Rattle.link_changes.proofs.Reading.{sent_read}
+use Rattle.link_changes.proofs.Steps.{IsGoodStep, IsKnown, past_known, step_known}
+use Rattle.link_indications.specs.InTime.{IsTakenInTime}
+use Rattle.link_indications.proofs.Controls.{goes_before, none_of, sent_in_time, sent_more}
+use Rattle.link_indications.proofs.Holding.{Holds, Kept, holds_first, holds_more, holds_silent, kept_same, kept_step}
+use Rattle.link_indications.proofs.Receiving.{holds_received, kept_gone, no_control}
+use Rattle.link_indications.proofs.Silent.{AreSilent, silent_event}
+
+-- ---- an event is entered
+
+entered_kept : (b : Bool) (setup : Setup) (slot : ℕ) (facts : Facts) → Kept setup.link.role facts.control (facts_entered_if b setup slot facts).control
+entered_kept true setup slot facts = kept_step setup.link.role (Enters slot true) facts.control refl
+entered_kept false setup slot facts = kept_same setup.link.role facts.control
+
+entered_silent : (b : Bool) (setup : Setup) (slot : ℕ) (facts : Facts)
+    → AreSilent setup.link.role
+    (if b then event_notes setup.link.handle (facts_entered setup slot facts).event (entry_of slot true (held_of facts.control)) else [])
+entered_silent true setup slot facts =
+    let event = (facts_entered setup slot facts).event in
+    let entry = entry_of slot true (held_of facts.control) in
+    silent_event setup.link.role setup.link.handle event.number event.channel entry.applied entry.done entry.began
+entered_silent false setup slot facts = tt
+
+-- ---- a packet is sent
+
+filled : (ctrl : Ctrl) → (length (written ctrl) == 0) ≡ false
+unfolding little_endian
+filled StartEncReq = refl
+filled other = refl
+
+goes_if : (b : Bool) (next : Option Ctrl) (ctrl : Ctrl) → (if b then next else None) ≡ Some ctrl → (b ≡ true) × (next ≡ Some ctrl)
+goes_if true next ctrl is = (refl, is)
+goes_if false next ctrl is = absurd (cc)
+
+stays_if : (b : Bool) (next : Option Ctrl) (c d : Control) → (if b then next else None) ≡ None → (if b then (if is_some next then d else c) else c) ≡ c
+stays_if false next c d is = refl
+stays_if true None c d is = refl
+stays_if true (Some ctrl) c d is = absurd (cc)
+
+silent_sent : (b : Bool) (role : Role) (handle number : ℕ) (pdu : Pdu)
+    → indication_noted role (Sent handle (number + 1) pdu.llid (record { items = pdu.body })) ≡ None
+    → AreSilent role (sent_notes_if b handle number pdu)
+silent_sent true role handle number pdu none = (none, tt)
+silent_sent false role handle number pdu none = tt
+
+module _ (setup : Setup) (latency : setup.link.role ≡ Central → setup.link.fields.latency ≤ 499) where
+  abbrev role : Role
+  role = setup.link.role
+
+  abbrev HoldsIt : List Note → Control → Type 0
+  HoldsIt notes c = Holds setup.link.role notes c
+
+  same : (notes : List Note) (c d : Control) → HoldsIt notes c → Kept role c d → HoldsIt (notes ++ []) d
+  same notes c d h kept = holds_silent role notes [] c d h tt kept
+
+  -- a central sends a control PDU, which is an indication or is not
+  control_sent : (notes : List Note) (slot number : ℕ) (facts : Facts) (next : Option Ctrl) → next_control facts ≡ next → role ≡ Central
+      → IsKnown setup notes facts → HoldsIt notes facts.control
+      → HoldsIt (notes ++ sent_notes_if (not (is_empty (pdu_of_control next))) setup.link.handle number (pdu_of_control next))
+      (after (Sends slot true) facts.control)
+  control_sent notes slot number facts None none is k h =
+      subst (λ (c : Control). HoldsIt (notes ++ []) c)
+      (sym (stays_if (is_none facts.control.ends)
+      (next_ctrl_of facts.control.table (event_of facts.control.track) facts.control.track.params.latency true) facts.control _ none))
+      (same notes facts.control facts.control h (kept_same role facts.control))
+  control_sent notes slot number facts (Some ctrl) goes is k h =
+      let c = facts.control in
+      let d = after (Sends slot true) c in
+      let reached = k.part.reached in
+      let first = first_params setup.link.fields in
+      let anchor = first_anchor setup in
+      let note = Sent setup.link.handle (number + 1) 3 (record { items = written ctrl }) in
+      let parts = goes_if (is_none c.ends) (next_ctrl_of c.table (event_of c.track) c.track.params.latency true) ctrl goes in
+      let reads = reached_reads role setup.link.max_rx first anchor c reached is in
+      let noted : indication_noted role note ≡ (went slot true c).1 =
+      ap (λ (r : Role). indication_noted r note) is
+      ∙ sent_read (next_of c.table (event_of c.track) true) (event_of c.track) c.track.params.latency ctrl
+      (next_goes c.table (event_of c.track) true reads.drafts).draft parts.1 in
+      subst (λ (b : Bool). HoldsIt (notes ++ sent_notes_if (not b) setup.link.handle number (pdu_of_control (Some ctrl))) d) (sym (filled ctrl))
+      (holds_more role notes (note ∷ []) c d (event_of c.track) (went slot true c).1 h
+      ((λ i. taking_if (k.part.knows.event i) (noted i) ++ []) ∙ append-nil (taking_if (event_of c.track) (went slot true c).1))
+      (λ central. sent_more c slot true (reached_role role setup.link.max_rx first anchor c reached ∙ is) (none_of c.ends parts.0))
+      (goes_before (Sends slot true) c)
+      (λ lasts. sent_in_time role setup.link.max_rx first anchor c reached is (latency is) slot true))
+
+  sent_at_central : (notes : List Note) (slot number : ℕ) (facts : Facts) (acked fixes : Bool) → role ≡ Central → IsKnown setup notes facts
+      → HoldsIt notes facts.control
+      → let pdu = (if fixes then pdu_of_control (next_control facts) else facts.outgoing.fixed) in
+      HoldsIt (notes ++ sent_notes_if (acked && not (is_empty pdu)) setup.link.handle number pdu) (control_gone_if (acked && fixes) slot facts).control
+  sent_at_central notes slot number facts false fixes is k h = same notes facts.control facts.control h (kept_same role facts.control)
+  sent_at_central notes slot number facts true false is k h =
+      let pdu = facts.outgoing.fixed in
+      holds_silent role notes _ facts.control facts.control h
+      (silent_sent (not (is_empty pdu)) role setup.link.handle number pdu
+      (ap (λ (r : Role). indication_noted r (Sent setup.link.handle (number + 1) pdu.llid (record { items = pdu.body }))) is ∙ no_control pdu (k.fixed is)))
+      (kept_same role facts.control)
+  sent_at_central notes slot number facts true true is k h = control_sent notes slot number facts (next_control facts) refl is k h
+
+  holds_sent : (notes : List Note) (slot : ℕ) (facts : Facts) (r : Role) → role ≡ r → IsKnown setup notes facts → HoldsIt notes facts.control
+      → HoldsIt (notes ++ sent_notes setup facts) (facts_sent slot facts).control
+  holds_sent notes slot facts Central is k h =
+      sent_at_central notes slot (numbered facts.acknowledgement.sent) facts (is_acked facts.acknowledgement) facts.fixes_control is k h
+  holds_sent notes slot facts Peripheral is k h =
+      let pdu = pdu_fixed facts in
+      let number = numbered facts.acknowledgement.sent in
+      holds_silent role notes (sent_notes setup facts) facts.control (facts_sent slot facts).control h
+      (silent_sent (is_acked facts.acknowledgement && not (is_empty pdu)) role setup.link.handle number pdu
+      (ap (λ (r : Role). indication_noted r (Sent setup.link.handle (number + 1) pdu.llid (record { items = pdu.body }))) is))
+      (kept_gone role (takes_leave facts) slot facts is)
+
+  -- ---- each step
+
+  asked_kept : (comes : Bool) (ask : Ask) (facts : Facts) → Kept role facts.control (asked_unless comes ask facts).control
+  asked_kept true ask facts = kept_same role facts.control
+  asked_kept false ask facts = kept_step role (Asks ask) facts.control refl
+
+  step_holds : (notes : List Note) (facts : Facts) (step : Step) → IsKnown setup notes facts → HoldsIt notes facts.control
+      → HoldsIt (notes ++ notes_after setup facts step) (facts_after setup facts step).control
+  step_holds notes facts (DataGiven start body) k h = same notes facts.control facts.control h (kept_same role facts.control)
+  step_holds notes facts (ProcedureAsked ask) k h = same notes facts.control _ h (asked_kept (is_to_come ask facts) ask facts)
+  step_holds notes facts (RequestAnswered answer) k h = same notes facts.control _ h (kept_step role (Answers answer) facts.control refl)
+  step_holds notes facts (Disconnected reason slot) k h = same notes facts.control _ h (kept_step role (Disconnects reason) facts.control refl)
+  step_holds notes facts (EventEntered slot) k h =
+      holds_silent role notes (notes_after setup facts (EventEntered slot)) facts.control _ h (entered_silent (goes_on facts) setup slot facts)
+      (entered_kept (goes_on facts) setup slot facts)
+  step_holds notes facts PduFixed k h =
+      same notes facts.control _ h
+      (subst (λ (c : Control). Kept role facts.control c) (sym (kept (is_control facts.outgoing.fixed))) (kept_same role facts.control))
+    where
+      kept : (b : Bool) → (if b then facts else fixed_anew facts).control ≡ facts.control
+      kept true = refl
+      kept false = refl
+  step_holds notes facts (PacketSent slot) k h = holds_sent notes slot facts role refl k h
+  step_holds notes facts (PacketReceived slot octets room) k h =
+      holds_received setup notes slot room (good_pdu setup facts octets) facts
+      (reached_role role setup.link.max_rx (first_params setup.link.fields) (first_anchor setup) facts.control k.part.reached) k.part.knows.event h
+  step_holds notes facts DataReported k h = same notes facts.control facts.control h (kept_same role facts.control)
+
+  -- ---- all steps
+
+  abbrev AreGood : List Step → Type 0
+  AreGood past = role ≡ Central → AllByRecursion IsGoodStep past
+
+  steps_hold : (notes : List Note) (facts : Facts) (steps : List Step) → AreGood steps → IsKnown setup notes facts → HoldsIt notes facts.control
+      → HoldsIt (notes ++ notes_from setup facts steps) (fold (facts_after setup) facts steps).control
+  steps_hold notes facts [] good k h = same notes facts.control facts.control h (kept_same role facts.control)
+  steps_hold notes facts (step ∷ steps) good k h =
+      let next = facts_after setup facts step in
+      let more = notes_after setup facts step in
+      subst (λ (all : List Note). HoldsIt all (fold (facts_after setup) next steps).control) (append_assoc notes more (notes_from setup next steps))
+      (steps_hold (notes ++ more) next steps (λ central. (good central).1)
+      (step_known setup latency notes facts step (λ central. (good central).0) k) (step_holds notes facts step k h))
+
+  known_first : IsKnown setup [] (first_facts setup)
+  unfolding facts_of notes_of
+  known_first = past_known setup [] (λ central. record { latency = latency central; asks = tt; maps = tt })
+
+  all_hold : (past : List Step) → AreGood past → HoldsIt (notes_of setup past) (facts_of setup past).control
+  unfolding facts_of notes_of
+  all_hold past good = steps_hold [] (first_facts setup) past good known_first (holds_first role (first_facts setup).control refl)
+
+are_good : (past : List Step) → AllByRecursion IsAskInRange past → AllByRecursion AsksMap past → AllByRecursion IsGoodStep past
+are_good [] asks maps = tt
+are_good (step ∷ past) asks maps = ((asks.0, maps.0), are_good past asks.1 maps.1)
+
+past_holds : (setup : Setup) (past : List Step) → (setup.link.role ≡ Central → HasRanges setup past)
+    → Holds setup.link.role (notes_of setup past) (facts_of setup past).control
+past_holds setup past ranges =
+    all_hold setup (λ central. (ranges central).latency) past (λ central. are_good past (ranges central).asks (ranges central).maps)
+
+-- ---- the laws
+
+pub central_sent : (setup : Setup) (past : List Step) → setup.link.role ≡ Central → HasRanges setup past
+    → indications_noted Central (notes_of setup past) ≡ (facts_of setup past).control.sent
+central_sent setup past is ranges =
+    ap (λ (r : Role). indications_noted r (notes_of setup past)) (sym is) ∙ (past_holds setup past (λ central. ranges)).sent is
+
+pub came_in_time : (setup : Setup) (past : List Step) → (setup.link.role ≡ Central → HasRanges setup past) → (facts_of setup past).control.ends ≡ None
+    → All IsTakenInTime (takings_noted setup.link.role (notes_of setup past))
+came_in_time setup past ranges goes = (past_holds setup past ranges).in_time goes
