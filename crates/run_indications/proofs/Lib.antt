@@ -1,0 +1,4 @@
+-- The lemmas of this crate.
+pub mod TookNotes
+pub mod LastSent
+pub mod Calls

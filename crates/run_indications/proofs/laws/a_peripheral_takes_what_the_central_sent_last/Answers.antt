@@ -1,0 +1,13 @@
+-- The proof of the law `a_peripheral_takes_what_the_central_sent_last`.
+use Rattle.link_calls.proofs.run_model.Stations.{contains_in}
+use Rattle.run_pairs.proofs.LinkSteps.{asks_come}
+use Rattle.run_indications.proofs.Calls.{takes_last}
+use Rattle.run_indications.proofs.laws.a_peripheral_takes_what_the_central_sent_last.Goals as goal
+
+pub returns : goal.returns
+returns c = λ given before rest octets central peripheral room first later handle number llid body indication distinct six is is_too at of_one hear
+    is_open is_open_too listens.
+    takes_last c.packet_tells_its_pdu.ensures.heard c.a_pdu_is_understood.ensures.says c.connections_are_taken.ensures.taken given six distinct
+    (asks_come c.what_hosts_ask_may_come.ensures.may c.what_hosts_ask_may_come.ensures.no_reply given) before rest octets central peripheral at
+    (contains_in given.stations central.station is) (contains_in given.stations peripheral.station is_too) of_one is_open is_open_too hear listens
+    room first later handle number llid body indication
