@@ -1,0 +1,110 @@
+-- What a central holds after the call in which it takes the first PDU of a procedure of the peripheral.
+use Rattle.std.proofs.Common.{◌≡◌, ◌&&◌, ◌<◌, ℕ, Bool, true, false, List, [], ◌∷◌, ◌++◌, Result, Some, is_none, refl, sym, ap, ◌∙◌, subst, if◌then◌else◌, arith}
+use Rattle.ble_base.specs.declared.error_codes.ErrCode.{ErrCode}
+use Rattle.ble_base.specs.declared.roles.Role.TheVariants.{Central}
+use Rattle.exclusive_stages.specs.declared.pdus.Exclusive.{Exclusive}
+use Rattle.exclusive_stages.specs.declared.stages.PeerAtCentral.{PeerAtCentral}
+use Rattle.exclusive_stages.specs.declared.stages.PeerAtCentral.TheVariants.{Absent}
+use Rattle.exclusive_stages.specs.Kinds.{is_host_asked_at_central}
+use Rattle.collision_steps.specs.CentralPart.{central_of}
+use Rattle.controller_model.specs.Facts.{Facts, Setup}
+use Rattle.controller_model.specs.Heard.{has_room}
+use Rattle.controller_model.specs.Side.{facts_after, facts_of}
+use Rattle.controller_model.specs.Step.{Step, PacketHeard}
+use Rattle.controller_model.proofs.Pasts.{facts_more}
+use Rattle.link_pairs.specs.control_model.Control.{Answers, Control, after, table_if}
+use Rattle.link_pairs.specs.procedures.Going.{host_answer_step, is_answer}
+use Rattle.link_pairs.specs.procedures.Table.{TableFacts}
+use Rattle.link_pairs.specs.procedure_stages.declared.stages.Progress.{Progress}
+use Rattle.link_pairs.specs.procedure_stages.declared.stages.Progress.TheVariants.{Central as central, Peripheral as peripheral}
+use Rattle.link_pairs.specs.procedure_stages.InProgress.{is_host_asked}
+use Rattle.link_pairs.specs.procedure_values.declared.asks.Ask.{Ask}
+use Rattle.link_calls.specs.link_model.Facts.{Facts as EndFacts}
+use Rattle.link_calls.specs.link_model.Setup.{Setup as EndSetup}
+use Rattle.link_calls.specs.open_links.OpenLinks.{OpenLink, facts_in, link_at}
+use Rattle.link_calls.specs.run_model.History.{Called, Event, past_of}
+use Rattle.link_calls.specs.run_model.Run.{Given, facts_at, setup_at}
+use Rattle.link_calls.specs.Phases.{HasPassed, IsNew, Stays, Takes, refusal, refuses_at}
+use Rattle.link_calls.specs.Uses.{listens_under, sends_under}
+use Rattle.link_calls.proofs.LinkCalls.{passes_under}
+use Rattle.link_calls.proofs.run_laws.TurnSteps.{IsListening}
+use Rattle.link_calls.proofs.run_model.Calls.{past_own}
+use Rattle.link_runs.specs.link_pairs.Hearing.{received}
+use Rattle.link_runs.specs.link_pairs.Turns.{sent_if}
+use Rattle.run_pairs.proofs.EndCalls.{central_silent, refused_facts, taking_facts}
+use Rattle.run_pairs.proofs.LinkSteps.{replies_under}
+use Rattle.run_collisions.specs.Prevailing.{Prevails}
+
+-- ---- a refusal to the peripheral changes nothing where nothing of it is left
+
+not_asked_by : (progress : Progress) (f : TableFacts) → (central_of (record f { progress = progress })).peer ≡ Absent → is_host_asked progress ≡ false
+not_asked_by (central x) f is = ap (λ (peer : PeerAtCentral). is_host_asked_at_central peer) is
+not_asked_by (peripheral x) f is = refl
+
+none_answered : (goes : Bool) (answer : Result Ask ErrCode) (k : Control) → is_host_asked k.table.progress ≡ false
+    → (if goes then table_if (is_host_asked k.table.progress && is_answer answer) (host_answer_step k.table answer) k else k) ≡ k
+none_answered true answer k is = ap (λ (b : Bool). table_if (b && is_answer answer) (host_answer_step k.table answer) k) is
+none_answered false answer k is = refl
+
+answer_same : (answer : Result Ask ErrCode) (k : Control) → (central_of k.table).peer ≡ Absent → after (Answers answer) k ≡ k
+answer_same answer k is = none_answered (is_none k.ends) answer k (not_asked_by k.table.progress k.table is)
+
+refused_same : (refuses : Bool) (setup : EndSetup) (facts : EndFacts) → (central_of facts.control.table).peer ≡ Absent
+    → refused_facts refuses setup facts ≡ facts
+refused_same true setup facts is = λ i. record facts { control = answer_same refusal facts.control is i }
+refused_same false setup facts is = refl
+
+-- ---- the link under its handle after the call
+
+module _ (setup : Setup) (facts : Facts) (octets : List ℕ) (handle : ℕ) (one next : OpenLink) (at : link_at handle facts.links ≡ Some one)
+    (on : listens_under handle facts.turn.doing ≡ true) (old : one.setup.opened < facts.turn.slot) (same : next.setup ≡ one.setup)
+    (role : one.setup.link.role ≡ Central) where
+  abbrev room : Bool
+  room = has_room setup facts
+
+  abbrev received_here : EndFacts
+  received_here = received one.setup facts.turn.slot octets room (facts_in one)
+
+  abbrev IsHere : EndFacts → Type 0
+  IsHere held = held ≡ refused_facts (refuses_at handle room octets facts) one.setup received_here
+
+  abbrev sends : Bool
+  sends = sends_under handle (facts_after setup facts (PacketHeard octets)).turn.doing
+
+  silent : sends ≡ false
+  silent =
+      replies_under setup facts (Some octets) octets handle one refl on at
+      ∙ central_silent one.setup facts.turn.slot octets room (facts_in one) role
+
+  same_link : (a b : OpenLink) → Some a ≡ Some b → a ≡ b
+  same_link a b is = cc
+
+  same_octets : (a b : List ℕ) → Some a ≡ Some b → a ≡ b
+  same_octets a b is = cc
+
+  here : HasPassed facts room (Some octets) handle (facts_after setup facts (PacketHeard octets)).turn.doing next → IsHere (facts_in next)
+  here (IsNew end made opened off) =
+      let now = ap (λ (s : EndSetup). s.opened) (sym same) ∙ ap (λ (l : OpenLink). l.setup.opened) made ∙ opened in absurd (omega (arith, old, now))
+  here (Stays was none nothing listened) = absurd (let no = nothing on in cc)
+  here (Takes link others was got listened is) =
+      ap facts_in is ∙ taking_facts sends handle room others facts link
+      ∙ (λ i. sent_if (silent i) (same_link link one (sym was ∙ at) i).setup facts.turn.slot
+      (refused_facts (refuses_at handle room (same_octets others octets (sym got) i) facts) (same_link link one (sym was ∙ at) i).setup
+      (received (same_link link one (sym was ∙ at) i).setup facts.turn.slot (same_octets others octets (sym got) i) room (facts_in (same_link link one (sym
+      was ∙ at) i)))))
+
+  pub held_here : IsListening facts facts.turn.doing → link_at handle (facts_after setup facts (PacketHeard octets)).links ≡ Some next → IsHere (facts_in next)
+  held_here listening is = here (passes_under setup facts (Some octets) handle next listening is)
+
+  pub prevails_held : (before : EndFacts) (own other : Exclusive) → IsListening facts facts.turn.doing
+      → link_at handle (facts_after setup facts (PacketHeard octets)).links ≡ Some next → Prevails before received_here own other
+      → Prevails before (facts_in next) own other
+  prevails_held before own other listening is prevails =
+      subst (λ (held : EndFacts). Prevails before held own other)
+      (sym (held_here listening is ∙ refused_same (refuses_at handle room octets facts) one.setup received_here prevails.peer)) prevails
+
+-- the facts of the station after the call
+pub called_facts : (given : Given) (station : ℕ) (step : Step) (before : List Event)
+    → facts_at given station (before ++ Called station step ∷ []) ≡ facts_after (setup_at given station) (facts_at given station before) step
+called_facts given station step before =
+    ap (facts_of (setup_at given station)) (past_own station step [] before) ∙ facts_more (setup_at given station) (past_of station before) step

@@ -1,0 +1,299 @@
+-- A central of a run that takes the first PDU of a procedure of the peripheral while its own is in progress, and a peripheral
+-- that takes the rejection of its procedure.
+use Rattle.std.proofs.Common.{◌≡◌, inl, inr, ℕ, zero, suc, ◌+◌, ◌<◌, Bool, true, false, Some, List, [], ◌∷◌, ◌++◌, append-nil, refl, sym, ap, subst, ◌∙◌, arith}
+use Rattle.std.specs.Prelude.{if◌then◌else◌}
+use Rattle.std.specs.List.{filter}
+use Rattle.std.proofs.lemmas.Bool.{eq-eqb}
+use Rattle.ble_base.specs.declared.error_codes.ErrCode.{ErrCode}
+use Rattle.ble_base.specs.declared.notes.Note.{Note}
+use Rattle.ble_base.specs.declared.notes.Note.TheVariants.{Took}
+use Rattle.exclusive_stages.specs.declared.pdus.Exclusive.{Exclusive}
+use Rattle.controller_model.specs.declared.doing.Doing.{Doing}
+use Rattle.controller_model.specs.declared.doing.Doing.TheVariants.{Advertises, CentralListens, PeripheralListens}
+use Rattle.controller_model.specs.Facts.{Facts}
+use Rattle.controller_model.specs.Heard.{has_room}
+use Rattle.controller_model.specs.Step.{Step, PacketHeard}
+use Rattle.link_calls.specs.link_model.Facts.{Facts as EndFacts}
+use Rattle.link_calls.specs.link_model.Numbers.{is_took_note}
+use Rattle.link_calls.specs.link_model.Setup.{Setup as EndSetup}
+use Rattle.link_calls.specs.open_links.OpenLinks.{OpenLink, facts_in, link_at}
+use Rattle.link_calls.specs.run_model.Feeding.{AreDistinct}
+use Rattle.link_calls.specs.run_model.History.{Called, Event, past_of}
+use Rattle.link_calls.specs.run_model.LinkEnds.{HaveAddresses}
+use Rattle.link_calls.specs.run_model.Run.{Given, facts_at, history_of, run_of, setup_at}
+use Rattle.link_calls.specs.run_laws.Ends.{AreEnds as AreEndsIn, IsOpen, OpenEnd, link_listened}
+use Rattle.link_calls.specs.Uses.{is_on_link, listens_under}
+use Rattle.link_calls.proofs.link_model.Hearing.{IsHeardWhole}
+use Rattle.link_calls.proofs.run_model.LinkEnds.{AreTaken, IsUnderstood}
+use Rattle.link_calls.proofs.run_model.Stations.{is_in}
+use Rattle.link_calls.proofs.run_laws.InAgreement.{OpenedBefore}
+use Rattle.link_calls.proofs.run_laws.LinkPhases.{in_phase}
+use Rattle.link_calls.proofs.run_laws.OpenSteps.{open_has}
+use Rattle.link_calls.proofs.run_laws.SameEvent.{apart_ends}
+use Rattle.link_calls.proofs.run_laws.TurnPlaces.{Within, at_stage, standing, turned}
+use Rattle.link_runs.specs.link_pairs.Ends.{AreEnds}
+use Rattle.link_runs.specs.link_pairs.Hearing.{IsPacketOf, received}
+use Rattle.link_runs.proofs.link_pairs.SenderHears.{hears_the_end}
+use Rattle.run_pairs.specs.InTurns.{HasSentNow, HearEachInTurn}
+use Rattle.run_pairs.specs.Stages.{AreAnsweredEnds, AreBegunEnds, CentralTook, IsLate, IsOver, Lasts, PeripheralTook}
+use Rattle.run_pairs.proofs.BothEnds.{ByStanding, at_standing, kept_to, packet_now}
+use Rattle.run_pairs.proofs.CallPlaces.{StandsInPhase, stands_called}
+use Rattle.run_pairs.proofs.Conclusions.{pair_ends}
+use Rattle.run_pairs.proofs.EndCalls.{central_takes_in, peripheral_takes_in}
+use Rattle.run_pairs.proofs.LinkSteps.{AsksMayCome}
+use Rattle.run_pairs.proofs.OneSide.{StationAt, station_first, station_kept}
+use Rattle.run_pairs.proofs.PairSteps.{AreBothBegun, InTurn, IsPeripheralDone, NewOr}
+use Rattle.run_collisions.specs.Prevailing.{Prevails, TakesColliding, seen}
+use Rattle.run_collisions.specs.Refused.{IsRefused, TakesRejection}
+use Rattle.run_collisions.proofs.AfterCalls.{called_facts, prevails_held}
+use Rattle.run_collisions.proofs.CentralTakes.{prevails_here}
+use Rattle.run_collisions.proofs.PeripheralTakes.{is_refused}
+
+-- ---- the peripheral answered, and the central hears it
+
+none_if : (b : Bool) (note : Note) (rest : List Note) → (rest ≡ [] → ⊥) → (if b then note ∷ rest else rest) ≡ [] → ⊥
+none_if true note rest never is = absurd (cc)
+none_if false note rest never is = never is
+
+-- a note that a PDU is taken is among these
+none_there : (earlier later : List Note) (handle number llid : ℕ) (body : List ℕ)
+    → filter is_took_note (earlier ++ Took handle number llid (record { items = body }) ∷ later) ≡ [] → ⊥
+none_there [] later handle number llid body is = absurd (cc)
+none_there (note ∷ earlier) later handle number llid body is =
+    none_if (is_took_note note) note (filter is_took_note (earlier ++ Took handle number llid (record { items = body }) ∷ later))
+    (none_there earlier later handle number llid body) is
+
+module _ (whole : IsHeardWhole) (central peripheral : EndSetup) (ends : AreEnds central peripheral) (slot : ℕ) (c p : EndFacts) (channel : ℕ) (octets : List ℕ)
+    (room : Bool) (packet : IsPacketOf peripheral slot p channel octets) (same : channel ≡ c.event.channel) (own other : Exclusive)
+    (colliding : TakesColliding central c slot octets room own other) where
+  pub answered_prevails : AreAnsweredEnds central peripheral slot true c p → Prevails (seen central slot octets c)
+      (received central slot octets room c) own other
+  answered_prevails (Lasts link) =
+      prevails_here whole central peripheral slot c p channel octets room own other ends link.linked link.central_lasts link.peripheral_lasts link.central_past
+      (link.entered refl) packet same colliding
+  answered_prevails (PeripheralTook parting) =
+      absurd (none_there colliding.earlier colliding.later central.link.handle colliding.number 3 colliding.body
+      (ap (filter is_took_note) (sym colliding.notes)
+      ∙ (hears_the_end whole peripheral central (sym ends.one_link.fields) ends.central_max.to p c parting slot channel octets packet same room).takes_none))
+  answered_prevails (CentralTook parting none) = absurd (cc)
+  answered_prevails (IsLate link none) = absurd (cc)
+  answered_prevails (IsOver link none) = absurd (cc)
+
+-- ---- the central sent, and the peripheral hears it
+
+module _ (whole : IsHeardWhole) (central peripheral : EndSetup) (ends : AreEnds central peripheral) (slot : ℕ) (c p : EndFacts) (channel : ℕ) (octets : List ℕ)
+    (room : Bool) (packet : IsPacketOf central slot c channel octets) (same : channel ≡ p.event.channel) (q : Exclusive) (code : ErrCode)
+    (taking : TakesRejection peripheral p slot octets room q code) where
+  pub begun_refuses : AreBegunEnds central peripheral slot true true c p
+      → IsRefused peripheral (seen peripheral slot octets p) (received peripheral slot octets room p) taking.later q code
+  begun_refuses (inl link) =
+      is_refused whole central peripheral slot c p channel octets room q code ends link.begun link.central_lasts link.peripheral_lasts packet same
+      link.supervised
+      taking
+  begun_refuses (inr parting) =
+      absurd (none_there taking.earlier taking.later peripheral.link.handle taking.number 3 taking.body
+      (ap (filter is_took_note) (sym taking.notes)
+      ∙ (hears_the_end whole central peripheral ends.one_link.fields ends.peripheral_max.to c p parting slot channel octets packet same room).takes_none))
+
+-- ---- in a run
+
+listens_by : (handle : ℕ) (doing : Doing) → link_listened doing ≡ Some handle → listens_under handle doing ≡ true
+listens_by handle (CentralListens other) is = let same : other ≡ handle = cc in eq-eqb other handle same
+listens_by handle (PeripheralListens other) is = let same : other ≡ handle = cc in eq-eqb other handle same
+listens_by handle (Advertises channel) is = absurd cc
+listens_by handle other is = absurd cc
+
+on_link : (handle : ℕ) (doing : Doing) → link_listened doing ≡ Some handle → is_on_link doing ≡ true
+on_link handle (CentralListens other) is = refl
+on_link handle (PeripheralListens other) is = refl
+on_link handle (Advertises channel) is = absurd cc
+on_link handle other is = absurd cc
+
+phase_of : (b : Bool) (phases turns : ℕ) (past : List Step) → standing past ≡ Some
+    (if b then at_stage (Within (suc phases)) turns else at_stage (Within phases) turns)
+    → standing past ≡ Some (at_stage (Within (if b then suc phases else phases)) turns)
+phase_of true phases turns past is = is
+phase_of false phases turns past is = is
+
+not_new : (X : Type 0) (opened slot turns : ℕ) → opened < slot → slot + 1 ≡ turns → opened + 1 ≡ turns → X
+not_new X opened slot turns before is new = absurd (omega (arith, before, is, new))
+
+module _ (whole : IsHeardWhole) (understood : IsUnderstood) (taken : AreTaken) (given : Given) (six : HaveAddresses given)
+    (distinct : AreDistinct given.stations)
+    (asks : AsksMayCome given) (before rest : List Event) (octets : List ℕ) (central peripheral : OpenEnd)
+    (at : history_of (run_of given) ≡ before ++ Called central.station (PacketHeard octets) ∷ rest)
+    (in_it : is_in central.station given.stations ≡ true) (in_too : is_in peripheral.station given.stations ≡ true)
+    (of_one : AreEndsIn before central peripheral) (is_open : IsOpen given before central) (is_open_too : IsOpen given before peripheral)
+    (hear : HearEachInTurn given before central peripheral)
+    (listens : link_listened (facts_at given central.station before).turn.doing ≡ Some central.handle)
+    (sent : HasSentNow given before central peripheral (facts_in central.link).event.channel octets) where
+  abbrev c_here : EndSetup
+  c_here = central.link.setup
+
+  abbrev p_here : EndSetup
+  p_here = peripheral.link.setup
+
+  abbrev call : List Event
+  call = Called central.station (PacketHeard octets) ∷ rest
+
+  ends : AreEnds c_here p_here
+  ends = pair_ends whole understood taken given six distinct asks before call at central peripheral in_it in_too of_one is_open is_open_too hear
+
+  kept_here : ByStanding c_here p_here peripheral.handle (standing (past_of central.station before)) (standing (past_of peripheral.station before))
+      (facts_at given peripheral.station before).turn.doing central.link peripheral.link
+  kept_here =
+      kept_to whole taken given distinct central peripheral ends in_it in_too asks (apart_ends before central peripheral of_one) before call at hear before []
+      (sym (append-nil before)) central.link peripheral.link is_open refl is_open_too refl
+
+  abbrev facts_c : Facts
+  facts_c = facts_at given central.station before
+
+  abbrev slot : ℕ
+  slot = facts_c.turn.slot
+
+  stands : StandsInPhase given before central.station
+  stands = stands_called given before rest central.station (PacketHeard octets) distinct at
+
+  side : StationAt (setup_at given central.station) (Within stands.phases) stands.turns facts_c
+  side =
+      let setup = setup_at given central.station in
+      turned setup (StationAt setup) (station_kept taken setup) (past_of central.station before) (at_stage (Within stands.phases) stands.turns)
+      (station_first setup)
+      stands.stand.own
+
+  second : stands.phases ≡ 1
+  second = central_takes_in facts_c.links central.handle central.link is_open stands.phases facts_c.turn.doing
+      (in_phase (setup_at given central.station) (past_of central.station before) stands.phases stands.turns stands.stand.own)
+      (listens_by central.handle facts_c.turn.doing listens) of_one.is_central
+
+  done_by : (n : ℕ) (b : Bool) (doing : Doing) → n ≡ 1
+      → NewOr c_here p_here peripheral.handle stands.turns
+      (λ slot. InTurn c_here p_here peripheral.handle (if b then suc n else n) n slot doing central.link peripheral.link)
+      → IsPeripheralDone c_here p_here peripheral.handle slot central.link peripheral.link
+  done_by zero b doing is place = absurd (omega (arith, is))
+  done_by (suc zero) true doing is (inr place) = place slot (sym side.holds.phased.uses.in_turn.slot_is)
+  done_by (suc zero) false doing is (inr place) = place slot (sym side.holds.phased.uses.in_turn.slot_is)
+  done_by (suc zero) b doing is (inl new) =
+      let old = open_has (OpenedBefore slot) 0 central.handle facts_c.links central.link
+      (side.station.old (on_link central.handle facts_c.turn.doing listens)) is_open in
+      not_new _ c_here.opened slot stands.turns old side.holds.phased.uses.in_turn.slot_is new
+  done_by (suc (suc n)) b doing is place = absurd (omega (arith, is))
+
+  done : IsPeripheralDone c_here p_here peripheral.handle slot central.link peripheral.link
+  done =
+      let b = stands.stand.was_called peripheral.station in
+      let j = if b then suc stands.phases else stands.phases in
+      let place = at_standing c_here p_here peripheral.handle (at_stage (Within stands.phases) stands.turns)
+      (at_stage (Within j) stands.turns) _ _ _ central.link peripheral.link
+      stands.stand.own (phase_of b stands.phases stands.turns (past_of peripheral.station before) (stands.stand.others peripheral.station in_too)) kept_here in
+      done_by stands.phases b _ second place.1
+
+  pub prevails_in_run : (room : Bool) (own other : Exclusive) → TakesColliding c_here (facts_in central.link) slot octets room own other
+      → Prevails (seen c_here slot octets (facts_in central.link)) (received c_here slot octets room (facts_in central.link)) own other
+  prevails_in_run room own other colliding =
+      let packet = packet_now given before call central peripheral (facts_in central.link) octets peripheral.link distinct in_too at is_open_too refl sent in
+      let c = facts_in central.link in
+      let p = facts_in peripheral.link in
+      answered_prevails whole c_here p_here ends slot c p packet.channel octets room packet.packet packet.same own other colliding
+      (subst (λ b. AreAnsweredEnds c_here p_here slot b c p) (done.sends packet.front packet.last) done.answered_so)
+
+  pub prevails_after : (next : OpenLink) (own other : Exclusive)
+      → IsOpen given (before ++ Called central.station (PacketHeard octets) ∷ []) (record central { link = next }) → next.setup ≡ c_here
+      → TakesColliding c_here (facts_in central.link) slot octets (has_room (setup_at given central.station) facts_c) own other
+      → Prevails (seen c_here slot octets (facts_in central.link)) (facts_in next) own other
+  prevails_after next own other opened same colliding =
+      let setup = setup_at given central.station in
+      let old = open_has (OpenedBefore slot) 0 central.handle facts_c.links central.link
+      (side.station.old (on_link central.handle facts_c.turn.doing listens)) is_open in
+      prevails_held setup facts_c octets central.handle central.link next is_open
+      (listens_by central.handle facts_c.turn.doing listens) old same of_one.is_central
+      (seen c_here slot octets (facts_in central.link)) own other side.holds.phased.uses.in_turn.listens
+      (ap (λ (f : Facts). link_at central.handle f.links) (sym (called_facts given central.station (PacketHeard octets) before)) ∙ opened)
+      (prevails_in_run (has_room setup facts_c) own other colliding)
+
+-- ---- the peripheral of a run
+
+module _ (whole : IsHeardWhole) (understood : IsUnderstood) (taken : AreTaken) (given : Given) (six : HaveAddresses given)
+    (distinct : AreDistinct given.stations)
+    (asks : AsksMayCome given) (before rest : List Event) (octets : List ℕ) (central peripheral : OpenEnd)
+    (at : history_of (run_of given) ≡ before ++ Called peripheral.station (PacketHeard octets) ∷ rest)
+    (in_it : is_in central.station given.stations ≡ true) (in_too : is_in peripheral.station given.stations ≡ true)
+    (of_one : AreEndsIn before central peripheral) (is_open : IsOpen given before central) (is_open_too : IsOpen given before peripheral)
+    (hear : HearEachInTurn given before central peripheral)
+    (listens : link_listened (facts_at given peripheral.station before).turn.doing ≡ Some peripheral.handle)
+    (sent : HasSentNow given before peripheral central (facts_in peripheral.link).event.channel octets) where
+  abbrev c_there : EndSetup
+  c_there = central.link.setup
+
+  abbrev p_there : EndSetup
+  p_there = peripheral.link.setup
+
+  abbrev call_there : List Event
+  call_there = Called peripheral.station (PacketHeard octets) ∷ rest
+
+  ends_there : AreEnds c_there p_there
+  ends_there = pair_ends whole understood taken given six distinct asks before call_there at central peripheral in_it in_too of_one is_open is_open_too hear
+
+  abbrev facts_p : Facts
+  facts_p = facts_at given peripheral.station before
+
+  abbrev slot_there : ℕ
+  slot_there = facts_p.turn.slot
+
+  kept_there : ByStanding c_there p_there peripheral.handle (standing (past_of central.station before)) (standing (past_of peripheral.station before))
+      facts_p.turn.doing central.link peripheral.link
+  kept_there =
+      kept_to whole taken given distinct central peripheral ends_there in_it in_too asks
+      (apart_ends before central peripheral of_one) before call_there at hear before []
+      (sym (append-nil before)) central.link peripheral.link is_open refl is_open_too refl
+
+  p_stands : StandsInPhase given before peripheral.station
+  p_stands = stands_called given before rest peripheral.station (PacketHeard octets) distinct at
+
+  p_side : StationAt (setup_at given peripheral.station) (Within p_stands.phases) p_stands.turns facts_p
+  p_side =
+      let setup = setup_at given peripheral.station in
+      turned setup (StationAt setup) (station_kept taken setup) (past_of peripheral.station before) (at_stage (Within p_stands.phases) p_stands.turns)
+      (station_first setup) p_stands.stand.own
+
+  p_first : p_stands.phases ≡ 0
+  p_first = peripheral_takes_in facts_p.links peripheral.handle peripheral.link is_open_too p_stands.phases facts_p.turn.doing
+      (in_phase (setup_at given peripheral.station) (past_of peripheral.station before) p_stands.phases p_stands.turns p_stands.stand.own)
+      (listens_by peripheral.handle facts_p.turn.doing listens) of_one.is_peripheral
+
+  begun_by : (n i : ℕ) → n ≡ 0
+      → NewOr c_there p_there peripheral.handle p_stands.turns
+      (λ slot. InTurn c_there p_there peripheral.handle n i slot facts_p.turn.doing central.link peripheral.link)
+      → AreBothBegun c_there p_there peripheral.handle slot_there facts_p.turn.doing central.link peripheral.link
+  begun_by zero i is (inr place) = place slot_there (sym p_side.holds.phased.uses.in_turn.slot_is)
+  begun_by zero i is (inl new) =
+      let old = open_has (OpenedBefore slot_there) 0 peripheral.handle facts_p.links peripheral.link
+      (p_side.station.old (on_link peripheral.handle facts_p.turn.doing
+      listens)) is_open_too in
+      not_new _ p_there.opened slot_there p_stands.turns old p_side.holds.phased.uses.in_turn.slot_is
+      (ap (λ n. n + 1) (sym ends_there.one_link.opened) ∙ new)
+  begun_by (suc n) i is place = absurd (omega (arith, is))
+
+  both : AreBothBegun c_there p_there peripheral.handle slot_there facts_p.turn.doing central.link peripheral.link
+  both =
+      let b = p_stands.stand.was_called central.station in
+      let i = if b then suc p_stands.phases else p_stands.phases in
+      let place = at_standing c_there p_there peripheral.handle (at_stage (Within i) p_stands.turns)
+      (at_stage (Within p_stands.phases) p_stands.turns) _ _ _ central.link
+      peripheral.link (phase_of b p_stands.phases p_stands.turns (past_of central.station before) (p_stands.stand.others central.station in_it))
+      p_stands.stand.own
+      kept_there in
+      begun_by p_stands.phases i p_first place.1
+
+  pub refused_in_run : (room : Bool) (q : Exclusive) (code : ErrCode) (taking : TakesRejection p_there (facts_in peripheral.link) slot_there octets room q code)
+      → IsRefused p_there (seen p_there slot_there octets (facts_in peripheral.link))
+      (received p_there slot_there octets room (facts_in peripheral.link)) taking.later
+      q code
+  refused_in_run room q code taking =
+      let packet = packet_now given before call_there peripheral central (facts_in peripheral.link) octets central.link distinct in_it at is_open refl sent in
+      let c = facts_in central.link in
+      let p = facts_in peripheral.link in
+      begun_refuses whole c_there p_there ends_there slot_there c p packet.channel octets room packet.packet packet.same q code taking
+      (subst (λ b. AreBegunEnds c_there p_there slot_there b true c p) (both.sends packet.front packet.last)
+      (subst (λ b. AreBegunEnds c_there p_there slot_there both.transmits b c p) (both.hears (listens_by peripheral.handle facts_p.turn.doing listens))
+      both.begun))

@@ -1,0 +1,394 @@
+-- A peripheral that takes the rejection of its procedure.
+use Rattle.std.proofs.Common.{◌≡◌, ℕ, ◌+◌, ◌≤◌, ◌&&◌, ◌||◌, not, Bool, true, false, List, [], ◌∷◌, ◌++◌, length, Option, None, Some, is_some, refl, ap, sym, ◌∙◌, subst, if◌then◌else◌}
+use Rattle.std.proofs.lemmas.Bool.{and_from, and_parts, eq-eqb, or_right}
+use Rattle.ack_bit.specs.AckBits.{is_odd}
+use Rattle.ble_base.specs.declared.error_codes.ErrCode.{ErrCode}
+use Rattle.ble_base.specs.declared.notes.Note.{Note}
+use Rattle.ble_base.specs.declared.notes.Note.TheVariants.{Refused, Took}
+use Rattle.ble_base.specs.declared.procedure_kinds.Kind.{Kind}
+use Rattle.ble_base.specs.declared.roles.Role.{Role}
+use Rattle.ble_base.specs.declared.roles.Role.TheVariants.{Peripheral}
+use Rattle.data_pdu.specs.declared.ctrl.Ctrl.{Ctrl}
+use Rattle.data_pdu.specs.declared.ctrl.Ctrl.TheVariants.{RejectExtInd}
+use Rattle.data_pdu.specs.declared.ctrl.CtrlRead.{CtrlRead}
+use Rattle.data_pdu.specs.declared.ctrl.CtrlRead.TheVariants.{Known}
+use Rattle.data_pdu.specs.declared.header.DataHeader.{DataHeader}
+use Rattle.data_pdu.specs.Reading.{ctrl_of}
+use Rattle.exclusive_stages.specs.declared.pdus.Exclusive.{Exclusive}
+use Rattle.exclusive_stages.specs.Kinds.{kind_of, peripheral_kind}
+use Rattle.collision_steps.specs.PeripheralPart.{peripheral_of}
+use Rattle.collision_steps.specs.Parts.{reason_part}
+use Rattle.collisions.specs.PeripheralTable.{is_phy_sent, is_requesting}
+use Rattle.joint_collisions.specs.Arrivals.{PeripheralMayTake}
+use Rattle.joint_collisions.specs.Facts.{IsState, fits_down, fits_if}
+use Rattle.joint_collisions.proofs.EachStep.{Before}
+use Rattle.joint_collisions.proofs.Findings.{phy_reads, request_reads}
+use Rattle.joint_collisions.proofs.Runs.{before_of}
+use Rattle.joint_laws.specs.joint_controls.Ends.{IsSentOn}
+use Rattle.joint_laws.specs.joint_controls.Joint.{Control as control_item, Joint, JointStep, OnAir, PeripheralAcked, PeripheralTakes, Way, after_all, is_running, is_taken, item_on_air, may, may_act, may_all, no_response}
+use Rattle.joint_laws.specs.joint_parameters.Turns.{Fixing, FixesNothing, IsHeard, Link, LinkStep, MayLink, after_acknowledgement, fixing_steps, step_if, takes_item}
+use Rattle.joint_laws.proofs.Rejected.{state_of}
+use Rattle.joint_laws.proofs.joint_controls.LastPdus.{first_tied, tied}
+use Rattle.joint_laws.proofs.joint_controls.Running.{goes_on}
+use Rattle.joint_laws.proofs.joint_parameters.Hearing.{range_before}
+use Rattle.joint_laws.proofs.joint_parameters.Runs.{after_joined}
+use Rattle.link_pairs.specs.control_end.declared.answers.Taken.{Taken}
+use Rattle.link_pairs.specs.control_end.Answers.{nothing_taken, taken_of}
+use Rattle.link_pairs.specs.control_end.Held.{held_of}
+use Rattle.link_pairs.specs.control_model.Control.{Control, Takes, after}
+use Rattle.link_pairs.specs.procedures.Table.{TableFacts}
+use Rattle.link_pairs.specs.control_model.Supported.{read_supported}
+use Rattle.link_pairs.specs.procedure_stages.Opcodes.{opcode_of_kind}
+use Rattle.link_pairs.specs.procedure_values.declared.drafts.Outgoing.{Outgoing}
+use Rattle.link_pairs.specs.procedure_values.declared.drafts.Outgoing.TheVariants.{Rejection}
+use Rattle.link_pairs.specs.procedure_values.declared.drafts.Rejection.{Rejection as TheRejection}
+use Rattle.link_pairs.specs.unencrypted_ends.phased_control.Phased.{Phased}
+use Rattle.link_pairs.specs.link_model.Acknowledgement.{Acknowledgement, Pdu, is_acked}
+use Rattle.link_pairs.specs.link_model.Controls.{is_procedure_pdu, read_of}
+use Rattle.link_pairs.specs.link_model.Data.{is_control, is_data, is_empty, numbered}
+use Rattle.link_pairs.specs.link_model.End.{notes_after}
+use Rattle.link_pairs.specs.link_model.Entering.{done_notes}
+use Rattle.link_pairs.specs.link_model.Facts.{Facts}
+use Rattle.link_pairs.specs.link_model.Hearing.{IsUnderstood, pdu_heard, pdu_octets}
+use Rattle.link_pairs.specs.link_model.Packets.{good_pdu, header_sent}
+use Rattle.link_pairs.specs.link_model.Receiving.{accepted_if, accepts, acked_kind, acks_control, facts_before_taking, facts_hearing, given_notes, has_acknowledged, notes_hearing, procedures_take_if, taken_notes, took_notes_if}
+use Rattle.link_pairs.specs.link_model.Setup.{Setup, first_anchor, first_params}
+use Rattle.link_pairs.specs.link_model.Step.{PacketReceived}
+use Rattle.link_pairs.specs.Ends.{AreEnds, heard_turns, is_lasting, phased_of}
+use Rattle.link_pairs.specs.Hearing.{IsPacketOf, received}
+use Rattle.link_pairs.specs.Shown.{Shows}
+use Rattle.link_pairs.specs.Sound.{first_joint}
+use Rattle.link_pairs.specs.Turns.{AreReady, HaveBegun}
+use Rattle.link_pairs.proofs.link_model.Hearing.{IsHeardWhole}
+use Rattle.link_pairs.proofs.link_model.Received.{facts_heard, header_read, heard_good, notes_heard}
+use Rattle.link_pairs.proofs.Answering.{gone, seen as seen_end}
+use Rattle.link_pairs.proofs.Counts.{Says, acknowledged_by, is_fresh, says_right, turned}
+use Rattle.link_pairs.proofs.Ending.{run_on}
+use Rattle.link_pairs.proofs.FixingNext.{FixesNext, fixing_of, may_fix_after}
+use Rattle.link_pairs.proofs.JointRuns.{HasRun, has_run}
+use Rattle.link_pairs.proofs.LastPdus.{last_reached}
+use Rattle.link_pairs.proofs.PeripheralHears.{Meets, fixes, reaches}
+use Rattle.link_pairs.proofs.PeripheralSteps.{may_parts, one_step, seen_after, with_end}
+use Rattle.link_pairs.proofs.Reaching.{IsReached, comes}
+use Rattle.link_pairs.proofs.Reading.{HasSent, has_sent, understood}
+use Rattle.link_pairs.proofs.SeenAcknowledged.{cleared, control_seen}
+use Rattle.link_pairs.proofs.Sounding.{link_now, reached_now, runs}
+use Rattle.link_pairs.proofs.Ways.{arrives}
+use Rattle.run_collisions.specs.Prevailing.{seen, seen_by}
+use Rattle.run_collisions.specs.Refused.{IsRefused, TakesRejection}
+use Rattle.run_collisions.proofs.OnWay.{IsOnWay, came}
+use Rattle.run_collisions.proofs.Refusing.{Refuses, control_after, given, phy_refused, refused_after, rejection_read, request_refused}
+use Rattle.run_collisions.proofs.RejectionsOut.{IsRejection, found, is_rejection}
+use Rattle.run_collisions.proofs.TakingNotes.{IsTaken, is_noted, taken_at}
+
+module _ (whole : IsHeardWhole) (central peripheral : Setup) (slot : ℕ) (c p : Facts) (channel : ℕ) (octets : List ℕ) (room : Bool) (q : Exclusive)
+    (code : ErrCode)
+    (ends : AreEnds central peripheral) (begun : HaveBegun central peripheral slot true true c p) (c_lasts : is_lasting c ≡ true)
+    (p_lasts : is_lasting p ≡ true)
+    (packet : IsPacketOf central slot c channel octets) (same : channel ≡ p.event.channel) (supervised : slot + 1 ≤ heard_turns peripheral p + 32768)
+    (taking : TakesRejection peripheral p slot octets room q code) where
+  abbrev l : Link
+  l = link_now central peripheral ends (slot + 1) false c p begun.linked c_lasts p_lasts
+
+  running : is_running l.joint ≡ true
+  running = runs central peripheral ends (slot + 1) false c p begun.linked c_lasts p_lasts
+
+  reached : IsReached central peripheral l
+  reached = reached_now central peripheral ends (slot + 1) false c p begun.linked c_lasts p_lasts
+
+  s : Shows central peripheral (slot + 1) false l c p
+  s = begun.linked.shows running
+
+  ready : AreReady central peripheral slot true c p
+  ready = begun.ready running
+
+  -- ---- what it reads
+
+  abbrev last : Pdu
+  last = c.acknowledgement.last
+
+  abbrev header : DataHeader
+  header = header_sent packet.before
+
+  abbrev has_room : Bool
+  has_room = room || not (is_data last)
+
+  und : IsUnderstood central packet.before peripheral p
+  und = understood central peripheral slot (slot + 1) c p channel octets ends.one_link.fields s.central_fits s.central_rests packet same
+
+  sent : HasSent packet.before c
+  sent = subst (HasSent packet.before) (sym packet.sent) (has_sent slot packet.before)
+
+  pdu_is : pdu_heard packet.before ≡ last
+  pdu_is = λ i. record { llid = (sym sent.last i).llid; body = (sym sent.payload ∙ s.central_rests.payload) i }
+
+  good_is : good_pdu peripheral p octets ≡ Some (pdu_octets packet.before)
+  good_is = ap (good_pdu peripheral p) packet.packet ∙ heard_good whole central peripheral packet.before p und
+
+  facts_are : received peripheral slot octets room p ≡ facts_hearing peripheral.link.role slot room header last p
+  facts_are =
+      ap (λ (o : List ℕ). received peripheral slot o room p) packet.packet ∙ facts_heard whole central peripheral packet.before p und slot room
+      ∙ ap (λ (pdu : Pdu). facts_hearing peripheral.link.role slot room header pdu p) pdu_is
+
+  notes_are : notes_after peripheral p (PacketReceived slot octets room) ≡ notes_hearing peripheral slot room header last p
+  notes_are =
+      ap (λ (o : List ℕ). notes_after peripheral p (PacketReceived slot o room)) packet.packet
+      ∙ notes_heard whole central peripheral packet.before p und slot room
+      ∙ ap (λ (pdu : Pdu). notes_hearing peripheral slot room header pdu p) pdu_is
+
+  meets : Meets central peripheral slot l c p header
+  meets =
+      record {
+        ends = ends;
+        reached = reached;
+        running = running;
+        shows = s;
+        out_last = ap (λ (x : Phased). x.control.table.out) (sym s.peripheral_part) ∙ (last_reached central peripheral ends l reached).peripheral;
+        bits = (ap is_odd (sym sent.acked), ap (λ (pdus : List Pdu). is_odd (length pdus)) (sym sent.accepted));
+        out = sent.out;
+        central_heard = ready.central_heard;
+        peripheral_heard = ready.peripheral_heard;
+        supervised = supervised;
+        transmits = begun.transmits_in refl;
+        listens = begun.listens_in refl;
+        has_fixed = ready.fixed refl;
+      }
+
+  -- ---- before it takes the PDU
+
+  abbrev acks : Bool
+  acks = acknowledged_by p.acknowledgement header
+
+  abbrev fresh : Bool
+  fresh = is_fresh p.acknowledgement header
+
+  abbrev acked_facts : Facts
+  acked_facts = seen_end slot header.md acks p
+
+  abbrev now : Facts
+  now = facts_before_taking Peripheral slot header p
+
+  seen_is : seen peripheral slot octets p ≡ now
+  seen_is =
+      (λ i. seen_by peripheral slot (good_is i) p) ∙ (λ i. facts_before_taking (ends.is_peripheral i) slot (header_read packet.before und.llid i) p)
+
+  took : IsTaken (is_noted peripheral slot room header last p) last 3 taking.body
+  took =
+      taken_at peripheral slot room header last p taking.earlier taking.later peripheral.link.handle taking.number 3 taking.body
+      (sym notes_are ∙ taking.notes)
+
+  accepted_parts : (accepts room header last (facts_before_taking peripheral.link.role slot header p) ≡ true) × (not (is_empty last) ≡ true)
+  accepted_parts = and_parts (accepts room header last (facts_before_taking peripheral.link.role slot header p)) (not (is_empty last)) took.taken_now
+
+  accepted_now : accepts room header last now ≡ true
+  accepted_now = ap (λ (role : Role). accepts room header last (facts_before_taking role slot header p)) (sym ends.is_peripheral) ∙ accepted_parts.0
+
+  procedure : is_procedure_pdu last ≡ true
+  procedure = and_from (is_control last) (not (is_empty last)) (eq-eqb last.llid 3 took.llid_is) accepted_parts.1
+
+  abbrev ctrl : Ctrl
+  ctrl = RejectExtInd (opcode_of_kind q) code.0
+
+  read_is : read_of last ≡ Known ctrl
+  read_is = (λ i. read_supported (ctrl_of (took.body_is i))) ∙ ap read_supported taking.is
+
+  -- ---- the joint run
+
+  says : Says p.acknowledgement c.acknowledgement acks fresh
+  says = says_right p.acknowledgement c.acknowledgement (turned c.acknowledgement p.acknowledgement s.agreement) header meets.bits meets.out
+
+  abbrev knows : Bool
+  knows = is_some p.peer.version
+
+  abbrev takes : Bool
+  takes = takes_item has_room (item_on_air l.joint.down)
+
+  abbrev acked_steps : List JointStep
+  acked_steps = step_if (is_taken l.joint.up) PeripheralAcked
+
+  started : l.joint ≡ with_end (phased_of c) l.joint.down l.joint.up false p.control knows
+  started =
+      λ i. record {
+        central = s.central_part i;
+        peripheral = s.peripheral_part i;
+        down = l.joint.down;
+        up = l.joint.up;
+        stopped = (goes_on l.joint running).stopped i;
+      }
+
+  acked_may : may_all acked_steps l.joint ≡ true
+  acked_may =
+      let all = comes central peripheral ends (IsHeard has_room FixesNothing slot no_response) l reached running
+      (reaches central peripheral slot l c p header meets room, tt) in
+      let first = may_parts (acked_steps ++ []) (step_if takes (PeripheralTakes slot no_response)) l.joint all in
+      (may_parts acked_steps [] l.joint first.0).0
+
+  seen_joint : after_acknowledgement l.joint ≡ with_end (phased_of c) l.joint.down (cleared l.joint.up) false acked_facts.control knows
+  seen_joint =
+      ap (after_all acked_steps) started
+      ∙ seen_after (phased_of c) l.joint.down l.joint.up p.control knows (subst (λ (j : Joint). may_all acked_steps j ≡ true) started acked_may)
+      ∙ ap (λ (k : Control). with_end (phased_of c) l.joint.down (cleared l.joint.up) false k knows)
+      (sym (control_seen p.acknowledgement c.acknowledgement acks fresh says l.joint.up p.control s.up meets.out_last))
+
+  abbrev fixing : Fixing
+  fixing = fixing_of (is_acked acked_facts.acknowledgement) acked_facts.fixes_control (is_data acked_facts.outgoing.fixed)
+
+  fixes_it : FixesNext (phased_of c) l.joint.down (cleared l.joint.up) slot acked_facts knows
+      (is_acked acked_facts.acknowledgement) acked_facts.fixes_control fixing
+  fixes_it = fixes central peripheral slot l c p header meets room
+
+  abbrev heard : LinkStep
+  heard = IsHeard has_room fixing slot no_response
+
+  abbrev first : List JointStep
+  first = acked_steps ++ fixing_steps fixing slot
+
+  abbrev s2 : Joint
+  s2 = after_all first l.joint
+
+  may_hear : MayLink heard l
+  may_hear = (reaches central peripheral slot l c p header meets room, may_fix_after fixing slot l.joint _ seen_joint fixes_it.may_fix)
+
+  parts : (may_all first l.joint ≡ true) × (may_all (step_if takes (PeripheralTakes slot no_response)) s2 ≡ true)
+  parts = may_parts first (step_if takes (PeripheralTakes slot no_response)) l.joint (comes central peripheral ends heard l reached running may_hear)
+
+  s2_is : s2 ≡ with_end (phased_of c) l.joint.down fixes_it.next_way false now.control knows
+  s2_is =
+      after_joined acked_steps (fixing_steps fixing slot) l.joint
+      ∙ ap (after_all (fixing_steps fixing slot)) seen_joint
+      ∙ fixes_it.leads
+      (subst (λ (j : Joint). may_all (fixing_steps fixing slot) j ≡ true) seen_joint
+      (may_parts acked_steps (fixing_steps fixing slot) l.joint parts.0).1)
+
+  accepted_gone : (is_fresh now.acknowledgement header && has_room) ≡ true
+  accepted_gone =
+      (and_parts (is_fresh now.acknowledgement header && has_room) (is_empty last || not now.leaving.acknowledged) accepted_now).0
+
+  accepted : (fresh && has_room) ≡ true
+  accepted = ap (λ (a : Acknowledgement). is_fresh a header && has_room) (sym (gone slot header.md acks p).acknowledgement) ∙ accepted_gone
+
+  way : IsOnWay l.joint.down takes ctrl
+  way =
+      came l.joint.down c.acknowledgement p.acknowledgement ctrl read_is procedure takes (fresh && has_room)
+      (arrives c.acknowledgement p.acknowledgement acks fresh says s.agreement meets.out has_room (λ is. or_right room (not (is_data last)) (ap not is))
+      l.joint.down
+      s.down)
+      accepted
+
+  takes_now : may (PeripheralTakes slot no_response) s2 ≡ true
+  takes_now =
+      one_step (PeripheralTakes slot no_response) s2
+      (subst (λ (b : Bool). may_all (step_if b (PeripheralTakes slot no_response)) s2 ≡ true) way.takes_it parts.1)
+
+  s2_runs : is_running s2 ≡ true
+  s2_runs = (and_parts (is_running s2) (may_act (PeripheralTakes slot no_response) s2) takes_now).0
+
+  s2_down : s2.down ≡ OnAir (control_item way.outgoing ctrl) way.sealed
+  s2_down = ap (λ (j : Joint). j.down) s2_is ∙ way.on_air
+
+  s2_control : s2.peripheral.control ≡ now.control
+  s2_control = ap (λ (j : Joint). j.peripheral.control) s2_is
+
+  run2 : HasRun central peripheral s2
+  run2 = run_on central peripheral first l.joint (range_before l.joint fixing slot) (has_run central peripheral ends l reached)
+
+  state : IsState s2
+  state =
+      subst IsState run2.reaches
+      (state_of central.link.max_rx peripheral.link.max_rx (first_params central.link.fields) (first_anchor central) run2.steps run2.run
+      (ap (λ (j : Joint). is_running j) run2.reaches ∙ s2_runs))
+
+  fits : fits_down way.outgoing ≡ true
+  fits = ap (λ (w : Way). fits_if fits_down (item_on_air w)) (sym s2_down) ∙ state.now.down
+
+  was_sent : IsSentOn (OnAir (control_item way.outgoing ctrl) way.sealed)
+  was_sent =
+      subst IsSentOn s2_down
+      (subst (λ (j : Joint). IsSentOn j.down) run2.reaches
+      (tied run2.steps (first_joint central peripheral)
+      (first_tied central.link.max_rx peripheral.link.max_rx (first_params central.link.fields) (first_anchor central))).sent_down)
+
+  out : IsRejection way.outgoing (opcode_of_kind q)
+  out = is_rejection (opcode_of_kind q) code.0 was_sent.event was_sent.latency way.outgoing was_sent.is fits
+
+  abbrev rejection : TheRejection
+  rejection = out.rejection
+
+  may_take : PeripheralMayTake s2 (Rejection rejection) ctrl
+  may_take =
+      record {
+        slot = slot;
+        response = no_response;
+        sealed = way.sealed;
+        comes = takes_now;
+        on_air = s2_down ∙ ap (λ (o : Outgoing). OnAir (control_item o ctrl) way.sealed) out.is;
+      }
+
+  before : Before s2
+  before = before_of s2 state s2_runs
+
+  -- ---- so its procedure is in progress, and is refused
+
+  refuses : Refuses now.control.table q code slot
+  refuses =
+      found rejection (λ (kind : Exclusive). Refuses now.control.table kind code slot)
+      (λ part. request_refused code slot now.control.table
+      (subst (λ (k : Control). is_requesting (peripheral_of k.table).own ≡ true) s2_control
+      (request_reads s2 before ctrl rejection (reason_part rejection.code) may_take part)))
+      (λ part. phy_refused code slot now.control.table
+      (subst (λ (k : Control). is_phy_sent (peripheral_of k.table).own ≡ true) s2_control
+      (phy_reads s2 before ctrl rejection (reason_part rejection.code) may_take part)))
+      q out.opcode_is (ap (λ (o : Outgoing). fits_down o) (sym out.is) ∙ fits)
+
+  lasts : now.control.ends ≡ None
+  lasts = ap (λ (k : Control). k.ends) (sym s2_control) ∙ (goes_on s2 s2_runs).peripheral
+
+  -- ---- what it notes, and what it holds then
+
+  abbrev handle : ℕ
+  handle = peripheral.link.handle
+
+  abbrev done : Option Kind
+  done = acked_kind (acks_control (has_acknowledged p header) p) p
+
+  abbrev number : ℕ
+  number = numbered now.acknowledgement.accepted + 1
+
+  taken_are : (is_taken_now empty procedure_one : Bool) (read : CtrlRead) → is_taken_now ≡ true → not empty ≡ true → procedure_one ≡ true
+      → read ≡ rejection_read q code
+      → took_notes_if (is_taken_now && not empty) handle last now
+      ++ given_notes handle (if is_taken_now && procedure_one then taken_of read slot true (held_of now.control) else nothing_taken)
+      ≡ Took handle number last.llid (record { items = last.body }) ∷ Refused handle (kind_of q) code ∷ []
+  taken_are is_taken_now empty procedure_one read takes_it some is_one same_read =
+      (λ i. took_notes_if (takes_it i && some i) handle last now
+      ++ given_notes handle (if takes_it i && is_one i then taken_of (same_read i) slot true (held_of now.control) else nothing_taken))
+      ∙ ap (λ (taken : Taken). Took handle number last.llid (record { items = last.body }) ∷ given_notes handle taken)
+      (given q code slot now.control lasts refuses)
+
+  notes_now : notes_after peripheral p (PacketReceived slot octets room)
+      ≡ done_notes handle done ++ Took handle number last.llid (record { items = last.body }) ∷ Refused handle (kind_of q) code ∷ []
+  notes_now =
+      notes_are
+      ∙ (λ i. done_notes handle done
+      ++ taken_notes handle (accepts room header last (facts_before_taking (ends.is_peripheral i) slot header p)) last slot
+      (facts_before_taking (ends.is_peripheral i) slot header p))
+      ∙ ap (λ (notes : List Note). done_notes handle done ++ notes)
+      (taken_are (accepts room header last now) (is_empty last) (is_procedure_pdu last) (read_of last) accepted_now accepted_parts.1 procedure read_is)
+
+  table_now : (received peripheral slot octets room p).control.table ≡ refuses.table
+  table_now =
+      ap (λ (f : Facts). f.control.table) facts_are
+      ∙ ap (λ (role : Role). (facts_hearing role slot room header last p).control.table) ends.is_peripheral
+      ∙ (λ i. (procedures_take_if (accepted_now i && procedure i) last slot (accepted_if (accepts room header last now) last now)).control.table)
+      ∙ ap (λ (read : CtrlRead). (after (Takes read slot true) now.control).table) read_is
+      ∙ ap (λ (k : Control). k.table) (control_after q code slot now.control lasts refuses)
+
+  pub is_refused : IsRefused peripheral (seen peripheral slot octets p) (received peripheral slot octets room p) taking.later q code
+  is_refused =
+      record {
+        runs = ap (λ (f : Facts). peripheral_kind (peripheral_of f.control.table).own) seen_is ∙ refuses.runs;
+        refused =
+            refused_after handle (kind_of q) code number last.llid last.body taking.later handle taking.number 3 taking.body done taking.earlier
+            (sym notes_now ∙ taking.notes);
+        over = ap (λ (f : TableFacts). (peripheral_of f).own) table_now ∙ refuses.over;
+      }

@@ -1,0 +1,11 @@
+-- The proof of the law `the_central_prevails_as_it_hears`.
+use Rattle.run_collisions.proofs.Acknowledging.{own_seen}
+use Rattle.run_collisions.proofs.CentralTakes.{prevails_here}
+use Rattle.run_collisions.proofs.links.the_central_prevails_as_it_hears.Goals as goal
+
+pub returns-clause-prevails : goal.returns-clause-prevails
+returns-clause-prevails g = prevails_here g.packet_tells_its_pdu.ensures.heard
+
+pub returns-clause-stage : goal.returns-clause-stage
+returns-clause-stage g =
+    λ central slot c octets room number llid body later is_central. own_seen central is_central slot room c central.link.handle number llid body later octets
