@@ -18,12 +18,12 @@ use Rattle.journal_packets.proofs.link_model.Hearing.{IsHeardWhole}
 use Rattle.journal_packets.specs.link_model.Acknowledgement.{Acknowledgement}
 use Rattle.journal_packets.specs.link_model.Step.{PacketSent, PacketReceived}
 use Rattle.journal_packets.specs.open_links.OpenLinks.{OpenLink, facts_in, link_after, link_at}
-use Rattle.controller_model.specs.declared.doing.Turn.{Turn}
-use Rattle.controller_model.specs.Facts.{Facts, Sends, Listens}
-use Rattle.controller_model.proofs.Always.{IsAdvertisingChannel}
-use Rattle.controller_model.proofs.DataChannels.{link_channel}
-use Rattle.controller_model.proofs.Sent.{sends_well}
-use Rattle.controller_model.specs.Packets.{verdict_of}
+use Rattle.journal_packets.specs.controller_model.declared.doing.Turn.{Turn}
+use Rattle.journal_packets.specs.controller_model.Facts.{Facts, Sends, Listens}
+use Rattle.journal_packets.proofs.controller_model.Always.{IsAdvertisingChannel}
+use Rattle.journal_packets.proofs.controller_model.DataChannels.{link_channel}
+use Rattle.journal_packets.proofs.controller_model.Sent.{sends_well}
+use Rattle.journal_packets.specs.controller_model.Packets.{verdict_of}
 use Rattle.radio_replay.specs.declared.fates.Fate.{Fate}
 use Rattle.radio_replay.specs.Damage.{damaged_packet}
 use Rattle.run_model.specs.Feeding.{AreDistinct}

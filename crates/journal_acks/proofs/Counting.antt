@@ -14,10 +14,10 @@ use Rattle.journal_packets.specs.link_model.Verdicts.{pdu_of}
 use Rattle.journal_packets.specs.link_model.Step.{PacketReceived}
 use Rattle.journal_packets.proofs.link_model.Hearing.{IsHeardWhole}
 use Rattle.journal_packets.specs.open_links.OpenLinks.{OpenLink, facts_in, link_after, link_at}
-use Rattle.controller_model.specs.declared.doing.Turn.{Turn}
-use Rattle.controller_model.specs.Since.{notes_opened_on}
-use Rattle.controller_model.specs.Step.{Step}
-use Rattle.controller_model.specs.Facts.{Facts, Sends}
+use Rattle.journal_packets.specs.controller_model.declared.doing.Turn.{Turn}
+use Rattle.journal_packets.specs.controller_model.Since.{notes_opened_on}
+use Rattle.journal_packets.specs.controller_model.Step.{Step}
+use Rattle.journal_packets.specs.controller_model.Facts.{Facts, Sends}
 use Rattle.run_model.specs.History.{Event, Noted, packet_received, steps_in}
 use Rattle.run_model.specs.Journal.{journal_of, side_of}
 use Rattle.run_model.specs.Links.{is_advertising, links_of}
@@ -43,7 +43,7 @@ use Rattle.link_calls.specs.Uses.{listens_under, sends_under}
 use Rattle.journal_acks.proofs.TwoStations.{IsOfTwo, other_apart}
 use Rattle.std.proofs.Math.Bool.{and-false}
 use Rattle.std.proofs.lemmas.Bool.{eqb-true, eqb-false, false_from_ne_true}
-use Rattle.controller_model.specs.Side.{facts_of}
+use Rattle.journal_packets.specs.controller_model.Side.{facts_of}
 
 -- ---- what is known of the links of a journal
 

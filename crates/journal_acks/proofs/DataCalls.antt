@@ -11,20 +11,21 @@ use Rattle.journal_packets.specs.link_model.Packets.{good_pdu}
 use Rattle.journal_packets.specs.link_model.Step.{PacketSent}
 use Rattle.journal_packets.specs.open_links.OpenLinks.{Links, OpenLink, facts_in, link_after, link_at, with_change}
 use Rattle.journal_packets.proofs.open_links.Handles.{handle_is}
-use Rattle.controller_model.specs.declared.doing.Doing.{Doing}
-use Rattle.controller_model.specs.declared.doing.Doing.TheVariants.{Advertises, CentralSends, CentralListens, PeripheralListens, PeripheralSends}
-use Rattle.controller_model.specs.Step.{TurnBegins}
-use Rattle.controller_model.specs.Facts.{Setup, Facts}
-use Rattle.controller_model.specs.Heard.{events_received, has_room, link_heard, link_received, notes_taken, replies_in, reply_if}
-use Rattle.controller_model.specs.Events.{notes_of_events}
-use Rattle.controller_model.specs.Outcome.{facts_passed, notes_passed}
-use Rattle.controller_model.specs.Packets.{links_sending, notes_doing, notes_sent}
-use Rattle.controller_model.specs.Radio.{outcome_begun}
-use Rattle.controller_model.specs.Side.{facts_after, notes_after}
-use Rattle.controller_model.proofs.Always.{begun_doing}
-use Rattle.controller_model.proofs.EndNotes.{received_each, sent_each}
-use Rattle.controller_model.proofs.Handles.{HaveOwnHandles, handles_kept}
-use Rattle.controller_model.proofs.Places.{link_receiving, receiving_is}
+use Rattle.journal_packets.specs.controller_model.declared.doing.Doing.{Doing}
+use Rattle.journal_packets.specs.controller_model.declared.doing.Doing.TheVariants.{Advertises, CentralSends, CentralListens, PeripheralListens}
+use Rattle.journal_packets.specs.controller_model.declared.doing.Doing.TheVariants.{PeripheralSends}
+use Rattle.journal_packets.specs.controller_model.Step.{TurnBegins}
+use Rattle.journal_packets.specs.controller_model.Facts.{Setup, Facts}
+use Rattle.journal_packets.specs.controller_model.Heard.{events_received, has_room, link_heard, link_received, notes_taken, replies_in, reply_if}
+use Rattle.journal_packets.specs.controller_model.Events.{notes_of_events}
+use Rattle.journal_packets.specs.controller_model.Outcome.{facts_passed, notes_passed}
+use Rattle.journal_packets.specs.controller_model.Packets.{links_sending, notes_doing, notes_sent}
+use Rattle.journal_packets.specs.controller_model.Radio.{outcome_begun}
+use Rattle.journal_packets.specs.controller_model.Side.{facts_after, notes_after}
+use Rattle.journal_packets.proofs.controller_model.Always.{begun_doing}
+use Rattle.journal_packets.proofs.controller_model.EndNotes.{received_each, sent_each}
+use Rattle.journal_packets.proofs.controller_model.Handles.{HaveOwnHandles, handles_kept}
+use Rattle.journal_packets.proofs.controller_model.Places.{link_receiving, receiving_is}
 use Rattle.run_model.specs.History.{Event, turns_begun}
 use Rattle.run_model.specs.Journal.{journal_of}
 use Rattle.run_model.specs.Run.{Given, facts_at, setup_at, step_of}

@@ -1,8 +1,8 @@
 -- A fact of each call of a run, by what is kept at each place of it.
 use Rattle.std.proofs.Common.{◌≡◌, ℕ, List, [], ◌∷◌, ◌++◌}
 use Rattle.std.specs.Prelude.{⊤, map, take}
-use Rattle.controller_model.specs.Step.{Step, HostOctet, TurnBegins, TurnEnds}
-use Rattle.controller_model.specs.Side.{notes_after}
+use Rattle.journal_packets.specs.controller_model.Step.{Step, HostOctet, TurnBegins, TurnEnds}
+use Rattle.journal_packets.specs.controller_model.Side.{notes_after}
 use Rattle.run_model.specs.Due.{Each}
 use Rattle.run_model.specs.History.{Event, TurnBegan, HostFed, Called, Noted, Transmitted, packet_received}
 use Rattle.run_model.specs.Run.{Given, Plan, after_call, after_feed, after_octets, facts_at, hearings_of, history_of, octets_left, run_of, setup_at, step_of}

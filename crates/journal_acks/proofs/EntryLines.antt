@@ -9,7 +9,7 @@ use Rattle.journal.specs.declared.entries.Entry.TheVariants.{Air, Enter}
 use Rattle.journal_packets.specs.link_model.Setup.{Setup}
 use Rattle.journal_packets.specs.link_model.Step.{Step}
 use Rattle.journal_packets.specs.open_links.OpenLinks.{OpenLink, facts_in}
-use Rattle.controller_model.specs.Since.{notes_opened_on}
+use Rattle.journal_packets.specs.controller_model.Since.{notes_opened_on}
 use Rattle.run_model.specs.History.{Event}
 use Rattle.run_model.specs.Journal.{journal_of, side_of}
 use Rattle.journal_packets.specs.journal_links.LinkLines.{AreLinesOf}

@@ -32,7 +32,7 @@ use Rattle.journal_packets.specs.link_model.Packets.{good_pdu}
 use Rattle.journal_packets.specs.link_model.Receiving.{facts_received}
 use Rattle.journal_packets.specs.link_model.Step.{Step, EventEntered, PacketSent, PacketReceived, PduFixed, ProcedureAsked}
 use Rattle.journal_packets.proofs.open_links.Anchors.{enters, one_more_entered, stays_in_place}
-use Rattle.controller_model.proofs.EndNotes.{received_each, sent_each}
+use Rattle.journal_packets.proofs.controller_model.EndNotes.{received_each, sent_each}
 use Rattle.link_calls.proofs.HeardSteps.{fixed_same, received_same, sent_in}
 use Rattle.run_model.specs.Journal.{side_of}
 use Rattle.run_model.specs.Readers.{of_side}

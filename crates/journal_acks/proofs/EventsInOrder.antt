@@ -11,14 +11,14 @@ use Rattle.ble_base.specs.declared.roles.Side.{Side}
 use Rattle.journal.specs.declared.entries.Entry.{Entry}
 use Rattle.journal.specs.declared.entries.Entry.TheVariants.{Enter}
 use Rattle.journal_packets.specs.open_links.OpenLinks.{OpenLink, link_at}
-use Rattle.controller_model.specs.Facts.{Setup}
-use Rattle.controller_model.specs.Links.{note_shut}
-use Rattle.controller_model.specs.Side.{facts_of, notes_after, notes_of}
-use Rattle.controller_model.specs.Since.{is_under, note_under, notes_opened_on, notes_under, opens_under, was_opened}
-use Rattle.controller_model.specs.Step.{Step}
-use Rattle.controller_model.proofs.Entries.{enters_as_turns_begin, enters_at_anchors}
-use Rattle.controller_model.proofs.Pasts.{notes_more}
-use Rattle.controller_model.proofs.UnderNotes.{open_noted, shut_noted}
+use Rattle.journal_packets.specs.controller_model.Facts.{Setup}
+use Rattle.journal_packets.specs.controller_model.Links.{note_shut}
+use Rattle.journal_packets.specs.controller_model.Side.{facts_of, notes_after, notes_of}
+use Rattle.journal_packets.specs.controller_model.Since.{is_under, note_under, notes_opened_on, notes_under, opens_under, was_opened}
+use Rattle.journal_packets.specs.controller_model.Step.{Step}
+use Rattle.journal_packets.proofs.controller_model.Entries.{enters_as_turns_begin, enters_at_anchors}
+use Rattle.journal_packets.proofs.controller_model.Pasts.{notes_more}
+use Rattle.journal_packets.proofs.controller_model.UnderNotes.{open_noted, shut_noted}
 use Rattle.run_model.specs.Feeding.{AreDistinct}
 use Rattle.run_model.specs.History.{Called, Noted, noted_by, past_of}
 use Rattle.run_model.specs.Journal.{journal_of}

@@ -8,8 +8,8 @@ use Rattle.ble_base.specs.declared.roles.Side.TheVariants.{A, B}
 use Rattle.ble_base.specs.declared.notes.Note.{Note}
 use Rattle.ble_base.specs.declared.notes.Note.TheVariants.{Up, Opened, Took}
 use Rattle.journal.specs.declared.entries.Entry.{Entry}
-use Rattle.controller_model.specs.Step.{Step}
-use Rattle.controller_model.specs.Side.{notes_after}
+use Rattle.journal_packets.specs.controller_model.Step.{Step}
+use Rattle.journal_packets.specs.controller_model.Side.{notes_after}
 use Rattle.run_model.specs.History.{Event, TurnBegan, HostFed, Called, Noted, Transmitted, Hearing}
 use Rattle.run_model.specs.Journal.{entries_of, entry_of, journal_of, side_of}
 use Rattle.run_model.specs.Links.{Links, begins_link, links_after, links_noted, links_of, with_link}

@@ -4,11 +4,11 @@ use Rattle.std.specs.Prelude.{⊤, map, take}
 use Rattle.std.proofs.lemmas.Bool.{eqb-true}
 use Rattle.journal.specs.declared.entries.Entry.{Entry}
 use Rattle.journal.specs.declared.entries.Entry.TheVariants.{Fed}
-use Rattle.controller_model.specs.Facts.{Facts}
-use Rattle.controller_model.specs.Step.{Step, HostOctet, TurnBegins, PacketHeard, NothingHeard, TurnEnds}
-use Rattle.controller_model.specs.Side.{facts_of, notes_after}
-use Rattle.controller_model.proofs.Always.{IsInTurn}
-use Rattle.controller_model.proofs.Feds.{more_octets, turn_octets}
+use Rattle.journal_packets.specs.controller_model.Facts.{Facts}
+use Rattle.journal_packets.specs.controller_model.Step.{Step, HostOctet, TurnBegins, PacketHeard, NothingHeard, TurnEnds}
+use Rattle.journal_packets.specs.controller_model.Side.{facts_of, notes_after}
+use Rattle.journal_packets.proofs.controller_model.Always.{IsInTurn}
+use Rattle.journal_packets.proofs.controller_model.Feds.{more_octets, turn_octets}
 use Rattle.run_model.specs.Due.{Each}
 use Rattle.run_model.specs.History.{Event, TurnBegan, HostFed, Called, Noted, Transmitted, fed_to, octets_in, packet_received, steps_in}
 use Rattle.run_model.specs.Journal.{journal_of, side_of}

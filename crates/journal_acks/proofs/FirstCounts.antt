@@ -8,8 +8,8 @@ use Rattle.ble_base.specs.declared.notes.Note.{Note}
 use Rattle.ble_base.specs.declared.notes.Note.TheVariants.{Up, Sent, Took}
 use Rattle.journal.specs.declared.entries.Entry.{Entry}
 use Rattle.journal_packets.specs.link_model.Setup.{Setup as EndSetup}
-use Rattle.controller_model.specs.Step.{Step}
-use Rattle.controller_model.specs.Side.{notes_after}
+use Rattle.journal_packets.specs.controller_model.Step.{Step}
+use Rattle.journal_packets.specs.controller_model.Side.{notes_after}
 use Rattle.run_model.specs.History.{Event, Called, Noted, turns_begun}
 use Rattle.run_model.specs.Journal.{entries_of, journal_from, journal_of, side_of}
 use Rattle.run_model.specs.Links.{links_of}

@@ -9,8 +9,8 @@ use Rattle.ble_base.specs.declared.notes.Note.TheVariants.{Up}
 use Rattle.journal.specs.declared.entries.Entry.{Entry}
 use Rattle.journal.specs.declared.entries.Entry.TheVariants.{Air}
 use Rattle.journal_packets.specs.link_model.Setup.{Setup as EndSetup}
-use Rattle.controller_model.specs.Step.{Step}
-use Rattle.controller_model.specs.Side.{notes_after}
+use Rattle.journal_packets.specs.controller_model.Step.{Step}
+use Rattle.journal_packets.specs.controller_model.Side.{notes_after}
 use Rattle.run_model.specs.History.{Event, TurnBegan, HostFed, Called, Noted, Transmitted, Hearing, is_good, turns_begun}
 use Rattle.run_model.specs.Journal.{air_entries, entries_of, entry_of, journal_from, journal_of, mark_of, side_of}
 use Rattle.run_model.specs.Links.{is_advertising, links_of}

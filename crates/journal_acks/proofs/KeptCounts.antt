@@ -11,16 +11,16 @@ use Rattle.journal_packets.proofs.link_model.Hearing.{IsHeardWhole}
 use Rattle.journal_packets.specs.link_model.Step.{PacketReceived, PacketSent}
 use Rattle.journal_packets.specs.open_links.OpenLinks.{OpenLink, link_after, link_at}
 use Rattle.journal_packets.proofs.open_links.Handles.{handle_is}
-use Rattle.controller_model.specs.declared.doing.Doing.TheVariants.{Rests}
-use Rattle.controller_model.specs.declared.doing.Turn.{Turn}
-use Rattle.controller_model.specs.Step.{Step, HostOctet, TurnBegins, TurnEnds}
-use Rattle.controller_model.specs.Facts.{Setup, Facts, Sends}
-use Rattle.controller_model.specs.Events.{notes_of_events}
-use Rattle.controller_model.specs.Heard.{events_received, has_room, link_heard, link_received, notes_taken, replies_in, reply_if}
-use Rattle.controller_model.specs.Outcome.{facts_passed, notes_passed}
-use Rattle.controller_model.specs.Packets.{notes_doing}
-use Rattle.controller_model.proofs.Places.{link_receiving}
-use Rattle.controller_model.specs.Side.{facts_after, notes_after}
+use Rattle.journal_packets.specs.controller_model.declared.doing.Doing.TheVariants.{Rests}
+use Rattle.journal_packets.specs.controller_model.declared.doing.Turn.{Turn}
+use Rattle.journal_packets.specs.controller_model.Step.{Step, HostOctet, TurnBegins, TurnEnds}
+use Rattle.journal_packets.specs.controller_model.Facts.{Setup, Facts, Sends}
+use Rattle.journal_packets.specs.controller_model.Events.{notes_of_events}
+use Rattle.journal_packets.specs.controller_model.Heard.{events_received, has_room, link_heard, link_received, notes_taken, replies_in, reply_if}
+use Rattle.journal_packets.specs.controller_model.Outcome.{facts_passed, notes_passed}
+use Rattle.journal_packets.specs.controller_model.Packets.{notes_doing}
+use Rattle.journal_packets.proofs.controller_model.Places.{link_receiving}
+use Rattle.journal_packets.specs.controller_model.Side.{facts_after, notes_after}
 use Rattle.radio_replay.specs.declared.fates.Fate.{Fate}
 use Rattle.run_model.specs.Due.{packet_in}
 use Rattle.run_model.specs.Feeding.{AreDistinct}

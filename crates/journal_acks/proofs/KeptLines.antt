@@ -15,16 +15,16 @@ use Rattle.journal_packets.proofs.link_model.Hearing.{IsHeardWhole}
 use Rattle.journal_packets.specs.link_model.Step.{PacketSent}
 use Rattle.journal_packets.specs.open_links.OpenLinks.{OpenLink, facts_in, link_at}
 use Rattle.journal_packets.proofs.open_links.Handles.{handle_is}
-use Rattle.controller_model.specs.declared.doing.Doing.{Doing}
-use Rattle.controller_model.specs.declared.doing.Doing.TheVariants.{Rests}
-use Rattle.controller_model.specs.Step.{Step, HostOctet, TurnBegins, TurnEnds}
-use Rattle.controller_model.specs.Facts.{Setup, Facts}
-use Rattle.controller_model.specs.Heard.{has_room, link_heard, link_received, replies_in, reply_if}
-use Rattle.controller_model.specs.Outcome.{Outcome, notes_passed}
-use Rattle.controller_model.specs.Packets.{notes_doing}
-use Rattle.controller_model.specs.Radio.{outcome_begun}
-use Rattle.controller_model.specs.Side.{facts_after, notes_after}
-use Rattle.controller_model.proofs.Places.{link_receiving}
+use Rattle.journal_packets.specs.controller_model.declared.doing.Doing.{Doing}
+use Rattle.journal_packets.specs.controller_model.declared.doing.Doing.TheVariants.{Rests}
+use Rattle.journal_packets.specs.controller_model.Step.{Step, HostOctet, TurnBegins, TurnEnds}
+use Rattle.journal_packets.specs.controller_model.Facts.{Setup, Facts}
+use Rattle.journal_packets.specs.controller_model.Heard.{has_room, link_heard, link_received, replies_in, reply_if}
+use Rattle.journal_packets.specs.controller_model.Outcome.{Outcome, notes_passed}
+use Rattle.journal_packets.specs.controller_model.Packets.{notes_doing}
+use Rattle.journal_packets.specs.controller_model.Radio.{outcome_begun}
+use Rattle.journal_packets.specs.controller_model.Side.{facts_after, notes_after}
+use Rattle.journal_packets.proofs.controller_model.Places.{link_receiving}
 use Rattle.run_model.specs.Feeding.{AreDistinct}
 use Rattle.run_model.specs.History.{Event, TurnBegan, HostFed, Transmitted, packet_received, steps_in, turns_begun}
 use Rattle.run_model.specs.Journal.{side_of}

@@ -14,8 +14,8 @@ use Rattle.journal_packets.specs.link_model.Acknowledgement.{Acknowledgement, Pd
 use Rattle.journal_packets.specs.link_model.Packets.{more_sent, packet_sent, pdu_sent}
 use Rattle.journal_packets.specs.link_model.Step.{PacketSent}
 use Rattle.journal_packets.specs.open_links.OpenLinks.{OpenLink, facts_in, has_entered, link_after}
-use Rattle.controller_model.specs.Facts.{Sends}
-use Rattle.controller_model.specs.Side.{facts_of}
+use Rattle.journal_packets.specs.controller_model.Facts.{Sends}
+use Rattle.journal_packets.specs.controller_model.Side.{facts_of}
 use Rattle.run_model.specs.Entries.{IsAired}
 use Rattle.run_model.specs.Feeding.{AreDistinct}
 use Rattle.run_model.specs.History.{Event, past_of}
@@ -39,7 +39,7 @@ use Rattle.journal_acks.proofs.AirCounts.{link_sent, own_number, sender_counted,
 use Rattle.journal_acks.proofs.Counting.{AreKnown}
 use Rattle.link_calls.proofs.Exchanging.{sender_entered}
 use Rattle.link_calls.proofs.HeardSteps.{sent_in}
-use Rattle.controller_model.proofs.Exchanges.{always_in_event}
+use Rattle.journal_packets.proofs.controller_model.Exchanges.{always_in_event}
 use Rattle.journal_packets.specs.link_model.declared.events.ConnectionEvent.{ConnectionEvent}
 use Rattle.journal_packets.specs.link_model.Facts.{Facts as EndFacts}
 use Rattle.journal_acks.proofs.EntryNotes.{channel_if, channel_last}

@@ -17,14 +17,14 @@ use Rattle.journal_packets.specs.link_model.Step.{PacketSent}
 use Rattle.journal_packets.proofs.link_model.Hearing.{IsHeardWhole}
 use Rattle.journal_packets.specs.open_links.OpenLinks.{OpenLink, facts_in, link_after, link_at}
 use Rattle.journal_packets.proofs.open_links.Handles.{handle_is}
-use Rattle.controller_model.specs.Step.{Step, HostOctet, TurnBegins, TurnEnds}
-use Rattle.controller_model.specs.Facts.{Facts}
-use Rattle.controller_model.specs.Heard.{has_room, link_heard, link_received, replies_in, reply_if}
-use Rattle.controller_model.specs.Outcome.{notes_passed}
-use Rattle.controller_model.specs.Packets.{notes_doing, notes_sent}
-use Rattle.controller_model.specs.Radio.{outcome_begun}
-use Rattle.controller_model.specs.Side.{notes_after}
-use Rattle.controller_model.proofs.Places.{link_receiving}
+use Rattle.journal_packets.specs.controller_model.Step.{Step, HostOctet, TurnBegins, TurnEnds}
+use Rattle.journal_packets.specs.controller_model.Facts.{Facts}
+use Rattle.journal_packets.specs.controller_model.Heard.{has_room, link_heard, link_received, replies_in, reply_if}
+use Rattle.journal_packets.specs.controller_model.Outcome.{notes_passed}
+use Rattle.journal_packets.specs.controller_model.Packets.{notes_doing, notes_sent}
+use Rattle.journal_packets.specs.controller_model.Radio.{outcome_begun}
+use Rattle.journal_packets.specs.controller_model.Side.{notes_after}
+use Rattle.journal_packets.proofs.controller_model.Places.{link_receiving}
 use Rattle.run_model.specs.Feeding.{AreDistinct}
 use Rattle.run_model.specs.History.{Event, Called, Noted, packet_received, turns_begun}
 use Rattle.run_model.specs.Journal.{journal_of, side_of}

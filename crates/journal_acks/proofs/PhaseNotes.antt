@@ -34,15 +34,18 @@ use Rattle.journal_packets.specs.link_model.declared.setup.LinkSetup.{LinkSetup}
 use Rattle.scan_init.specs.Initiating.{InitiatorFacts}
 use Rattle.scan_init.specs.Reports.{ScannerFacts, does_ask, scan_answer}
 use Rattle.journal_packets.specs.open_links.OpenLinks.{OpenLink, facts_in, free_from, link_after, link_at}
-use Rattle.controller_model.specs.declared.doing.Doing.{Doing}
-use Rattle.controller_model.specs.declared.doing.Doing.TheVariants.{Advertises, AwaitsRequest, Scans, Requests, AwaitsResponse, Initiates, Connects, CentralSends, CentralListens, PeripheralListens, PeripheralSends}
-use Rattle.controller_model.specs.Facts.{Setup, Facts}
-use Rattle.controller_model.specs.Heard.{advertiser_answers, advertiser_heard, asks_if, connects, events_reported, heard, if_pdu, initiator_heard, link_heard, link_taken, link_to, notes_taken, opens, scanner_after, scanner_heard, taken_if, taken_under, unheard, with_scanner}
-use Rattle.controller_model.specs.Events.{notes_of_events}
-use Rattle.controller_model.specs.Links.{events_opened, note_opened}
-use Rattle.controller_model.specs.Outcome.{Outcome, notes_passed}
-use Rattle.controller_model.specs.Packets.{notes_doing, notes_sent, pdu_heard}
-use Rattle.controller_model.specs.Side.{notes_after}
+use Rattle.journal_packets.specs.controller_model.declared.doing.Doing.{Doing}
+use Rattle.journal_packets.specs.controller_model.declared.doing.Doing.TheVariants.{Advertises, AwaitsRequest, Scans, Requests, AwaitsResponse, Initiates}
+use Rattle.journal_packets.specs.controller_model.declared.doing.Doing.TheVariants.{Connects, CentralSends, CentralListens, PeripheralListens, PeripheralSends}
+use Rattle.journal_packets.specs.controller_model.Facts.{Setup, Facts}
+use Rattle.journal_packets.specs.controller_model.Heard.{advertiser_answers, advertiser_heard, asks_if, connects, events_reported, heard, if_pdu}
+use Rattle.journal_packets.specs.controller_model.Heard.{initiator_heard, link_heard, link_taken, link_to, notes_taken, opens, scanner_after, scanner_heard}
+use Rattle.journal_packets.specs.controller_model.Heard.{taken_if, taken_under, unheard, with_scanner}
+use Rattle.journal_packets.specs.controller_model.Events.{notes_of_events}
+use Rattle.journal_packets.specs.controller_model.Links.{events_opened, note_opened}
+use Rattle.journal_packets.specs.controller_model.Outcome.{Outcome, notes_passed}
+use Rattle.journal_packets.specs.controller_model.Packets.{notes_doing, notes_sent, pdu_heard}
+use Rattle.journal_packets.specs.controller_model.Side.{notes_after}
 use Rattle.run_model.specs.Run.{step_of}
 use Rattle.journal_packets.proofs.run_laws.Agreed.{ack_of, step_facts}
 use Rattle.journal_acks.proofs.Acks.{empty_is_no_data}

@@ -8,10 +8,10 @@ use Rattle.ble_base.specs.declared.roles.Side.{Side}
 use Rattle.hci_cmd.specs.declared.command.Command.TheVariants.{Reset}
 use Rattle.journal.specs.declared.entries.Entry.{Entry}
 use Rattle.journal.specs.declared.entries.Entry.TheVariants.{Fed}
-use Rattle.controller_model.specs.Host.{commands_accepted_after}
-use Rattle.controller_model.specs.Side.{result_of}
-use Rattle.controller_model.specs.Step.{Step, HostOctet, TurnBegins, PacketHeard, NothingHeard, TurnEnds}
-use Rattle.controller_model.proofs.Resets.{resets}
+use Rattle.journal_packets.specs.controller_model.Host.{commands_accepted_after}
+use Rattle.journal_packets.specs.controller_model.Side.{result_of}
+use Rattle.journal_packets.specs.controller_model.Step.{Step, HostOctet, TurnBegins, PacketHeard, NothingHeard, TurnEnds}
+use Rattle.journal_packets.proofs.controller_model.Resets.{resets}
 use Rattle.run_model.specs.Due.{Each}
 use Rattle.run_model.specs.History.{Event, TurnBegan, HostFed, Called, Noted, Transmitted, fed_to, octets_in, past_of}
 use Rattle.run_model.specs.Journal.{entries_of, journal_from, journal_of, side_of}

@@ -2,7 +2,7 @@
 use Rattle.std.proofs.Common.{◌≡◌, ℕ, true, Some, None, Bool, List, [], ◌∷◌, ◌++◌, replicate, ap}
 use Rattle.journal_packets.proofs.link_model.Hearing.{IsHeardWhole}
 use Rattle.journal_packets.specs.open_links.OpenLinks.{OpenLink, link_at}
-use Rattle.controller_model.specs.Side.{facts_of}
+use Rattle.journal_packets.specs.controller_model.Side.{facts_of}
 use Rattle.run_model.specs.Feeding.{AreDistinct}
 use Rattle.run_model.specs.History.{Event, TurnBegan, packet_received}
 use Rattle.run_model.specs.Journal.{side_of}

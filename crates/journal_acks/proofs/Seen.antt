@@ -2,8 +2,8 @@
 -- and at the end.
 use Rattle.std.proofs.Common.{◌≡◌, ℕ, Bool, List, [], ◌∷◌, ◌++◌}
 use Rattle.std.specs.Prelude.{map, take}
-use Rattle.controller_model.specs.Step.{TurnBegins, TurnEnds}
-use Rattle.controller_model.specs.Facts.{Sends}
+use Rattle.journal_packets.specs.controller_model.Step.{TurnBegins, TurnEnds}
+use Rattle.journal_packets.specs.controller_model.Facts.{Sends}
 use Rattle.run_model.specs.Due.{Each}
 use Rattle.run_model.specs.History.{Event, TurnBegan, HostFed, Called, Noted, Transmitted, Hearing, packet_received}
 use Rattle.run_model.specs.Run.{Given, GoesOn, Stop, Stops, hearings_of, history_of, octets_left, run_of, step_of, use_at}

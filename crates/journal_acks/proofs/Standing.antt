@@ -5,13 +5,14 @@ use Rattle.ble_base.specs.declared.roles.Role.{Role}
 use Rattle.ble_base.specs.declared.roles.Role.TheVariants.{Central, Peripheral}
 use Rattle.journal_packets.specs.link_model.Packets.{packet_sent}
 use Rattle.journal_packets.specs.open_links.OpenLinks.{Links, OpenLink, facts_in, link_at}
-use Rattle.controller_model.specs.declared.doing.Doing.{Doing}
-use Rattle.controller_model.specs.declared.doing.Doing.TheVariants.{Advertises, CentralSends, CentralListens, PeripheralListens, PeripheralSends}
-use Rattle.controller_model.specs.Facts.{Setup, Facts, Sends, Listens}
-use Rattle.controller_model.specs.Heard.{reply_if}
-use Rattle.controller_model.specs.Packets.{listens_on}
-use Rattle.controller_model.specs.Sent.{SendsOn}
-use Rattle.controller_model.proofs.DataChannels.{link_channel}
+use Rattle.journal_packets.specs.controller_model.declared.doing.Doing.{Doing}
+use Rattle.journal_packets.specs.controller_model.declared.doing.Doing.TheVariants.{Advertises, CentralSends, CentralListens, PeripheralListens}
+use Rattle.journal_packets.specs.controller_model.declared.doing.Doing.TheVariants.{PeripheralSends}
+use Rattle.journal_packets.specs.controller_model.Facts.{Setup, Facts, Sends, Listens}
+use Rattle.journal_packets.specs.controller_model.Heard.{reply_if}
+use Rattle.journal_packets.specs.controller_model.Packets.{listens_on}
+use Rattle.journal_packets.specs.controller_model.Sent.{SendsOn}
+use Rattle.journal_packets.proofs.controller_model.DataChannels.{link_channel}
 use Rattle.run_model.specs.Due.{packet_in}
 use Rattle.run_model.specs.History.{Event, past_of, turns_begun}
 use Rattle.run_model.specs.Links.{is_advertising}

@@ -21,12 +21,13 @@ use Rattle.link_calls.specs.Ranges.{IsReadable}
 use Rattle.journal_packets.proofs.link_model.Hearing.{IsHeardWhole}
 use Rattle.journal_packets.proofs.link_model.Received.{header_read}
 use Rattle.journal_packets.specs.open_links.OpenLinks.{OpenLink, facts_in, link_at}
-use Rattle.controller_model.specs.declared.doing.Doing.{Doing}
-use Rattle.controller_model.specs.declared.doing.Doing.TheVariants.{Advertises, AwaitsRequest, Scans, AwaitsResponse, Initiates, CentralListens, PeripheralListens}
-use Rattle.controller_model.specs.Facts.{Facts, Use, Sends, Listens, Idle}
-use Rattle.controller_model.specs.Packets.{channel_listened, listens_on, verdict_doing, verdict_of, verdict_of_link}
-use Rattle.controller_model.proofs.Always.{IsAdvertisingChannel}
-use Rattle.controller_model.proofs.Sent.{DoingFits}
+use Rattle.journal_packets.specs.controller_model.declared.doing.Doing.{Doing}
+use Rattle.journal_packets.specs.controller_model.declared.doing.Doing.TheVariants.{Advertises, AwaitsRequest, Scans, AwaitsResponse, Initiates, CentralListens}
+use Rattle.journal_packets.specs.controller_model.declared.doing.Doing.TheVariants.{PeripheralListens}
+use Rattle.journal_packets.specs.controller_model.Facts.{Facts, Use, Sends, Listens, Idle}
+use Rattle.journal_packets.specs.controller_model.Packets.{channel_listened, listens_on, verdict_doing, verdict_of, verdict_of_link}
+use Rattle.journal_packets.proofs.controller_model.Always.{IsAdvertisingChannel}
+use Rattle.journal_packets.proofs.controller_model.Sent.{DoingFits}
 use Rattle.radio_replay.specs.declared.fates.Fate.{Fate}
 use Rattle.radio_replay.specs.Damage.{damaged_packet}
 use Rattle.run_model.specs.History.{Event, Transmitted, Hearing, fates_used, has_received, is_good}

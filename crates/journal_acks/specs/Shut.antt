@@ -7,7 +7,7 @@ use Rattle.ble_base.specs.Side.{other_side}
 use Rattle.ble_base.specs.declared.roles.Side.{Side}
 use Rattle.journal.specs.declared.entries.Entry.{Entry}
 use Rattle.journal.specs.declared.entries.Entry.TheVariants.{Air, Fed}
-use Rattle.controller_model.specs.Side.{result_of}
+use Rattle.journal_packets.specs.controller_model.Side.{result_of}
 use Rattle.run_model.specs.History.{is_good}
 use Rattle.run_model.specs.Links.{is_advertising}
 use Rattle.run_model.specs.Order.{AreNotes}

@@ -17,3 +17,9 @@ pub use crate::packets::{
 };
 pub use crate::rows::{worked_data, worked_exchange};
 pub use crate::stations::links_of_two_stations_keep_to_the_journal;
+
+// What the crates above call of those below.
+pub use journal_packets::{
+    a_pdu_is_understood, each_enter_line_is_at_its_anchor, each_link_has_the_next_address,
+    each_opened_line_names_its_link,
+};

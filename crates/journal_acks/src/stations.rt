@@ -59,7 +59,7 @@ pub fn links_of_two_stations_keep_to_the_journal()
         ≡ front ++ Enter side number event channel ∷ rest
         → event ≡ entered_on side number front }
 {
-    controller_model::a_pdu_is_understood();
+    journal_packets::a_pdu_is_understood();
     advertise::laws::connections_are_taken();
     scan_init::laws::searches_give_each_valid_address();
     air_frame::laws::packet_tells_its_pdu();

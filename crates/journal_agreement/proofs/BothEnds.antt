@@ -4,6 +4,7 @@ use Rattle.std.specs.List.{flat_map}
 use Rattle.std.proofs.Math.Nat.{min-le_right}
 use Rattle.std.proofs.lemmas.Grind.{flat_map-append}
 use Rattle.std.proofs.lemmas.List.{length-take, map-append, take-append-le}
+use Rattle.ble_base.specs.declared.roles.Role.{Role}
 use Rattle.ble_base.specs.declared.roles.Role.TheVariants.{Central}
 use Rattle.ble_base.specs.declared.roles.Side.{Side}
 use Rattle.instants.specs.Arrivals.{Taking}
@@ -13,29 +14,38 @@ use Rattle.journal.specs.declared.entries.Entry.{Entry}
 use Rattle.journal.specs.declared.entries.Entry.TheVariants.{Enter}
 use Rattle.link_changes.specs.Noted.{event_noted, indications_noted, takings_from, takings_noted}
 use Rattle.link_changes.proofs.Notes.{takings_more}
-use Rattle.journal_links.specs.Begun.{LinkBegun}
-use Rattle.journal_links.specs.Changes.{changes_of, note_said, notes_said}
-use Rattle.journal_links.specs.Entered.{AllAreEntered}
-use Rattle.journal_links.specs.LinkLines.{link_named, lines_of, where_named}
-use Rattle.journal_links.specs.link_model.Setup.{first_params}
-use Rattle.journal_links.proofs.EnterLines.{in_one_turn, one_link}
+use Rattle.journal_data.specs.journal_links.Begun.{LinkBegun}
+use Rattle.journal_data.specs.journal_links.Changes.{changes_of, note_said, notes_said}
+use Rattle.journal_data.specs.journal_links.Entered.{AllAreEntered}
+use Rattle.journal_data.specs.journal_links.LinkLines.{link_named, lines_of, where_named}
+use Rattle.journal_data.specs.link_model.Setup.{first_params}
+use Rattle.journal_data.proofs.journal_links.EnterLines.{in_one_turn, one_link}
 use Rattle.journal_agreement.specs.Indications.{AllAreEnteredAlike, AllFollowCentral, FollowsCentral, indications_sent}
 
 -- ---- the first indications that were sent stay the first
+
+pub said_more : (side : Side) (number : ℕ) (front rest : List Entry)
+    → notes_said side number (front ++ rest) ≡ notes_said side number front ++ notes_said side number rest
+said_more side number front rest =
+    ap (flat_map note_said) (flat_map-append (λ line. where_named side number (link_named line) line) front rest)
+    ∙ flat_map-append note_said (lines_of side number front) (lines_of side number rest)
+
+-- the indications of an end by more lines
+pub indications_more : (role : Role) (side : Side) (number : ℕ) (front rest : List Entry)
+    → indications_noted role (notes_said side number (front ++ rest))
+    ≡ indications_noted role (notes_said side number front)
+    ++ map (λ (taking : Taking). taking.change) (takings_from role (event_noted (notes_said side number front)) (notes_said side number rest))
+indications_more role side number front rest =
+    let notes = notes_said side number front in
+    let more = notes_said side number rest in
+    ap (indications_noted role) (said_more side number front rest) ∙ ap (map (λ (taking : Taking). taking.change)) (takings_more role notes more)
+    ∙ map-append (λ (taking : Taking). taking.change) (takings_noted role notes) (takings_from role (event_noted notes) more)
 
 pub sent_more : (number : ℕ) (link : LinkBegun) (front rest : List Entry)
     → indications_sent number link (front ++ rest)
     ≡ indications_sent number link front
     ++ map (λ (taking : Taking). taking.change) (takings_from Central (event_noted (notes_said link.central number front)) (notes_said link.central number rest))
-sent_more number link front rest =
-    let side = link.central in
-    let notes = notes_said side number front in
-    let more = notes_said side number rest in
-    let both : notes_said side number (front ++ rest) ≡ notes ++ more =
-    ap (flat_map note_said) (flat_map-append (λ line. where_named side number (link_named line) line) front rest)
-    ∙ flat_map-append note_said (lines_of side number front) (lines_of side number rest) in
-    ap (indications_noted Central) both ∙ ap (map (λ (taking : Taking). taking.change)) (takings_more Central notes more)
-    ∙ map-append (λ (taking : Taking). taking.change) (takings_noted Central notes) (takings_from Central (event_noted notes) more)
+sent_more number link front rest = indications_more Central link.central number front rest
 
 first_sent : (number : ℕ) (link : LinkBegun) (front rest : List Entry) (count : ℕ) → count ≤ length (indications_sent number link front)
     → take count (indications_sent number link (front ++ rest)) ≡ take count (indications_sent number link front)

@@ -1,6 +1,6 @@
--- Both ends of a link follow one list of indications: those that the central sent. So in events of one number in which the
--- same number of them is in force they have one anchor, one channel and equal parameters (Core 5.2, volume 6 part B,
--- sections 4.5.1, 4.5.8, 5.1.1, 5.1.2 and 5.5).
+-- Both ends of a link follow one list of indications: those that the central sent. So in events of one number in
+-- which the same number of them is in force they have one anchor, one channel and equal parameters (Core 5.2, volume 6
+-- part B, sections 4.5.1, 4.5.8, 5.1.1, 5.1.2 and 5.5).
 use Rattle.std.specs.Prelude.{◌≡◌, ℕ, List, ◌∷◌, ◌++◌, length, take, Some}
 use Rattle.ble_base.specs.declared.roles.Role.TheVariants.{Central}
 use Rattle.ble_base.specs.declared.roles.Side.{Side}
@@ -9,10 +9,10 @@ use Rattle.instants.specs.declared.track.Change.{Change}
 use Rattle.journal.specs.declared.entries.Entry.{Entry}
 use Rattle.journal.specs.declared.entries.Entry.TheVariants.{Enter}
 use Rattle.link_changes.specs.Noted.{indications_noted}
-use Rattle.journal_links.specs.Begun.{LinkBegun, link_numbered}
-use Rattle.journal_links.specs.Changes.{changes_of, notes_said}
-use Rattle.journal_links.specs.link_model.Setup.{first_params}
-use Rattle.journal_links.specs.run_model.Readers.{turns_of}
+use Rattle.journal_data.specs.journal_links.Begun.{LinkBegun, link_numbered}
+use Rattle.journal_data.specs.journal_links.Changes.{changes_of, notes_said}
+use Rattle.journal_data.specs.link_model.Setup.{first_params}
+use Rattle.journal_data.specs.run_model.Readers.{turns_of}
 
 -- ---- one end
 

@@ -1,3 +1,4 @@
 -- The definitions of this crate.
 pub mod Indications
+pub mod Taken
 pub mod Rows

@@ -1,8 +1,8 @@
 -- The control part after a call in which the host of an end asks of it.
 use Rattle.std.proofs.Common.{◌≡◌, ℕ, not, Option, Some, None, List, [], ◌∷◌, ◌++◌, refl, sym, ap, ◌∙◌, append-nil, append_assoc}
 use Rattle.ble_base.specs.declared.roles.Side.{Side}
-use Rattle.controller_model.specs.Step.{Step as Call}
-use Rattle.host_answers.specs.Calls.{call_lines}
+use Rattle.journal_ends.specs.controller_model.Step.{Step as Call}
+use Rattle.journal_ends.specs.host_answers.Calls.{call_lines}
 use Rattle.journal.specs.declared.entries.Entry.{Entry}
 use Rattle.journal_ends.specs.Seen.{Asks, Seen, asked_if, asked_in_step, seen_from, seen_in_line}
 use Rattle.journal_ends.specs.link_model.ControlSteps.{step_if}

@@ -6,7 +6,7 @@ use Rattle.air_frame.specs.declared.Heard.TheVariants.{NotOurs, Broken as Faulty
 use Rattle.ble_base.specs.declared.roles.Role.TheVariants.{Peripheral}
 use Rattle.ble_base.specs.declared.roles.Side.{Side}
 use Rattle.ble_base.specs.declared.verdicts.Verdict.TheVariants.{Broken, Good}
-use Rattle.controller_model.specs.declared.doing.Turn.{Turn}
+use Rattle.journal_ends.specs.controller_model.declared.doing.Turn.{Turn}
 use Rattle.journal_ends.specs.Seen.{heard_in_line, heard_where}
 use Rattle.journal_ends.specs.journal_acks.Carried.{pdu_carried}
 use Rattle.journal_ends.specs.journal_acks.Counted.{IsCounted}

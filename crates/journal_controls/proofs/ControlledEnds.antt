@@ -3,13 +3,13 @@ use Rattle.std.proofs.Common.{◌≡◌, ℕ, ◌==◌, Bool, true, false, Optio
 use Rattle.std.proofs.lemmas.Bool.{eqb-true}
 use Rattle.std.proofs.lemmas.List.{map-append}
 use Rattle.ble_base.specs.declared.roles.Side.{Side}
-use Rattle.controller_model.proofs.Always.{IsInTurn}
-use Rattle.controller_model.specs.Facts.{Facts}
-use Rattle.controller_model.specs.Side.{notes_after}
-use Rattle.controller_model.specs.Since.{notes_opened_on}
-use Rattle.controller_model.specs.Step.{Step as Call}
-use Rattle.controller_model.specs.declared.doing.Turn.{Turn}
-use Rattle.host_answers.proofs.LineAnswers.{far_quiet, turn_quiet}
+use Rattle.journal_ends.proofs.controller_model.Always.{IsInTurn}
+use Rattle.journal_ends.specs.controller_model.Facts.{Facts}
+use Rattle.journal_ends.specs.controller_model.Side.{notes_after}
+use Rattle.journal_ends.specs.controller_model.Since.{notes_opened_on}
+use Rattle.journal_ends.specs.controller_model.Step.{Step as Call}
+use Rattle.journal_ends.specs.controller_model.declared.doing.Turn.{Turn}
+use Rattle.journal_ends.proofs.host_answers.LineAnswers.{far_quiet, turn_quiet}
 use Rattle.journal_ends.specs.journal_acks.link_calls.Uses.{listens_under}
 use Rattle.journal_ends.specs.journal_links.LinkLines.{line_of}
 use Rattle.journal_ends.specs.link_model.End.{notes_from}

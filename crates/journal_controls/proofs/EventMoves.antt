@@ -7,13 +7,13 @@ use Rattle.ble_base.specs.declared.notes.Note.{Note}
 use Rattle.ble_base.specs.declared.notes.Note.TheVariants.{Up}
 use Rattle.ble_base.specs.declared.roles.Side.{Side}
 use Rattle.ble_base.specs.declared.roles.Side.TheVariants.{A, B}
-use Rattle.controller_model.proofs.Always.{IsInTurn}
-use Rattle.controller_model.specs.Side.{notes_after}
-use Rattle.controller_model.specs.Step.{Step as Call, HostOctet}
+use Rattle.journal_ends.proofs.controller_model.Always.{IsInTurn}
+use Rattle.journal_ends.specs.controller_model.Side.{notes_after}
+use Rattle.journal_ends.specs.controller_model.Step.{Step as Call, HostOctet}
 use Rattle.host_masks.specs.Masks.{masks_of, withholds_requests}
 use Rattle.journal.specs.declared.entries.Entry.{Entry}
 use Rattle.journal.specs.declared.entries.Entry.TheVariants.{Air, Fed, Turn}
-use Rattle.host_answers.proofs.LineAnswers.{IsQuiet, far_quiet, turn_quiet}
+use Rattle.journal_ends.proofs.host_answers.LineAnswers.{IsQuiet, far_quiet, turn_quiet}
 use Rattle.journal_ends.specs.Seen.{Hears, asked_in_line, heard_in_line}
 use Rattle.journal_ends.specs.journal_acks.Carried.{carried_of}
 use Rattle.journal_ends.specs.journal_acks.Exchange.{exchange_of}

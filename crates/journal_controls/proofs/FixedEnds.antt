@@ -8,14 +8,14 @@ use Rattle.ble_base.specs.ErrorCodes.{terminated_by_local_host}
 use Rattle.ble_base.specs.declared.error_codes.ErrCode.{ErrCode}
 use Rattle.ble_base.specs.declared.roles.Role.{Role}
 use Rattle.ble_base.specs.declared.roles.Role.TheVariants.{Central, Peripheral}
-use Rattle.controller_model.specs.declared.doing.Doing.{Doing}
-use Rattle.controller_model.specs.declared.doing.Doing.TheVariants.{Advertises, CentralListens, PeripheralListens, Rests}
-use Rattle.controller_model.specs.Facts.{Setup, Facts, first_facts}
-use Rattle.controller_model.specs.Heard.{has_room, replies_in, reply_if}
-use Rattle.controller_model.specs.Outcome.{Outcome}
-use Rattle.controller_model.specs.Side.{facts_after}
-use Rattle.controller_model.specs.Step.{HostOctet, TurnBegins, TurnEnds}
-use Rattle.controller_model.proofs.Asked.{IsAskedStep, asked_leaves_data}
+use Rattle.journal_ends.specs.controller_model.declared.doing.Doing.{Doing}
+use Rattle.journal_ends.specs.controller_model.declared.doing.Doing.TheVariants.{Advertises, CentralListens, PeripheralListens, Rests}
+use Rattle.journal_ends.specs.controller_model.Facts.{Setup, Facts, first_facts}
+use Rattle.journal_ends.specs.controller_model.Heard.{has_room, replies_in, reply_if}
+use Rattle.journal_ends.specs.controller_model.Outcome.{Outcome}
+use Rattle.journal_ends.specs.controller_model.Side.{facts_after}
+use Rattle.journal_ends.specs.controller_model.Step.{HostOctet, TurnBegins, TurnEnds}
+use Rattle.journal_ends.proofs.controller_model.Asked.{IsAskedStep, asked_leaves_data}
 use Rattle.journal_ends.specs.link_model.Data.{Data, is_control}
 use Rattle.journal_ends.specs.link_model.Controls.{goes_on}
 use Rattle.journal_ends.specs.link_model.End.{facts_after as end_after, facts_of as end_facts}

@@ -5,9 +5,9 @@ use Rattle.std.specs.Prelude.{◌⊎◌, map, take, if◌then◌else◌}
 use Rattle.std.proofs.lemmas.Bool.{eqb-true}
 use Rattle.ble_base.specs.declared.roles.Role.{Role}
 use Rattle.ble_base.specs.declared.roles.Role.TheVariants.{Central, Peripheral}
-use Rattle.controller_model.specs.Facts.{Facts, Listens, Sends}
-use Rattle.controller_model.specs.Side.{facts_after, facts_of, notes_after}
-use Rattle.controller_model.specs.Step.{Step as Call, HostOctet, TurnBegins, TurnEnds}
+use Rattle.journal_ends.specs.controller_model.Facts.{Facts, Listens, Sends}
+use Rattle.journal_ends.specs.controller_model.Side.{facts_after, facts_of, notes_after}
+use Rattle.journal_ends.specs.controller_model.Step.{Step as Call, HostOctet, TurnBegins, TurnEnds}
 use Rattle.host_masks.specs.Masks.{view_masks, withholds_requests}
 use Rattle.host_masks.proofs.LineMasks.{line_masks}
 use Rattle.journal_ends.specs.journal_acks.link_calls.Uses.{listens_under}

@@ -25,3 +25,6 @@ pub use Rattle.journal_ends.proofs.journal_links as journal_links
 pub use Rattle.journal_ends.proofs.journal_packets as journal_packets
 pub use Rattle.journal_ends.proofs.link_model as link_model
 pub use Rattle.journal_ends.proofs.run_model as run_model
+pub use Rattle.journal_ends.proofs.host_answers as host_answers
+pub use Rattle.journal_ends.proofs.controller_model as controller_model
+pub use Rattle.host_masks.proofs as host_masks

@@ -8,10 +8,10 @@ use Rattle.ble_base.specs.declared.procedure_kinds.Kind.{Kind}
 use Rattle.ble_base.specs.declared.roles.Role.{Role}
 use Rattle.ble_base.specs.declared.roles.Role.TheVariants.{Central, Peripheral}
 use Rattle.ble_base.specs.declared.roles.Side.{Side}
-use Rattle.controller_model.specs.Facts.{Setup, Facts}
-use Rattle.controller_model.specs.Heard.{effect_in, is_refused}
-use Rattle.controller_model.specs.Side.{facts_after}
-use Rattle.controller_model.specs.Step.{TurnBegins, TurnEnds}
+use Rattle.journal_ends.specs.controller_model.Facts.{Setup, Facts}
+use Rattle.journal_ends.specs.controller_model.Heard.{effect_in, is_refused}
+use Rattle.journal_ends.specs.controller_model.Side.{facts_after}
+use Rattle.journal_ends.specs.controller_model.Step.{TurnBegins, TurnEnds}
 use Rattle.data_pdu.specs.Header.{header_in}
 use Rattle.host_masks.specs.Masks.{view_masks, withholds_requests}
 use Rattle.journal_ends.specs.journal_acks.link_calls.Phases.{link_receiving, refusal, refused_if, refuses_at}

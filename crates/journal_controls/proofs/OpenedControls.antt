@@ -9,7 +9,7 @@ use Rattle.ble_base.specs.declared.notes.Note.TheVariants.{Opened as OpenedNote}
 use Rattle.ble_base.specs.declared.roles.Role.{Role}
 use Rattle.ble_base.specs.declared.roles.Role.TheVariants.{Central, Peripheral}
 use Rattle.ble_base.specs.declared.roles.Side.{Side}
-use Rattle.controller_model.specs.Links.{note_opened}
+use Rattle.journal_ends.specs.controller_model.Links.{note_opened}
 use Rattle.journal.specs.declared.entries.Entry.{Entry}
 use Rattle.journal.specs.declared.entries.Entry.TheVariants.{Air, Opened}
 use Rattle.journal_ends.specs.Seen.{Asks, Hears, Says, Seen, asked_in_line, heard_in_line, heard_where, seen_from, seen_in_line, seen_on}

@@ -1,11 +1,11 @@
 -- A phase passes at a station: what its control parts are then by the journal.
 use Rattle.std.proofs.Common.{◌≡◌, ℕ, ◌⊎◌, inl, inr, true, Option, Some, None, List, [], ◌∷◌, sym, ap, subst, ◌∙◌}
 use Rattle.std.specs.Prelude.{All}
-use Rattle.controller_model.proofs.Always.{IsInTurn}
-use Rattle.controller_model.specs.Facts.{Facts}
-use Rattle.controller_model.specs.Heard.{has_room}
-use Rattle.controller_model.specs.Links.{note_opened}
-use Rattle.controller_model.specs.Side.{facts_after, notes_after}
+use Rattle.journal_ends.proofs.controller_model.Always.{IsInTurn}
+use Rattle.journal_ends.specs.controller_model.Facts.{Facts}
+use Rattle.journal_ends.specs.controller_model.Heard.{has_room}
+use Rattle.journal_ends.specs.controller_model.Links.{note_opened}
+use Rattle.journal_ends.specs.controller_model.Side.{facts_after, notes_after}
 use Rattle.host_masks.specs.Masks.{view_masks, withholds_requests}
 use Rattle.journal_ends.specs.Seen.{Says, seen_of}
 use Rattle.journal_ends.specs.journal_acks.link_calls.Phases.{HasPassed, IsNew, Stays, Takes}

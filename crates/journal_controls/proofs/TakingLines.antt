@@ -6,8 +6,8 @@ use Rattle.ble_base.specs.declared.error_codes.ErrCode.{ErrCode}
 use Rattle.ble_base.specs.declared.notes.Note.{Note}
 use Rattle.ble_base.specs.declared.procedure_kinds.Kind.{Kind}
 use Rattle.ble_base.specs.declared.roles.Side.{Side}
-use Rattle.controller_model.specs.Heard.{is_refused}
-use Rattle.controller_model.specs.host_view.View.{View}
+use Rattle.journal_ends.specs.controller_model.Heard.{is_refused}
+use Rattle.journal_ends.specs.controller_model.host_view.View.{View}
 use Rattle.data_pdu.specs.Header.{header_in}
 use Rattle.host_masks.specs.Masks.{view_masks, withholds_requests}
 use Rattle.journal_ends.specs.journal_acks.Exchange.{Exchanged}

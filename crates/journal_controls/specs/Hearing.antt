@@ -2,8 +2,8 @@
 -- 4.5.9).
 use Rattle.std.specs.Prelude.{ℕ, Bool, true, false, List, Option, Some, None}
 use Rattle.ble_base.specs.declared.roles.Role.{Role}
-use Rattle.controller_model.specs.Facts.{Facts as StationFacts}
-use Rattle.controller_model.specs.Step.{Step as Call, PacketHeard}
+use Rattle.journal_ends.specs.controller_model.Facts.{Facts as StationFacts}
+use Rattle.journal_ends.specs.controller_model.Step.{Step as Call, PacketHeard}
 use Rattle.data_pdu.specs.Header.{header_in}
 use Rattle.journal_ends.specs.journal_acks.Exchange.{is_number}
 use Rattle.journal_ends.specs.link_model.Facts.{Facts}

@@ -14,3 +14,6 @@ pub use Rattle.journal_ends.specs.journal_packets as journal_packets
 pub use Rattle.journal_ends.specs.link_model as link_model
 pub use Rattle.journal_ends.specs.open_links as open_links
 pub use Rattle.journal_ends.specs.run_model as run_model
+pub use Rattle.journal_ends.specs.controller_model as controller_model
+pub use Rattle.journal_ends.specs.host_answers as host_answers
+pub use Rattle.host_masks.specs as host_masks

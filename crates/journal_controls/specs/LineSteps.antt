@@ -7,7 +7,7 @@ use Rattle.ble_base.specs.declared.channel_map.ChannelMap.{ChannelMap}
 use Rattle.ble_base.specs.declared.roles.Role.{Role}
 use Rattle.ble_base.specs.declared.roles.Role.TheVariants.{Central, Peripheral}
 use Rattle.ble_base.specs.declared.roles.Side.{Side}
-use Rattle.controller_model.specs.Heard.{most_received}
+use Rattle.journal_ends.specs.controller_model.Heard.{most_received}
 use Rattle.host_masks.specs.Masks.{masks_of, withholds_requests}
 use Rattle.journal.specs.declared.entries.Entry.{Entry}
 use Rattle.journal.specs.declared.entries.Entry.TheVariants.{Enter, Opened, Sent, Shut, Took}

@@ -3,9 +3,9 @@
 ghost use Rattle.std.specs.Prelude.{◌≡◌, ◌++◌, ℕ, List, Option, Some, false, map};
 ghost use Rattle.ble_base.specs.declared.notes.Note.{Note};
 ghost use Rattle.ble_base.specs.declared.roles.Side.{Side};
-ghost use Rattle.controller_model.specs.Step.{Step as Call};
+ghost use Rattle.journal_ends.specs.controller_model.Step.{Step as Call};
 ghost use Rattle.journal.specs.declared.entries.Entry.{Entry};
-ghost use Rattle.host_answers.specs.Calls.{call_lines};
+ghost use Rattle.journal_ends.specs.host_answers.Calls.{call_lines};
 ghost use Rattle.journal_ends.specs.Seen.{asked_if, seen_from};
 ghost use Rattle.journal_ends.specs.journal_links.LinkLines.{line_of, lines_of};
 ghost use Rattle.journal_ends.specs.link_model.End.{facts_of, notes_from};

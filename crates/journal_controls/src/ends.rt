@@ -3,7 +3,7 @@
 ghost use Rattle.std.specs.Prelude.{◌≡◌, ◌+◌, ℕ, Bool, List, Option, Some, length};
 ghost use Rattle.ble_base.specs.declared.roles.Role.{Role};
 ghost use Rattle.ble_base.specs.declared.roles.Side.{Side};
-ghost use Rattle.controller_model.specs.Heard.{most_received};
+ghost use Rattle.journal_ends.specs.controller_model.Heard.{most_received};
 ghost use Rattle.data_pdu.specs.Header.{header_in};
 ghost use Rattle.journal_ends.specs.journal_acks.Carried.{SentLine, pdu_carried};
 ghost use Rattle.journal_ends.specs.journal_acks.Exchange.{Exchanged};

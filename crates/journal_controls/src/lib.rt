@@ -35,3 +35,6 @@ pub use crate::turns::{
     a_packet_that_is_taken_moves_the_control_part_by_its_lines,
     a_turn_that_begins_moves_the_control_part_by_its_lines,
 };
+
+// What the crates above call of those below.
+pub use journal_ends::a_pdu_is_understood;

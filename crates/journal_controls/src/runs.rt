@@ -2,7 +2,7 @@
 //! laws that it rests on: the contract is the law.
 ghost use Rattle.std.specs.Prelude.{◌≡◌, ◌++◌, ◌∷◌, [], ℕ, Bool, List, Some};
 ghost use Rattle.std.specs.List.{Contains};
-ghost use Rattle.controller_model.specs.Step.{Step};
+ghost use Rattle.journal_ends.specs.controller_model.Step.{Step};
 ghost use Rattle.journal_ends.specs.open_links.OpenLinks.{OpenLink, facts_in, link_at};
 ghost use Rattle.journal_ends.specs.run_model.History.{Event, Called, Hearing, TurnBegan};
 ghost use Rattle.journal_ends.specs.run_model.History.{Transmitted};
@@ -48,7 +48,7 @@ pub fn the_control_part_by_lines_is_the_one_that_the_end_holds()
         ((links_of (history_of (run_of given))).link_of station handle)
         (journal_of (history_of (run_of given))) ≡ Some (facts_in link).control }
 {
-    controller_model::a_pdu_is_understood();
+    journal_ends::a_pdu_is_understood();
     advertise::laws::connections_are_taken();
     scan_init::laws::searches_give_each_valid_address();
     air_frame::laws::packet_tells_its_pdu();

@@ -9,9 +9,9 @@ use Rattle.journal_acks.specs.link_model.Step.{Step as EndStep}
 use Rattle.journal_acks.proofs.link_model.Pasts.{grows}
 use Rattle.journal_acks.specs.open_links.Data.{buffers_in, buffers_taken}
 use Rattle.journal_acks.specs.open_links.OpenLinks.{Links, OpenLink, facts_in, link_after, link_from}
-use Rattle.controller_model.specs.link_commands.Commands.{is_about}
-use Rattle.controller_model.specs.link_commands.LinksCommanded.{links_commanded_from, place_commanded}
-use Rattle.controller_model.proofs.Asked.{IsAskedStep, asked_leaves_data, place_asked}
+use Rattle.journal_acks.specs.controller_model.link_commands.Commands.{is_about}
+use Rattle.journal_acks.specs.controller_model.link_commands.LinksCommanded.{links_commanded_from, place_commanded}
+use Rattle.journal_acks.proofs.controller_model.Asked.{IsAskedStep, asked_leaves_data, place_asked}
 
 -- place by place
 abbrev pub HasSameData : Option OpenLink → Option OpenLink → Type 0

@@ -12,8 +12,8 @@ use Rattle.ble_base.specs.declared.roles.Side.{Side}
 use Rattle.ble_base.specs.declared.notes.Note.{Note}
 use Rattle.ble_base.specs.declared.notes.Note.TheVariants.{Up, Sent, Took}
 use Rattle.host_view.specs.Noted.{acl_handle, is_acl_data, two_octets}
-use Rattle.controller_model.specs.Notes.{is_event}
-use Rattle.controller_model.specs.Since.{data_up, starts_message}
+use Rattle.journal_acks.specs.controller_model.Notes.{is_event}
+use Rattle.journal_acks.specs.controller_model.Since.{data_up, starts_message}
 use Rattle.journal_acks.specs.run_model.Journal.{entry_of}
 use Rattle.journal_acks.specs.Exchange.{is_number}
 use Rattle.journal_data.specs.HostLines.{OpenUnder, link_under}

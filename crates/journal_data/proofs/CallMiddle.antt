@@ -5,10 +5,10 @@ use Rattle.ble_base.specs.declared.roles.Side.{Side}
 use Rattle.ble_base.specs.declared.notes.Note.{Note}
 use Rattle.ble_base.specs.declared.notes.Note.TheVariants.{Up, Took}
 use Rattle.host_view.specs.Noted.{acl_handle, is_acl_data}
-use Rattle.controller_model.specs.Notes.{is_event}
-use Rattle.controller_model.specs.Side.{notes_after}
-use Rattle.controller_model.specs.Step.{Step}
-use Rattle.controller_model.proofs.Always.{IsInTurn}
+use Rattle.journal_acks.specs.controller_model.Notes.{is_event}
+use Rattle.journal_acks.specs.controller_model.Side.{notes_after}
+use Rattle.journal_acks.specs.controller_model.Step.{Step}
+use Rattle.journal_acks.proofs.controller_model.Always.{IsInTurn}
 use Rattle.journal_acks.specs.run_model.History.{Event, Called, Noted}
 use Rattle.journal_acks.specs.run_model.Journal.{entry_of}
 use Rattle.journal_acks.specs.run_model.Run.{Given, setup_at, facts_at, after_call}

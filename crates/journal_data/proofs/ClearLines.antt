@@ -15,8 +15,8 @@ use Rattle.h4_frames.specs.declared.packet.HostPacket.TheVariants.{Command, Acl}
 use Rattle.host_view.specs.Noted.{acl_handle, is_acl_data, two_octets}
 use Rattle.journal.specs.declared.entries.Entry.{Entry}
 use Rattle.journal.specs.declared.entries.Entry.TheVariants.{Air, Fed, Up, Opened, Shut, Sent, Took}
-use Rattle.controller_model.specs.Notes.{is_event, is_opening}
-use Rattle.controller_model.specs.Since.{starts_message}
+use Rattle.journal_acks.specs.controller_model.Notes.{is_event, is_opening}
+use Rattle.journal_acks.specs.controller_model.Since.{starts_message}
 use Rattle.journal_acks.proofs.run_model.OpenedNotes.{is_opened}
 use Rattle.journal_acks.specs.journal_links.LinkLines.{link_named, where_named, lines_of as link_lines}
 use Rattle.journal_acks.specs.journal_packets.Belonging.{is_side}

@@ -24,18 +24,18 @@ use Rattle.journal_acks.proofs.link_model.Pasts.{grows}
 use Rattle.journal_acks.specs.open_links.Data.{complete_in, completed_from, link_reported, links_reported}
 use Rattle.journal_acks.specs.open_links.OpenLinks.{OpenLink, facts_in, link_after, link_at}
 use Rattle.journal_acks.proofs.open_links.UnderHandles.{map_at}
-use Rattle.controller_model.specs.Between.{is_between_turns}
-use Rattle.controller_model.specs.Data.{event_completed, note_received, notes_handed}
-use Rattle.controller_model.specs.Events.{notes_of_events}
-use Rattle.controller_model.specs.Facts.{Setup}
-use Rattle.controller_model.specs.Side.{facts_of, notes_after, notes_of}
-use Rattle.controller_model.specs.Since.{count_since, empties_of, is_completed_on, note_completed, note_since, since_opened}
-use Rattle.controller_model.specs.Step.{Step, HostOctet, TurnBegins, PacketHeard, NothingHeard, TurnEnds}
-use Rattle.controller_model.proofs.BookEnds.{handing_book, reporting_book}
-use Rattle.controller_model.proofs.Books.{Fact, IsBookAfter, IsKeptInBook, IsSilent, and_then}
-use Rattle.controller_model.proofs.BooksAlways.{book_of}
-use Rattle.controller_model.proofs.OtherNotes.{event_handle_is, two_octets_hold}
-use Rattle.controller_model.proofs.PiecesBelow.{all_pieces}
+use Rattle.journal_acks.specs.controller_model.Between.{is_between_turns}
+use Rattle.journal_acks.specs.controller_model.Data.{event_completed, note_received, notes_handed}
+use Rattle.journal_acks.specs.controller_model.Events.{notes_of_events}
+use Rattle.journal_acks.specs.controller_model.Facts.{Setup}
+use Rattle.journal_acks.specs.controller_model.Side.{facts_of, notes_after, notes_of}
+use Rattle.journal_acks.specs.controller_model.Since.{count_since, empties_of, is_completed_on, note_completed, note_since, since_opened}
+use Rattle.journal_acks.specs.controller_model.Step.{Step, HostOctet, TurnBegins, PacketHeard, NothingHeard, TurnEnds}
+use Rattle.journal_acks.proofs.controller_model.BookEnds.{handing_book, reporting_book}
+use Rattle.journal_acks.proofs.controller_model.Books.{Fact, IsBookAfter, IsKeptInBook, IsSilent, and_then}
+use Rattle.journal_acks.proofs.controller_model.BooksAlways.{book_of}
+use Rattle.journal_acks.proofs.controller_model.OtherNotes.{event_handle_is, two_octets_hold}
+use Rattle.journal_acks.proofs.controller_model.PiecesBelow.{all_pieces}
 use Rattle.journal_acks.specs.run_model.Feeding.{HasNoted}
 use Rattle.journal_acks.specs.run_model.History.{Event, HostFed, noted_by, past_of, steps_in}
 use Rattle.journal_acks.specs.run_model.Run.{Given, after_call, after_feed, after_octets, facts_at, setup_at, step_of}
@@ -44,7 +44,7 @@ use Rattle.journal_acks.proofs.run_laws.OpenSteps.{open_has}
 use Rattle.journal_data.proofs.Booked.{count_if, count_up}
 use Rattle.journal_data.proofs.FewComplete.{HadFew, IsFedBetween, IsFew, MayFeed, between_more, fed_more, few_always, had_front, had_last, had_reported}
 use Rattle.journal_data.proofs.DataSteps.{IsKeptByEnd, IsOwnStep, end_keeps}
-use Rattle.controller_model.proofs.EndNotes.{sent_each, received_each}
+use Rattle.journal_acks.proofs.controller_model.EndNotes.{sent_each, received_each}
 
 -- ---- the count of a note
 

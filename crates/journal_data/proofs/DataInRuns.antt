@@ -3,9 +3,9 @@ use Rattle.std.proofs.Common.{◌≡◌, ℕ, ◌-◌, ◌≤◌, ◌==◌, Bool
 use Rattle.std.specs.Prelude.{map, take}
 use Rattle.std.proofs.lemmas.Bool.{eqb-true}
 use Rattle.journal_acks.proofs.link_model.Hearing.{IsHeardWhole}
-use Rattle.controller_model.proofs.Always.{IsInTurn}
-use Rattle.controller_model.specs.Side.{notes_after}
-use Rattle.controller_model.specs.Step.{Step, TurnBegins, TurnEnds}
+use Rattle.journal_acks.proofs.controller_model.Always.{IsInTurn}
+use Rattle.journal_acks.specs.controller_model.Side.{notes_after}
+use Rattle.journal_acks.specs.controller_model.Step.{Step, TurnBegins, TurnEnds}
 use Rattle.journal_acks.specs.run_model.Feeding.{AreDistinct}
 use Rattle.journal_acks.specs.run_model.History.{Event, TurnBegan, Called, HostFed, Noted, Transmitted, packet_received, past_of, turns_begun}
 use Rattle.journal_acks.specs.run_model.LinkEnds.{HaveAddresses}

@@ -7,7 +7,7 @@ use Rattle.ble_base.specs.declared.roles.Side.{Side}
 use Rattle.ble_base.specs.declared.notes.Note.{Note}
 use Rattle.ble_base.specs.declared.notes.Note.TheVariants.{Up, Opened, Shut, Sent, Took}
 use Rattle.journal.specs.declared.entries.Entry.TheVariants.{Fed}
-use Rattle.controller_model.specs.Step.{Step}
+use Rattle.journal_acks.specs.controller_model.Step.{Step}
 use Rattle.journal_acks.specs.run_model.History.{Event, TurnBegan, HostFed, Called, Noted, Transmitted, Hearing}
 use Rattle.journal_acks.specs.run_model.Journal.{air_entries, entries_of, entry_of, journal_of, side_of}
 use Rattle.journal_acks.specs.run_model.Links.{links_of}

@@ -11,10 +11,10 @@ use Rattle.journal_acks.proofs.link_model.Counts.{past_counted}
 use Rattle.journal_acks.proofs.link_model.Sending.{past_in_order}
 use Rattle.journal_acks.specs.open_links.Data.{link_reported}
 use Rattle.journal_acks.specs.open_links.OpenLinks.{OpenLink, facts_in, link_at}
-use Rattle.controller_model.specs.Facts.{Facts, Setup}
-use Rattle.controller_model.specs.Side.{notes_after}
-use Rattle.controller_model.specs.Since.{data_waiting}
-use Rattle.controller_model.specs.Step.{TurnEnds}
+use Rattle.journal_acks.specs.controller_model.Facts.{Facts, Setup}
+use Rattle.journal_acks.specs.controller_model.Side.{notes_after}
+use Rattle.journal_acks.specs.controller_model.Since.{data_waiting}
+use Rattle.journal_acks.specs.controller_model.Step.{TurnEnds}
 use Rattle.journal_acks.proofs.link_calls.UnderHandles.{ended_under}
 use Rattle.journal_acks.proofs.run_model.LinksKnown.{link_by_other, link_by_own}
 use Rattle.journal_acks.proofs.run_model.Notes.{noted_own}

@@ -15,17 +15,17 @@ use Rattle.journal_acks.specs.link_model.Facts.{Facts as EndFacts}
 use Rattle.journal_acks.specs.link_model.Step.{DataReported}
 use Rattle.journal_acks.specs.open_links.Data.{complete_in, link_reported}
 use Rattle.journal_acks.specs.open_links.OpenLinks.{OpenLink, facts_in, link_after, link_at}
-use Rattle.controller_model.specs.Data.{facts_handed, notes_handed}
-use Rattle.controller_model.specs.Facts.{Facts, Setup}
-use Rattle.controller_model.specs.Links.{notes_leaving}
-use Rattle.controller_model.specs.Notes.{is_opening}
-use Rattle.controller_model.specs.Side.{notes_of}
-use Rattle.controller_model.specs.Since.{count_since, data_up, empties_of, is_data_note, is_sent_on, is_took_on, note_since, since_opened}
-use Rattle.controller_model.specs.Step.{TurnEnds}
-use Rattle.controller_model.proofs.DataBooks.{data_is_handed}
-use Rattle.controller_model.proofs.NoteBooks.{sent_notes_are, took_notes_are}
-use Rattle.controller_model.proofs.OpenNotes.{open_before}
-use Rattle.controller_model.proofs.PiecesBelow.{all_pieces}
+use Rattle.journal_acks.specs.controller_model.Data.{facts_handed, notes_handed}
+use Rattle.journal_acks.specs.controller_model.Facts.{Facts, Setup}
+use Rattle.journal_acks.specs.controller_model.Links.{notes_leaving}
+use Rattle.journal_acks.specs.controller_model.Notes.{is_opening}
+use Rattle.journal_acks.specs.controller_model.Side.{notes_of}
+use Rattle.journal_acks.specs.controller_model.Since.{count_since, data_up, empties_of, is_data_note, is_sent_on, is_took_on, note_since, since_opened}
+use Rattle.journal_acks.specs.controller_model.Step.{TurnEnds}
+use Rattle.journal_acks.proofs.controller_model.DataBooks.{data_is_handed}
+use Rattle.journal_acks.proofs.controller_model.NoteBooks.{sent_notes_are, took_notes_are}
+use Rattle.journal_acks.proofs.controller_model.OpenNotes.{open_before}
+use Rattle.journal_acks.proofs.controller_model.PiecesBelow.{all_pieces}
 use Rattle.journal_acks.specs.run_model.History.{Event, Called, Noted, noted_by, past_of}
 use Rattle.journal_acks.specs.run_model.Run.{Given, after_call, facts_at, setup_at}
 use Rattle.journal_acks.proofs.run_model.Calls.{noted_called, same_station, with_notes}

@@ -8,7 +8,7 @@ use Rattle.journal_data.specs.HostLines.{has_octets}
 use Rattle.journal_acks.proofs.link_model.Counts.{past_counted}
 use Rattle.journal_acks.proofs.link_model.Sending.{past_in_order}
 use Rattle.journal_acks.specs.open_links.OpenLinks.{OpenLink, facts_in, link_at}
-use Rattle.controller_model.specs.Since.{data_waiting}
+use Rattle.journal_acks.specs.controller_model.Since.{data_waiting}
 use Rattle.journal_acks.specs.run_model.Feeding.{HasNoted}
 use Rattle.journal_acks.specs.run_model.History.{Event}
 use Rattle.journal_acks.specs.run_model.Run.{Given, facts_at, setup_at}

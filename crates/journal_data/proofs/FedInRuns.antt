@@ -1,8 +1,8 @@
 -- In a run the host of each station sends only between the turns of its controller.
 use Rattle.std.proofs.Common.{◌≡◌, ℕ, suc, ◌+◌, ◌==◌, Bool, true, false, Option, Some, None, List, [], ◌∷◌, cond, refl, ap, sym, subst, ◌∙◌}
 use Rattle.std.specs.Prelude.{fold}
-use Rattle.controller_model.specs.Between.{between_after, is_between_turns}
-use Rattle.controller_model.specs.Step.{Step, HostOctet, TurnBegins, PacketHeard, NothingHeard, TurnEnds}
+use Rattle.journal_acks.specs.controller_model.Between.{between_after, is_between_turns}
+use Rattle.journal_acks.specs.controller_model.Step.{Step, HostOctet, TurnBegins, PacketHeard, NothingHeard, TurnEnds}
 use Rattle.journal_acks.proofs.run_laws.TurnPlaces.{Between, Stage, Standing, Within, at_stage, standing}
 use Rattle.journal_data.proofs.FewComplete.{FedFrom, MayFeed}
 

@@ -3,11 +3,11 @@ use Rattle.std.proofs.Common.{◌≡◌, ℕ, ◌≤◌, true, Option, Some, Lis
 use Rattle.std.specs.Option.{option_map}
 use Rattle.journal_acks.specs.link_model.Acknowledgement.{Acknowledgement}
 use Rattle.journal_acks.specs.open_links.OpenLinks.{OpenLink, link_at}
-use Rattle.controller_model.proofs.BetweenTurns.{none_complete}
-use Rattle.controller_model.specs.Between.{is_between_turns}
-use Rattle.controller_model.specs.Facts.{Facts}
-use Rattle.controller_model.specs.Side.{facts_of}
-use Rattle.controller_model.specs.Step.{HostOctet}
+use Rattle.journal_acks.proofs.controller_model.BetweenTurns.{none_complete}
+use Rattle.journal_acks.specs.controller_model.Between.{is_between_turns}
+use Rattle.journal_acks.specs.controller_model.Facts.{Facts}
+use Rattle.journal_acks.specs.controller_model.Side.{facts_of}
+use Rattle.journal_acks.specs.controller_model.Step.{HostOctet}
 use Rattle.journal_acks.specs.run_model.History.{Event, HostFed, past_of}
 use Rattle.journal_acks.specs.run_model.Run.{Given, after_call, after_feed, after_octets, facts_at, setup_at}
 use Rattle.journal_acks.proofs.run_model.Calls.{flat_nothing}

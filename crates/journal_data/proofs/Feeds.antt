@@ -21,14 +21,14 @@ use Rattle.journal_acks.specs.open_links.declared.offers.Offer.{Offer}
 use Rattle.journal_acks.specs.open_links.declared.offers.Offer.TheVariants.{NoLink, Empty, Overflow, Kept}
 use Rattle.journal_acks.specs.open_links.Data.{offer_by}
 use Rattle.journal_acks.specs.open_links.OpenLinks.{OpenLink, link_at}
-use Rattle.controller_model.specs.Data.{facts_offered, notes_offered, offer_of}
-use Rattle.controller_model.specs.Facts.{Setup, Facts}
-use Rattle.controller_model.specs.Notes.{is_event}
-use Rattle.controller_model.specs.Side.{facts_after, facts_fed, facts_of, notes_after, notes_fed, result_of}
-use Rattle.controller_model.specs.Since.{count_fed, empties_of, note_completed}
-use Rattle.controller_model.specs.Step.{Step, HostOctet}
-use Rattle.controller_model.proofs.Handles.{own_handles}
-use Rattle.controller_model.proofs.OtherNotes.{AreOther, IsOther, command_other, event_handle_is, events_other}
+use Rattle.journal_acks.specs.controller_model.Data.{facts_offered, notes_offered, offer_of}
+use Rattle.journal_acks.specs.controller_model.Facts.{Setup, Facts}
+use Rattle.journal_acks.specs.controller_model.Notes.{is_event}
+use Rattle.journal_acks.specs.controller_model.Side.{facts_after, facts_fed, facts_of, notes_after, notes_fed, result_of}
+use Rattle.journal_acks.specs.controller_model.Since.{count_fed, empties_of, note_completed}
+use Rattle.journal_acks.specs.controller_model.Step.{Step, HostOctet}
+use Rattle.journal_acks.proofs.controller_model.Handles.{own_handles}
+use Rattle.journal_acks.proofs.controller_model.OtherNotes.{AreOther, IsOther, command_other, event_handle_is, events_other}
 use Rattle.journal_acks.specs.run_model.History.{Event, TurnBegan, HostFed, Called, Noted, Transmitted, past_of}
 use Rattle.journal_acks.specs.run_model.Journal.{entry_of, side_of}
 use Rattle.journal_acks.specs.run_model.Links.{Links, links_of}

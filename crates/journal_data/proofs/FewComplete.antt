@@ -19,25 +19,25 @@ use Rattle.journal_acks.specs.open_links.Data.{buffers_in, buffers_taken, comple
 use Rattle.journal_acks.specs.open_links.OpenLinks.{Links, OpenLink, facts_in, link_after, link_at, link_from, link_served, new_link, with_change}
 use Rattle.journal_acks.specs.open_links.Turns.{entered_if, links_without, staying_by, enters_in}
 use Rattle.journal_acks.proofs.open_links.Handles.{here, later}
-use Rattle.controller_model.specs.declared.doing.Doing.{Doing}
-use Rattle.controller_model.specs.declared.doing.Doing.TheVariants.{Advertises, CentralSends, PeripheralListens, PeripheralSends}
-use Rattle.controller_model.specs.Between.{between_after, is_between_turns}
-use Rattle.controller_model.specs.Facts.{Setup, Facts}
-use Rattle.controller_model.specs.Heard.{asks_if, has_room, link_taken, opens, replies_in, reply_if, link_received, links_refusing}
-use Rattle.controller_model.specs.Outcome.{facts_passed}
-use Rattle.controller_model.specs.Packets.{links_sending}
-use Rattle.controller_model.specs.Radio.{links_fixing}
-use Rattle.controller_model.specs.Side.{facts_after, facts_of}
-use Rattle.controller_model.specs.Step.{Step, HostOctet, TurnBegins, PacketHeard, NothingHeard, TurnEnds}
-use Rattle.controller_model.proofs.Always.{IsInTurn, IsKeptInTurns, links_won, opening_passes, turn_keeps}
-use Rattle.controller_model.proofs.Asked.{asked_leaves_data}
-use Rattle.controller_model.proofs.BetweenTurns.{none_complete}
-use Rattle.controller_model.proofs.Buffers.{fits_buffers}
-use Rattle.controller_model.proofs.Pasts.{facts_more}
+use Rattle.journal_acks.specs.controller_model.declared.doing.Doing.{Doing}
+use Rattle.journal_acks.specs.controller_model.declared.doing.Doing.TheVariants.{Advertises, CentralSends, PeripheralListens, PeripheralSends}
+use Rattle.journal_acks.specs.controller_model.Between.{between_after, is_between_turns}
+use Rattle.journal_acks.specs.controller_model.Facts.{Setup, Facts}
+use Rattle.journal_acks.specs.controller_model.Heard.{asks_if, has_room, link_taken, opens, replies_in, reply_if, link_received, links_refusing}
+use Rattle.journal_acks.specs.controller_model.Outcome.{facts_passed}
+use Rattle.journal_acks.specs.controller_model.Packets.{links_sending}
+use Rattle.journal_acks.specs.controller_model.Radio.{links_fixing}
+use Rattle.journal_acks.specs.controller_model.Side.{facts_after, facts_of}
+use Rattle.journal_acks.specs.controller_model.Step.{Step, HostOctet, TurnBegins, PacketHeard, NothingHeard, TurnEnds}
+use Rattle.journal_acks.proofs.controller_model.Always.{IsInTurn, IsKeptInTurns, links_won, opening_passes, turn_keeps}
+use Rattle.journal_acks.proofs.controller_model.Asked.{asked_leaves_data}
+use Rattle.journal_acks.proofs.controller_model.BetweenTurns.{none_complete}
+use Rattle.journal_acks.proofs.controller_model.Buffers.{fits_buffers}
+use Rattle.journal_acks.proofs.controller_model.Pasts.{facts_more}
 use Rattle.journal_acks.proofs.run_laws.OpenSteps.{AtOpen, EachOpen, IsKeptByHosts, KeepsAsked, changed, enter_open, none_open, octet_open, open_more, opened}
-use Rattle.controller_model.specs.Entering.{all_entered}
+use Rattle.journal_acks.specs.controller_model.Entering.{all_entered}
 use Rattle.journal_data.proofs.DataSteps.{IsKeptByEnd, IsOwnStep, end_keeps}
-use Rattle.controller_model.proofs.Places.{refusal, refuses_at}
+use Rattle.journal_acks.proofs.controller_model.Places.{refusal, refuses_at}
 
 -- ---- one end
 

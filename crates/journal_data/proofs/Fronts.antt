@@ -2,8 +2,8 @@
 use Rattle.std.proofs.Common.{◌≡◌, ℕ, List, [], ◌∷◌, ◌++◌, refl, sym, subst, ◌∙◌, append-nil, append_assoc}
 use Rattle.std.specs.Prelude.{map}
 use Rattle.std.specs.List.{AllByRecursion}
-use Rattle.controller_model.specs.Side.{notes_after}
-use Rattle.controller_model.specs.Step.{HostOctet}
+use Rattle.journal_acks.specs.controller_model.Side.{notes_after}
+use Rattle.journal_acks.specs.controller_model.Step.{HostOctet}
 use Rattle.journal_acks.specs.run_model.History.{Event, Called, HostFed, Noted}
 use Rattle.journal_acks.specs.run_model.Run.{Given, after_feed, after_octets, facts_at, setup_at}
 use Rattle.journal_data.proofs.EachLine.{IsElsewhere, IsOutside, call_outside, lines_at, outside_lines}

@@ -14,12 +14,12 @@ use Rattle.hci_evt.specs.declared.event.Event.TheVariants.{CompletedPackets}
 use Rattle.host_view.specs.Noted.{acl_handle}
 use Rattle.wire_fields.specs.Field.{little_endian}
 use Rattle.journal_acks.specs.open_links.Data.{completed_from}
-use Rattle.controller_model.specs.Data.{acl_packet, boundary_of, event_completed, note_received, notes_handed}
-use Rattle.controller_model.specs.Events.{notes_of_events}
-use Rattle.controller_model.specs.Facts.{Facts}
-use Rattle.controller_model.specs.Since.{data_of_piece, data_up, data_waiting, is_handed_up_on, is_piece_on, starts_message}
-use Rattle.controller_model.proofs.OtherNotes.{acl_handle_is, data_other, past_bits, two_octets_hold}
-use Rattle.controller_model.proofs.PiecesBelow.{AreBelow}
+use Rattle.journal_acks.specs.controller_model.Data.{acl_packet, boundary_of, event_completed, note_received, notes_handed}
+use Rattle.journal_acks.specs.controller_model.Events.{notes_of_events}
+use Rattle.journal_acks.specs.controller_model.Facts.{Facts}
+use Rattle.journal_acks.specs.controller_model.Since.{data_of_piece, data_up, data_waiting, is_handed_up_on, is_piece_on, starts_message}
+use Rattle.journal_acks.proofs.controller_model.OtherNotes.{acl_handle_is, data_other, past_bits, two_octets_hold}
+use Rattle.journal_acks.proofs.controller_model.PiecesBelow.{AreBelow}
 use Rattle.journal_data.proofs.Reported.{of_events}
 
 -- ---- a piece

@@ -10,9 +10,9 @@ use Rattle.host_view.specs.Noted.{is_acl_data}
 use Rattle.journal.specs.declared.entries.Entry.{Entry}
 use Rattle.journal.specs.declared.entries.Entry.TheVariants.{Turn, Fed, Air, Up, Enter, Opened, Shut, Sent, Took}
 use Rattle.journal_acks.proofs.link_model.Hearing.{IsHeardWhole}
-use Rattle.controller_model.specs.Notes.{is_event}
-use Rattle.controller_model.specs.Side.{notes_after}
-use Rattle.controller_model.specs.Step.{Step, HostOctet, TurnBegins, TurnEnds}
+use Rattle.journal_acks.specs.controller_model.Notes.{is_event}
+use Rattle.journal_acks.specs.controller_model.Side.{notes_after}
+use Rattle.journal_acks.specs.controller_model.Step.{Step, HostOctet, TurnBegins, TurnEnds}
 use Rattle.radio_replay.specs.Script.{Script}
 use Rattle.journal_acks.specs.run_model.Due.{Each}
 use Rattle.journal_acks.specs.run_model.Feeding.{AreDistinct}

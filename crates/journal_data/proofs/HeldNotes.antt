@@ -11,14 +11,14 @@ use Rattle.ble_base.specs.declared.notes.Note.TheVariants.{Up, Opened, Shut, Sen
 use Rattle.ble_base.specs.declared.roles.Role.{Role}
 use Rattle.host_view.specs.Noted.{acl_handle, is_acl_data, two_octets}
 use Rattle.journal_acks.specs.open_links.OpenLinks.{IsLeastFree}
-use Rattle.controller_model.specs.Data.{facts_handed, notes_handed}
-use Rattle.controller_model.specs.Links.{notes_leaving}
-use Rattle.controller_model.specs.Since.{is_data_note}
-use Rattle.controller_model.specs.Facts.{Facts}
-use Rattle.controller_model.specs.Notes.{HasHandleBelow, is_opening, is_event}
-use Rattle.controller_model.specs.Side.{facts_after, notes_after}
-use Rattle.controller_model.specs.Step.{Step, TurnEnds}
-use Rattle.controller_model.proofs.OpenNotes.{open_after, open_before}
+use Rattle.journal_acks.specs.controller_model.Data.{facts_handed, notes_handed}
+use Rattle.journal_acks.specs.controller_model.Links.{notes_leaving}
+use Rattle.journal_acks.specs.controller_model.Since.{is_data_note}
+use Rattle.journal_acks.specs.controller_model.Facts.{Facts}
+use Rattle.journal_acks.specs.controller_model.Notes.{HasHandleBelow, is_opening, is_event}
+use Rattle.journal_acks.specs.controller_model.Side.{facts_after, notes_after}
+use Rattle.journal_acks.specs.controller_model.Step.{Step, TurnEnds}
+use Rattle.journal_acks.proofs.controller_model.OpenNotes.{open_after, open_before}
 use Rattle.journal_acks.specs.run_model.Due.{Each}
 use Rattle.journal_acks.specs.run_model.History.{Event, TurnBegan, HostFed, Called, Noted, Transmitted, past_of}
 use Rattle.journal_acks.specs.run_model.Journal.{side_of}

@@ -36,16 +36,16 @@ use Rattle.hci_cmd.specs.declared.command.CmdRead.{CmdRead}
 use Rattle.hci_cmd.specs.declared.command.CmdRead.TheVariants.{Known, UnknownOpcode, BadLength}
 use Rattle.hci_cmd.specs.Command.{command_of, layout_of, layouts}
 use Rattle.host_view.specs.Unbuilt.{status_of}
-use Rattle.controller_model.specs.Commands.{facts_asking, facts_commanded, facts_known, is_asking, links_after}
-use Rattle.controller_model.specs.Data.{facts_offered, offer_of}
-use Rattle.controller_model.specs.Facts.{Setup, Facts}
-use Rattle.controller_model.specs.Host.{commands_accepted_by, commands_accepted_in}
-use Rattle.controller_model.specs.Side.{facts_after, facts_fed, facts_of, first_result, result_of}
-use Rattle.controller_model.specs.Step.{Step, HostOctet}
+use Rattle.journal_acks.specs.controller_model.Commands.{facts_asking, facts_commanded, facts_known, is_asking, links_after}
+use Rattle.journal_acks.specs.controller_model.Data.{facts_offered, offer_of}
+use Rattle.journal_acks.specs.controller_model.Facts.{Setup, Facts}
+use Rattle.journal_acks.specs.controller_model.Host.{commands_accepted_by, commands_accepted_in}
+use Rattle.journal_acks.specs.controller_model.Side.{facts_after, facts_fed, facts_of, first_result, result_of}
+use Rattle.journal_acks.specs.controller_model.Step.{Step, HostOctet}
 use Rattle.journal_acks.proofs.link_calls.UnderHandles.{map_under}
-use Rattle.controller_model.proofs.Feds.{frames_more}
-use Rattle.controller_model.proofs.Resets.{resets}
-use Rattle.controller_model.specs.Since.{count_fed}
+use Rattle.journal_acks.proofs.controller_model.Feds.{frames_more}
+use Rattle.journal_acks.proofs.controller_model.Resets.{resets}
+use Rattle.journal_acks.specs.controller_model.Since.{count_fed}
 use Rattle.journal_data.specs.HostLines.{OpenUnder, Submitted, buffers_of, has_octets, is_dropped, is_reset, kept_of, kept_one, link_under, packet_in, packets_framed}
 use Rattle.journal_data.proofs.AskedLinks.{HasSameData, HaveSameData, commanded_same, same_buffers, same_links, same_under}
 

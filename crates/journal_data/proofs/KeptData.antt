@@ -4,10 +4,10 @@ use Rattle.std.specs.Prelude.{map, take, if◌then◌else◌}
 use Rattle.std.proofs.lemmas.Bool.{eqb-true}
 use Rattle.ble_base.specs.declared.notes.Note.TheVariants.{Opened}
 use Rattle.journal_acks.proofs.link_model.Hearing.{IsHeardWhole}
-use Rattle.controller_model.specs.Between.{is_between_turns}
-use Rattle.controller_model.specs.Side.{notes_after}
-use Rattle.controller_model.specs.Step.{Step, TurnBegins, PacketHeard, NothingHeard, TurnEnds}
-use Rattle.controller_model.proofs.Always.{IsInTurn}
+use Rattle.journal_acks.specs.controller_model.Between.{is_between_turns}
+use Rattle.journal_acks.specs.controller_model.Side.{notes_after}
+use Rattle.journal_acks.specs.controller_model.Step.{Step, TurnBegins, PacketHeard, NothingHeard, TurnEnds}
+use Rattle.journal_acks.proofs.controller_model.Always.{IsInTurn}
 use Rattle.journal_acks.specs.run_model.Feeding.{AreDistinct}
 use Rattle.journal_acks.specs.run_model.History.{Event, TurnBegan, Called, Noted, Transmitted, packet_received, past_of, turns_begun}
 use Rattle.journal_acks.specs.run_model.Journal.{journal_of, side_of}

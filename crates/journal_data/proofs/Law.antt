@@ -6,7 +6,7 @@ use Rattle.ble_base.specs.declared.roles.Side.TheVariants.{A, B}
 use Rattle.journal.specs.declared.entries.Entry.{Entry}
 use Rattle.journal_acks.proofs.link_model.Hearing.{IsHeardWhole}
 use Rattle.journal_acks.specs.open_links.OpenLinks.{OpenLink, link_at}
-use Rattle.controller_model.specs.Side.{facts_of, notes_of}
+use Rattle.journal_acks.specs.controller_model.Side.{facts_of, notes_of}
 use Rattle.radio_replay.specs.Script.{Script}
 use Rattle.journal_acks.specs.run_model.Feeding.{AreDistinct, HasNoted}
 use Rattle.journal_acks.specs.run_model.Journal.{journal_of, side_of}

@@ -10,17 +10,18 @@ use Rattle.journal_acks.specs.link_model.declared.setup.LinkSetup.{LinkSetup}
 use Rattle.journal_acks.specs.open_links.OpenLinks.{IsFreeHandle, IsLeastFree, Links, link_at}
 use Rattle.journal_acks.proofs.open_links.Handles.{free_is}
 use Rattle.scan_init.specs.Reports.{does_ask, scan_answer}
-use Rattle.controller_model.specs.declared.doing.Doing.{Doing}
-use Rattle.controller_model.specs.declared.doing.Doing.TheVariants.{Advertises, Connects}
-use Rattle.controller_model.specs.Facts.{Facts, Setup}
-use Rattle.controller_model.specs.Heard.{asks_if, has_room, link_heard, link_received, link_taken, opens, replies_in, reply_if, scanner_after, scanner_heard, with_scanner}
-use Rattle.controller_model.specs.Outcome.{Outcome, facts_passed, notes_passed}
-use Rattle.controller_model.specs.Packets.{facts_doing, notes_doing}
-use Rattle.controller_model.specs.Side.{facts_after, facts_of, notes_after}
-use Rattle.controller_model.specs.Step.{Step}
-use Rattle.controller_model.specs.Notes.{is_opening}
-use Rattle.controller_model.proofs.Always.{MayBegin, left_doing, opening_passes}
-use Rattle.controller_model.proofs.Phases.{EachOutcome, heard_is, unheard_is}
+use Rattle.journal_acks.specs.controller_model.declared.doing.Doing.{Doing}
+use Rattle.journal_acks.specs.controller_model.declared.doing.Doing.TheVariants.{Advertises, Connects}
+use Rattle.journal_acks.specs.controller_model.Facts.{Facts, Setup}
+use Rattle.journal_acks.specs.controller_model.Heard.{asks_if, has_room, link_heard, link_received, link_taken, opens, replies_in, reply_if, scanner_after}
+use Rattle.journal_acks.specs.controller_model.Heard.{scanner_heard, with_scanner}
+use Rattle.journal_acks.specs.controller_model.Outcome.{Outcome, facts_passed, notes_passed}
+use Rattle.journal_acks.specs.controller_model.Packets.{facts_doing, notes_doing}
+use Rattle.journal_acks.specs.controller_model.Side.{facts_after, facts_of, notes_after}
+use Rattle.journal_acks.specs.controller_model.Step.{Step}
+use Rattle.journal_acks.specs.controller_model.Notes.{is_opening}
+use Rattle.journal_acks.proofs.controller_model.Always.{MayBegin, left_doing, opening_passes}
+use Rattle.journal_acks.proofs.controller_model.Phases.{EachOutcome, heard_is, unheard_is}
 use Rattle.journal_acks.specs.run_model.Run.{step_of}
 use Rattle.journal_acks.proofs.run_laws.TurnPlaces.{Between, Stage, Standing, Within, IsTurned, standing, turned}
 use Rattle.journal_data.proofs.Openness.{AreNot, AreQuiet, answered_quiet, both_quiet, doing_quiet, none_open, heard_quiet}

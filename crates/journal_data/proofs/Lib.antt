@@ -47,7 +47,7 @@ mod DataInRuns
 pub mod Law
 pub mod HeldInRuns
 -- what the crates above use of those below
-pub use Rattle.controller_model.proofs as controller_model
+pub use Rattle.journal_acks.proofs.controller_model as controller_model
 pub use Rattle.journal_acks.proofs as journal_acks
 pub use Rattle.journal_acks.proofs.journal_links as journal_links
 pub use Rattle.journal_acks.proofs.journal_packets as journal_packets

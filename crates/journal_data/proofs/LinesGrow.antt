@@ -6,8 +6,8 @@ use Rattle.acl_banks.specs.Packets.{Marked}
 use Rattle.ble_base.specs.declared.roles.Side.{Side}
 use Rattle.journal.specs.declared.entries.Entry.{Entry}
 use Rattle.journal.specs.declared.entries.Entry.TheVariants.{Fed as FedEntry, Up as UpEntry, Opened as OpenedEntry, Shut as ShutEntry, Sent as SentEntry, Took as TookEntry}
-use Rattle.controller_model.specs.Step.{Step}
-use Rattle.controller_model.specs.Side.{notes_after}
+use Rattle.journal_acks.specs.controller_model.Step.{Step}
+use Rattle.journal_acks.specs.controller_model.Side.{notes_after}
 use Rattle.journal_acks.specs.run_model.History.{Event, Called, Noted}
 use Rattle.journal_acks.specs.run_model.Journal.{entries_of, side_of}
 use Rattle.journal_acks.specs.run_model.Links.{links_of}

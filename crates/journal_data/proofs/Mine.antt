@@ -3,7 +3,7 @@ use Rattle.std.proofs.Common.{◌≡◌, ℕ, ◌==◌, ◌⊎◌, inl, inr, Boo
 use Rattle.std.proofs.lemmas.Bool.{eqb-true}
 use Rattle.journal_acks.proofs.link_model.Hearing.{IsHeardWhole}
 use Rattle.journal_acks.specs.open_links.OpenLinks.{OpenLink, link_at}
-use Rattle.controller_model.specs.Facts.{Facts, Sends}
+use Rattle.journal_acks.specs.controller_model.Facts.{Facts, Sends}
 use Rattle.radio_replay.specs.declared.fates.Fate.{Fate}
 use Rattle.journal_acks.specs.run_model.Feeding.{AreDistinct}
 use Rattle.journal_acks.specs.run_model.History.{Event, Hearing, Transmitted, has_received, packet_received}

@@ -5,13 +5,13 @@ use Rattle.ble_base.specs.declared.notes.Note.{Note}
 use Rattle.journal_acks.specs.link_model.Setup.{Setup as EndSetup}
 use Rattle.journal_acks.specs.link_model.declared.setup.LinkSetup.{LinkSetup}
 use Rattle.journal_acks.specs.open_links.OpenLinks.{Links, OpenLink, link_at, new_link, with_link}
-use Rattle.controller_model.specs.Facts.{Facts, Setup}
-use Rattle.controller_model.specs.Heard.{has_room, link_heard, link_taken, opens as opening, scanner_heard}
-use Rattle.controller_model.specs.Outcome.{Outcome, facts_passed}
-use Rattle.controller_model.specs.Side.{facts_after, notes_after}
-use Rattle.controller_model.proofs.Always.{opening_is}
-use Rattle.controller_model.proofs.OpenPlaces.{opens, sent_opens, received_opens}
-use Rattle.controller_model.proofs.Phases.{EachOutcome, heard_is, unheard_is}
+use Rattle.journal_acks.specs.controller_model.Facts.{Facts, Setup}
+use Rattle.journal_acks.specs.controller_model.Heard.{has_room, link_heard, link_taken, opens as opening, scanner_heard}
+use Rattle.journal_acks.specs.controller_model.Outcome.{Outcome, facts_passed}
+use Rattle.journal_acks.specs.controller_model.Side.{facts_after, notes_after}
+use Rattle.journal_acks.proofs.controller_model.Always.{opening_is}
+use Rattle.journal_acks.proofs.controller_model.OpenPlaces.{opens, sent_opens, received_opens}
+use Rattle.journal_acks.proofs.controller_model.Phases.{EachOutcome, heard_is, unheard_is}
 use Rattle.journal_acks.specs.run_model.History.{Event, packet_received, past_of}
 use Rattle.journal_acks.specs.run_model.Links.{links_of}
 use Rattle.journal_acks.specs.run_model.Run.{Given, after_call, facts_at, setup_at, step_of}

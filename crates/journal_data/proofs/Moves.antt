@@ -4,10 +4,10 @@ use Rattle.std.proofs.lemmas.List.{take-append-le}
 use Rattle.journal_acks.specs.link_model.Acknowledgement.{Acknowledgement, Pdu}
 use Rattle.journal_acks.proofs.link_model.Counts.{past_counted}
 use Rattle.journal_acks.specs.open_links.OpenLinks.{OpenLink, facts_in, link_at}
-use Rattle.controller_model.specs.Facts.{Facts}
-use Rattle.controller_model.specs.Heard.{has_room}
-use Rattle.controller_model.specs.Side.{facts_after}
-use Rattle.controller_model.specs.Step.{TurnBegins}
+use Rattle.journal_acks.specs.controller_model.Facts.{Facts}
+use Rattle.journal_acks.specs.controller_model.Heard.{has_room}
+use Rattle.journal_acks.specs.controller_model.Side.{facts_after}
+use Rattle.journal_acks.specs.controller_model.Step.{TurnBegins}
 use Rattle.journal_acks.specs.run_model.History.{Event, packet_received}
 use Rattle.journal_acks.specs.run_model.Run.{Given, after_call, facts_at, setup_at, step_of}
 use Rattle.journal_acks.proofs.run_laws.Agreed.{ack_of, ack_sent, first_ack}

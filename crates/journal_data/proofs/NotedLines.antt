@@ -16,8 +16,8 @@ use Rattle.ble_base.specs.declared.notes.Note.{Note}
 use Rattle.ble_base.specs.declared.notes.Note.TheVariants.{Up, Opened, Shut, Sent, Took}
 use Rattle.host_view.specs.Noted.{acl_handle, is_acl_data, two_octets}
 use Rattle.journal_acks.specs.open_links.OpenLinks.{Links as OpenLinks, OpenLink, link_from}
-use Rattle.controller_model.specs.Notes.{is_event, is_opening}
-use Rattle.controller_model.specs.Since.{is_data_note, note_since, since_opened, starts_message}
+use Rattle.journal_acks.specs.controller_model.Notes.{is_event, is_opening}
+use Rattle.journal_acks.specs.controller_model.Since.{is_data_note, note_since, since_opened, starts_message}
 use Rattle.journal_acks.specs.run_model.History.{Event, Noted, noted_by}
 use Rattle.journal_acks.specs.run_model.Journal.{entry_of, side_of}
 use Rattle.journal_acks.specs.run_model.Links.{Links, links_after, links_of}

@@ -6,7 +6,7 @@ use Rattle.ble_base.specs.declared.notes.Note.{Note}
 use Rattle.ble_base.specs.declared.notes.Note.TheVariants.{Up, Sent, Took}
 use Rattle.journal_acks.specs.link_model.Acknowledgement.{Pdu}
 use Rattle.journal_acks.specs.link_model.Numbers.{numbered_notes, sent_note, took_note}
-use Rattle.controller_model.specs.Since.{is_sent_on, is_took_on}
+use Rattle.journal_acks.specs.controller_model.Since.{is_sent_on, is_took_on}
 use Rattle.journal_data.proofs.Arriving.{pdu_lines}
 use Rattle.journal_data.proofs.Booked.{line_if, sent_line, took_line}
 

@@ -1,7 +1,7 @@
 -- What a station noted is what its calls give, after each event of a run.
 use Rattle.std.proofs.Common.{◌≡◌, ℕ, List, [], ◌∷◌, ◌++◌, refl, sym, ap, ◌∙◌}
-use Rattle.controller_model.specs.Side.{notes_of}
-use Rattle.controller_model.specs.Step.{HostOctet}
+use Rattle.journal_acks.specs.controller_model.Side.{notes_of}
+use Rattle.journal_acks.specs.controller_model.Step.{HostOctet}
 use Rattle.journal_acks.specs.run_model.Feeding.{HasNoted}
 use Rattle.journal_acks.specs.run_model.History.{Event, HostFed, notes_in, steps_in}
 use Rattle.journal_acks.specs.run_model.Run.{Given, after_call, after_feed, after_octets, setup_at}

@@ -9,11 +9,11 @@ use Rattle.journal_acks.specs.link_model.Acknowledgement.{Acknowledgement, Pdu, 
 use Rattle.journal_acks.specs.link_model.Data.{data_of, is_empty}
 use Rattle.journal_acks.specs.link_model.OneLink.{AreInAgreement}
 use Rattle.journal_acks.specs.open_links.OpenLinks.{OpenLink, facts_in, link_at}
-use Rattle.controller_model.specs.Facts.{Facts, Setup}
-use Rattle.controller_model.specs.Side.{notes_after}
-use Rattle.controller_model.specs.Since.{data_waiting}
-use Rattle.controller_model.specs.Step.{Step, TurnEnds}
-use Rattle.controller_model.proofs.Always.{IsInTurn}
+use Rattle.journal_acks.specs.controller_model.Facts.{Facts, Setup}
+use Rattle.journal_acks.specs.controller_model.Side.{notes_after}
+use Rattle.journal_acks.specs.controller_model.Since.{data_waiting}
+use Rattle.journal_acks.specs.controller_model.Step.{Step, TurnEnds}
+use Rattle.journal_acks.proofs.controller_model.Always.{IsInTurn}
 use Rattle.journal_acks.proofs.run_model.LinksKnown.{link_by_other, link_by_own}
 use Rattle.journal_acks.proofs.run_model.Notes.{noted_own}
 use Rattle.journal_acks.proofs.run_model.OpenedNotes.{is_opened}

@@ -10,12 +10,12 @@ use Rattle.ble_base.specs.declared.notes.Note.{Note}
 use Rattle.ble_base.specs.declared.notes.Note.TheVariants.{Up, Opened, Shut, Enter}
 use Rattle.ble_base.specs.declared.roles.Role.{Role}
 use Rattle.journal_acks.specs.open_links.OpenLinks.{OpenLink}
-use Rattle.controller_model.specs.Entering.{begins_turn}
-use Rattle.controller_model.specs.Facts.{Setup}
-use Rattle.controller_model.specs.Notes.{is_opening}
-use Rattle.controller_model.specs.Side.{facts_after, facts_of, notes_after}
-use Rattle.controller_model.specs.Step.{Step, HostOctet, TurnBegins, PacketHeard, NothingHeard, TurnEnds}
-use Rattle.controller_model.proofs.Entries.{enters_as_turns_begin, enters_at_anchors}
+use Rattle.journal_acks.specs.controller_model.Entering.{begins_turn}
+use Rattle.journal_acks.specs.controller_model.Facts.{Setup}
+use Rattle.journal_acks.specs.controller_model.Notes.{is_opening}
+use Rattle.journal_acks.specs.controller_model.Side.{facts_after, facts_of, notes_after}
+use Rattle.journal_acks.specs.controller_model.Step.{Step, HostOctet, TurnBegins, PacketHeard, NothingHeard, TurnEnds}
+use Rattle.journal_acks.proofs.controller_model.Entries.{enters_as_turns_begin, enters_at_anchors}
 use Rattle.journal_data.proofs.Fronts.{front_all}
 use Rattle.journal_data.proofs.NotedLines.{still_open}
 use Rattle.journal_data.proofs.Openness.{AreNot, IsNotedAs, stays, shuts, opens_first, IsShutOnce, is_open, is_shut_of, is_shutting, note_open, open_still, staying_open}

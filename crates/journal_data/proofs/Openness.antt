@@ -40,35 +40,38 @@ use Rattle.journal_acks.specs.open_links.OpenLinks.{Links, OpenLink, facts_in, h
 use Rattle.journal_acks.specs.open_links.Ended.{end_by}
 use Rattle.journal_acks.specs.open_links.Turns.{due_in, ends_by, enters_in, link_entered, links_without, notes_entering, notes_if, place_without, staying_by, ending_in}
 use Rattle.journal_acks.proofs.open_links.Ends.{stays_where_not_due}
-use Rattle.controller_model.specs.declared.doing.Doing.{Doing}
-use Rattle.controller_model.specs.declared.doing.Doing.TheVariants.{Advertises, CentralSends, PeripheralSends}
-use Rattle.controller_model.specs.Step.{Step, HostOctet, TurnBegins, PacketHeard, NothingHeard, TurnEnds}
-use Rattle.controller_model.specs.Facts.{Setup, Facts}
-use Rattle.controller_model.specs.Answers.{AreOneAnswer, HasNoAnswer, IsAnswerTo, answer_to}
-use Rattle.controller_model.specs.Commands.{events_caused, facts_commanded, facts_known, is_asking, links_after, notes_before, notes_commanded, notes_known}
-use Rattle.controller_model.specs.Data.{event_completed, facts_offered, note_received, notes_offered, offer_of, facts_handed, notes_handed}
-use Rattle.controller_model.specs.Events.{notes_of_events, passes}
-use Rattle.controller_model.specs.Heard.{events_reported, has_room, link_heard, link_taken, notes_taken, opens as opening, report_event, report_events, scanner_heard, events_received}
-use Rattle.controller_model.specs.Links.{connection_complete, connection_failed, ends_for, events_opened, facts_ending, note_shut, notes_ended, notes_ending, wants_enhanced, notes_leaving}
-use Rattle.controller_model.specs.Notes.{is_event, is_opening}
-use Rattle.controller_model.specs.Outcome.{Outcome, facts_passed, notes_passed}
-use Rattle.controller_model.specs.Packets.{notes_doing, notes_sent}
-use Rattle.controller_model.specs.Radio.{fixing, outcome_begun}
-use Rattle.controller_model.specs.Side.{facts_after, facts_fed, facts_of, notes_after, notes_fed, result_of}
-use Rattle.controller_model.proofs.Always.{IsInTurn, ending_is, facts_before_doing, opening_is, served_is, winner_before_doing, leaving_is}
-use Rattle.controller_model.proofs.AnsweredOnce.{answered_once}
-use Rattle.controller_model.proofs.Handles.{HaveOwnHandles, IsNew, free_is_new, own_handles}
-use Rattle.controller_model.proofs.OpenPlaces.{changed_opens, fixed_opens, mapped_opens, opens, sent_opens, won_opens, received_opens}
-use Rattle.controller_model.proofs.Phases.{EachOutcome, heard_is, unheard_is}
+use Rattle.journal_acks.specs.controller_model.declared.doing.Doing.{Doing}
+use Rattle.journal_acks.specs.controller_model.declared.doing.Doing.TheVariants.{Advertises, CentralSends, PeripheralSends}
+use Rattle.journal_acks.specs.controller_model.Step.{Step, HostOctet, TurnBegins, PacketHeard, NothingHeard, TurnEnds}
+use Rattle.journal_acks.specs.controller_model.Facts.{Setup, Facts}
+use Rattle.journal_acks.specs.controller_model.Answers.{AreOneAnswer, HasNoAnswer, IsAnswerTo, answer_to}
+use Rattle.journal_acks.specs.controller_model.Commands.{events_caused, facts_commanded, facts_known, is_asking, links_after, notes_before, notes_commanded}
+use Rattle.journal_acks.specs.controller_model.Commands.{notes_known}
+use Rattle.journal_acks.specs.controller_model.Data.{event_completed, facts_offered, note_received, notes_offered, offer_of, facts_handed, notes_handed}
+use Rattle.journal_acks.specs.controller_model.Events.{notes_of_events, passes}
+use Rattle.journal_acks.specs.controller_model.Heard.{events_reported, has_room, link_heard, link_taken, notes_taken, opens as opening, report_event}
+use Rattle.journal_acks.specs.controller_model.Heard.{report_events, scanner_heard, events_received}
+use Rattle.journal_acks.specs.controller_model.Links.{connection_complete, connection_failed, ends_for, events_opened, facts_ending, note_shut, notes_ended}
+use Rattle.journal_acks.specs.controller_model.Links.{notes_ending, wants_enhanced, notes_leaving}
+use Rattle.journal_acks.specs.controller_model.Notes.{is_event, is_opening}
+use Rattle.journal_acks.specs.controller_model.Outcome.{Outcome, facts_passed, notes_passed}
+use Rattle.journal_acks.specs.controller_model.Packets.{notes_doing, notes_sent}
+use Rattle.journal_acks.specs.controller_model.Radio.{fixing, outcome_begun}
+use Rattle.journal_acks.specs.controller_model.Side.{facts_after, facts_fed, facts_of, notes_after, notes_fed, result_of}
+use Rattle.journal_acks.proofs.controller_model.Always.{IsInTurn, ending_is, facts_before_doing, opening_is, served_is, winner_before_doing, leaving_is}
+use Rattle.journal_acks.proofs.controller_model.AnsweredOnce.{answered_once}
+use Rattle.journal_acks.proofs.controller_model.Handles.{HaveOwnHandles, IsNew, free_is_new, own_handles}
+use Rattle.journal_acks.proofs.controller_model.OpenPlaces.{changed_opens, fixed_opens, mapped_opens, opens, sent_opens, won_opens, received_opens}
+use Rattle.journal_acks.proofs.controller_model.Phases.{EachOutcome, heard_is, unheard_is}
 use Rattle.journal_acks.proofs.link_calls.UnderHandles.{map_under}
 use Rattle.journal_acks.proofs.open_links.Handles.{opened_at, other_stays}
 use Rattle.journal_acks.proofs.run_model.OpenedNotes.{is_opened, opened_was_free}
 use Rattle.journal_acks.proofs.link_calls.CallNotes.{is_taking}
-use Rattle.controller_model.proofs.EndNotes.{sent_each, received_each, entered_each}
-use Rattle.controller_model.proofs.ProcedureEvents.{AreOfProcedures, IsOfProcedure, entering_events, reception_events}
-use Rattle.controller_model.specs.Entering.{events_entering, notes_all_entering}
-use Rattle.controller_model.specs.link_commands.LinksCommanded.{events_commanded_on, links_commanded}
-use Rattle.controller_model.proofs.Asked.{asked_same, asking_shuts_none, both_asking, events_at_once_are, notes_at_once}
+use Rattle.journal_acks.proofs.controller_model.EndNotes.{sent_each, received_each, entered_each}
+use Rattle.journal_acks.proofs.controller_model.ProcedureEvents.{AreOfProcedures, IsOfProcedure, entering_events, reception_events}
+use Rattle.journal_acks.specs.controller_model.Entering.{events_entering, notes_all_entering}
+use Rattle.journal_acks.specs.controller_model.link_commands.LinksCommanded.{events_commanded_on, links_commanded}
+use Rattle.journal_acks.proofs.controller_model.Asked.{asked_same, asking_shuts_none, both_asking, events_at_once_are, notes_at_once}
 
 -- ---- what a note says
 

@@ -25,15 +25,15 @@ use Rattle.journal_acks.specs.open_links.Data.{received_past}
 use Rattle.journal_acks.specs.open_links.Ended.{received_without}
 use Rattle.journal_acks.specs.open_links.OpenLinks.{OpenLink, facts_in, link_at}
 use Rattle.wire_fields.specs.Field.{little_endian}
-use Rattle.controller_model.specs.Commands.{received_after}
-use Rattle.controller_model.specs.Data.{acl_packet}
-use Rattle.controller_model.specs.Facts.{Facts, Setup, first_facts}
-use Rattle.controller_model.specs.Heard.{has_room, link_taken, piece_taken}
-use Rattle.controller_model.specs.Side.{facts_of}
-use Rattle.controller_model.specs.Step.{Step}
-use Rattle.controller_model.proofs.Always.{IsKept, always, opening_passes, received_shut}
-use Rattle.controller_model.proofs.OtherNotes.{two_octets_hold}
-use Rattle.controller_model.specs.Links.{ends_for}
+use Rattle.journal_acks.specs.controller_model.Commands.{received_after}
+use Rattle.journal_acks.specs.controller_model.Data.{acl_packet}
+use Rattle.journal_acks.specs.controller_model.Facts.{Facts, Setup, first_facts}
+use Rattle.journal_acks.specs.controller_model.Heard.{has_room, link_taken, piece_taken}
+use Rattle.journal_acks.specs.controller_model.Side.{facts_of}
+use Rattle.journal_acks.specs.controller_model.Step.{Step}
+use Rattle.journal_acks.proofs.controller_model.Always.{IsKept, always, opening_passes, received_shut}
+use Rattle.journal_acks.proofs.controller_model.OtherNotes.{two_octets_hold}
+use Rattle.journal_acks.specs.controller_model.Links.{ends_for}
 
 abbrev pub AreShort : List (ℕ × Piece) → Type 0
 AreShort received = AllByRecursion (λ (piece : ℕ × Piece). length piece.1.body.items ≤ 255) received

@@ -27,21 +27,21 @@ use Rattle.journal_acks.specs.open_links.declared.offers.Offer.{Offer}
 use Rattle.journal_acks.specs.open_links.declared.offers.Offer.TheVariants.{NoLink, Empty, Overflow, Kept}
 use Rattle.journal_acks.specs.open_links.OpenLinks.{handles_from}
 use Rattle.wire_fields.specs.Field.{little_endian}
-use Rattle.controller_model.specs.Answers.{answer_to}
-use Rattle.controller_model.specs.Commands.{events_caused, notes_commanded, notes_known}
-use Rattle.controller_model.specs.link_commands.LinksCommanded.{events_commanded_on}
-use Rattle.controller_model.proofs.Asked.{noted_asking, notes_at_once}
-use Rattle.controller_model.specs.Data.{notes_offered, offer_of, event_completed, note_received, facts_handed, notes_handed}
-use Rattle.controller_model.specs.Events.{notes_of_events, passes}
-use Rattle.controller_model.specs.Facts.{Facts, Setup}
-use Rattle.controller_model.specs.Links.{note_shut, notes_reset, notes_leaving}
-use Rattle.controller_model.specs.Notes.{is_event}
-use Rattle.controller_model.specs.Side.{facts_of, notes_after, notes_fed, result_of}
-use Rattle.controller_model.specs.Step.{Step, HostOctet, TurnBegins, PacketHeard, NothingHeard, TurnEnds}
-use Rattle.controller_model.proofs.Phases.{heard_is, unheard_is}
-use Rattle.controller_model.proofs.Always.{IsInTurn}
-use Rattle.controller_model.proofs.Handles.{own_handles}
-use Rattle.controller_model.proofs.TurnNotes.{EachNote, turn_noted}
+use Rattle.journal_acks.specs.controller_model.Answers.{answer_to}
+use Rattle.journal_acks.specs.controller_model.Commands.{events_caused, notes_commanded, notes_known}
+use Rattle.journal_acks.specs.controller_model.link_commands.LinksCommanded.{events_commanded_on}
+use Rattle.journal_acks.proofs.controller_model.Asked.{noted_asking, notes_at_once}
+use Rattle.journal_acks.specs.controller_model.Data.{notes_offered, offer_of, event_completed, note_received, facts_handed, notes_handed}
+use Rattle.journal_acks.specs.controller_model.Events.{notes_of_events, passes}
+use Rattle.journal_acks.specs.controller_model.Facts.{Facts, Setup}
+use Rattle.journal_acks.specs.controller_model.Links.{note_shut, notes_reset, notes_leaving}
+use Rattle.journal_acks.specs.controller_model.Notes.{is_event}
+use Rattle.journal_acks.specs.controller_model.Side.{facts_of, notes_after, notes_fed, result_of}
+use Rattle.journal_acks.specs.controller_model.Step.{Step, HostOctet, TurnBegins, PacketHeard, NothingHeard, TurnEnds}
+use Rattle.journal_acks.proofs.controller_model.Phases.{heard_is, unheard_is}
+use Rattle.journal_acks.proofs.controller_model.Always.{IsInTurn}
+use Rattle.journal_acks.proofs.controller_model.Handles.{own_handles}
+use Rattle.journal_acks.proofs.controller_model.TurnNotes.{EachNote, turn_noted}
 use Rattle.journal_data.specs.Held.{IsOfOneHandle}
 use Rattle.journal_data.proofs.PieceLengths.{AreShort, all_short, packet_length}
 use Rattle.journal_data.proofs.Openness.{AreNot, NoReport, begun_reports, is_report, phase_reports, all_append, leaving_reports}

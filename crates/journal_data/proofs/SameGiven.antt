@@ -16,27 +16,27 @@ use Rattle.slot_plan.specs.declared.Activity.TheVariants.{Link, Advertise, Scan,
 use Rattle.journal_acks.specs.open_links.Data.{complete_in, link_reported, links_reported}
 use Rattle.journal_acks.specs.open_links.OpenLinks.{Links, OpenLink, facts_in, link_after, link_at, link_served, new_link, with_change, with_link}
 use Rattle.journal_acks.specs.open_links.Turns.{entered_if, link_entered, place_without, staying_by, enters_in, ending_in}
-use Rattle.controller_model.specs.declared.doing.Doing.{Doing}
-use Rattle.controller_model.specs.declared.doing.Doing.TheVariants.{Advertises, CentralSends, PeripheralListens, PeripheralSends}
-use Rattle.controller_model.specs.Facts.{Setup, Facts}
-use Rattle.controller_model.specs.Events.{notes_of_events}
-use Rattle.controller_model.specs.Heard.{asks_if, has_room, link_received, link_taken, opens, replies_in, reply_if, scanner_after, with_scanner}
-use Rattle.controller_model.specs.Links.{events_opened}
-use Rattle.controller_model.specs.Outcome.{Outcome, facts_passed, notes_passed}
-use Rattle.controller_model.specs.Packets.{facts_doing, links_sending}
-use Rattle.controller_model.specs.Radio.{links_fixing}
-use Rattle.controller_model.specs.Side.{facts_after, facts_of, notes_after}
-use Rattle.controller_model.specs.Step.{Step, HostOctet, TurnBegins, PacketHeard, NothingHeard, TurnEnds}
-use Rattle.controller_model.proofs.Always.{IsInTurn, IsKeptAtStarts, links_won, opening_passes, start_keeps, leaving_is}
-use Rattle.controller_model.proofs.Handles.{own_handles}
-use Rattle.controller_model.proofs.Phases.{EachOutcome, heard_is, unheard_is}
+use Rattle.journal_acks.specs.controller_model.declared.doing.Doing.{Doing}
+use Rattle.journal_acks.specs.controller_model.declared.doing.Doing.TheVariants.{Advertises, CentralSends, PeripheralListens, PeripheralSends}
+use Rattle.journal_acks.specs.controller_model.Facts.{Setup, Facts}
+use Rattle.journal_acks.specs.controller_model.Events.{notes_of_events}
+use Rattle.journal_acks.specs.controller_model.Heard.{asks_if, has_room, link_received, link_taken, opens, replies_in, reply_if, scanner_after, with_scanner}
+use Rattle.journal_acks.specs.controller_model.Links.{events_opened}
+use Rattle.journal_acks.specs.controller_model.Outcome.{Outcome, facts_passed, notes_passed}
+use Rattle.journal_acks.specs.controller_model.Packets.{facts_doing, links_sending}
+use Rattle.journal_acks.specs.controller_model.Radio.{links_fixing}
+use Rattle.journal_acks.specs.controller_model.Side.{facts_after, facts_of, notes_after}
+use Rattle.journal_acks.specs.controller_model.Step.{Step, HostOctet, TurnBegins, PacketHeard, NothingHeard, TurnEnds}
+use Rattle.journal_acks.proofs.controller_model.Always.{IsInTurn, IsKeptAtStarts, links_won, opening_passes, start_keeps, leaving_is}
+use Rattle.journal_acks.proofs.controller_model.Handles.{own_handles}
+use Rattle.journal_acks.proofs.controller_model.Phases.{EachOutcome, heard_is, unheard_is}
 use Rattle.journal_acks.proofs.run_model.OpenedNotes.{is_opened, opened_was_free}
 use Rattle.journal_acks.proofs.open_links.Handles.{changed_is, other_stays}
 use Rattle.journal_acks.proofs.link_calls.UnderHandles.{IsOpenedIf, map_under, opened_under}
 use Rattle.std.proofs.lemmas.Bool.{eq-eqb, eqb-false, eqb-true}
 use Rattle.journal_data.proofs.DataSteps.{IsKeptByEnd, IsOwnStep, link_keeps}
-use Rattle.controller_model.proofs.Places.{link_receiving, receiving_is, refusal, refused_if, refuses_at}
-use Rattle.controller_model.specs.Data.{facts_handed}
+use Rattle.journal_acks.proofs.controller_model.Places.{link_receiving, receiving_is, refusal, refused_if, refuses_at}
+use Rattle.journal_acks.specs.controller_model.Data.{facts_handed}
 use Rattle.journal_acks.specs.link_model.End.{facts_of as end_facts}
 
 -- ---- one link

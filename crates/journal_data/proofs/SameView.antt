@@ -3,10 +3,10 @@ use Rattle.std.proofs.Common.{Some, ◌≡◌, ℕ, Bool, false, List, [], ◌�
 use Rattle.std.specs.Option.{option_map}
 use mathlib.Core.Path.{fun_ext}
 use Rattle.journal_acks.specs.open_links.OpenLinks.{OpenLink, facts_in, link_at}
-use Rattle.controller_model.specs.Facts.{Facts}
-use Rattle.controller_model.specs.Side.{facts_of, notes_after, notes_of}
-use Rattle.controller_model.specs.Since.{data_waiting, empties_of}
-use Rattle.controller_model.specs.Step.{Step, HostOctet}
+use Rattle.journal_acks.specs.controller_model.Facts.{Facts}
+use Rattle.journal_acks.specs.controller_model.Side.{facts_of, notes_after, notes_of}
+use Rattle.journal_acks.specs.controller_model.Since.{data_waiting, empties_of}
+use Rattle.journal_acks.specs.controller_model.Step.{Step, HostOctet}
 use Rattle.journal_acks.specs.run_model.History.{Event, TurnBegan, HostFed, Transmitted, Hearing, noted_by, notes_in, past_of, steps_in}
 use Rattle.journal_acks.specs.run_model.Journal.{side_of}
 use Rattle.journal_acks.specs.run_model.Run.{Given, after_call, after_feed, after_octets, facts_at, setup_at}

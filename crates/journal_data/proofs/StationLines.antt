@@ -11,15 +11,15 @@ use Rattle.ble_base.specs.declared.notes.Note.{Note}
 use Rattle.ble_base.specs.declared.notes.Note.TheVariants.{Up, Opened, Shut, Sent, Took}
 use Rattle.journal.specs.declared.entries.Entry.TheVariants.{Fed as FedEntry}
 use Rattle.journal_acks.specs.open_links.OpenLinks.{OpenLink, link_at, link_from}
-use Rattle.controller_model.specs.Step.{Step, HostOctet}
-use Rattle.controller_model.specs.Facts.{Setup, Facts}
-use Rattle.controller_model.specs.Notes.{HasHandleBelow, is_opening}
-use Rattle.controller_model.specs.Shutting.{IsShut, overdue, reset, StaysIn, leaving}
-use Rattle.controller_model.specs.Side.{facts_after, facts_of, notes_after}
-use Rattle.controller_model.specs.Since.{since_opened}
-use Rattle.controller_model.proofs.NotedLinks.{step_names_links}
-use Rattle.controller_model.proofs.OpenNotes.{open_after, open_before}
-use Rattle.controller_model.proofs.Shuts.{shuts_with_reason}
+use Rattle.journal_acks.specs.controller_model.Step.{Step, HostOctet}
+use Rattle.journal_acks.specs.controller_model.Facts.{Setup, Facts}
+use Rattle.journal_acks.specs.controller_model.Notes.{HasHandleBelow, is_opening}
+use Rattle.journal_acks.specs.controller_model.Shutting.{IsShut, overdue, reset, StaysIn, leaving}
+use Rattle.journal_acks.specs.controller_model.Side.{facts_after, facts_of, notes_after}
+use Rattle.journal_acks.specs.controller_model.Since.{since_opened}
+use Rattle.journal_acks.proofs.controller_model.NotedLinks.{step_names_links}
+use Rattle.journal_acks.proofs.controller_model.OpenNotes.{open_after, open_before}
+use Rattle.journal_acks.proofs.controller_model.Shuts.{shuts_with_reason}
 use Rattle.journal_acks.specs.run_model.History.{Event, TurnBegan, HostFed, Called, Noted, Transmitted, Hearing, noted_by, notes_in, past_of, steps_in}
 use Rattle.journal_acks.specs.run_model.Journal.{journal_of, side_of}
 use Rattle.journal_acks.specs.run_model.Links.{Links, begins_link, links_after, links_of, with_link}
@@ -43,7 +43,7 @@ use Rattle.journal_data.proofs.HeldLinks.{HoldsLinks, holds_none}
 use Rattle.journal_data.proofs.Openness.{AreNot, IsNotedAs, stays, shuts, opens_first, is_open, is_shutting, note_open, open_still, past_noted, all_of, same_open}
 use Rattle.journal_data.proofs.NotedLines.{IsUnused, IsSameOn, same_itself, same_then, IsLink, is_link, AreApart, IsOfBase, IsNotOf, sent_data, took_data, IsBookedSo, booked_along, booked_where, opening_kept, with_noted, one_on, numbers_quiet, notes_kept}
 use Rattle.journal_data.proofs.TurnsEnded.{is_else, none_else}
-use Rattle.controller_model.proofs.OpenPlaces.{mapped_opens}
+use Rattle.journal_acks.proofs.controller_model.OpenPlaces.{mapped_opens}
 use Rattle.journal_acks.specs.open_links.Data.{link_reported}
 
 -- ---- what the lines of a station are to say

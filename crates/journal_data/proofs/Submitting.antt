@@ -16,12 +16,12 @@ use Rattle.acl_banks.specs.Packets.{DataPacket}
 use Rattle.journal_acks.proofs.link_model.Sending.{past_together}
 use Rattle.journal_acks.specs.open_links.Data.{buffers_in, buffers_taken, complete_in}
 use Rattle.journal_acks.specs.open_links.OpenLinks.{OpenLink, facts_in, link_at}
-use Rattle.controller_model.specs.Facts.{Setup, Facts, first_facts}
-use Rattle.controller_model.specs.Side.{facts_after, facts_of, notes_after, result_of}
-use Rattle.controller_model.specs.Step.{Step, HostOctet}
-use Rattle.controller_model.proofs.Always.{IsInTurn}
-use Rattle.controller_model.proofs.Feds.{more_octets, turn_octets}
-use Rattle.controller_model.proofs.Handles.{own_handles}
+use Rattle.journal_acks.specs.controller_model.Facts.{Setup, Facts, first_facts}
+use Rattle.journal_acks.specs.controller_model.Side.{facts_after, facts_of, notes_after, result_of}
+use Rattle.journal_acks.specs.controller_model.Step.{Step, HostOctet}
+use Rattle.journal_acks.proofs.controller_model.Always.{IsInTurn}
+use Rattle.journal_acks.proofs.controller_model.Feds.{more_octets, turn_octets}
+use Rattle.journal_acks.proofs.controller_model.Handles.{own_handles}
 use Rattle.journal_acks.specs.run_model.History.{Event, HostFed, past_of}
 use Rattle.journal_acks.specs.run_model.Journal.{entry_of}
 use Rattle.journal_acks.specs.run_model.Links.{Links}
@@ -32,7 +32,7 @@ use Rattle.journal_acks.proofs.run_model.OpenedNotes.{is_opened, outside_open}
 use Rattle.journal_acks.proofs.Exchanging.{number_at}
 use Rattle.journal_acks.proofs.run_laws.Hearings.{own_facts}
 use Rattle.journal_acks.proofs.run_laws.TurnPlaces.{event_past}
-use Rattle.controller_model.specs.Since.{count_fed, count_given, count_since, empties_from, empties_of}
+use Rattle.journal_acks.specs.controller_model.Since.{count_fed, count_given, count_since, empties_from, empties_of}
 use Rattle.journal_data.specs.HostLines.{OpenUnder, Submitted, has_octets, kept_of, packets_framed}
 use Rattle.journal_data.specs.Lines.{Lines, buffers_taken as lines_taken, credited_on, data_on, empties_on, line_after, submitted_on}
 use Rattle.journal_data.proofs.EachLine.{numbers_at}

@@ -5,9 +5,9 @@ use Rattle.ble_base.specs.declared.notes.Note.{Note}
 use Rattle.ack_bit.specs.Nonempty.{nonempty}
 use Rattle.journal_acks.specs.link_model.Data.{is_empty}
 use Rattle.journal_acks.specs.open_links.OpenLinks.{OpenLink, facts_in, link_at}
-use Rattle.controller_model.specs.Since.{data_up, data_waiting, empties_of, is_sent_on, is_took_on, since_opened}
-use Rattle.controller_model.proofs.DataBooks.{data_is_handed}
-use Rattle.controller_model.proofs.NoteBooks.{sent_notes_are, took_notes_are}
+use Rattle.journal_acks.specs.controller_model.Since.{data_up, data_waiting, empties_of, is_sent_on, is_took_on, since_opened}
+use Rattle.journal_acks.proofs.controller_model.DataBooks.{data_is_handed}
+use Rattle.journal_acks.proofs.controller_model.NoteBooks.{sent_notes_are, took_notes_are}
 use Rattle.journal_acks.specs.run_model.Feeding.{HasNoted}
 use Rattle.journal_acks.specs.run_model.History.{Event, noted_by, past_of}
 use Rattle.journal_acks.specs.run_model.Run.{Given, facts_at, setup_at}

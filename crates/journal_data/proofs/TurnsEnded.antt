@@ -6,13 +6,13 @@ use Rattle.std.proofs.lemmas.List.Elements.{All-contains, All-from_recursion}
 use Rattle.ble_base.specs.declared.notes.Note.{Note}
 use Rattle.ble_base.specs.declared.notes.Note.TheVariants.{Up, Shut}
 use Rattle.journal_acks.specs.open_links.Turns.{ending_in}
-use Rattle.controller_model.specs.Data.{facts_handed, notes_handed}
-use Rattle.controller_model.specs.Facts.{Facts, Setup}
-use Rattle.controller_model.specs.Links.{ends_for, notes_leaving}
-use Rattle.controller_model.specs.Side.{notes_after}
-use Rattle.controller_model.specs.Since.{is_data_note}
-use Rattle.controller_model.specs.Step.{Step, HostOctet, TurnBegins, PacketHeard, NothingHeard, TurnEnds}
-use Rattle.controller_model.proofs.OtherNotes.{AreOther, IsOther, ends_other}
+use Rattle.journal_acks.specs.controller_model.Data.{facts_handed, notes_handed}
+use Rattle.journal_acks.specs.controller_model.Facts.{Facts, Setup}
+use Rattle.journal_acks.specs.controller_model.Links.{ends_for, notes_leaving}
+use Rattle.journal_acks.specs.controller_model.Side.{notes_after}
+use Rattle.journal_acks.specs.controller_model.Since.{is_data_note}
+use Rattle.journal_acks.specs.controller_model.Step.{Step, HostOctet, TurnBegins, PacketHeard, NothingHeard, TurnEnds}
+use Rattle.journal_acks.proofs.controller_model.OtherNotes.{AreOther, IsOther, ends_other}
 use Rattle.journal_data.proofs.Openness.{AreNot, all_append, handed_not, leaving_not}
 
 -- a turn ends in a step, or it does not

@@ -8,7 +8,7 @@ use Rattle.ble_base.specs.declared.roles.Side.{Side}
 use Rattle.host_view.specs.Noted.{acl_handle, is_acl_data, two_octets}
 use Rattle.journal.specs.declared.entries.Entry.{Entry}
 use Rattle.journal.specs.declared.entries.Entry.TheVariants.{Up, Enter, Opened, Shut, Sent, Took}
-use Rattle.controller_model.specs.Notes.{is_event}
+use Rattle.journal_acks.specs.controller_model.Notes.{is_event}
 use Rattle.journal_data.specs.Delivered.{host_buffers}
 use Rattle.journal_data.specs.HostLines.{OpenUnder, link_under}
 use Rattle.journal_data.specs.Lines.{lines_of}

@@ -4,7 +4,7 @@ pub mod Lines
 pub mod Delivered
 pub mod Held
 -- what the crates above use of those below
-pub use Rattle.controller_model.specs as controller_model
+pub use Rattle.journal_acks.specs.controller_model as controller_model
 pub use Rattle.journal_acks.specs as journal_acks
 pub use Rattle.journal_acks.specs.journal_links as journal_links
 pub use Rattle.journal_acks.specs.journal_packets as journal_packets

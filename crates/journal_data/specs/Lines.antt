@@ -10,8 +10,8 @@ use Rattle.journal.specs.declared.entries.Entry.{Entry}
 use Rattle.journal.specs.declared.entries.Entry.TheVariants.{Fed, Up, Opened, Shut, Sent, Took}
 use Rattle.journal_acks.specs.link_model.Acknowledgement.{Pdu}
 use Rattle.journal_acks.specs.link_model.Data.{data_in}
-use Rattle.controller_model.specs.Notes.{is_event}
-use Rattle.controller_model.specs.Since.{starts_message}
+use Rattle.journal_acks.specs.controller_model.Notes.{is_event}
+use Rattle.journal_acks.specs.controller_model.Since.{starts_message}
 use Rattle.journal_acks.specs.journal_packets.Belonging.{is_side}
 use Rattle.journal_data.specs.HostLines.{OpenUnder, Submitted, has_octets, kept_of, link_under, packets_framed}
 

@@ -31,7 +31,7 @@ pub fn data_arrives_in_order_in_every_journal()
         → length script.b.public ≡ 6
         → AllDataArrives (journal_of (history_of (run_of (given_of a b script)))) }
 {
-    controller_model::a_pdu_is_understood();
+    journal_acks::a_pdu_is_understood();
     advertise::laws::connections_are_taken();
     scan_init::laws::searches_give_each_valid_address();
     air_frame::laws::packet_tells_its_pdu();
@@ -47,7 +47,7 @@ pub fn data_of_two_stations_arrives_in_order()
         → journal_of (history_of (run_of given)) ≡ front ++ rest
         → ArrivesInOrder link (lines_of 8 side front) (lines_of 8 (other_side side) front) }
 {
-    controller_model::a_pdu_is_understood();
+    journal_acks::a_pdu_is_understood();
     advertise::laws::connections_are_taken();
     scan_init::laws::searches_give_each_valid_address();
     air_frame::laws::packet_tells_its_pdu();

@@ -20,7 +20,7 @@ pub fn lines_are_of_open_links_in_every_journal()
         → length script.b.public ≡ 6
         → LinesAreOfOpenLinks (journal_of (history_of (run_of (given_of a b script)))) }
 {
-    controller_model::a_pdu_is_understood();
+    journal_acks::a_pdu_is_understood();
     advertise::laws::connections_are_taken();
     scan_init::laws::searches_give_each_valid_address();
     air_frame::laws::packet_tells_its_pdu();
@@ -34,7 +34,7 @@ pub fn lines_of_two_stations_are_of_open_links()
         → ((station : ℕ) → (setup_at given station).host_buffers ≡ 8)
         → LinesAreOfOpenLinks (journal_of (history_of (run_of given))) }
 {
-    controller_model::a_pdu_is_understood();
+    journal_acks::a_pdu_is_understood();
     advertise::laws::connections_are_taken();
     scan_init::laws::searches_give_each_valid_address();
     air_frame::laws::packet_tells_its_pdu();

@@ -1,7 +1,7 @@
 -- The control part of each open end at the calls and packets of a run.
 use Rattle.std.proofs.Common.{Some, sym, ap, ◌∙◌}
-use Rattle.controller_model.specs.Step.{PacketHeard, TurnBegins}
-use Rattle.controller_model.specs.open_links.OpenLinks.{facts_in}
+use Rattle.journal_controls.specs.controller_model.Step.{PacketHeard, TurnBegins}
+use Rattle.journal_controls.specs.open_links.OpenLinks.{facts_in}
 use Rattle.journal_controls.specs.Hearing.{control_hearing, control_if}
 use Rattle.journal_controls.specs.run_model.LinkEnds.{HaveAddresses}
 use Rattle.journal_controls.specs.run_model.Run.{Given, facts_at}

@@ -24,8 +24,8 @@ use Rattle.journal_controls.specs.link_model.Verdicts.{good_in, has_room_for, pd
 use Rattle.journal_controls.specs.run_model.History.{Event, is_good}
 use Rattle.journal_controls.specs.run_model.Journal.{journal_of, side_of}
 use Rattle.journal_controls.specs.run_model.Run.{Given, facts_at}
-use Rattle.controller_model.specs.declared.doing.Turn.{Turn}
-use Rattle.controller_model.specs.open_links.OpenLinks.{OpenLink, facts_in, link_at}
+use Rattle.journal_controls.specs.controller_model.declared.doing.Turn.{Turn}
+use Rattle.journal_controls.specs.open_links.OpenLinks.{OpenLink, facts_in, link_at}
 use Rattle.journal_controls.proofs.journal_acks.Counting.{IsEndCounted, ack_taking, ahead_if}
 use Rattle.journal_controls.proofs.journal_acks.Exchanging.{number_at}
 use Rattle.journal_controls.proofs.journal_acks.KeptLines.{IsLined}

@@ -5,23 +5,23 @@ use Rattle.std.proofs.lemmas.Bool.{eqb-true, false_from_ne_true}
 use Rattle.std.proofs.lemmas.List.{map-append}
 use Rattle.ble_base.specs.declared.notes.Note.{Note}
 use Rattle.ble_base.specs.declared.roles.Side.{Side}
-use Rattle.controller_model.specs.Entering.{notes_all_entering}
-use Rattle.controller_model.specs.Events.{notes_of_events}
-use Rattle.controller_model.specs.Facts.{Setup, Facts}
-use Rattle.controller_model.specs.Heard.{events_received, heard, link_hearing, link_received, notes_taken, replies_in, reply_if}
-use Rattle.controller_model.specs.Links.{facts_ending, note_shut, notes_ended, notes_ending}
-use Rattle.controller_model.specs.Outcome.{notes_passed}
-use Rattle.controller_model.specs.Packets.{notes_doing}
-use Rattle.controller_model.specs.Radio.{outcome_begun}
-use Rattle.controller_model.specs.Side.{notes_after}
-use Rattle.controller_model.specs.Step.{PacketHeard, TurnBegins}
-use Rattle.controller_model.specs.host_view.View.{View}
-use Rattle.controller_model.specs.open_links.OpenLinks.{Links, OpenLink, facts_in, link_at, link_from}
-use Rattle.controller_model.specs.open_links.Turns.{due_in, ends_by, links_without, place_without, staying_by}
-use Rattle.controller_model.specs.open_links.Ended.{end_by}
-use Rattle.controller_model.proofs.Always.{ending_is}
-use Rattle.controller_model.proofs.EndNotes.{received_each}
-use Rattle.controller_model.proofs.open_links.Ends.{stays_where_not_due}
+use Rattle.journal_controls.specs.controller_model.Entering.{notes_all_entering}
+use Rattle.journal_controls.specs.controller_model.Events.{notes_of_events}
+use Rattle.journal_controls.specs.controller_model.Facts.{Setup, Facts}
+use Rattle.journal_controls.specs.controller_model.Heard.{events_received, heard, link_hearing, link_received, notes_taken, replies_in, reply_if}
+use Rattle.journal_controls.specs.controller_model.Links.{facts_ending, note_shut, notes_ended, notes_ending}
+use Rattle.journal_controls.specs.controller_model.Outcome.{notes_passed}
+use Rattle.journal_controls.specs.controller_model.Packets.{notes_doing}
+use Rattle.journal_controls.specs.controller_model.Radio.{outcome_begun}
+use Rattle.journal_controls.specs.controller_model.Side.{notes_after}
+use Rattle.journal_controls.specs.controller_model.Step.{PacketHeard, TurnBegins}
+use Rattle.journal_controls.specs.controller_model.host_view.View.{View}
+use Rattle.journal_controls.specs.open_links.OpenLinks.{Links, OpenLink, facts_in, link_at, link_from}
+use Rattle.journal_controls.specs.open_links.Turns.{due_in, ends_by, links_without, place_without, staying_by}
+use Rattle.journal_controls.specs.open_links.Ended.{end_by}
+use Rattle.journal_controls.proofs.controller_model.Always.{ending_is}
+use Rattle.journal_controls.proofs.controller_model.EndNotes.{received_each}
+use Rattle.journal_controls.proofs.controller_model.open_links.Ends.{stays_where_not_due}
 use Rattle.data_pdu.specs.Header.{header_in}
 use Rattle.hci_evt.specs.declared.event.Event.TheVariants.{DisconnectionComplete}
 use Rattle.journal.specs.declared.entries.Entry.{Entry}

@@ -5,11 +5,11 @@ use Rattle.std.proofs.lemmas.Bool.{and_right, eqb-true}
 use Rattle.std.proofs.lemmas.List.{append_cancel_left}
 use Rattle.ble_base.specs.Side.{other_side}
 use Rattle.ble_base.specs.declared.roles.Side.{Side}
-use Rattle.controller_model.specs.Facts.{Facts, Sends}
-use Rattle.controller_model.specs.Packets.{verdict_of}
-use Rattle.controller_model.proofs.DataChannels.{link_channel}
-use Rattle.controller_model.proofs.Sent.{sends_well}
-use Rattle.controller_model.specs.open_links.OpenLinks.{OpenLink, facts_in, link_at}
+use Rattle.journal_controls.specs.controller_model.Facts.{Facts, Sends}
+use Rattle.journal_controls.specs.controller_model.Packets.{verdict_of}
+use Rattle.journal_controls.proofs.controller_model.DataChannels.{link_channel}
+use Rattle.journal_controls.proofs.controller_model.Sent.{sends_well}
+use Rattle.journal_controls.specs.open_links.OpenLinks.{OpenLink, facts_in, link_at}
 use Rattle.data_pdu.specs.Header.{header_in}
 use Rattle.journal.specs.declared.entries.Entry.{Entry}
 use Rattle.journal.specs.declared.entries.Entry.TheVariants.{Air}

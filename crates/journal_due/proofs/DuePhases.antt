@@ -10,17 +10,20 @@ use Rattle.advertise.specs.declared.answers.AdvAnswer.TheVariants.{Ignore, Respo
 use Rattle.advertise.specs.Advertising.{AdvertiserFacts}
 use Rattle.advertise.specs.Answers.{advertiser_answer}
 use Rattle.ble_base.specs.declared.addresses.Address.{Address}
-use Rattle.controller_model.specs.declared.doing.Doing.{Doing}
-use Rattle.controller_model.specs.declared.doing.Doing.TheVariants.{Advertises, AwaitsRequest, Scans, Requests, AwaitsResponse, Initiates, Connects, CentralSends, CentralListens, PeripheralListens}
-use Rattle.controller_model.specs.Events.{notes_of_events}
-use Rattle.controller_model.specs.Facts.{Setup, Facts}
-use Rattle.controller_model.specs.Heard.{advertiser_answers, advertiser_heard, asks_if, connects, events_reported, heard, if_pdu, initiator_heard, link_taken, link_to, opens, scanner_after, scanner_heard, taken_if, taken_under, unheard, with_scanner}
-use Rattle.controller_model.specs.Links.{events_opened, note_opened}
-use Rattle.controller_model.specs.Outcome.{Outcome, notes_passed}
-use Rattle.controller_model.specs.Packets.{notes_doing, pdu_heard}
-use Rattle.controller_model.specs.host_view.scan_init.Initiating.{InitiatorFacts}
-use Rattle.controller_model.specs.host_view.scan_init.Reports.{ScannerFacts, does_ask, scan_answer}
-use Rattle.controller_model.specs.open_links.OpenLinks.{free_from}
+use Rattle.journal_controls.specs.controller_model.declared.doing.Doing.{Doing}
+use Rattle.journal_controls.specs.controller_model.declared.doing.Doing.TheVariants.{Advertises, AwaitsRequest, Scans, Requests, AwaitsResponse, Initiates}
+use Rattle.journal_controls.specs.controller_model.declared.doing.Doing.TheVariants.{Connects, CentralSends, CentralListens, PeripheralListens}
+use Rattle.journal_controls.specs.controller_model.Events.{notes_of_events}
+use Rattle.journal_controls.specs.controller_model.Facts.{Setup, Facts}
+use Rattle.journal_controls.specs.controller_model.Heard.{advertiser_answers, advertiser_heard, asks_if, connects, events_reported, heard, if_pdu}
+use Rattle.journal_controls.specs.controller_model.Heard.{initiator_heard, link_taken, link_to, opens, scanner_after, scanner_heard, taken_if, taken_under}
+use Rattle.journal_controls.specs.controller_model.Heard.{unheard, with_scanner}
+use Rattle.journal_controls.specs.controller_model.Links.{events_opened, note_opened}
+use Rattle.journal_controls.specs.controller_model.Outcome.{Outcome, notes_passed}
+use Rattle.journal_controls.specs.controller_model.Packets.{notes_doing, pdu_heard}
+use Rattle.journal_controls.specs.controller_model.host_view.scan_init.Initiating.{InitiatorFacts}
+use Rattle.journal_controls.specs.controller_model.host_view.scan_init.Reports.{ScannerFacts, does_ask, scan_answer}
+use Rattle.journal_controls.specs.open_links.OpenLinks.{free_from}
 use Rattle.journal_controls.specs.link_model.declared.setup.LinkSetup.{LinkSetup}
 use Rattle.journal_controls.proofs.journal_acks.link_calls.CallNotes.{IsOfFeeds, events_noted}
 use Rattle.journal_controls.specs.journal_acks.link_calls.Uses.{listens_under}

@@ -6,8 +6,8 @@ use Rattle.ble_base.specs.declared.notes.Note.{Note}
 use Rattle.ble_base.specs.declared.notes.Note.TheVariants.{Opened, Sent, Shut, Up}
 use Rattle.ble_base.specs.declared.roles.Side.{Side}
 use Rattle.ble_base.specs.declared.roles.Side.TheVariants.{A, B}
-use Rattle.controller_model.proofs.EndNotes.{sent_each}
-use Rattle.host_answers.specs.Answered.{answer_statuses}
+use Rattle.journal_controls.proofs.controller_model.EndNotes.{sent_each}
+use Rattle.journal_controls.specs.host_answers.Answered.{answer_statuses}
 use Rattle.journal.specs.declared.entries.Entry.{Entry}
 use Rattle.journal.specs.declared.entries.Entry.TheVariants.{Up as UpLine}
 use Rattle.journal_controls.proofs.journal_ends.SeenEvents.{unasked_by}

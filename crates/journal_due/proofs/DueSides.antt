@@ -5,8 +5,8 @@ use Rattle.std.proofs.lemmas.List.Elements.{All-head, All-tail}
 use Rattle.ble_base.specs.declared.notes.Note.{Note}
 use Rattle.ble_base.specs.declared.notes.Note.TheVariants.{Opened, Up}
 use Rattle.ble_base.specs.declared.roles.Side.{Side}
-use Rattle.controller_model.specs.Side.{notes_after}
-use Rattle.controller_model.specs.Step.{Step as Call}
+use Rattle.journal_controls.specs.controller_model.Side.{notes_after}
+use Rattle.journal_controls.specs.controller_model.Step.{Step as Call}
 use Rattle.journal.specs.declared.entries.Entry.{Entry}
 use Rattle.journal_controls.specs.journal_packets.Belonging.{is_side}
 use Rattle.journal_controls.specs.run_model.History.{Event, Called, Noted}

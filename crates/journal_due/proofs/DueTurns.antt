@@ -15,14 +15,14 @@ use Rattle.hci_evt.specs.declared.event.Event.TheVariants.{CommandComplete, Comm
 use Rattle.hci_evt.specs.Event.{mask_bit_of, written}
 use Rattle.journal.specs.declared.entries.Entry.{Entry}
 use Rattle.journal.specs.declared.entries.Entry.TheVariants.{Applied, Began, Done, Enter}
-use Rattle.controller_model.specs.Entering.{events_entering, notes_all_entering}
-use Rattle.controller_model.specs.Events.{notes_of_events, passes}
-use Rattle.controller_model.specs.host_view.View.{View}
-use Rattle.controller_model.proofs.EndNotes.{entered_each}
-use Rattle.controller_model.proofs.NoAnswers.{IsNoAnswer}
-use Rattle.controller_model.proofs.ProcedureEvents.{AreOfProcedures, IsOfProcedure, entering_events}
-use Rattle.host_answers.proofs.AnswerStatuses.{reads_statuses}
-use Rattle.host_answers.specs.Answered.{answer_statuses}
+use Rattle.journal_controls.specs.controller_model.Entering.{events_entering, notes_all_entering}
+use Rattle.journal_controls.specs.controller_model.Events.{notes_of_events, passes}
+use Rattle.journal_controls.specs.controller_model.host_view.View.{View}
+use Rattle.journal_controls.proofs.controller_model.EndNotes.{entered_each}
+use Rattle.journal_controls.proofs.controller_model.NoAnswers.{IsNoAnswer}
+use Rattle.journal_controls.proofs.controller_model.ProcedureEvents.{AreOfProcedures, IsOfProcedure, entering_events}
+use Rattle.journal_controls.proofs.host_answers.AnswerStatuses.{reads_statuses}
+use Rattle.journal_controls.specs.host_answers.Answered.{answer_statuses}
 use Rattle.journal_controls.proofs.journal_ends.SeenEvents.{unasked_by}
 use Rattle.journal_controls.specs.journal_ends.Seen.{asked_in_line, seen_in_line}
 use Rattle.journal_controls.specs.run_model.Readers.{of_side}

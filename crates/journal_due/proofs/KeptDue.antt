@@ -4,18 +4,18 @@ use Rattle.std.specs.Prelude.{All, ⊤, take, if◌then◌else◌}
 use Rattle.std.proofs.lemmas.Bool.{eqb-true}
 use Rattle.std.proofs.lemmas.List.Elements.{All-append, All-from_recursion, All-nil}
 use Rattle.ble_base.specs.declared.roles.Side.{Side}
-use Rattle.controller_model.specs.Facts.{Setup, Facts, Listens, Sends}
-use Rattle.controller_model.specs.Heard.{events_received, has_room, heard, link_heard, link_received, notes_taken, replies_in, reply_if}
-use Rattle.controller_model.specs.Events.{notes_of_events}
-use Rattle.controller_model.specs.Outcome.{notes_passed}
-use Rattle.controller_model.specs.Packets.{notes_doing}
-use Rattle.controller_model.specs.Side.{notes_after}
-use Rattle.controller_model.specs.Step.{Step as Call, HostOctet, PacketHeard, TurnBegins, TurnEnds}
-use Rattle.controller_model.specs.declared.doing.Doing.{Doing}
-use Rattle.controller_model.specs.declared.doing.Doing.TheVariants.{Advertises, CentralListens, PeripheralListens}
-use Rattle.controller_model.specs.open_links.OpenLinks.{OpenLink, facts_in, link_at}
-use Rattle.controller_model.proofs.EndNotes.{received_each}
-use Rattle.controller_model.proofs.open_links.Handles.{handle_is}
+use Rattle.journal_controls.specs.controller_model.Facts.{Setup, Facts, Listens, Sends}
+use Rattle.journal_controls.specs.controller_model.Heard.{events_received, has_room, heard, link_heard, link_received, notes_taken, replies_in, reply_if}
+use Rattle.journal_controls.specs.controller_model.Events.{notes_of_events}
+use Rattle.journal_controls.specs.controller_model.Outcome.{notes_passed}
+use Rattle.journal_controls.specs.controller_model.Packets.{notes_doing}
+use Rattle.journal_controls.specs.controller_model.Side.{notes_after}
+use Rattle.journal_controls.specs.controller_model.Step.{Step as Call, HostOctet, PacketHeard, TurnBegins, TurnEnds}
+use Rattle.journal_controls.specs.controller_model.declared.doing.Doing.{Doing}
+use Rattle.journal_controls.specs.controller_model.declared.doing.Doing.TheVariants.{Advertises, CentralListens, PeripheralListens}
+use Rattle.journal_controls.specs.open_links.OpenLinks.{OpenLink, facts_in, link_at}
+use Rattle.journal_controls.proofs.controller_model.EndNotes.{received_each}
+use Rattle.journal_controls.proofs.controller_model.open_links.Handles.{handle_is}
 use Rattle.data_pdu.specs.Header.{header_in}
 use Rattle.journal.specs.declared.entries.Entry.TheVariants.{Fed}
 use Rattle.radio_replay.specs.declared.fates.Fate.{Fate}

@@ -27,7 +27,7 @@ pub fn each_line_of_a_procedure_is_where_it_is_due()
     ensures at_the_end { (given : Given) → given.stations ≡ 0 ∷ 1 ∷ [] → HaveAddresses given
         → NoneIsDue (journal_of (history_of (run_of given))) }
 {
-    controller_model::a_pdu_is_understood();
+    journal_controls::a_pdu_is_understood();
     advertise::laws::connections_are_taken();
     scan_init::laws::searches_give_each_valid_address();
     air_frame::laws::packet_tells_its_pdu();

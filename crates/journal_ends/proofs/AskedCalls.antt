@@ -12,10 +12,10 @@ use Rattle.ble_base.specs.declared.roles.Role.{Role}
 use Rattle.ble_base.specs.declared.roles.Side.{Side}
 use Rattle.hci_cmd.specs.declared.command.Command.{Command}
 use Rattle.journal.specs.declared.entries.Entry.{Entry}
-use Rattle.controller_model.specs.Facts.{Facts}
-use Rattle.controller_model.specs.Side.{notes_after}
-use Rattle.controller_model.specs.Since.{notes_opened_on}
-use Rattle.controller_model.specs.Step.{Step as Call, HostOctet}
+use Rattle.journal_acks.specs.controller_model.Facts.{Facts}
+use Rattle.journal_acks.specs.controller_model.Side.{notes_after}
+use Rattle.journal_acks.specs.controller_model.Since.{notes_opened_on}
+use Rattle.journal_acks.specs.controller_model.Step.{Step as Call, HostOctet}
 use Rattle.host_answers.specs.Answered.{accepted_from, accepted_in}
 use Rattle.host_answers.specs.Calls.{answered_after, call_lines}
 use Rattle.journal_acks.specs.journal_links.Begun.{LinkBegun, link_numbered}

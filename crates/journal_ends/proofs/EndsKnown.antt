@@ -2,7 +2,7 @@
 use Rattle.std.proofs.Common.{◌≡◌, ℕ, ◌==◌, true, false, Some, List, ◌∷◌, ◌++◌, take}
 use Rattle.std.proofs.lemmas.Bool.{eqb-true, eqb-false, false_from_ne_true}
 use Rattle.air_frame.specs.Packet.{access_octets}
-use Rattle.controller_model.specs.Since.{notes_opened_on}
+use Rattle.journal_acks.specs.controller_model.Since.{notes_opened_on}
 use Rattle.journal_acks.specs.journal_links.Begun.{links_begun}
 use Rattle.journal_acks.specs.journal_links.LinkLines.{AreLinesOf}
 use Rattle.journal_acks.specs.journal_links.Opened.{central_side}

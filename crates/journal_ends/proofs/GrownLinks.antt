@@ -2,12 +2,12 @@
 use Rattle.std.proofs.Common.{◌≡◌, ℕ, Bool, true, false, Some, List, [], ◌∷◌, ◌++◌, refl, sym, ap, subst, ◌∙◌, append-nil, append_assoc}
 use Rattle.std.specs.Prelude.{nat_lt, if◌then◌else◌}
 use Rattle.std.specs.Option.{option_map}
-use Rattle.controller_model.specs.Data.{facts_handed}
-use Rattle.controller_model.specs.Facts.{Setup, Facts}
-use Rattle.controller_model.specs.Side.{facts_after}
-use Rattle.controller_model.specs.Step.{TurnBegins, TurnEnds}
-use Rattle.controller_model.proofs.Always.{leaving_is}
-use Rattle.controller_model.proofs.Places.{link_receiving, refusal, refused_if, refuses_at}
+use Rattle.journal_acks.specs.controller_model.Data.{facts_handed}
+use Rattle.journal_acks.specs.controller_model.Facts.{Setup, Facts}
+use Rattle.journal_acks.specs.controller_model.Side.{facts_after}
+use Rattle.journal_acks.specs.controller_model.Step.{TurnBegins, TurnEnds}
+use Rattle.journal_acks.proofs.controller_model.Always.{leaving_is}
+use Rattle.journal_acks.proofs.controller_model.Places.{link_receiving, refusal, refused_if, refuses_at}
 use Rattle.journal_acks.specs.link_model.Step.{Step, DataReported, EventEntered, PacketReceived, PacketSent, PduFixed, RequestAnswered}
 use Rattle.journal_acks.specs.open_links.Data.{complete_in, link_reported, links_reported}
 use Rattle.journal_acks.specs.open_links.OpenLinks.{Links, OpenLink, link_after, link_at}

@@ -18,15 +18,15 @@ use Rattle.host_view.specs.Refusals.{first_refusal}
 use Rattle.host_view.specs.Status.{rows_of}
 use Rattle.host_view.specs.Unbuilt.{or_unbuilt, status_of}
 use Rattle.host_view.specs.View.{View}
-use Rattle.controller_model.specs.Commands.{facts_asking, facts_commanded, facts_known, links_after}
-use Rattle.controller_model.specs.Data.{facts_offered, offer_of}
-use Rattle.controller_model.specs.Facts.{Setup, Facts}
-use Rattle.controller_model.specs.Host.{commands_accepted_by, commands_accepted_in}
-use Rattle.controller_model.specs.Side.{facts_after, facts_fed, result_of}
-use Rattle.controller_model.specs.Step.{HostOctet}
-use Rattle.controller_model.specs.link_commands.Commands.{ask_unless, host_step_of, is_about, map_by, step_if_about, step_on}
-use Rattle.controller_model.specs.link_commands.LinksCommanded.{link_after_if, links_commanded, links_commanded_from, place_commanded}
-use Rattle.controller_model.proofs.Accepted.{table_accepts}
+use Rattle.journal_acks.specs.controller_model.Commands.{facts_asking, facts_commanded, facts_known, links_after}
+use Rattle.journal_acks.specs.controller_model.Data.{facts_offered, offer_of}
+use Rattle.journal_acks.specs.controller_model.Facts.{Setup, Facts}
+use Rattle.journal_acks.specs.controller_model.Host.{commands_accepted_by, commands_accepted_in}
+use Rattle.journal_acks.specs.controller_model.Side.{facts_after, facts_fed, result_of}
+use Rattle.journal_acks.specs.controller_model.Step.{HostOctet}
+use Rattle.journal_acks.specs.controller_model.link_commands.Commands.{ask_unless, host_step_of, is_about, map_by, step_if_about, step_on}
+use Rattle.journal_acks.specs.controller_model.link_commands.LinksCommanded.{link_after_if, links_commanded, links_commanded_from, place_commanded}
+use Rattle.journal_acks.proofs.controller_model.Accepted.{table_accepts}
 use Rattle.host_answers.specs.Calls.{answered_after, answered_commands}
 use Rattle.journal_acks.specs.link_model.End.{facts_after as end_after, notes_from}
 use Rattle.journal_acks.specs.link_model.Facts.{Facts as EndFacts}

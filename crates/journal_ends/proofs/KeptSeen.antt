@@ -3,13 +3,13 @@ use Rattle.std.proofs.Common.{◌≡◌, ℕ, suc, ◌-◌, ◌<◌, ◌==◌, i
 use Rattle.std.specs.Prelude.{◌&&◌, fold, map, take, if◌then◌else◌}
 use Rattle.std.proofs.lemmas.Bool.{eqb-true}
 use Rattle.std.proofs.lemmas.List.Sums.{fold-append}
-use Rattle.controller_model.specs.Facts.{Facts, Listens, Sends}
-use Rattle.controller_model.specs.Since.{notes_opened_on}
-use Rattle.controller_model.specs.Side.{facts_of, notes_after}
-use Rattle.controller_model.specs.Step.{Step as Call, HostOctet, TurnBegins, TurnEnds}
-use Rattle.controller_model.proofs.Handles.{own_handles}
-use Rattle.controller_model.specs.declared.doing.Doing.{Doing}
-use Rattle.controller_model.specs.declared.doing.Doing.TheVariants.{Advertises, CentralListens, PeripheralListens}
+use Rattle.journal_acks.specs.controller_model.Facts.{Facts, Listens, Sends}
+use Rattle.journal_acks.specs.controller_model.Since.{notes_opened_on}
+use Rattle.journal_acks.specs.controller_model.Side.{facts_of, notes_after}
+use Rattle.journal_acks.specs.controller_model.Step.{Step as Call, HostOctet, TurnBegins, TurnEnds}
+use Rattle.journal_acks.proofs.controller_model.Handles.{own_handles}
+use Rattle.journal_acks.specs.controller_model.declared.doing.Doing.{Doing}
+use Rattle.journal_acks.specs.controller_model.declared.doing.Doing.TheVariants.{Advertises, CentralListens, PeripheralListens}
 use Rattle.host_answers.specs.Calls.{answered_after, call_lines}
 use Rattle.host_answers.proofs.LineAnswers.{call_accepts}
 use Rattle.journal_acks.specs.journal_links.LinkLines.{line_of}

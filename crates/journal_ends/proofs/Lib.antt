@@ -20,3 +20,5 @@ pub use Rattle.journal_acks.proofs.link_model as link_model
 pub use Rattle.journal_acks.proofs.open_links as open_links
 pub use Rattle.journal_acks.proofs.run_laws as run_laws
 pub use Rattle.journal_acks.proofs.run_model as run_model
+pub use Rattle.journal_acks.proofs.controller_model as controller_model
+pub use Rattle.host_answers.proofs as host_answers

@@ -10,8 +10,8 @@ use Rattle.ble_base.specs.declared.notes.Note.{Note}
 use Rattle.ble_base.specs.declared.roles.Role.{Role}
 use Rattle.ble_base.specs.declared.roles.Side.{Side}
 use Rattle.ble_base.specs.declared.verdicts.Verdict.TheVariants.{Broken, Good}
-use Rattle.controller_model.specs.Links.{note_opened}
-use Rattle.controller_model.specs.Since.{notes_opened_on}
+use Rattle.journal_acks.specs.controller_model.Links.{note_opened}
+use Rattle.journal_acks.specs.controller_model.Since.{notes_opened_on}
 use Rattle.journal_acks.specs.journal_links.LinkLines.{line_of}
 use Rattle.journal_acks.specs.link_model.End.{facts_after, facts_of, notes_after, notes_from, notes_of}
 use Rattle.journal_acks.specs.link_model.Facts.{Facts, first_facts}

@@ -12,9 +12,9 @@ use Rattle.ble_base.specs.declared.roles.Role.TheVariants.{Central, Peripheral}
 use Rattle.ble_base.specs.declared.roles.Side.{Side}
 use Rattle.data_pdu.specs.Header.{header_in}
 use Rattle.data_pdu.specs.declared.header.DataHeader.{DataHeader}
-use Rattle.controller_model.specs.Links.{note_opened}
-use Rattle.controller_model.specs.Since.{notes_opened_on}
-use Rattle.controller_model.proofs.EndNotes.{entered_each, received_each, sent_each}
+use Rattle.journal_acks.specs.controller_model.Links.{note_opened}
+use Rattle.journal_acks.specs.controller_model.Since.{notes_opened_on}
+use Rattle.journal_acks.proofs.controller_model.EndNotes.{entered_each, received_each, sent_each}
 use Rattle.journal.specs.declared.entries.Entry.{Entry}
 use Rattle.journal_acks.specs.journal_links.LinkLines.{line_of}
 use Rattle.journal_acks.specs.link_model.Acknowledgement.{Pdu}

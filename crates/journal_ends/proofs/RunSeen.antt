@@ -1,6 +1,6 @@
 -- What each open end says and hears by the journal of a run: before each call, packet and turn, and at its end.
 use Rattle.std.proofs.Common.{◌≡◌, ℕ, Bool, List, [], ◌∷◌, ◌++◌}
-use Rattle.controller_model.specs.Step.{Step as Call}
+use Rattle.journal_acks.specs.controller_model.Step.{Step as Call}
 use Rattle.journal_acks.specs.run_model.Due.{Each}
 use Rattle.journal_acks.specs.run_model.History.{Event, Called, Hearing, Transmitted, TurnBegan}
 use Rattle.journal_acks.specs.run_model.LinkEnds.{HaveAddresses}

@@ -4,13 +4,13 @@ use Rattle.std.specs.Prelude.{All}
 use Rattle.std.proofs.lemmas.Bool.{eqb-true}
 use Rattle.std.proofs.lemmas.List.{append_cancel_left}
 use Rattle.ble_base.specs.declared.roles.Side.{Side}
-use Rattle.controller_model.specs.Facts.{Facts}
-use Rattle.controller_model.specs.Heard.{has_room}
-use Rattle.controller_model.specs.Side.{facts_after, notes_after}
-use Rattle.controller_model.specs.Since.{notes_opened_on}
-use Rattle.controller_model.specs.Step.{Step as Call}
-use Rattle.controller_model.specs.declared.doing.Turn.{Turn}
-use Rattle.controller_model.proofs.Always.{IsInTurn}
+use Rattle.journal_acks.specs.controller_model.Facts.{Facts}
+use Rattle.journal_acks.specs.controller_model.Heard.{has_room}
+use Rattle.journal_acks.specs.controller_model.Side.{facts_after, notes_after}
+use Rattle.journal_acks.specs.controller_model.Since.{notes_opened_on}
+use Rattle.journal_acks.specs.controller_model.Step.{Step as Call}
+use Rattle.journal_acks.specs.controller_model.declared.doing.Turn.{Turn}
+use Rattle.journal_acks.proofs.controller_model.Always.{IsInTurn}
 use Rattle.host_answers.proofs.LineAnswers.{far_quiet, turn_quiet}
 use Rattle.journal_acks.specs.journal_links.LinkLines.{line_of}
 use Rattle.journal_acks.specs.link_model.Packets.{verdict_of}

@@ -10,9 +10,9 @@ use Rattle.ble_base.specs.declared.notes.Note.TheVariants.{Up}
 use Rattle.ble_base.specs.declared.roles.Side.{Side}
 use Rattle.journal.specs.declared.entries.Entry.{Entry}
 use Rattle.journal.specs.declared.entries.Entry.TheVariants.{Air}
-use Rattle.controller_model.specs.Side.{notes_after}
-use Rattle.controller_model.specs.Since.{notes_opened_on}
-use Rattle.controller_model.specs.Step.{Step as Call}
+use Rattle.journal_acks.specs.controller_model.Side.{notes_after}
+use Rattle.journal_acks.specs.controller_model.Since.{notes_opened_on}
+use Rattle.journal_acks.specs.controller_model.Step.{Step as Call}
 use Rattle.journal_acks.specs.journal_links.LinkLines.{line_of, lines_of, link_named, where_named}
 use Rattle.journal_acks.specs.journal_packets.Belonging.{is_side, link_of_packet}
 use Rattle.journal_acks.specs.link_model.End.{facts_of, notes_from}

@@ -5,10 +5,10 @@ use Rattle.std.proofs.lemmas.Bool.{eqb-true, eq-eqb, false_from_ne_true}
 use Rattle.ble_base.specs.Side.{other_side}
 use Rattle.ble_base.specs.declared.roles.Role.{Role}
 use Rattle.ble_base.specs.declared.roles.Role.TheVariants.{Central, Peripheral}
-use Rattle.controller_model.specs.Facts.{Facts, Sends}
-use Rattle.controller_model.specs.Packets.{verdict_of}
-use Rattle.controller_model.proofs.DataChannels.{link_channel}
-use Rattle.controller_model.proofs.Sent.{sends_well}
+use Rattle.journal_acks.specs.controller_model.Facts.{Facts, Sends}
+use Rattle.journal_acks.specs.controller_model.Packets.{verdict_of}
+use Rattle.journal_acks.proofs.controller_model.DataChannels.{link_channel}
+use Rattle.journal_acks.proofs.controller_model.Sent.{sends_well}
 use Rattle.journal_acks.specs.journal_links.Begun.{links_begun}
 use Rattle.journal_acks.specs.journal_links.Opened.{central_side}
 use Rattle.journal_acks.specs.journal_packets.Belonging.{first_number}

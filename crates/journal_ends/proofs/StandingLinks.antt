@@ -2,10 +2,10 @@
 use Rattle.std.proofs.Common.{◌≡◌, ℕ, suc, ◌+◌, ◌-◌, ◌<◌, Bool, true, false, Option, Some, None, List, [], ◌∷◌, ◌++◌, replicate, if◌then◌else◌, refl, sym, ap, subst, ◌∙◌, arith}
 use Rattle.std.specs.Option.{option_map}
 use Rattle.ble_base.specs.declared.error_codes.ErrCode.{ErrCode}
-use Rattle.controller_model.specs.Facts.{Setup, Facts, first_facts}
-use Rattle.controller_model.specs.Heard.{has_room}
-use Rattle.controller_model.specs.Side.{facts_after, facts_of}
-use Rattle.controller_model.specs.Step.{Step as Call, HostOctet, TurnBegins, TurnEnds}
+use Rattle.journal_acks.specs.controller_model.Facts.{Setup, Facts, first_facts}
+use Rattle.journal_acks.specs.controller_model.Heard.{has_room}
+use Rattle.journal_acks.specs.controller_model.Side.{facts_after, facts_of}
+use Rattle.journal_acks.specs.controller_model.Step.{Step as Call, HostOctet, TurnBegins, TurnEnds}
 use Rattle.journal_acks.specs.link_calls.Phases.{HasPassed, IsNew, Stays, Takes}
 use Rattle.journal_acks.specs.link_calls.Uses.{sends_under}
 use Rattle.journal_acks.specs.link_model.Facts.{Facts as EndFacts}

@@ -6,7 +6,7 @@ use Rattle.ble_base.specs.declared.roles.Side.{Side}
 use Rattle.hci_cmd.specs.declared.command.Command.{Command}
 use Rattle.journal.specs.declared.entries.Entry.{Entry}
 use Rattle.journal.specs.declared.entries.Entry.TheVariants.{Opened, Shut, Took}
-use Rattle.controller_model.specs.link_commands.Commands.{step_on}
+use Rattle.journal_acks.specs.controller_model.link_commands.Commands.{step_on}
 use Rattle.journal_acks.specs.journal_links.Begun.{LinkBegun, link_numbered}
 use Rattle.journal_acks.specs.journal_links.LinkLines.{lines_of}
 use Rattle.journal_acks.specs.link_model.Acknowledgement.{Pdu}

@@ -10,3 +10,5 @@ pub use Rattle.journal_acks.specs.link_model as link_model
 pub use Rattle.journal_acks.specs.open_links as open_links
 pub use Rattle.journal_acks.specs.run_laws as run_laws
 pub use Rattle.journal_acks.specs.run_model as run_model
+pub use Rattle.journal_acks.specs.controller_model as controller_model
+pub use Rattle.host_answers.specs as host_answers

@@ -8,9 +8,9 @@ use Rattle.ble_base.specs.declared.notes.Note.{Note}
 use Rattle.ble_base.specs.declared.roles.Side.{Side}
 use Rattle.journal.specs.declared.entries.Entry.{Entry}
 use Rattle.journal.specs.declared.entries.Entry.TheVariants.{Air}
-use Rattle.controller_model.specs.Facts.{Facts as StationFacts}
-use Rattle.controller_model.specs.Links.{note_opened}
-use Rattle.controller_model.specs.Step.{Step as Call, PacketHeard}
+use Rattle.journal_acks.specs.controller_model.Facts.{Facts as StationFacts}
+use Rattle.journal_acks.specs.controller_model.Links.{note_opened}
+use Rattle.journal_acks.specs.controller_model.Step.{Step as Call, PacketHeard}
 use Rattle.host_answers.specs.Answered.{accepted_in}
 use Rattle.journal_acks.specs.journal_links.LinkLines.{line_of, link_named, where_named}
 use Rattle.journal_acks.specs.journal_packets.Belonging.{is_side}

@@ -2,7 +2,7 @@
 //! end have it. The body only calls the laws that it rests on: the contract is the law.
 ghost use Rattle.std.specs.Prelude.{◌≡◌, ◌++◌, ◌∷◌, [], ℕ, Bool, List, Some};
 ghost use Rattle.std.specs.List.{Contains};
-ghost use Rattle.controller_model.specs.Step.{Step};
+ghost use Rattle.journal_acks.specs.controller_model.Step.{Step};
 ghost use Rattle.journal_acks.specs.open_links.OpenLinks.{OpenLink, link_at};
 ghost use Rattle.journal_acks.specs.run_model.History.{Event, Called, Hearing, TurnBegan};
 ghost use Rattle.journal_acks.specs.run_model.History.{Transmitted};
@@ -53,7 +53,7 @@ pub fn what_is_seen_of_an_end_is_its_past()
         ≡ seen_of (side_of station)
         ((links_of (history_of (run_of given))).link_of station handle) link.setup link.past }
 {
-    controller_model::a_pdu_is_understood();
+    journal_acks::a_pdu_is_understood();
     advertise::laws::connections_are_taken();
     scan_init::laws::searches_give_each_valid_address();
 }

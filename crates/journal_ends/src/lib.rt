@@ -12,3 +12,6 @@ pub use crate::lists::{
     what_an_end_hears_last_is_its_last_good_packet, what_an_end_says_is_its_lines,
 };
 pub use crate::rows::{worked_asks, worked_ends};
+
+// What the crates above call of those below.
+pub use journal_acks::a_pdu_is_understood;

@@ -3,7 +3,7 @@
 ghost use Rattle.std.specs.Prelude.{◌≡◌, ℕ, List, map};
 ghost use Rattle.std.specs.Option.{option_map};
 ghost use Rattle.ble_base.specs.declared.roles.Side.{Side};
-ghost use Rattle.controller_model.specs.Since.{notes_opened_on};
+ghost use Rattle.journal_acks.specs.controller_model.Since.{notes_opened_on};
 ghost use Rattle.journal.specs.declared.entries.Entry.{Entry};
 ghost use Rattle.journal_acks.specs.journal_links.LinkLines.{line_of, lines_of};
 ghost use Rattle.journal_acks.specs.link_model.End.{facts_of};

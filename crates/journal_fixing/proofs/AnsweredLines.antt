@@ -9,12 +9,12 @@ use Rattle.ble_base.specs.declared.notes.Note.TheVariants.{Up as UpNote, Sent as
 use Rattle.ble_base.specs.declared.roles.Role.{Role}
 use Rattle.ble_base.specs.declared.roles.Role.TheVariants.{Central, Peripheral}
 use Rattle.ble_base.specs.declared.roles.Side.{Side}
-use Rattle.controller_model.specs.Facts.{Facts, Setup}
-use Rattle.controller_model.specs.Heard.{has_room, link_heard, link_received, replies_in, reply_if}
-use Rattle.controller_model.specs.Outcome.{notes_passed}
-use Rattle.controller_model.specs.Packets.{notes_doing, notes_sent}
-use Rattle.controller_model.specs.Side.{notes_after}
-use Rattle.controller_model.specs.Step.{PacketHeard}
+use Rattle.journal_controls.specs.controller_model.Facts.{Facts, Setup}
+use Rattle.journal_controls.specs.controller_model.Heard.{has_room, link_heard, link_received, replies_in, reply_if}
+use Rattle.journal_controls.specs.controller_model.Outcome.{notes_passed}
+use Rattle.journal_controls.specs.controller_model.Packets.{notes_doing, notes_sent}
+use Rattle.journal_controls.specs.controller_model.Side.{notes_after}
+use Rattle.journal_controls.specs.controller_model.Step.{PacketHeard}
 use Rattle.journal_controls.specs.journal_acks.link_calls.Phases.{link_receiving, refuses_at}
 use Rattle.journal_controls.specs.journal_acks.link_calls.Uses.{listens_under}
 use Rattle.journal_controls.specs.journal_ends.open_links.OpenLinks.{OpenLink, facts_in, link_after, link_at}
@@ -34,7 +34,7 @@ use Rattle.journal_controls.specs.run_model.History.{Event, Called, Noted, past_
 use Rattle.journal_controls.specs.run_model.Journal.{journal_of, side_of}
 use Rattle.journal_controls.specs.run_model.LinkEnds.{HaveAddresses}
 use Rattle.journal_controls.specs.run_model.Run.{Given, facts_at, history_of, run_of, setup_at}
-use Rattle.controller_model.proofs.Handles.{HaveOwnHandles, own_handles}
+use Rattle.journal_controls.proofs.controller_model.Handles.{HaveOwnHandles, own_handles}
 use Rattle.journal_controls.proofs.journal_acks.DataCalls.{received_at, unfound}
 use Rattle.journal_controls.proofs.journal_acks.Exchanging.{number_at, number_notes}
 use Rattle.journal_controls.proofs.journal_acks.NewPdus.{first_part}

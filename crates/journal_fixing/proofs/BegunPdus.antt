@@ -6,9 +6,9 @@ use Rattle.ble_base.specs.declared.notes.Note.TheVariants.{Sent as SentNote}
 use Rattle.ble_base.specs.declared.roles.Role.{Role}
 use Rattle.ble_base.specs.declared.roles.Role.TheVariants.{Central, Peripheral}
 use Rattle.ble_base.specs.declared.roles.Side.{Side}
-use Rattle.controller_model.specs.Facts.{Facts}
-use Rattle.controller_model.specs.Side.{facts_after, facts_of as side_facts, notes_after}
-use Rattle.controller_model.specs.Step.{Step as Call, TurnBegins}
+use Rattle.journal_controls.specs.controller_model.Facts.{Facts}
+use Rattle.journal_controls.specs.controller_model.Side.{facts_after, facts_of as side_facts, notes_after}
+use Rattle.journal_controls.specs.controller_model.Step.{Step as Call, TurnBegins}
 use Rattle.journal.specs.declared.entries.Entry.{Entry}
 use Rattle.journal_controls.specs.TurnSteps.{first_if, steps_begun}
 use Rattle.journal_controls.specs.journal_acks.link_calls.Uses.{fixes_under, sends_under}

@@ -1,6 +1,6 @@
 -- Each packet of a link carries the PDU and the MD of the end that sends it.
 use Rattle.std.proofs.Common.{◌≡◌, ℕ, ◌+◌, false, List, [], ◌∷◌, ◌++◌, length, sym, ap, ◌∙◌}
-use Rattle.controller_model.specs.Facts.{Sends}
+use Rattle.journal_controls.specs.controller_model.Facts.{Sends}
 use Rattle.journal_controls.specs.journal_acks.Carried.{carried_of}
 use Rattle.journal_controls.specs.journal_acks.Counted.{IsCounted}
 use Rattle.journal_controls.specs.journal_acks.Exchange.{with_sent}

@@ -1,9 +1,10 @@
 -- What a link on which a controller sends or listens fixed, as a turn begins and as a phase passes.
 use Rattle.std.proofs.Common.{◌≡◌, ℕ, suc, ◌==◌, ◌||◌, Bool, true, false, List, [], ◌∷◌, refl, sym, ap, ◌∙◌, arith}
 use Rattle.ble_base.specs.declared.roles.Role.TheVariants.{Central, Peripheral}
-use Rattle.controller_model.specs.declared.doing.Doing.{Doing}
-use Rattle.controller_model.specs.declared.doing.Doing.TheVariants.{Advertises, CentralListens, CentralSends, PeripheralListens, PeripheralSends}
-use Rattle.controller_model.specs.Facts.{Facts}
+use Rattle.journal_controls.specs.controller_model.declared.doing.Doing.{Doing}
+use Rattle.journal_controls.specs.controller_model.declared.doing.Doing.TheVariants.{Advertises, CentralListens, CentralSends, PeripheralListens}
+use Rattle.journal_controls.specs.controller_model.declared.doing.Doing.TheVariants.{PeripheralSends}
+use Rattle.journal_controls.specs.controller_model.Facts.{Facts}
 use Rattle.journal_controls.specs.journal_acks.link_calls.Phases.{link_receiving, refusal, refused_if, refuses_at}
 use Rattle.journal_controls.specs.journal_acks.link_calls.Turns.{sent_if}
 use Rattle.journal_controls.specs.journal_acks.link_calls.Uses.{fixes_under, is_on_link, listens_under, sends_under, uses_under}

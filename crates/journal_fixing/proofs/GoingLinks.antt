@@ -2,9 +2,10 @@
 use Rattle.std.proofs.Common.{◌≡◌, ℕ, suc, ◌==◌, ◌||◌, ◌⊎◌, inl, inr, Bool, true, false, Some, List, refl, sym, ap, ◌∙◌, arith}
 use Rattle.ble_base.specs.declared.roles.Role.TheVariants.{Central, Peripheral}
 use Rattle.ble_base.specs.declared.roles.Side.{Side}
-use Rattle.controller_model.specs.Facts.{Facts}
-use Rattle.controller_model.specs.declared.doing.Doing.{Doing}
-use Rattle.controller_model.specs.declared.doing.Doing.TheVariants.{Advertises, CentralListens, CentralSends, PeripheralListens, PeripheralSends}
+use Rattle.journal_controls.specs.controller_model.Facts.{Facts}
+use Rattle.journal_controls.specs.controller_model.declared.doing.Doing.{Doing}
+use Rattle.journal_controls.specs.controller_model.declared.doing.Doing.TheVariants.{Advertises, CentralListens, CentralSends, PeripheralListens}
+use Rattle.journal_controls.specs.controller_model.declared.doing.Doing.TheVariants.{PeripheralSends}
 use Rattle.data_pdu.specs.Header.{header_in}
 use Rattle.journal_controls.specs.journal_acks.link_calls.Phases.{link_receiving, refused_if, refuses_at}
 use Rattle.journal_controls.specs.journal_acks.link_calls.Turns.{sent_if}

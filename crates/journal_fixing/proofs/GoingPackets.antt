@@ -7,7 +7,7 @@ use Rattle.air_frame.specs.declared.Heard.TheVariants.{NotOurs, Broken as Faulty
 use Rattle.ble_base.specs.declared.roles.Role.TheVariants.{Peripheral}
 use Rattle.ble_base.specs.declared.roles.Side.{Side}
 use Rattle.ble_base.specs.declared.verdicts.Verdict.TheVariants.{Broken, Good}
-use Rattle.controller_model.specs.declared.doing.Turn.{Turn}
+use Rattle.journal_controls.specs.controller_model.declared.doing.Turn.{Turn}
 use Rattle.data_pdu.specs.Header.{header_in}
 use Rattle.journal_controls.specs.LineSteps.{has_next}
 use Rattle.journal_controls.specs.journal_acks.Carried.{pdu_carried}

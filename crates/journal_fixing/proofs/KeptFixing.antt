@@ -5,12 +5,12 @@ use Rattle.std.specs.Prelude.{All, take, if◌then◌else◌}
 use Rattle.std.proofs.lemmas.Bool.{eqb-true}
 use Rattle.std.proofs.lemmas.List.{map-append}
 use Rattle.ble_base.specs.declared.roles.Side.{Side}
-use Rattle.controller_model.specs.Facts.{Facts}
-use Rattle.controller_model.specs.Heard.{has_room}
-use Rattle.controller_model.specs.Side.{facts_after, notes_after}
-use Rattle.controller_model.specs.Since.{notes_opened_on}
-use Rattle.controller_model.specs.Step.{Step as Call, HostOctet, NothingHeard, PacketHeard, TurnBegins, TurnEnds}
-use Rattle.controller_model.specs.declared.doing.Doing.TheVariants.{Rests}
+use Rattle.journal_controls.specs.controller_model.Facts.{Facts}
+use Rattle.journal_controls.specs.controller_model.Heard.{has_room}
+use Rattle.journal_controls.specs.controller_model.Side.{facts_after, notes_after}
+use Rattle.journal_controls.specs.controller_model.Since.{notes_opened_on}
+use Rattle.journal_controls.specs.controller_model.Step.{Step as Call, HostOctet, NothingHeard, PacketHeard, TurnBegins, TurnEnds}
+use Rattle.journal_controls.specs.controller_model.declared.doing.Doing.TheVariants.{Rests}
 use Rattle.journal_controls.specs.LineSteps.{control_on, turn_now}
 use Rattle.journal_controls.specs.TurnSteps.{steps_begun}
 use Rattle.journal_controls.specs.journal_acks.link_calls.Phases.{HasPassed, IsNew, Stays, Takes}

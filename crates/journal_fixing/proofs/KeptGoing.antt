@@ -5,11 +5,11 @@ use Rattle.std.proofs.Common.{◌≡◌, ℕ, suc, ◌==◌, ◌<◌, ◌⊎◌,
 use Rattle.std.specs.Prelude.{All, take, if◌then◌else◌}
 use Rattle.std.proofs.lemmas.Bool.{eqb-true}
 use Rattle.ble_base.specs.declared.roles.Side.{Side}
-use Rattle.controller_model.specs.Facts.{Facts, Listens, Sends}
-use Rattle.controller_model.specs.Heard.{has_room}
-use Rattle.controller_model.specs.Side.{facts_after, notes_after}
-use Rattle.controller_model.specs.Step.{Step as Call, HostOctet, PacketHeard, TurnBegins, TurnEnds}
-use Rattle.controller_model.specs.declared.doing.Turn.{Turn}
+use Rattle.journal_controls.specs.controller_model.Facts.{Facts, Listens, Sends}
+use Rattle.journal_controls.specs.controller_model.Heard.{has_room}
+use Rattle.journal_controls.specs.controller_model.Side.{facts_after, notes_after}
+use Rattle.journal_controls.specs.controller_model.Step.{Step as Call, HostOctet, PacketHeard, TurnBegins, TurnEnds}
+use Rattle.journal_controls.specs.controller_model.declared.doing.Turn.{Turn}
 use Rattle.radio_replay.specs.declared.fates.Fate.{Fate}
 use Rattle.journal_controls.specs.journal_acks.link_calls.Phases.{HasPassed, IsNew, Stays, Takes}
 use Rattle.journal_controls.specs.journal_acks.link_calls.Uses.{is_on_link, listens_under, sends_under, uses_under}

@@ -4,8 +4,8 @@ use Rattle.std.specs.List.{AllByRecursion}
 use Rattle.std.proofs.lemmas.Grind.{flat_map-append}
 use Rattle.ble_base.specs.declared.roles.Side.{Side}
 use Rattle.ble_base.specs.declared.roles.Side.TheVariants.{A, B}
-use Rattle.host_answers.proofs.LineAnswers.{statuses_in}
-use Rattle.host_masks.specs.Masks.{masks_of, withholds_requests}
+use Rattle.journal_controls.proofs.host_answers.LineAnswers.{statuses_in}
+use Rattle.journal_controls.specs.host_masks.Masks.{masks_of, withholds_requests}
 use Rattle.journal.specs.declared.entries.Entry.{Entry}
 use Rattle.journal.specs.declared.entries.Entry.TheVariants.{Air, Fed, Sent, Turn}
 use Rattle.journal_controls.specs.LineSteps.{control_after, control_on, turn_now, withholds}

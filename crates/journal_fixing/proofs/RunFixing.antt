@@ -1,6 +1,6 @@
 -- The control part by which each end that sends or listens fixed its next PDU, by the journal of a run.
 use Rattle.std.proofs.Common.{◌≡◌, ℕ, Bool, Option, List, [], ◌∷◌, ◌++◌}
-use Rattle.controller_model.specs.Step.{TurnBegins}
+use Rattle.journal_controls.specs.controller_model.Step.{TurnBegins}
 use Rattle.journal_controls.specs.run_model.Due.{Each}
 use Rattle.journal_controls.specs.run_model.History.{Event, Called, Hearing, Transmitted}
 use Rattle.journal_controls.specs.run_model.LinkEnds.{HaveAddresses}

@@ -3,7 +3,7 @@
 use Rattle.std.proofs.Common.{◌≡◌, ℕ, Bool, true, false, Some, List, [], ◌∷◌, ◌++◌, map, ap, ◌∙◌}
 use Rattle.ble_base.specs.declared.notes.Note.{Note}
 use Rattle.ble_base.specs.declared.roles.Side.{Side}
-use Rattle.controller_model.specs.Step.{Step as Call, PacketHeard, TurnBegins}
+use Rattle.journal_controls.specs.controller_model.Step.{Step as Call, PacketHeard, TurnBegins}
 use Rattle.journal_controls.specs.journal_acks.link_calls.Uses.{listens_under}
 use Rattle.journal_controls.specs.journal_ends.open_links.OpenLinks.{OpenLink, facts_in, link_at}
 use Rattle.journal_controls.specs.link_model.Packets.{good_pdu}

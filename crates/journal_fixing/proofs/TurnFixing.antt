@@ -6,7 +6,7 @@ use Rattle.ble_base.specs.declared.notes.Note.{Note}
 use Rattle.ble_base.specs.declared.notes.Note.TheVariants.{Enter}
 use Rattle.ble_base.specs.declared.procedure_kinds.Kind.{Kind}
 use Rattle.ble_base.specs.declared.roles.Side.{Side}
-use Rattle.controller_model.specs.Step.{Step as Call}
+use Rattle.journal_controls.specs.controller_model.Step.{Step as Call}
 use Rattle.journal.specs.declared.entries.Entry.{Entry}
 use Rattle.journal_controls.specs.LineSteps.{control_on, turn_now, withholds}
 use Rattle.journal_controls.specs.SaidLines.{moved_by}

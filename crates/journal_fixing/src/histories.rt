@@ -2,7 +2,7 @@
 //! call of a history. The bodies are empty: the contracts are the laws.
 ghost use Rattle.std.specs.Prelude.{◌≡◌, ◌&&◌, ◌++◌, ◌∷◌, [], ℕ, Bool, List, Some, false, true};
 ghost use Rattle.ble_base.specs.declared.roles.Side.{Side};
-ghost use Rattle.controller_model.specs.Step.{Step as Call};
+ghost use Rattle.journal_controls.specs.controller_model.Step.{Step as Call};
 ghost use Rattle.journal.specs.declared.entries.Entry.{Entry};
 ghost use Rattle.journal.specs.declared.entries.Entry.TheVariants.{Air};
 ghost use Rattle.journal_controls.specs.LineSteps.{control_on, is_more_acked, turn_now};
@@ -84,8 +84,8 @@ pub fn a_packet_keeps_the_control_part_that_fixed_a_pdu()
 
 /// A call on a controller, after any history, keeps the control part that fixed the next PDU of an
 /// end, once that is fixed. Else, where the call is one of a turn, that is the control part before
-/// the line of a new PDU that the call adds for the end, or after all its lines. What is kept as a packet is heard stays as well,
-/// and else it is the control part after the call.
+/// the line of a new PDU that the call adds for the end, or after all its lines. What is kept as a
+/// packet is heard stays as well, and else it is the control part after the call.
 pub fn calls_keep_the_control_part_that_fixed_a_pdu()
     ensures fixed { (given : Given) (side : Side) (number station : ℕ) (call : Call)
         (history : List Event)

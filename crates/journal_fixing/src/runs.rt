@@ -7,7 +7,7 @@ ghost use Rattle.std.specs.List.{Contains};
 ghost use Rattle.ble_base.specs.declared.notes.Note.{Note};
 ghost use Rattle.ble_base.specs.declared.roles.Role.{Role};
 ghost use Rattle.ble_base.specs.declared.roles.Side.{Side};
-ghost use Rattle.controller_model.specs.Step.{PacketHeard, TurnBegins};
+ghost use Rattle.journal_controls.specs.controller_model.Step.{PacketHeard, TurnBegins};
 ghost use Rattle.data_pdu.specs.Header.{header_in};
 ghost use Rattle.journal_controls.specs.journal_acks.link_calls.Uses.{listens_under, sends_under};
 ghost use Rattle.journal_controls.specs.journal_acks.link_calls.Uses.{uses_under};
@@ -52,7 +52,7 @@ pub fn the_control_part_that_fixed_a_pdu_is_kept_by_the_lines()
         → control_fixing (side_of station) ((links_of before).link_of station handle)
         (journal_of before) ≡ Some (facts_fixing link.setup link.past).control }
 {
-    controller_model::a_pdu_is_understood();
+    journal_controls::a_pdu_is_understood();
     advertise::laws::connections_are_taken();
     scan_init::laws::searches_give_each_valid_address();
     air_frame::laws::packet_tells_its_pdu();
@@ -86,7 +86,7 @@ pub fn the_control_part_with_which_a_pdu_goes_is_kept_by_the_lines()
         (journal_of (before ++ Called station (TurnBegins slot on) ∷ map (Noted station) notes))
         ≡ false }
 {
-    controller_model::a_pdu_is_understood();
+    journal_controls::a_pdu_is_understood();
     advertise::laws::connections_are_taken();
     scan_init::laws::searches_give_each_valid_address();
     air_frame::laws::packet_tells_its_pdu();

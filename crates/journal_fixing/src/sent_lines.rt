@@ -4,8 +4,8 @@ ghost use Rattle.std.specs.Prelude.{◌≡◌, ◌++◌, ◌∷◌, [], ℕ, Boo
 ghost use Rattle.std.specs.List.{Contains};
 ghost use Rattle.ble_base.specs.declared.notes.Note.{Note};
 ghost use Rattle.ble_base.specs.declared.notes.Note.TheVariants.{Sent};
-ghost use Rattle.controller_model.specs.Side.{notes_after};
-ghost use Rattle.controller_model.specs.Step.{PacketHeard, TurnBegins};
+ghost use Rattle.journal_controls.specs.controller_model.Side.{notes_after};
+ghost use Rattle.journal_controls.specs.controller_model.Step.{PacketHeard, TurnBegins};
 ghost use Rattle.journal_controls.specs.journal_ends.open_links.OpenLinks.{OpenLink, link_at};
 ghost use Rattle.journal_controls.specs.link_model.Acknowledgement.{Pdu};
 ghost use Rattle.journal_controls.specs.link_model.Data.{next_piece};
@@ -69,7 +69,7 @@ pub fn a_turn_begins_with_the_line_of_the_pdu_that_the_lines_fix()
         → said ≡ pdu_next fixing going
         (next_piece (data_cut (facts_fixing link.setup link.past))) }
 {
-    controller_model::a_pdu_is_understood();
+    journal_controls::a_pdu_is_understood();
     advertise::laws::connections_are_taken();
     scan_init::laws::searches_give_each_valid_address();
     air_frame::laws::packet_tells_its_pdu();
@@ -112,7 +112,7 @@ pub fn a_peripheral_answers_with_the_line_of_the_pdu_that_the_lines_fix()
         → said ≡ pdu_next fixing going
         (next_piece (data_cut (facts_fixing link.setup link.past))) }
 {
-    controller_model::a_pdu_is_understood();
+    journal_controls::a_pdu_is_understood();
     advertise::laws::connections_are_taken();
     scan_init::laws::searches_give_each_valid_address();
     air_frame::laws::packet_tells_its_pdu();

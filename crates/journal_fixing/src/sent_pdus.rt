@@ -4,7 +4,7 @@ ghost use Rattle.std.specs.Prelude.{◌≡◌, ◌++◌, ◌∷◌, [], ℕ, Boo
 ghost use Rattle.std.specs.List.{Contains};
 ghost use Rattle.ble_base.specs.declared.notes.Note.{Note};
 ghost use Rattle.ble_base.specs.declared.roles.Role.{Role};
-ghost use Rattle.controller_model.specs.Step.{PacketHeard};
+ghost use Rattle.journal_controls.specs.controller_model.Step.{PacketHeard};
 ghost use Rattle.journal_controls.specs.journal_acks.link_calls.Uses.{listens_under, sends_under};
 ghost use Rattle.journal_controls.specs.journal_ends.open_links.OpenLinks.{OpenLink, facts_in};
 ghost use Rattle.journal_controls.specs.journal_ends.open_links.OpenLinks.{link_at};
@@ -90,7 +90,7 @@ pub fn a_peripheral_answers_with_the_pdu_that_the_lines_fix()
         → is_acked heard.acknowledgement ≡ false
         → more_sent heard ≡ more_with_old fixing heard.control (data_waits outgoing) }
 {
-    controller_model::a_pdu_is_understood();
+    journal_controls::a_pdu_is_understood();
     advertise::laws::connections_are_taken();
     scan_init::laws::searches_give_each_valid_address();
     air_frame::laws::packet_tells_its_pdu();
@@ -145,7 +145,7 @@ pub fn a_central_sends_the_pdu_that_the_lines_fix()
         is_acked sent.acknowledgement ≡ false
         → more_sent sent ≡ more_with_old fixing fixing (data_waits outgoing) }
 {
-    controller_model::a_pdu_is_understood();
+    journal_controls::a_pdu_is_understood();
     advertise::laws::connections_are_taken();
     scan_init::laws::searches_give_each_valid_address();
     air_frame::laws::packet_tells_its_pdu();

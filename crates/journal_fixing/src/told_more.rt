@@ -31,7 +31,7 @@ pub fn each_packet_carries_the_pdu_and_md_of_its_end()
         → history_of (run_of given) ≡ before ++ Transmitted station channel octets hearings ∷ rest
         → is_advertising channel ≡ false → IsOfEnd given before station channel octets }
 {
-    controller_model::a_pdu_is_understood();
+    journal_controls::a_pdu_is_understood();
     advertise::laws::connections_are_taken();
     scan_init::laws::searches_give_each_valid_address();
     air_frame::laws::packet_tells_its_pdu();
@@ -68,7 +68,7 @@ pub fn each_packet_tells_what_waits_by_the_lines()
         → more_sent facts ≡ more_with_old fixing now
         (data_waits (data_cut (facts_fixing sent.link.setup sent.link.past))) }
 {
-    controller_model::a_pdu_is_understood();
+    journal_controls::a_pdu_is_understood();
     advertise::laws::connections_are_taken();
     scan_init::laws::searches_give_each_valid_address();
     air_frame::laws::packet_tells_its_pdu();

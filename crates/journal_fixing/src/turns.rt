@@ -2,7 +2,7 @@
 //! that it has as it does so. The bodies are empty: the contracts are the laws.
 ghost use Rattle.std.specs.Prelude.{◌≡◌, ◌++◌, [], ℕ, Bool, List, Some, false, fold, map};
 ghost use Rattle.ble_base.specs.declared.roles.Side.{Side};
-ghost use Rattle.controller_model.specs.Step.{Step as Call};
+ghost use Rattle.journal_controls.specs.controller_model.Step.{Step as Call};
 ghost use Rattle.journal_controls.specs.LineSteps.{control_on, turn_now};
 ghost use Rattle.journal_controls.specs.SaidLines.{moved_by};
 ghost use Rattle.journal_controls.specs.TurnSteps.{first_if, steps_begun};

@@ -9,15 +9,16 @@ use Rattle.advertise.specs.Advertising.{AdvertiserFacts}
 use Rattle.scan_init.specs.Initiating.{InitiatorFacts}
 use Rattle.journal_data.specs.link_model.declared.setup.LinkSetup.{LinkSetup}
 use Rattle.journal_data.specs.open_links.OpenLinks.{free_from}
-use Rattle.controller_model.specs.declared.doing.Doing.TheVariants.{Rests}
-use Rattle.controller_model.specs.declared.doing.Turn.{Turn}
-use Rattle.controller_model.specs.Step.{Step, HostOctet, TurnBegins, TurnEnds}
-use Rattle.controller_model.specs.Facts.{Setup, Facts}
-use Rattle.controller_model.specs.Side.{facts_after, facts_of}
-use Rattle.controller_model.proofs.Always.{IsInTurn, advertising_noted, initiator_stopped}
-use Rattle.controller_model.proofs.AdvertisersKnown.{connectable_known}
-use Rattle.controller_model.proofs.Room.{may_connect}
-use Rattle.controller_model.proofs.ViewRoom.{IsKnown, IsRoomLeft, KnowsOwn, Makes, first_known, first_own, full_view, octet_known, own_after, turn_known}
+use Rattle.journal_data.specs.controller_model.declared.doing.Doing.TheVariants.{Rests}
+use Rattle.journal_data.specs.controller_model.declared.doing.Turn.{Turn}
+use Rattle.journal_data.specs.controller_model.Step.{Step, HostOctet, TurnBegins, TurnEnds}
+use Rattle.journal_data.specs.controller_model.Facts.{Setup, Facts}
+use Rattle.journal_data.specs.controller_model.Side.{facts_after, facts_of}
+use Rattle.journal_data.proofs.controller_model.Always.{IsInTurn, advertising_noted, initiator_stopped}
+use Rattle.journal_data.proofs.controller_model.AdvertisersKnown.{connectable_known}
+use Rattle.journal_data.proofs.controller_model.Room.{may_connect}
+use Rattle.journal_data.proofs.controller_model.ViewRoom.{IsKnown, IsRoomLeft, KnowsOwn, Makes, first_known, first_own, full_view, octet_known, own_after}
+use Rattle.journal_data.proofs.controller_model.ViewRoom.{turn_known}
 use Rattle.journal_data.specs.run_model.Run.{step_of}
 use Rattle.journal_data.proofs.run_laws.TurnPlaces.{Between, IsTurned, Stage, Standing, Within, standing, turned}
 use Rattle.journal_data.proofs.run_laws.TurnSteps.{octet_turn}

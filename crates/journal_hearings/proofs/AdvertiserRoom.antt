@@ -11,11 +11,11 @@ use Rattle.host_view.specs.Refusals.{count_if, is_connectable}
 use Rattle.host_view.specs.Unbuilt.{status_of}
 use Rattle.host_view.proofs.TakenCommands.{connection_has_room}
 use Rattle.scan_init.specs.Initiating.{InitiatorFacts}
-use Rattle.controller_model.specs.Facts.{Setup}
-use Rattle.controller_model.specs.Commands.{initiator_after}
-use Rattle.controller_model.proofs.Accepted.{same_after_counts, set_while_off}
-use Rattle.controller_model.proofs.OpenPlaces.{many, opens, view_opens}
-use Rattle.controller_model.proofs.Room.{limit_after, may_connect, room_of_view, room_turned_on}
+use Rattle.journal_data.specs.controller_model.Facts.{Setup}
+use Rattle.journal_data.specs.controller_model.Commands.{initiator_after}
+use Rattle.journal_data.proofs.controller_model.Accepted.{same_after_counts, set_while_off}
+use Rattle.journal_data.proofs.controller_model.OpenPlaces.{many, opens, view_opens}
+use Rattle.journal_data.proofs.controller_model.Room.{limit_after, may_connect, room_of_view, room_turned_on}
 
 -- while connectable advertising is on there is room for the links that are open, for one that an initiator may open, and for
 -- one more

@@ -13,18 +13,22 @@ use Rattle.journal_data.specs.link_model.declared.setup.LinkSetup.{LinkSetup}
 use Rattle.journal_data.specs.open_links.OpenLinks.{OpenLink, free_from, link_at}
 use Rattle.scan_init.specs.Initiating.{InitiatorFacts}
 use Rattle.scan_init.specs.Reports.{ScannerFacts, does_ask, scan_answer}
-use Rattle.controller_model.specs.declared.doing.Doing.{Doing}
-use Rattle.controller_model.specs.declared.doing.Doing.TheVariants.{Advertises, AwaitsRequest, Responds, Scans, Requests, AwaitsResponse, Initiates, Connects, CentralSends, CentralListens, PeripheralListens, PeripheralSends, Rests}
-use Rattle.controller_model.specs.Step.{Step, NothingHeard, TurnBegins}
-use Rattle.controller_model.specs.Facts.{Setup, Facts, Use, Sends, Listens, Idle}
-use Rattle.controller_model.specs.Heard.{advertiser_answers, advertiser_heard, asks_if, connects, has_room, heard, if_pdu, initiator_heard, is_new_between, link_to, replies_in, reply_if, scanner_heard, taken_if, taken_under, unheard}
-use Rattle.controller_model.specs.Outcome.{facts_passed}
-use Rattle.controller_model.specs.Packets.{advertisement_sent, connect_sent, request_sent, response_sent, facts_doing, listens_on, pdu_heard, sends_on, sends_pdu, use_for, verdict_advertising, verdict_of}
-use Rattle.controller_model.specs.Radio.{outcome_begun}
-use Rattle.controller_model.specs.Side.{facts_after, facts_of}
-use Rattle.controller_model.proofs.Always.{MayBegin, left_doing}
-use Rattle.controller_model.proofs.DataChannels.{link_channel}
-use Rattle.controller_model.proofs.Phases.{EachOutcome, heard_is, unheard_is}
+use Rattle.journal_data.specs.controller_model.declared.doing.Doing.{Doing}
+use Rattle.journal_data.specs.controller_model.declared.doing.Doing.TheVariants.{Advertises, AwaitsRequest, Responds, Scans, Requests, AwaitsResponse}
+use Rattle.journal_data.specs.controller_model.declared.doing.Doing.TheVariants.{Initiates, Connects, CentralSends, CentralListens, PeripheralListens}
+use Rattle.journal_data.specs.controller_model.declared.doing.Doing.TheVariants.{PeripheralSends, Rests}
+use Rattle.journal_data.specs.controller_model.Step.{Step, NothingHeard, TurnBegins}
+use Rattle.journal_data.specs.controller_model.Facts.{Setup, Facts, Use, Sends, Listens, Idle}
+use Rattle.journal_data.specs.controller_model.Heard.{advertiser_answers, advertiser_heard, asks_if, connects, has_room, heard, if_pdu, initiator_heard}
+use Rattle.journal_data.specs.controller_model.Heard.{is_new_between, link_to, replies_in, reply_if, scanner_heard, taken_if, taken_under, unheard}
+use Rattle.journal_data.specs.controller_model.Outcome.{facts_passed}
+use Rattle.journal_data.specs.controller_model.Packets.{advertisement_sent, connect_sent, request_sent, response_sent, facts_doing, listens_on, pdu_heard}
+use Rattle.journal_data.specs.controller_model.Packets.{sends_on, sends_pdu, use_for, verdict_advertising, verdict_of}
+use Rattle.journal_data.specs.controller_model.Radio.{outcome_begun}
+use Rattle.journal_data.specs.controller_model.Side.{facts_after, facts_of}
+use Rattle.journal_data.proofs.controller_model.Always.{MayBegin, left_doing}
+use Rattle.journal_data.proofs.controller_model.DataChannels.{link_channel}
+use Rattle.journal_data.proofs.controller_model.Phases.{EachOutcome, heard_is, unheard_is}
 use Rattle.journal_data.specs.run_model.Run.{step_of}
 use Rattle.journal_data.proofs.run_laws.TurnPlaces.{Between, IsTurned, Stage, Within, at_stage, standing, turned}
 

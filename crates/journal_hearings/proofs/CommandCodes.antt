@@ -11,7 +11,7 @@ use Rattle.hci_cmd.specs.declared.command.Command.TheVariants.{HostCompleted, Re
 use Rattle.hci_cmd.specs.declared.command.CmdRead.{CmdRead}
 use Rattle.hci_cmd.specs.declared.command.CmdRead.TheVariants.{Known, BadLength}
 use Rattle.hci_cmd.specs.Command.{are_parameters, command_of, counts_layout, layout_of, layouts, read_with}
-use Rattle.controller_model.specs.Answers.{has_status_answer}
+use Rattle.journal_data.specs.controller_model.Answers.{has_status_answer}
 use Rattle.journal_hearings.specs.Settings.{is_left_out}
 
 -- it is not left out, and has a Command Complete

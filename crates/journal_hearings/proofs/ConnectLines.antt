@@ -8,7 +8,7 @@ use Rattle.ble_base.specs.declared.notes.Note.TheVariants.{Up as UpNote}
 use Rattle.ble_base.specs.declared.roles.Side.{Side}
 use Rattle.adv_pdu.specs.declared.pdu.AdvPdu.{AdvPdu}
 use Rattle.adv_pdu.specs.declared.pdu.AdvPdu.TheVariants.{Connect}
-use Rattle.controller_model.specs.Packets.{pdu_heard}
+use Rattle.journal_data.specs.controller_model.Packets.{pdu_heard}
 use Rattle.journal_data.specs.link_model.Setup.{Setup}
 use Rattle.journal_data.specs.run_model.Due.{Each}
 use Rattle.journal_data.specs.run_model.History.{Event, TurnBegan, HostFed, Called, Noted, Transmitted, Hearing}

@@ -8,11 +8,11 @@ use Rattle.adv_pdu.specs.declared.pdu.AdvPdu.TheVariants.{Connect}
 use Rattle.adv_pdu.specs.declared.pdu.ConnectFields.{ConnectFields}
 use Rattle.journal_data.proofs.link_model.Hearing.{IsHeardWhole}
 use Rattle.journal_data.specs.open_links.OpenLinks.{has_link_between}
-use Rattle.controller_model.specs.declared.doing.Doing.{Doing}
-use Rattle.controller_model.specs.declared.doing.Doing.TheVariants.{Advertises, AwaitsRequest, AwaitsResponse, Connects}
-use Rattle.controller_model.specs.Facts.{Facts, Sends}
-use Rattle.controller_model.specs.Packets.{pdu_heard}
-use Rattle.controller_model.proofs.DataChannels.{link_channel}
+use Rattle.journal_data.specs.controller_model.declared.doing.Doing.{Doing}
+use Rattle.journal_data.specs.controller_model.declared.doing.Doing.TheVariants.{Advertises, AwaitsRequest, AwaitsResponse, Connects}
+use Rattle.journal_data.specs.controller_model.Facts.{Facts, Sends}
+use Rattle.journal_data.specs.controller_model.Packets.{pdu_heard}
+use Rattle.journal_data.proofs.controller_model.DataChannels.{link_channel}
 use Rattle.journal_data.specs.run_model.Feeding.{AreDistinct}
 use Rattle.journal_data.specs.run_model.History.{Event, Hearing, Transmitted, past_of, turns_begun}
 use Rattle.journal_data.specs.run_model.Journal.{journal_of, side_of}
@@ -41,7 +41,7 @@ use Rattle.journal_data.proofs.Law.{first_data}
 use Rattle.journal_hearings.specs.Openings.{IsToOpen, is_linked, offer_in}
 use Rattle.journal_hearings.specs.Settings.{accept_list, filter_policy}
 use Rattle.journal_hearings.proofs.AdvertiserHandles.{advertisers_have_handles}
-use Rattle.controller_model.proofs.AdvertisersKnown.{advertisers_known}
+use Rattle.journal_data.proofs.controller_model.AdvertisersKnown.{advertisers_known}
 use Rattle.journal_hearings.proofs.AirDoings.{AwaitsNow, FitsPhase, at_phase}
 use Rattle.journal_hearings.proofs.BothKept.{both_kept}
 use Rattle.journal_hearings.proofs.ConnectsTaken.{TakesLink, offered_taken, taken_offered}

@@ -18,18 +18,18 @@ use Rattle.advertise.specs.Answers.{advertiser_answer, lets_connect, may_connect
 use Rattle.scan_init.specs.Addresses.{is_same_address}
 use Rattle.scan_init.proofs.Listed.{equal_addresses}
 use Rattle.journal_data.specs.open_links.OpenLinks.{free_from, has_link_between}
-use Rattle.controller_model.specs.declared.doing.Doing.{Doing}
-use Rattle.controller_model.specs.declared.doing.Doing.TheVariants.{AwaitsRequest}
-use Rattle.controller_model.specs.Facts.{Setup, Facts}
-use Rattle.controller_model.specs.Heard.{advertiser_answers, advertiser_heard, heard, if_pdu, link_taken, taken_if, taken_under}
-use Rattle.controller_model.specs.Links.{events_opened}
-use Rattle.controller_model.specs.Events.{notes_of_events}
-use Rattle.controller_model.specs.Outcome.{Outcome, notes_passed}
-use Rattle.controller_model.specs.Packets.{pdu_heard}
-use Rattle.controller_model.specs.Side.{notes_after}
-use Rattle.controller_model.specs.Step.{PacketHeard}
+use Rattle.journal_data.specs.controller_model.declared.doing.Doing.{Doing}
+use Rattle.journal_data.specs.controller_model.declared.doing.Doing.TheVariants.{AwaitsRequest}
+use Rattle.journal_data.specs.controller_model.Facts.{Setup, Facts}
+use Rattle.journal_data.specs.controller_model.Heard.{advertiser_answers, advertiser_heard, heard, if_pdu, link_taken, taken_if, taken_under}
+use Rattle.journal_data.specs.controller_model.Links.{events_opened}
+use Rattle.journal_data.specs.controller_model.Events.{notes_of_events}
+use Rattle.journal_data.specs.controller_model.Outcome.{Outcome, notes_passed}
+use Rattle.journal_data.specs.controller_model.Packets.{pdu_heard}
+use Rattle.journal_data.specs.controller_model.Side.{notes_after}
+use Rattle.journal_data.specs.controller_model.Step.{PacketHeard}
 use Rattle.journal_hearings.specs.Openings.{lets_in, newer_offer}
-use Rattle.controller_model.proofs.AdvertisersKnown.{AdvertisersKnown, params_known}
+use Rattle.journal_data.proofs.controller_model.AdvertisersKnown.{AdvertisersKnown, params_known}
 use Rattle.journal_hearings.proofs.OffersMade.{FitsOffer}
 use Rattle.journal_hearings.proofs.PeripheralNotes.{IsTaking}
 use Rattle.journal_hearings.proofs.SettingsHeld.{Holds}

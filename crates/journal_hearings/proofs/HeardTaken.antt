@@ -8,9 +8,9 @@ use Rattle.ble_base.specs.declared.notes.Note.TheVariants.{Opened}
 use Rattle.ble_base.specs.declared.roles.Role.TheVariants.{Peripheral}
 use Rattle.journal.specs.declared.entries.Entry.TheVariants.{Opened as OpenedEntry}
 use Rattle.radio_replay.specs.declared.fates.Fate.{Fate}
-use Rattle.controller_model.specs.Facts.{Facts, Sends}
-use Rattle.controller_model.specs.Side.{facts_of, notes_after}
-use Rattle.controller_model.specs.Step.{Step, TurnBegins, TurnEnds}
+use Rattle.journal_data.specs.controller_model.Facts.{Facts, Sends}
+use Rattle.journal_data.specs.controller_model.Side.{facts_of, notes_after}
+use Rattle.journal_data.specs.controller_model.Step.{Step, TurnBegins, TurnEnds}
 use Rattle.journal_data.specs.run_model.Due.{Each}
 use Rattle.journal_data.specs.run_model.Feeding.{AreDistinct}
 use Rattle.journal_data.specs.run_model.History.{Event, TurnBegan, HostFed, Called, Noted, Transmitted, Hearing, has_received, packet_received}

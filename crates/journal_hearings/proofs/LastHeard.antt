@@ -5,9 +5,9 @@ use Rattle.std.specs.Prelude.{⊤, if◌then◌else◌}
 use Rattle.std.proofs.lemmas.Bool.{eqb-true, or_right}
 use Rattle.ble_base.specs.declared.notes.Note.{Note}
 use Rattle.ble_base.specs.declared.notes.Note.TheVariants.{Opened}
-use Rattle.controller_model.specs.Facts.{Sends, Listens}
-use Rattle.controller_model.specs.Packets.{use_of}
-use Rattle.controller_model.specs.Side.{facts_of}
+use Rattle.journal_data.specs.controller_model.Facts.{Sends, Listens}
+use Rattle.journal_data.specs.controller_model.Packets.{use_of}
+use Rattle.journal_data.specs.controller_model.Side.{facts_of}
 use Rattle.journal_data.specs.run_model.Due.{IsDue}
 use Rattle.journal_data.specs.run_model.Feeding.{AreDistinct}
 use Rattle.journal_data.specs.run_model.History.{Event, TurnBegan, HostFed, Called, Noted, Transmitted, Hearing, has_received, one_if, packet_received, past_of, received_after, steps_in, turns_begun, turns_in}

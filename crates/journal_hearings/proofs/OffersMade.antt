@@ -15,15 +15,17 @@ use Rattle.scan_init.specs.Initiating.{InitiatorFacts}
 use Rattle.scan_init.specs.Reports.{ScannerFacts, does_ask, scan_answer}
 use Rattle.journal_data.specs.open_links.OpenLinks.{link_at}
 use Rattle.radio_replay.specs.declared.fates.Fate.{Fate}
-use Rattle.controller_model.specs.declared.doing.Doing.{Doing}
-use Rattle.controller_model.specs.declared.doing.Doing.TheVariants.{Advertises, AwaitsRequest, Responds, Scans, Requests, AwaitsResponse, Initiates, Connects, CentralSends, CentralListens, PeripheralListens, Rests}
-use Rattle.controller_model.specs.Step.{Step, HostOctet, TurnBegins}
-use Rattle.controller_model.specs.Facts.{Setup, Facts, Advertising, Sends, Listens}
-use Rattle.controller_model.specs.Heard.{asks_if, connects, fields_sent, has_room, heard, if_pdu, initiator_heard, link_made, link_to, replies_in, reply_if, scanner_heard, unheard}
-use Rattle.controller_model.specs.Packets.{advertisement_sent, advertising_packet, pdu_heard, sends_pdu}
-use Rattle.controller_model.specs.Side.{facts_after, facts_of, notes_after}
-use Rattle.controller_model.proofs.Phases.{EachOutcome, heard_is, unheard_is}
-use Rattle.controller_model.proofs.Sent.{AdvertisingFits, DoingFits, SomePdu, advertisement_is, sends_well}
+use Rattle.journal_data.specs.controller_model.declared.doing.Doing.{Doing}
+use Rattle.journal_data.specs.controller_model.declared.doing.Doing.TheVariants.{Advertises, AwaitsRequest, Responds, Scans, Requests, AwaitsResponse}
+use Rattle.journal_data.specs.controller_model.declared.doing.Doing.TheVariants.{Initiates, Connects, CentralSends, CentralListens, PeripheralListens, Rests}
+use Rattle.journal_data.specs.controller_model.Step.{Step, HostOctet, TurnBegins}
+use Rattle.journal_data.specs.controller_model.Facts.{Setup, Facts, Advertising, Sends, Listens}
+use Rattle.journal_data.specs.controller_model.Heard.{asks_if, connects, fields_sent, has_room, heard, if_pdu, initiator_heard, link_made, link_to, replies_in}
+use Rattle.journal_data.specs.controller_model.Heard.{reply_if, scanner_heard, unheard}
+use Rattle.journal_data.specs.controller_model.Packets.{advertisement_sent, advertising_packet, pdu_heard, sends_pdu}
+use Rattle.journal_data.specs.controller_model.Side.{facts_after, facts_of, notes_after}
+use Rattle.journal_data.proofs.controller_model.Phases.{EachOutcome, heard_is, unheard_is}
+use Rattle.journal_data.proofs.controller_model.Sent.{AdvertisingFits, DoingFits, SomePdu, advertisement_is, sends_well}
 use Rattle.journal_data.specs.run_model.Due.{packet_in}
 use Rattle.journal_data.specs.run_model.Feeding.{AreDistinct}
 use Rattle.journal_data.specs.run_model.History.{Event, TurnBegan, HostFed, Called, Noted, Transmitted, Hearing, packet_received, past_of, turns_begun}

@@ -2,7 +2,7 @@
 use Rattle.std.proofs.Common.{◌≡◌, ℕ, zero, suc, ◌==◌, Bool, true, false, List, [], ◌∷◌, ◌++◌, refl, sym, ap, subst, ◌∙◌}
 use Rattle.std.specs.Prelude.{⊤}
 use Rattle.std.proofs.lemmas.Bool.{eqb-true}
-use Rattle.controller_model.specs.Side.{facts_after, facts_of}
+use Rattle.journal_data.specs.controller_model.Side.{facts_after, facts_of}
 use Rattle.radio_replay.specs.declared.fates.Fate.{Fate}
 use Rattle.journal_data.specs.run_model.Feeding.{AreDistinct}
 use Rattle.journal_data.specs.run_model.History.{Event, Transmitted, packet_received}

@@ -14,11 +14,11 @@ use Rattle.journal.specs.declared.entries.Entry.{Entry}
 use Rattle.journal.specs.declared.entries.Entry.TheVariants.{Air, Opened}
 use Rattle.journal.specs.declared.entries.Mark.{Mark}
 use Rattle.journal_data.proofs.link_model.Hearing.{IsHeardWhole}
-use Rattle.controller_model.specs.declared.doing.Doing.{Doing}
-use Rattle.controller_model.specs.Facts.{Listens}
-use Rattle.controller_model.specs.Packets.{pdu_heard}
-use Rattle.controller_model.specs.Side.{facts_of}
-use Rattle.controller_model.proofs.Sent.{DoingFits, can_be_done}
+use Rattle.journal_data.specs.controller_model.declared.doing.Doing.{Doing}
+use Rattle.journal_data.specs.controller_model.Facts.{Listens}
+use Rattle.journal_data.specs.controller_model.Packets.{pdu_heard}
+use Rattle.journal_data.specs.controller_model.Side.{facts_of}
+use Rattle.journal_data.proofs.controller_model.Sent.{DoingFits, can_be_done}
 use Rattle.journal_data.specs.run_model.Due.{IsDue}
 use Rattle.journal_data.specs.run_model.Feeding.{AreDistinct}
 use Rattle.journal_data.specs.run_model.History.{Event, Called, Noted, Transmitted, Hearing, has_received, packet_received, past_of}

@@ -19,16 +19,18 @@ use Rattle.journal_data.specs.link_model.declared.setup.LinkSetup.{LinkSetup}
 use Rattle.scan_init.specs.Initiating.{InitiatorFacts}
 use Rattle.scan_init.specs.Reports.{ScannerFacts, scan_answer}
 use Rattle.journal_data.specs.open_links.OpenLinks.{has_link_between}
-use Rattle.controller_model.specs.declared.doing.Doing.{Doing}
-use Rattle.controller_model.specs.declared.doing.Doing.TheVariants.{Advertises, AwaitsRequest, Scans, Requests, AwaitsResponse, Initiates, Connects, CentralSends, CentralListens, PeripheralListens}
-use Rattle.controller_model.specs.Step.{Step, HostOctet, TurnBegins, PacketHeard, NothingHeard, TurnEnds}
-use Rattle.controller_model.specs.Events.{notes_of_events}
-use Rattle.controller_model.specs.Facts.{Setup, Facts}
-use Rattle.controller_model.specs.Heard.{advertiser_answers, advertiser_heard, connects, events_reported, has_room, heard, if_pdu, initiator_heard, link_heard, link_to, opens, scanner_heard, taken_if, unheard}
-use Rattle.controller_model.specs.Links.{events_opened}
-use Rattle.controller_model.specs.Outcome.{Outcome, notes_passed}
-use Rattle.controller_model.specs.Packets.{notes_doing, pdu_heard}
-use Rattle.controller_model.specs.Side.{notes_after}
+use Rattle.journal_data.specs.controller_model.declared.doing.Doing.{Doing}
+use Rattle.journal_data.specs.controller_model.declared.doing.Doing.TheVariants.{Advertises, AwaitsRequest, Scans, Requests, AwaitsResponse, Initiates}
+use Rattle.journal_data.specs.controller_model.declared.doing.Doing.TheVariants.{Connects, CentralSends, CentralListens, PeripheralListens}
+use Rattle.journal_data.specs.controller_model.Step.{Step, HostOctet, TurnBegins, PacketHeard, NothingHeard, TurnEnds}
+use Rattle.journal_data.specs.controller_model.Events.{notes_of_events}
+use Rattle.journal_data.specs.controller_model.Facts.{Setup, Facts}
+use Rattle.journal_data.specs.controller_model.Heard.{advertiser_answers, advertiser_heard, connects, events_reported, has_room, heard, if_pdu, initiator_heard}
+use Rattle.journal_data.specs.controller_model.Heard.{link_heard, link_to, opens, scanner_heard, taken_if, unheard}
+use Rattle.journal_data.specs.controller_model.Links.{events_opened}
+use Rattle.journal_data.specs.controller_model.Outcome.{Outcome, notes_passed}
+use Rattle.journal_data.specs.controller_model.Packets.{notes_doing, pdu_heard}
+use Rattle.journal_data.specs.controller_model.Side.{notes_after}
 use Rattle.journal_data.proofs.run_model.Calls.{same_station}
 use Rattle.journal_data.proofs.run_model.Doings.{IsWanted}
 use Rattle.journal_data.proofs.run_model.OpenedNotes.{doing_open, events_open, hearing_open, is_opened, neither, opens_under, outside_open}

@@ -16,12 +16,13 @@ use Rattle.journal_data.specs.link_model.declared.setup.LinkSetup.{LinkSetup}
 use Rattle.radio_replay.specs.Damage.{damaged_packet}
 use Rattle.radio_replay.specs.declared.fates.Fate.{Fate}
 use Rattle.radio_replay.specs.declared.fates.Fate.TheVariants.{Pass, Lost, Damage}
-use Rattle.controller_model.specs.declared.doing.Doing.{Doing}
-use Rattle.controller_model.specs.declared.doing.Doing.TheVariants.{Advertises, AwaitsRequest, Responds, Scans, Requests, Initiates, Connects}
-use Rattle.controller_model.specs.Facts.{Facts, Use, Sends, Listens}
-use Rattle.controller_model.specs.Packets.{advertisement_sent, advertising_packet, channel_listened, connect_sent, heard_on_channel, pdu_by, pdu_heard, sends_pdu, verdict_advertising, verdict_by, verdict_of}
-use Rattle.controller_model.specs.Side.{facts_after}
-use Rattle.controller_model.proofs.Sent.{AdvertisingFits, DoingFits, SomePdu, advertisement_is, can_be_done, sends_well}
+use Rattle.journal_data.specs.controller_model.declared.doing.Doing.{Doing}
+use Rattle.journal_data.specs.controller_model.declared.doing.Doing.TheVariants.{Advertises, AwaitsRequest, Responds, Scans, Requests, Initiates, Connects}
+use Rattle.journal_data.specs.controller_model.Facts.{Facts, Use, Sends, Listens}
+use Rattle.journal_data.specs.controller_model.Packets.{advertisement_sent, advertising_packet, channel_listened, connect_sent, heard_on_channel, pdu_by}
+use Rattle.journal_data.specs.controller_model.Packets.{pdu_heard, sends_pdu, verdict_advertising, verdict_by, verdict_of}
+use Rattle.journal_data.specs.controller_model.Side.{facts_after}
+use Rattle.journal_data.proofs.controller_model.Sent.{AdvertisingFits, DoingFits, SomePdu, advertisement_is, can_be_done, sends_well}
 use Rattle.journal_data.specs.run_model.Feeding.{AreDistinct}
 use Rattle.journal_data.specs.run_model.History.{Event, Hearing, Transmitted, packet_received, past_of, turns_begun}
 use Rattle.journal_data.specs.run_model.Journal.{journal_of, mark_of}

@@ -28,27 +28,28 @@ use Rattle.host_view.specs.Changes.{view_after}
 use Rattle.host_view.specs.Unbuilt.{status_of}
 use Rattle.journal_data.specs.open_links.declared.offers.Offer.{Offer}
 use Rattle.journal_data.specs.open_links.declared.offers.Offer.TheVariants.{NoLink, Empty, Overflow, Kept}
-use Rattle.controller_model.specs.Step.{Step, HostOctet, TurnBegins, PacketHeard, NothingHeard, TurnEnds}
-use Rattle.controller_model.specs.Facts.{Setup, Facts, Advertising, first_facts}
-use Rattle.controller_model.specs.Answers.{accepted_answer, complete_answer, has_status_answer, is_host_completed, refused_fields, returned, status_answer}
-use Rattle.controller_model.specs.Commands.{advertising_after, facts_accepted, facts_commanded, facts_known, notes_commanded, notes_known}
-use Rattle.controller_model.specs.Data.{facts_offered, offer_of}
-use Rattle.controller_model.specs.Heard.{link_taken}
-use Rattle.controller_model.specs.Side.{facts_after, facts_fed, facts_of, notes_after, notes_fed, notes_from, notes_of, result_of}
-use Rattle.controller_model.proofs.Accepted.{same_after_counts}
-use Rattle.controller_model.proofs.Always.{IsInTurn, IsKeptInTurns, opening_passes, holds_step, turn_keeps}
-use Rattle.controller_model.proofs.Following.{receiving_passes}
-use Rattle.controller_model.proofs.Feds.{frames_more, more_octets, no_frames, turn_octets}
-use Rattle.controller_model.proofs.NoAnswers.{answer_alone, none_in_loss, none_in_turn, none_of_offers}
-use Rattle.controller_model.proofs.Handles.{HaveOwnHandles, handles_kept, own_handles}
+use Rattle.journal_data.specs.controller_model.Step.{Step, HostOctet, TurnBegins, PacketHeard, NothingHeard, TurnEnds}
+use Rattle.journal_data.specs.controller_model.Facts.{Setup, Facts, Advertising, first_facts}
+use Rattle.journal_data.specs.controller_model.Answers.{accepted_answer, complete_answer, has_status_answer, is_host_completed, refused_fields, returned}
+use Rattle.journal_data.specs.controller_model.Answers.{status_answer}
+use Rattle.journal_data.specs.controller_model.Commands.{advertising_after, facts_accepted, facts_commanded, facts_known, notes_commanded, notes_known}
+use Rattle.journal_data.specs.controller_model.Data.{facts_offered, offer_of}
+use Rattle.journal_data.specs.controller_model.Heard.{link_taken}
+use Rattle.journal_data.specs.controller_model.Side.{facts_after, facts_fed, facts_of, notes_after, notes_fed, notes_from, notes_of, result_of}
+use Rattle.journal_data.proofs.controller_model.Accepted.{same_after_counts}
+use Rattle.journal_data.proofs.controller_model.Always.{IsInTurn, IsKeptInTurns, opening_passes, holds_step, turn_keeps}
+use Rattle.journal_data.proofs.controller_model.Following.{receiving_passes}
+use Rattle.journal_data.proofs.controller_model.Feds.{frames_more, more_octets, no_frames, turn_octets}
+use Rattle.journal_data.proofs.controller_model.NoAnswers.{answer_alone, none_in_loss, none_in_turn, none_of_offers}
+use Rattle.journal_data.proofs.controller_model.Handles.{HaveOwnHandles, handles_kept, own_handles}
 use Rattle.journal_hearings.specs.Settings.{accepted_commands, accepted_command, commands_sent, command_read, is_left_out, list_after, policy_after, status_unless}
 use Rattle.journal_hearings.proofs.AnswerStatuses.{command_status, complete_status, reads_statuses, statuses_append, statuses_noted, statuses_of}
 use Rattle.journal_hearings.proofs.CommandCodes.{FitsCode, FitsRead, IsPlain, read_fits}
-use Rattle.controller_model.proofs.NoAnswers.{IsNoAnswer}
-use Rattle.controller_model.proofs.ProcedureEvents.{AreOfProcedures, IsOfProcedure}
-use Rattle.controller_model.specs.Events.{notes_of_events, passes}
-use Rattle.controller_model.specs.link_commands.LinksCommanded.{events_commanded_on}
-use Rattle.controller_model.proofs.Asked.{asking_accepted, both_asking, events_at_once_are, facts_asked, notes_at_once}
+use Rattle.journal_data.proofs.controller_model.NoAnswers.{IsNoAnswer}
+use Rattle.journal_data.proofs.controller_model.ProcedureEvents.{AreOfProcedures, IsOfProcedure}
+use Rattle.journal_data.specs.controller_model.Events.{notes_of_events, passes}
+use Rattle.journal_data.specs.controller_model.link_commands.LinksCommanded.{events_commanded_on}
+use Rattle.journal_data.proofs.controller_model.Asked.{asking_accepted, both_asking, events_at_once_are, facts_asked, notes_at_once}
 
 -- ---- what a controller holds
 

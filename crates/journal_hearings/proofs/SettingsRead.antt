@@ -10,7 +10,7 @@ use Rattle.ble_base.specs.declared.roles.Side.TheVariants.{A, B}
 use Rattle.hci_cmd.specs.declared.command.Command.{Command}
 use Rattle.journal.specs.declared.entries.Entry.{Entry}
 use Rattle.journal.specs.declared.entries.Entry.TheVariants.{Turn, Fed}
-use Rattle.controller_model.specs.Side.{notes_of}
+use Rattle.journal_data.specs.controller_model.Side.{notes_of}
 use Rattle.journal_data.specs.run_model.Due.{Each}
 use Rattle.journal_data.specs.run_model.Feeding.{HasNoted}
 use Rattle.journal_data.specs.run_model.History.{Event, TurnBegan, HostFed, Called, Noted, Transmitted, noted_by, notes_in, one_if, past_of}

@@ -8,7 +8,7 @@ use Rattle.adv_pdu.specs.declared.pdu.AdvPdu.{AdvPdu}
 use Rattle.adv_pdu.specs.declared.pdu.AdvPdu.TheVariants.{Connect}
 use Rattle.journal.specs.declared.entries.Entry.{Entry}
 use Rattle.journal.specs.declared.entries.Entry.TheVariants.{Air}
-use Rattle.controller_model.specs.Packets.{pdu_heard}
+use Rattle.journal_data.specs.controller_model.Packets.{pdu_heard}
 use Rattle.journal_data.specs.run_model.Links.{is_advertising}
 
 pub record ConnectLine : Type 0 where

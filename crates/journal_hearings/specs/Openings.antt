@@ -17,7 +17,7 @@ use Rattle.journal.specs.declared.entries.Entry.{Entry}
 use Rattle.journal.specs.declared.entries.Entry.TheVariants.{Turn, Air, Opened}
 use Rattle.journal.specs.declared.entries.Mark.{Mark}
 use Rattle.scan_init.specs.Addresses.{is_same_address}
-use Rattle.controller_model.specs.Packets.{pdu_heard}
+use Rattle.journal_data.specs.controller_model.Packets.{pdu_heard}
 use Rattle.journal_data.specs.run_model.Links.{is_advertising}
 use Rattle.journal_data.specs.journal_links.Begun.{links_begun}
 use Rattle.journal_data.specs.journal_packets.Belonging.{is_side}

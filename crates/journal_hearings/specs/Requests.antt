@@ -9,7 +9,7 @@ use Rattle.adv_pdu.specs.declared.pdu.AdvPdu.TheVariants.{ScanReq, ScanRsp, Conn
 use Rattle.journal.specs.declared.entries.Entry.{Entry}
 use Rattle.journal.specs.declared.entries.Entry.TheVariants.{Air}
 use Rattle.journal.specs.declared.entries.Mark.TheVariants.{Pass as Passed}
-use Rattle.controller_model.specs.Packets.{pdu_heard}
+use Rattle.journal_data.specs.controller_model.Packets.{pdu_heard}
 use Rattle.journal_data.specs.run_model.Links.{is_advertising}
 
 -- an advertiser listens for a SCAN_REQ or a CONNECT_IND after its advertisement, on the channel of that, and an active

@@ -6,7 +6,7 @@ use Rattle.ble_base.specs.declared.verdicts.Verdict.TheVariants.{Good}
 use Rattle.journal.specs.declared.entries.Entry.{Entry}
 use Rattle.journal.specs.declared.entries.Entry.TheVariants.{Air, Fed, Up}
 use Rattle.journal.specs.declared.entries.Mark.TheVariants.{Pass as Passed}
-use Rattle.controller_model.specs.Rows.{address_a, address_b, public}
+use Rattle.journal_data.specs.controller_model.Rows.{address_a, address_b, public}
 use Rattle.journal_data.specs.run_model.Rows.{answer, connectable_packet, connecting_octets, enabling_octets, status_answer, turn_entry}
 
 -- LE Set Advertising Parameters: 20 ms, type 0, the public address, all channels, and filter policy 2

@@ -17,7 +17,7 @@ use Rattle.host_view.specs.Noted.{two_octets}
 use Rattle.host_view.specs.Status.{named_address}
 use Rattle.journal.specs.declared.entries.Entry.{Entry}
 use Rattle.scan_init.specs.Addresses.{with_address, without_address}
-use Rattle.controller_model.specs.Notes.{as_two_octets, is_event}
+use Rattle.journal_data.specs.controller_model.Notes.{as_two_octets, is_event}
 use Rattle.journal_data.specs.run_model.Readers.{fed_to_side, packets_to_host}
 
 -- ---- commands and their answers

@@ -11,7 +11,7 @@ use Rattle.adv_pdu.specs.declared.pdu.ConnectFields.{ConnectFields}
 use Rattle.journal.specs.declared.entries.Entry.{Entry}
 use Rattle.journal.specs.declared.entries.Entry.TheVariants.{Air, Opened}
 use Rattle.journal.specs.declared.entries.Mark.{Mark}
-use Rattle.controller_model.specs.Packets.{pdu_heard}
+use Rattle.journal_data.specs.controller_model.Packets.{pdu_heard}
 use Rattle.journal_data.specs.run_model.Links.{is_advertising}
 use Rattle.journal_data.specs.run_model.Readers.{turns_of}
 use Rattle.journal_data.specs.journal_links.Begun.{links_begun}

@@ -18,7 +18,7 @@ pub fn each_request_is_heard()
     ensures { (given : Given) → given.stations ≡ 0 ∷ 1 ∷ [] → HaveAddresses given
         → AllRequestsAreHeard (journal_of (history_of (run_of given))) }
 {
-    controller_model::a_pdu_is_understood();
+    journal_data::a_pdu_is_understood();
 }
 
 /// In the journal of a run of two stations, with any number of links each, a side holds a link as
@@ -48,7 +48,7 @@ pub fn each_heard_link_is_opened()
         → ((station : ℕ) → (setup_at given station).host_buffers ≡ 8)
         → run_of given ≡ GoesOn history → HeardLinksAreOpened (journal_of history) }
 {
-    controller_model::a_pdu_is_understood();
+    journal_data::a_pdu_is_understood();
     advertise::laws::connections_are_taken();
     scan_init::laws::searches_give_each_valid_address();
     air_frame::laws::packet_tells_its_pdu();
@@ -66,7 +66,7 @@ pub fn each_opened_link_was_to_open()
         → ((station : ℕ) → (setup_at given station).host_buffers ≡ 8)
         → OpenedLinksWereToOpen (journal_of (history_of (run_of given))) }
 {
-    controller_model::a_pdu_is_understood();
+    journal_data::a_pdu_is_understood();
     advertise::laws::connections_are_taken();
     scan_init::laws::searches_give_each_valid_address();
     air_frame::laws::packet_tells_its_pdu();

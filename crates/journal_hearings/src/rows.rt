@@ -4,7 +4,7 @@ ghost use Rattle.std.specs.Option.{option_map};
 ghost use Rattle.ble_base.specs.declared.roles.Side.TheVariants.{A, B};
 ghost use Rattle.ble_base.specs.declared.verdicts.Verdict.TheVariants.{Good, Missed};
 ghost use Rattle.adv_pdu.specs.declared.pdu.AdvPdu.TheVariants.{Direct};
-ghost use Rattle.controller_model.specs.Packets.{pdu_heard};
+ghost use Rattle.journal_data.specs.controller_model.Packets.{pdu_heard};
 ghost use Rattle.journal.specs.declared.entries.Entry.TheVariants.{Air, Fed, Up};
 ghost use Rattle.journal.specs.declared.entries.Mark.TheVariants.{Lost, Pass as Passed};
 ghost use Rattle.journal_hearings.specs.Connects.{connect_numbered};

@@ -1,5 +1,5 @@
 //! Worked examples: journals that the definitions of credits refuse.
-ghost use Rattle.std.specs.Prelude.{◌≡◌, ℕ, false, true};
+ghost use Rattle.std.specs.Prelude.{◌≡◌, false, true};
 ghost use Rattle.run_model.specs.Rows.{reset_answer};
 ghost use Rattle.journal_hosts.specs.CreditRows.{after_the_other, before_data, before_packet};
 ghost use Rattle.journal_hosts.specs.CreditRows.{credit_after_shut, credit_of, data_after_shut};

@@ -4,11 +4,11 @@ use Rattle.std.specs.List.{AllByRecursion}
 use Rattle.std.proofs.lemmas.List.{append_cancel_left}
 use Rattle.ble_base.specs.declared.notes.Note.{Note}
 use Rattle.ble_base.specs.declared.roles.Side.{Side}
-use Rattle.controller_model.specs.Facts.{Facts}
-use Rattle.controller_model.specs.Side.{notes_after}
-use Rattle.controller_model.specs.Step.{Step as Call}
+use Rattle.journal_controls.specs.controller_model.Facts.{Facts}
+use Rattle.journal_controls.specs.controller_model.Side.{notes_after}
+use Rattle.journal_controls.specs.controller_model.Step.{Step as Call}
 use Rattle.hci_cmd.specs.declared.command.Command.{Command}
-use Rattle.host_answers.specs.Calls.{call_lines}
+use Rattle.journal_controls.specs.host_answers.Calls.{call_lines}
 use Rattle.journal.specs.declared.entries.Entry.{Entry}
 use Rattle.journal.specs.declared.entries.Entry.TheVariants.{Air}
 use Rattle.journal_controls.specs.journal_acks.link_calls.Hosts.{HasHeardHost, GetsData, IsAsked as AsksStep, Unchanged}

@@ -3,7 +3,7 @@ use Rattle.std.proofs.Common.{◌≡◌, ℕ, ◌&&◌, Bool, true, false, Optio
 use Rattle.ble_base.specs.ErrorCodes.{terminated_by_local_host}
 use Rattle.ble_base.specs.declared.error_codes.ErrCode.{ErrCode}
 use Rattle.ble_base.specs.declared.roles.Side.{Side}
-use Rattle.controller_model.proofs.Asked.{IsAskedStep}
+use Rattle.journal_controls.proofs.controller_model.Asked.{IsAskedStep}
 use Rattle.journal_controls.specs.journal_ends.Seen.{Asks, Seen, asked_if, asked_in_step, seen_in_steps}
 use Rattle.journal_controls.specs.link_model.End.{facts_after}
 use Rattle.journal_controls.specs.link_model.Facts.{Facts}

@@ -7,7 +7,7 @@ use Rattle.adv_pdu.specs.declared.pdu.AdvPdu.{AdvPdu}
 use Rattle.adv_pdu.specs.declared.pdu.AdvPdu.TheVariants.{Connect}
 use Rattle.journal.specs.declared.entries.Entry.{Entry}
 use Rattle.journal.specs.declared.entries.Entry.TheVariants.{Air, Turn}
-use Rattle.controller_model.specs.Packets.{pdu_heard}
+use Rattle.journal_controls.specs.controller_model.Packets.{pdu_heard}
 use Rattle.journal_controls.specs.LineSteps.{control_on, turn_now}
 use Rattle.journal_controls.specs.journal_acks.Shut.{last_heard}
 use Rattle.journal_controls.specs.journal_links.Begun.{LinkBegun, begun_by, begun_in, link_numbered, links_begun, with_number}

@@ -7,7 +7,8 @@ use Rattle.ble_base.specs.declared.error_codes.ErrCode.{ErrCode}
 use Rattle.exclusive_stages.specs.declared.stages.PeerAtCentral.{PeerAtCentral}
 use Rattle.exclusive_stages.specs.declared.stages.PeerAtCentral.TheVariants.{Absent, GrantUnsent}
 use Rattle.instants.specs.declared.indications.Params.{Params}
-use Rattle.controller_model.specs.Shutting.{IsLeaving, IsOverdue, acknowledged, ended_by_peer, failed, not_acknowledged, not_established, timed_out, unanswered}
+use Rattle.journal_controls.specs.controller_model.Shutting.{IsLeaving, IsOverdue, acknowledged, ended_by_peer, failed, not_acknowledged, not_established}
+use Rattle.journal_controls.specs.controller_model.Shutting.{timed_out, unanswered}
 use Rattle.journal_controls.specs.journal_ends.open_links.OpenLinks.{OpenLink, facts_in}
 use Rattle.journal_controls.specs.journal_links.Begun.{LinkBegun}
 use Rattle.journal_controls.specs.link_model.Facts.{Facts, params_of}

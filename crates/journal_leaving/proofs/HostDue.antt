@@ -10,12 +10,12 @@ use Rattle.host_view.specs.Links.{link_has, link_in}
 use Rattle.host_view.specs.Refusals.{first_refusal}
 use Rattle.host_view.specs.Status.{rows_of}
 use Rattle.host_view.specs.View.{View}
-use Rattle.controller_model.specs.Facts.{Setup as StationSetup}
-use Rattle.controller_model.specs.Side.{facts_of as station_after}
-use Rattle.controller_model.specs.Step.{Step as Call}
-use Rattle.controller_model.specs.link_commands.Commands.{ask_unless, host_step_of, is_about, map_by, step_if_about}
-use Rattle.controller_model.proofs.Asked.{IsAskedStep}
-use Rattle.controller_model.proofs.link_commands.Ranges.{passes}
+use Rattle.journal_controls.specs.controller_model.Facts.{Setup as StationSetup}
+use Rattle.journal_controls.specs.controller_model.Side.{facts_of as station_after}
+use Rattle.journal_controls.specs.controller_model.Step.{Step as Call}
+use Rattle.journal_controls.specs.controller_model.link_commands.Commands.{ask_unless, host_step_of, is_about, map_by, step_if_about}
+use Rattle.journal_controls.proofs.controller_model.Asked.{IsAskedStep}
+use Rattle.journal_controls.proofs.controller_model.link_commands.Ranges.{passes}
 use Rattle.known_ends.proofs.CommandsKnown.{table_of}
 use Rattle.known_ends.proofs.EndsKnown.{end_known, six_places}
 use Rattle.journal_controls.specs.journal_acks.link_calls.Hosts.{HasHeardHost, GetsData, IsAsked, Unchanged}

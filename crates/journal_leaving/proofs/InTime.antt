@@ -4,10 +4,10 @@ use Rattle.std.specs.Prelude.{All, ⊤, fold, map, take, if◌then◌else◌}
 use Rattle.std.proofs.lemmas.Bool.{eqb-true}
 use Rattle.std.proofs.lemmas.List.Sums.{fold-append}
 use Rattle.ble_base.specs.declared.roles.Side.{Side}
-use Rattle.controller_model.specs.Facts.{Facts}
-use Rattle.controller_model.specs.Heard.{has_room}
-use Rattle.controller_model.specs.Side.{facts_after, facts_of, notes_after}
-use Rattle.controller_model.specs.Step.{Step as Call, HostOctet, TurnBegins, TurnEnds}
+use Rattle.journal_controls.specs.controller_model.Facts.{Facts}
+use Rattle.journal_controls.specs.controller_model.Heard.{has_room}
+use Rattle.journal_controls.specs.controller_model.Side.{facts_after, facts_of, notes_after}
+use Rattle.journal_controls.specs.controller_model.Step.{Step as Call, HostOctet, TurnBegins, TurnEnds}
 use Rattle.journal_controls.specs.journal_acks.link_calls.Phases.{HasPassed, IsNew, Stays, Takes}
 use Rattle.journal_controls.specs.journal_links.Begun.{link_numbered, links_begun}
 use Rattle.journal_controls.specs.open_links.OpenLinks.{OpenLink, link_at}

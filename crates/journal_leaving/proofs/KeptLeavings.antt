@@ -3,14 +3,14 @@ use Rattle.std.proofs.Common.{◌≡◌, ℕ, zero, suc, ◌+◌, ◌-◌, ◌==
 use Rattle.std.specs.Prelude.{◌&&◌, ◌⊎◌, map, take, if◌then◌else◌}
 use Rattle.std.proofs.lemmas.Bool.{eqb-true}
 use Rattle.ble_base.specs.declared.roles.Side.{Side}
-use Rattle.controller_model.specs.Facts.{Facts, Listens, Sends}
-use Rattle.controller_model.specs.Side.{facts_after, facts_of, notes_after}
-use Rattle.controller_model.specs.Step.{Step as Call, HostOctet, NothingHeard, PacketHeard, TurnBegins, TurnEnds}
-use Rattle.controller_model.specs.declared.doing.Doing.TheVariants.{Rests}
-use Rattle.controller_model.specs.declared.doing.Turn.{Turn}
-use Rattle.host_answers.specs.Calls.{answered_after}
-use Rattle.host_masks.specs.Masks.{view_masks, withholds_requests}
-use Rattle.host_masks.proofs.LineMasks.{line_masks}
+use Rattle.journal_controls.specs.controller_model.Facts.{Facts, Listens, Sends}
+use Rattle.journal_controls.specs.controller_model.Side.{facts_after, facts_of, notes_after}
+use Rattle.journal_controls.specs.controller_model.Step.{Step as Call, HostOctet, NothingHeard, PacketHeard, TurnBegins, TurnEnds}
+use Rattle.journal_controls.specs.controller_model.declared.doing.Doing.TheVariants.{Rests}
+use Rattle.journal_controls.specs.controller_model.declared.doing.Turn.{Turn}
+use Rattle.journal_controls.specs.host_answers.Calls.{answered_after}
+use Rattle.journal_controls.specs.host_masks.Masks.{view_masks, withholds_requests}
+use Rattle.journal_controls.proofs.host_masks.LineMasks.{line_masks}
 use Rattle.radio_replay.specs.declared.fates.Fate.{Fate}
 use Rattle.journal_controls.specs.journal_acks.Exchange.{is_number}
 use Rattle.journal_controls.specs.journal_acks.link_calls.Uses.{listens_under, sends_under}

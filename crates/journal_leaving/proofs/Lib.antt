@@ -34,3 +34,5 @@ pub use Rattle.journal_controls.proofs.journal_links as journal_links
 pub use Rattle.journal_controls.proofs.journal_packets as journal_packets
 pub use Rattle.journal_controls.proofs.link_model as link_model
 pub use Rattle.journal_controls.proofs.run_model as run_model
+pub use Rattle.journal_data.proofs as journal_data
+pub use Rattle.journal_controls.proofs.controller_model as controller_model

@@ -3,9 +3,9 @@
 use Rattle.std.proofs.Common.{◌≡◌, ℕ, Bool, true, false, Some, List, [], ◌∷◌, ◌++◌, fold, map, refl, sym, ap, subst, ◌∙◌, append-nil, append_assoc}
 use Rattle.std.specs.Prelude.{nat_lt, if◌then◌else◌}
 use Rattle.ble_base.specs.declared.roles.Side.{Side}
-use Rattle.controller_model.specs.Facts.{Setup, Facts}
-use Rattle.controller_model.specs.Side.{facts_after}
-use Rattle.controller_model.specs.Step.{TurnBegins, TurnEnds}
+use Rattle.journal_controls.specs.controller_model.Facts.{Setup, Facts}
+use Rattle.journal_controls.specs.controller_model.Side.{facts_after}
+use Rattle.journal_controls.specs.controller_model.Step.{TurnBegins, TurnEnds}
 use Rattle.journal_controls.specs.Hearing.{control_hearing}
 use Rattle.journal_controls.specs.SaidLines.{moved_by}
 use Rattle.journal_controls.specs.TurnSteps.{first_if, steps_begun}

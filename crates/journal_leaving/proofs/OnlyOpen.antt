@@ -11,10 +11,10 @@ use Rattle.ble_base.specs.declared.roles.Side.{Side}
 use Rattle.ble_base.specs.declared.roles.Side.TheVariants.{A, B}
 use Rattle.journal.specs.declared.entries.Entry.{Entry}
 use Rattle.journal.specs.declared.entries.Entry.TheVariants.{Opened, Shut, Turn}
-use Rattle.controller_model.specs.Facts.{Facts, Setup}
-use Rattle.controller_model.specs.Notes.{is_opening}
-use Rattle.controller_model.specs.Side.{facts_after, notes_after}
-use Rattle.controller_model.specs.Step.{Step as Call}
+use Rattle.journal_controls.specs.controller_model.Facts.{Facts, Setup}
+use Rattle.journal_controls.specs.controller_model.Notes.{is_opening}
+use Rattle.journal_controls.specs.controller_model.Side.{facts_after, notes_after}
+use Rattle.journal_controls.specs.controller_model.Step.{Step as Call}
 use Rattle.journal_controls.specs.LineSteps.{control_after, control_begun, control_on}
 use Rattle.journal_controls.specs.journal_links.Begun.{link_numbered}
 use Rattle.journal_controls.specs.journal_packets.Belonging.{is_side}

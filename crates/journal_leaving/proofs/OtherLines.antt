@@ -6,8 +6,8 @@ use Rattle.ble_base.specs.declared.notes.Note.TheVariants.{Up as UpNote}
 use Rattle.ble_base.specs.declared.roles.Side.{Side}
 use Rattle.journal.specs.declared.entries.Entry.{Entry}
 use Rattle.journal.specs.declared.entries.Entry.TheVariants.{Air, Turn}
-use Rattle.controller_model.specs.Side.{notes_after}
-use Rattle.controller_model.specs.Step.{Step, HostOctet}
+use Rattle.journal_controls.specs.controller_model.Side.{notes_after}
+use Rattle.journal_controls.specs.controller_model.Step.{Step, HostOctet}
 use Rattle.journal_controls.specs.run_model.History.{Event, HostFed, Called, Noted}
 use Rattle.journal_controls.specs.run_model.Journal.{entry_of, journal_of, side_of}
 use Rattle.journal_controls.specs.run_model.Links.{links_of}

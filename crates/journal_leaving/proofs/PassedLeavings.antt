@@ -2,12 +2,12 @@
 use Rattle.std.proofs.Common.{◌≡◌, ℕ, ◌⊎◌, inl, inr, Bool, true, false, Option, Some, None, List, [], ◌∷◌, sym, ap, subst, ◌∙◌}
 use Rattle.std.specs.Prelude.{◌&&◌, All}
 use Rattle.ble_base.specs.declared.roles.Side.{Side}
-use Rattle.controller_model.specs.Facts.{Facts}
-use Rattle.controller_model.specs.Heard.{has_room}
-use Rattle.controller_model.specs.Links.{note_opened}
-use Rattle.controller_model.specs.Side.{facts_after, notes_after}
-use Rattle.controller_model.proofs.Always.{IsInTurn}
-use Rattle.host_masks.specs.Masks.{view_masks, withholds_requests}
+use Rattle.journal_controls.specs.controller_model.Facts.{Facts}
+use Rattle.journal_controls.specs.controller_model.Heard.{has_room}
+use Rattle.journal_controls.specs.controller_model.Links.{note_opened}
+use Rattle.journal_controls.specs.controller_model.Side.{facts_after, notes_after}
+use Rattle.journal_controls.proofs.controller_model.Always.{IsInTurn}
+use Rattle.journal_controls.specs.host_masks.Masks.{view_masks, withholds_requests}
 use Rattle.journal_controls.specs.journal_acks.link_calls.Phases.{HasPassed, IsNew, Stays, Takes}
 use Rattle.journal_controls.specs.journal_acks.link_calls.Uses.{listens_under, sends_under}
 use Rattle.journal_controls.specs.journal_ends.Seen.{Says, seen_of}

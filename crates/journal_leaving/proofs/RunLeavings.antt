@@ -2,7 +2,7 @@
 use Rattle.std.proofs.Common.{◌≡◌, ℕ, Bool, true, Option, Some, None, List, [], ◌∷◌, ◌++◌, refl, sym, ap, subst, ◌∙◌, append-nil}
 use Rattle.std.specs.Option.{option_map}
 use Rattle.ble_base.specs.declared.roles.Side.{Side}
-use Rattle.controller_model.specs.Step.{Step as Call, TurnBegins, TurnEnds}
+use Rattle.journal_controls.specs.controller_model.Step.{Step as Call, TurnBegins, TurnEnds}
 use Rattle.journal_controls.specs.journal_acks.Shut.{last_heard}
 use Rattle.journal_controls.specs.journal_ends.Seen.{last_slot}
 use Rattle.journal_controls.specs.link_model.Times.{due_of, ending_of}

@@ -5,12 +5,12 @@ use Rattle.std.specs.List.{Contains}
 use Rattle.std.specs.Option.{option_map}
 use Rattle.ble_base.specs.declared.error_codes.ErrCode.{ErrCode}
 use Rattle.ble_base.specs.declared.notes.Note.TheVariants.{Shut}
-use Rattle.controller_model.specs.Data.{facts_handed}
-use Rattle.controller_model.specs.Facts.{Facts}
-use Rattle.controller_model.specs.Shutting.{IsShut, leaving as shut_leaving, overdue as shut_overdue, reset as shut_reset}
-use Rattle.controller_model.specs.Side.{notes_after}
-use Rattle.controller_model.specs.Step.{Step as Call}
-use Rattle.controller_model.proofs.Shuts.{shuts_with_reason}
+use Rattle.journal_controls.specs.controller_model.Data.{facts_handed}
+use Rattle.journal_controls.specs.controller_model.Facts.{Facts}
+use Rattle.journal_controls.specs.controller_model.Shutting.{IsShut, leaving as shut_leaving, overdue as shut_overdue, reset as shut_reset}
+use Rattle.journal_controls.specs.controller_model.Side.{notes_after}
+use Rattle.journal_controls.specs.controller_model.Step.{Step as Call}
+use Rattle.journal_controls.proofs.controller_model.Shuts.{shuts_with_reason}
 use Rattle.journal_controls.specs.link_model.Facts.{Facts as EndFacts}
 use Rattle.journal_controls.specs.link_model.Step.{DataReported}
 use Rattle.journal_controls.specs.link_model.Times.{ending_of}

@@ -11,13 +11,13 @@ use Rattle.ble_base.specs.declared.notes.Note.TheVariants.{Shut as ShutNote}
 use Rattle.ble_base.specs.declared.roles.Side.{Side}
 use Rattle.journal.specs.declared.entries.Entry.{Entry}
 use Rattle.journal.specs.declared.entries.Entry.TheVariants.{Shut}
-use Rattle.controller_model.specs.Facts.{Facts}
-use Rattle.controller_model.specs.Shutting.{IsShut, leaving as shut_leaving, overdue as shut_overdue, reset as shut_reset}
-use Rattle.controller_model.specs.Side.{notes_after}
-use Rattle.controller_model.specs.Since.{note_under, notes_under, opens_under, was_opened}
-use Rattle.controller_model.specs.Step.{Step as Call, TurnBegins, TurnEnds}
-use Rattle.controller_model.proofs.Shuts.{shuts_with_reason}
-use Rattle.host_answers.proofs.LineAnswers.{IsQuiet}
+use Rattle.journal_controls.specs.controller_model.Facts.{Facts}
+use Rattle.journal_controls.specs.controller_model.Shutting.{IsShut, leaving as shut_leaving, overdue as shut_overdue, reset as shut_reset}
+use Rattle.journal_controls.specs.controller_model.Side.{notes_after}
+use Rattle.journal_controls.specs.controller_model.Since.{note_under, notes_under, opens_under, was_opened}
+use Rattle.journal_controls.specs.controller_model.Step.{Step as Call, TurnBegins, TurnEnds}
+use Rattle.journal_controls.proofs.controller_model.Shuts.{shuts_with_reason}
+use Rattle.journal_controls.proofs.host_answers.LineAnswers.{IsQuiet}
 use Rattle.journal_controls.specs.SaidLines.{NoneOpens, moved_by}
 use Rattle.journal_controls.specs.journal_links.Begun.{link_numbered}
 use Rattle.journal_controls.specs.journal_links.LinkLines.{line_of, lines_of}

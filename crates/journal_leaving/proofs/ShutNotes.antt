@@ -9,18 +9,18 @@ use Rattle.ble_base.specs.declared.notes.Note.TheVariants.{Up, Shut}
 use Rattle.hci_evt.specs.Event.{mask_bit_of, written}
 use Rattle.hci_evt.specs.declared.event.Event.TheVariants.{DisconnectionComplete}
 use Rattle.host_view.specs.View.{View}
-use Rattle.controller_model.specs.Data.{acl_packet, event_completed, facts_handed, note_received}
-use Rattle.controller_model.specs.Entering.{events_entering, notes_all_entering}
-use Rattle.controller_model.specs.Events.{notes_of_events, passes}
-use Rattle.controller_model.specs.Facts.{Facts, Setup}
-use Rattle.controller_model.specs.Links.{ends_for, facts_ending, notes_ended, notes_ending, notes_leaving}
-use Rattle.controller_model.specs.Packets.{notes_doing}
-use Rattle.controller_model.specs.Radio.{outcome_begun}
-use Rattle.controller_model.specs.Side.{notes_after}
-use Rattle.controller_model.specs.Since.{is_under, note_under, opens_under}
-use Rattle.controller_model.specs.Step.{TurnBegins, TurnEnds}
-use Rattle.controller_model.proofs.EndNotes.{entered_each}
-use Rattle.controller_model.proofs.LinkNotes.{IsOfOthers, doing_too, events_too}
+use Rattle.journal_controls.specs.controller_model.Data.{acl_packet, event_completed, facts_handed, note_received}
+use Rattle.journal_controls.specs.controller_model.Entering.{events_entering, notes_all_entering}
+use Rattle.journal_controls.specs.controller_model.Events.{notes_of_events, passes}
+use Rattle.journal_controls.specs.controller_model.Facts.{Facts, Setup}
+use Rattle.journal_controls.specs.controller_model.Links.{ends_for, facts_ending, notes_ended, notes_ending, notes_leaving}
+use Rattle.journal_controls.specs.controller_model.Packets.{notes_doing}
+use Rattle.journal_controls.specs.controller_model.Radio.{outcome_begun}
+use Rattle.journal_controls.specs.controller_model.Side.{notes_after}
+use Rattle.journal_controls.specs.controller_model.Since.{is_under, note_under, opens_under}
+use Rattle.journal_controls.specs.controller_model.Step.{TurnBegins, TurnEnds}
+use Rattle.journal_controls.proofs.controller_model.EndNotes.{entered_each}
+use Rattle.journal_controls.proofs.controller_model.LinkNotes.{IsOfOthers, doing_too, events_too}
 use Rattle.journal_controls.specs.open_links.OpenLinks.{Links, OpenLink, facts_in}
 use Rattle.journal_controls.specs.open_links.Data.{completed_from}
 use Rattle.journal_controls.specs.open_links.Ended.{HandlesAscend}

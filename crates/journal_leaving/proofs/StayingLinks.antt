@@ -2,10 +2,10 @@
 use Rattle.std.proofs.Common.{◌≡◌, ℕ, Option, Some, None, refl, sym, ap, ◌∙◌, replicate}
 use Rattle.std.specs.Option.{option_map}
 use Rattle.ble_base.specs.declared.error_codes.ErrCode.{ErrCode}
-use Rattle.controller_model.specs.Data.{facts_handed}
-use Rattle.controller_model.specs.Facts.{Setup, Facts, first_facts}
-use Rattle.controller_model.proofs.Always.{leaving_is}
-use Rattle.controller_model.proofs.Asked.{IsAskedStep}
+use Rattle.journal_controls.specs.controller_model.Data.{facts_handed}
+use Rattle.journal_controls.specs.controller_model.Facts.{Setup, Facts, first_facts}
+use Rattle.journal_controls.proofs.controller_model.Always.{leaving_is}
+use Rattle.journal_controls.proofs.controller_model.Asked.{IsAskedStep}
 use Rattle.journal_controls.specs.journal_acks.link_calls.Hosts.{HasHeardHost, GetsData, IsAsked, Unchanged}
 use Rattle.journal_controls.specs.link_model.Facts.{Facts as EndFacts}
 use Rattle.journal_controls.specs.link_model.Step.{Step as EndStep, DataGiven}

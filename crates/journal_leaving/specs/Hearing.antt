@@ -1,8 +1,8 @@
 -- How an end is to leave its link as a packet reaches it, before it looks at the PDU in it (Core 5.2, volume 6 part B, section 4.5.9).
 use Rattle.std.specs.Prelude.{ℕ, Bool, true, false, List, Option, Some, None}
 use Rattle.ble_base.specs.declared.roles.Role.{Role}
-use Rattle.controller_model.specs.Facts.{Facts as StationFacts}
-use Rattle.controller_model.specs.Step.{Step as Call, PacketHeard}
+use Rattle.journal_controls.specs.controller_model.Facts.{Facts as StationFacts}
+use Rattle.journal_controls.specs.controller_model.Step.{Step as Call, PacketHeard}
 use Rattle.data_pdu.specs.Header.{header_in}
 use Rattle.journal_controls.specs.journal_acks.Exchange.{is_number}
 use Rattle.journal_controls.specs.journal_ends.run_laws.Ends.{link_listened}

@@ -13,3 +13,5 @@ pub use Rattle.journal_controls.specs.journal_links as journal_links
 pub use Rattle.journal_controls.specs.journal_packets as journal_packets
 pub use Rattle.journal_controls.specs.link_model as link_model
 pub use Rattle.journal_controls.specs.run_model as run_model
+pub use Rattle.journal_data.specs as journal_data
+pub use Rattle.journal_controls.specs.controller_model as controller_model

@@ -3,8 +3,8 @@
 use Rattle.std.specs.Prelude.{◌≡◌, ℕ, Bool, List, [], ◌∷◌, Some}
 use Rattle.ble_base.specs.ErrorCodes.{success}
 use Rattle.ble_base.specs.declared.error_codes.ErrCode.{ErrCode}
-use Rattle.controller_model.specs.Host.{commands_accepted_after}
-use Rattle.controller_model.specs.Step.{Step, TurnBegins, TurnEnds}
+use Rattle.journal_controls.specs.controller_model.Host.{commands_accepted_after}
+use Rattle.journal_controls.specs.controller_model.Step.{Step, TurnBegins, TurnEnds}
 use Rattle.hci_cmd.specs.declared.command.Command.TheVariants.{Reset}
 use Rattle.journal_controls.specs.run_model.History.{Event}
 use Rattle.journal_controls.specs.run_model.Journal.{journal_of, side_of}

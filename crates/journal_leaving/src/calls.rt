@@ -2,8 +2,8 @@
 //! The bodies are empty: the contracts are the laws.
 ghost use Rattle.std.specs.Prelude.{◌≡◌, ◌++◌, ℕ, Bool, List, Option, Some, false};
 ghost use Rattle.ble_base.specs.declared.roles.Side.{Side};
-ghost use Rattle.controller_model.specs.Step.{Step as Call};
-ghost use Rattle.host_answers.specs.Calls.{call_lines};
+ghost use Rattle.journal_controls.specs.controller_model.Step.{Step as Call};
+ghost use Rattle.journal_controls.specs.host_answers.Calls.{call_lines};
 ghost use Rattle.journal.specs.declared.entries.Entry.{Entry};
 ghost use Rattle.journal_controls.specs.LineSteps.{control_on, turn_now, withholds};
 ghost use Rattle.journal_controls.specs.SaidLines.{NoneOpens};

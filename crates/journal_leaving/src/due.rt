@@ -2,7 +2,7 @@
 ghost use Rattle.std.specs.Prelude.{◌≡◌, ◌≤◌, ℕ, Bool, List, None, Result, Some};
 ghost use Rattle.std.specs.Option.{option_map};
 ghost use Rattle.ble_base.specs.declared.error_codes.ErrCode.{ErrCode};
-ghost use Rattle.controller_model.specs.Shutting.{IsLeaving, IsOverdue};
+ghost use Rattle.journal_controls.specs.controller_model.Shutting.{IsLeaving, IsOverdue};
 ghost use Rattle.journal_controls.specs.journal_ends.open_links.OpenLinks.{OpenLink, facts_in};
 ghost use Rattle.journal_controls.specs.journal_links.Begun.{LinkBegun};
 ghost use Rattle.journal_controls.specs.link_model.End.{facts_after};

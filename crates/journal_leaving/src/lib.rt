@@ -38,3 +38,12 @@ pub use crate::turns::{
     a_packet_that_is_taken_moves_how_an_end_leaves_by_its_lines,
     a_turn_that_begins_moves_how_an_end_leaves_by_its_lines,
 };
+
+// What the crates above call of those below.
+pub use journal_controls::a_pdu_is_understood;
+pub use journal_data::{
+    data_arrives_in_order_in_every_journal, each_enter_line_is_at_its_anchor,
+    each_link_has_the_next_address, each_opened_line_names_its_link,
+    each_sent_line_is_of_a_new_pdu, each_side_enters_its_events_in_order,
+    lines_are_of_open_links_in_every_journal,
+};

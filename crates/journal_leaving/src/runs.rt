@@ -4,8 +4,8 @@ ghost use Rattle.std.specs.Prelude.{◌≡◌, ◌++◌, ◌∷◌, [], None, �
 ghost use Rattle.std.specs.List.{Contains};
 ghost use Rattle.ble_base.specs.declared.error_codes.ErrCode.{ErrCode};
 ghost use Rattle.ble_base.specs.declared.notes.Note.TheVariants.{Shut};
-ghost use Rattle.controller_model.specs.Side.{notes_after};
-ghost use Rattle.controller_model.specs.Step.{Step, TurnBegins, TurnEnds};
+ghost use Rattle.journal_controls.specs.controller_model.Side.{notes_after};
+ghost use Rattle.journal_controls.specs.controller_model.Step.{Step, TurnBegins, TurnEnds};
 ghost use Rattle.journal_controls.specs.link_model.Times.{due_of, ending_of};
 ghost use Rattle.journal_controls.specs.open_links.OpenLinks.{OpenLink, facts_in, link_at};
 ghost use Rattle.journal_controls.specs.run_model.History.{Event, Called, TurnBegan};
@@ -47,7 +47,7 @@ pub fn an_end_leaves_by_lines_as_it_holds()
         → leaving_on (side_of station) ((links_of history).link_of station handle)
         (journal_of history) ≡ Some (facts_in link).leaving }
 {
-    controller_model::a_pdu_is_understood();
+    journal_controls::a_pdu_is_understood();
     advertise::laws::connections_are_taken();
     scan_init::laws::searches_give_each_valid_address();
     air_frame::laws::packet_tells_its_pdu();
@@ -72,7 +72,7 @@ pub fn no_open_end_is_leaving_between_turns()
         → ending_on (side_of station) ((links_of history).link_of station handle)
         (journal_of history) ≡ None }
 {
-    controller_model::a_pdu_is_understood();
+    journal_controls::a_pdu_is_understood();
     advertise::laws::connections_are_taken();
     scan_init::laws::searches_give_each_valid_address();
     air_frame::laws::packet_tells_its_pdu();
@@ -97,7 +97,7 @@ pub fn what_is_due_by_lines_is_due_to_an_end()
         → ending_on (side_of station) ((links_of before).link_of station handle)
         (journal_of before) ≡ ending_of (facts_in link) }
 {
-    controller_model::a_pdu_is_understood();
+    journal_controls::a_pdu_is_understood();
     advertise::laws::connections_are_taken();
     scan_init::laws::searches_give_each_valid_address();
     air_frame::laws::packet_tells_its_pdu();
@@ -115,7 +115,7 @@ pub fn a_link_is_shut_for_what_is_due_by_its_lines()
         (Shut handle reason)
         → IsShutIn given before station step handle reason }
 {
-    controller_model::a_pdu_is_understood();
+    journal_controls::a_pdu_is_understood();
     advertise::laws::connections_are_taken();
     scan_init::laws::searches_give_each_valid_address();
     air_frame::laws::packet_tells_its_pdu();

@@ -30,7 +30,7 @@ pub fn open_ends_stay_open_by_the_lines()
         → StaysOpen (side_of station) ((links_of history).link_of station handle)
         (journal_of history) }
 {
-    controller_model::a_pdu_is_understood();
+    journal_controls::a_pdu_is_understood();
     advertise::laws::connections_are_taken();
     scan_init::laws::searches_give_each_valid_address();
     air_frame::laws::packet_tells_its_pdu();
@@ -46,7 +46,7 @@ pub fn links_end_in_time_by_the_lines()
         → given.stations ≡ 0 ∷ 1 ∷ [] → HaveAddresses given → run_of given ≡ GoesOn history
         → AllStayOpen (journal_of history) }
 {
-    controller_model::a_pdu_is_understood();
+    journal_controls::a_pdu_is_understood();
     advertise::laws::connections_are_taken();
     scan_init::laws::searches_give_each_valid_address();
     air_frame::laws::packet_tells_its_pdu();

@@ -11,3 +11,6 @@ pub use crate::lines::{
     without_changes_events_follow_the_connect_ind,
 };
 pub use crate::rows::{worked_algorithms, worked_changes, worked_links};
+
+// What the crates above call of those below.
+pub use controller_model::a_pdu_is_understood;

@@ -15,8 +15,8 @@ use Rattle.adv_pdu.specs.declared.pdu.AdvPdu.TheVariants.{Connect}
 use Rattle.adv_pdu.specs.declared.pdu.ConnectFields.{ConnectFields}
 use Rattle.air_frame.specs.Packet.{access_octets}
 use Rattle.scan_init.specs.Access.{IsNthAccess, access_at, nth_access}
-use Rattle.controller_model.specs.Heard.{access_found}
-use Rattle.controller_model.specs.Packets.{pdu_heard}
+use Rattle.journal_links.specs.controller_model.Heard.{access_found}
+use Rattle.journal_links.specs.controller_model.Packets.{pdu_heard}
 use Rattle.journal_links.specs.run_model.Due.{Each}
 use Rattle.journal_links.specs.run_model.History.{Event, TurnBegan, HostFed, Called, Noted, Transmitted, turns_begun}
 use Rattle.journal_links.specs.run_model.Journal.{side_of}

@@ -8,8 +8,8 @@ use Rattle.ble_base.specs.declared.notes.Note.{Note}
 use Rattle.ble_base.specs.declared.notes.Note.TheVariants.{Up}
 use Rattle.ble_base.specs.declared.roles.Side.{Side}
 use Rattle.radio_replay.specs.declared.fates.Fate.{Fate}
-use Rattle.controller_model.specs.Step.{Step, HostOctet}
-use Rattle.controller_model.specs.Side.{notes_after}
+use Rattle.journal_links.specs.controller_model.Step.{Step, HostOctet}
+use Rattle.journal_links.specs.controller_model.Side.{notes_after}
 use Rattle.journal_links.specs.run_model.History.{Event, TurnBegan, HostFed, Called, Noted, Transmitted, Hearing, fates_used, has_received, is_good}
 use Rattle.journal_links.specs.run_model.Journal.{air_entries, entries_of, entry_of, journal_of, side_of}
 use Rattle.journal_links.specs.run_model.Links.{is_advertising, links_of}

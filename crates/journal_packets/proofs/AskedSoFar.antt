@@ -5,13 +5,13 @@ use Rattle.std.specs.Prelude.{⊤, map, if◌then◌else◌}
 use Rattle.std.proofs.lemmas.Bool.{eqb-true, or_left, or_right}
 use Rattle.std.proofs.lemmas.Slice.Eq.{bytes_eq-Decides}
 use Rattle.journal_links.specs.open_links.OpenLinks.{facts_in}
-use Rattle.controller_model.specs.declared.doing.Doing.{Doing}
-use Rattle.controller_model.specs.declared.doing.Doing.TheVariants.{PeripheralSends}
-use Rattle.controller_model.specs.Step.{Step, TurnBegins, TurnEnds}
-use Rattle.controller_model.specs.Facts.{Facts, Sends, Listens}
-use Rattle.controller_model.specs.Side.{facts_after, facts_of, notes_after}
-use Rattle.controller_model.proofs.Always.{MayBegin}
-use Rattle.controller_model.proofs.DataChannels.{link_channel}
+use Rattle.journal_links.specs.controller_model.declared.doing.Doing.{Doing}
+use Rattle.journal_links.specs.controller_model.declared.doing.Doing.TheVariants.{PeripheralSends}
+use Rattle.journal_links.specs.controller_model.Step.{Step, TurnBegins, TurnEnds}
+use Rattle.journal_links.specs.controller_model.Facts.{Facts, Sends, Listens}
+use Rattle.journal_links.specs.controller_model.Side.{facts_after, facts_of, notes_after}
+use Rattle.journal_links.proofs.controller_model.Always.{MayBegin}
+use Rattle.journal_links.proofs.controller_model.DataChannels.{link_channel}
 use Rattle.radio_replay.specs.declared.fates.Fate.{Fate}
 use Rattle.journal_links.specs.run_model.Due.{Each}
 use Rattle.journal_links.specs.run_model.History.{Event, TurnBegan, Transmitted, Hearing, has_received, past_of, packet_received}

@@ -1,8 +1,8 @@
 -- A fact of each event of a history, which calls, notes and octets of a host have of themselves.
 use Rattle.std.proofs.Common.{ℕ, List, [], ◌∷◌, ◌++◌}
 use Rattle.ble_base.specs.declared.notes.Note.{Note}
-use Rattle.controller_model.specs.Step.{Step, HostOctet}
-use Rattle.controller_model.specs.Side.{notes_after}
+use Rattle.journal_links.specs.controller_model.Step.{Step, HostOctet}
+use Rattle.journal_links.specs.controller_model.Side.{notes_after}
 use Rattle.journal_links.specs.run_model.Due.{Each}
 use Rattle.journal_links.specs.run_model.History.{Event, HostFed, Called, Noted}
 use Rattle.journal_links.specs.run_model.Run.{Given, setup_at, facts_at, after_call, after_octets, after_feed}

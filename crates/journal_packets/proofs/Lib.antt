@@ -14,3 +14,4 @@ pub use Rattle.journal_links.proofs as journal_links
 pub use Rattle.journal_links.proofs.link_model as link_model
 pub use Rattle.journal_links.proofs.open_links as open_links
 pub use Rattle.journal_links.proofs.run_laws as run_laws
+pub use Rattle.journal_links.proofs.controller_model as controller_model

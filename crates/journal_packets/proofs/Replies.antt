@@ -28,15 +28,17 @@ use Rattle.scan_init.specs.Initiating.{InitiatorFacts}
 use Rattle.scan_init.specs.Reports.{ScannerFacts, does_ask, scan_answer}
 use Rattle.journal_links.specs.open_links.OpenLinks.{Links, OpenLink, facts_in, free_from, link_after, link_at, with_change}
 use Rattle.journal_links.proofs.open_links.Handles.{changed_is}
-use Rattle.controller_model.specs.declared.doing.Doing.{Doing}
-use Rattle.controller_model.specs.declared.doing.Doing.TheVariants.{Advertises, AwaitsRequest, Scans, Requests, AwaitsResponse, Initiates, Connects, CentralSends, CentralListens, PeripheralListens, PeripheralSends}
-use Rattle.controller_model.specs.Facts.{Setup, Facts, Sends, Listens}
-use Rattle.controller_model.specs.Heard.{advertiser_answers, advertiser_heard, asks_if, connects, has_room, heard, if_pdu, initiator_heard, link_heard, link_received, link_to, replies_in, reply_if, scanner_heard, taken_if, taken_under, unheard}
-use Rattle.controller_model.specs.Outcome.{Outcome, facts_passed}
-use Rattle.controller_model.specs.Packets.{facts_doing, listens_on, pdu_heard, sends_on}
-use Rattle.controller_model.specs.Sent.{SendsOn}
-use Rattle.controller_model.specs.Side.{facts_after}
-use Rattle.controller_model.proofs.Places.{link_receiving, receiving_is, refused_if, refuses_at}
+use Rattle.journal_links.specs.controller_model.declared.doing.Doing.{Doing}
+use Rattle.journal_links.specs.controller_model.declared.doing.Doing.TheVariants.{Advertises, AwaitsRequest, Scans, Requests, AwaitsResponse, Initiates}
+use Rattle.journal_links.specs.controller_model.declared.doing.Doing.TheVariants.{Connects, CentralSends, CentralListens, PeripheralListens, PeripheralSends}
+use Rattle.journal_links.specs.controller_model.Facts.{Setup, Facts, Sends, Listens}
+use Rattle.journal_links.specs.controller_model.Heard.{advertiser_answers, advertiser_heard, asks_if, connects, has_room, heard, if_pdu, initiator_heard}
+use Rattle.journal_links.specs.controller_model.Heard.{link_heard, link_received, link_to, replies_in, reply_if, scanner_heard, taken_if, taken_under, unheard}
+use Rattle.journal_links.specs.controller_model.Outcome.{Outcome, facts_passed}
+use Rattle.journal_links.specs.controller_model.Packets.{facts_doing, listens_on, pdu_heard, sends_on}
+use Rattle.journal_links.specs.controller_model.Sent.{SendsOn}
+use Rattle.journal_links.specs.controller_model.Side.{facts_after}
+use Rattle.journal_links.proofs.controller_model.Places.{link_receiving, receiving_is, refused_if, refuses_at}
 use Rattle.journal_links.specs.run_model.History.{Event, past_of, turns_begun}
 use Rattle.journal_links.specs.run_model.Run.{Given, facts_at, setup_at, step_of}
 use Rattle.journal_links.proofs.run_model.Stations.{is_in}

@@ -8,8 +8,8 @@ use Rattle.air_frame.specs.Packet.{access_octets}
 use Rattle.journal_links.specs.link_model.Setup.{Setup as EndSetup}
 use Rattle.journal_links.specs.link_model.Step.{PacketSent}
 use Rattle.journal_links.specs.open_links.OpenLinks.{OpenLink, facts_in, link_after}
-use Rattle.controller_model.specs.declared.doing.Doing.TheVariants.{CentralSends}
-use Rattle.controller_model.specs.Facts.{Sends}
+use Rattle.journal_links.specs.controller_model.declared.doing.Doing.TheVariants.{CentralSends}
+use Rattle.journal_links.specs.controller_model.Facts.{Sends}
 use Rattle.journal_links.specs.run_model.Due.{Each}
 use Rattle.journal_links.specs.run_model.History.{Event, Transmitted, packet_received, turns_begun}
 use Rattle.journal_links.specs.run_model.Journal.{journal_of, side_of}

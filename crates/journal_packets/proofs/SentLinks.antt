@@ -12,7 +12,7 @@ use Rattle.adv_pdu.specs.declared.pdu.AdvPdu.TheVariants.{Connect}
 use Rattle.adv_pdu.specs.declared.pdu.ConnectFields.{ConnectFields}
 use Rattle.journal.specs.declared.entries.Entry.{Entry}
 use Rattle.journal.specs.declared.entries.Entry.TheVariants.{Air}
-use Rattle.controller_model.specs.Packets.{pdu_heard}
+use Rattle.journal_links.specs.controller_model.Packets.{pdu_heard}
 use Rattle.journal_links.specs.run_model.Due.{Each}
 use Rattle.journal_links.specs.run_model.History.{Event, TurnBegan, HostFed, Called, Noted, Transmitted, Hearing, turns_begun}
 use Rattle.journal_links.specs.run_model.Journal.{entries_of, journal_from, journal_of, mark_of, side_of}

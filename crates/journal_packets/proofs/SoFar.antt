@@ -1,8 +1,8 @@
 -- Each packet of a run of two stations on a data channel is of the link on which it was sent.
 use Rattle.std.proofs.Common.{◌≡◌, ℕ, false, List, [], ◌∷◌, ◌++◌, sym}
 use Rattle.std.specs.Prelude.{map, take}
-use Rattle.controller_model.specs.Step.{Step, TurnBegins, TurnEnds}
-use Rattle.controller_model.specs.Facts.{Sends}
+use Rattle.journal_links.specs.controller_model.Step.{Step, TurnBegins, TurnEnds}
+use Rattle.journal_links.specs.controller_model.Facts.{Sends}
 use Rattle.journal_links.specs.run_model.Due.{Each}
 use Rattle.journal_links.specs.run_model.History.{Event, TurnBegan, HostFed, Called, Noted, Transmitted, Hearing, packet_received}
 use Rattle.journal_links.specs.run_model.LinkEnds.{HaveAddresses}

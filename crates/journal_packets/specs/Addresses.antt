@@ -4,7 +4,7 @@ use Rattle.std.specs.Prelude.{◌≡◌, ℕ, ◌+◌, true, List, [], ◌∷◌
 use Rattle.ble_base.specs.declared.roles.Side.{Side}
 use Rattle.ble_base.specs.declared.roles.Side.TheVariants.{A, B}
 use Rattle.scan_init.specs.Access.{nth_access}
-use Rattle.controller_model.specs.Heard.{access_found}
+use Rattle.journal_links.specs.controller_model.Heard.{access_found}
 use Rattle.journal.specs.declared.entries.Entry.{Entry}
 use Rattle.radio_replay.specs.Script.{Script}
 use Rattle.journal_links.specs.Begun.{LinkBegun, links_begun}

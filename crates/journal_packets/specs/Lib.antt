@@ -10,3 +10,4 @@ pub use Rattle.journal_links.specs.link_model as link_model
 pub use Rattle.journal_links.specs.open_links as open_links
 pub use Rattle.journal_links.specs.procedure_stages as procedure_stages
 pub use Rattle.journal_links.specs.run_laws as run_laws
+pub use Rattle.journal_links.specs.controller_model as controller_model

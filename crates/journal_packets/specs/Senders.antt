@@ -3,7 +3,7 @@ use Rattle.std.specs.Prelude.{◌≡◌, ℕ, List, Some}
 use Rattle.journal_links.specs.link_model.Packets.{packet_sent}
 use Rattle.journal_links.specs.link_model.Step.{PacketSent}
 use Rattle.journal_links.specs.open_links.OpenLinks.{OpenLink, facts_in, link_after, link_at}
-use Rattle.controller_model.specs.Sent.{SendsOn}
+use Rattle.journal_links.specs.controller_model.Sent.{SendsOn}
 use Rattle.journal_links.specs.run_model.History.{Event}
 use Rattle.journal_links.specs.run_model.Journal.{journal_of, side_of}
 use Rattle.journal_links.specs.run_model.Links.{links_of}

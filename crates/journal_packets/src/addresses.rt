@@ -15,6 +15,6 @@ pub fn each_link_has_the_next_address()
         → length script.b.public ≡ 6
         → AllAddressesAreNext script (journal_of (history_of (run_of (given_of a b script)))) }
 {
-    controller_model::a_pdu_is_understood();
+    journal_links::a_pdu_is_understood();
     advertise::laws::connections_are_taken();
 }

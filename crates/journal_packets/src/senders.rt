@@ -21,7 +21,7 @@ pub fn each_packet_is_of_its_senders_link()
         → is_advertising channel ≡ false
         → IsOfSendersLink (given_of a b script) before station channel octets }
 {
-    controller_model::a_pdu_is_understood();
+    journal_links::a_pdu_is_understood();
     advertise::laws::connections_are_taken();
     scan_init::laws::searches_give_each_valid_address();
 }

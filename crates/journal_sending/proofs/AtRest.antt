@@ -3,26 +3,26 @@ use Rattle.std.proofs.Common.{◌≡◌, ℕ, ◌<◌, true, None, List, ◌∷�
 use Rattle.ble_base.specs.declared.roles.Side.{Side}
 use Rattle.ble_base.specs.declared.roles.Side.TheVariants.{A, B}
 use Rattle.journal.specs.declared.entries.Entry.TheVariants.{Turn}
-use Rattle.journal_data.proofs.link_model.Hearing.{IsHeardWhole}
-use Rattle.journal_data.specs.run_model.Feeding.{AreDistinct}
-use Rattle.journal_data.specs.run_model.History.{Event}
-use Rattle.journal_data.specs.run_model.Journal.{journal_of, side_of}
-use Rattle.journal_data.specs.run_model.LinkEnds.{HaveAddresses}
-use Rattle.journal_data.specs.run_model.Links.{links_of}
-use Rattle.journal_data.specs.run_model.Run.{Given, GoesOn, history_of, run_of, setup_at}
-use Rattle.journal_data.proofs.run_model.EntryEvents.{is_of_event}
-use Rattle.journal_data.proofs.run_model.LinkEnds.{AreTaken, IsUnderstood}
-use Rattle.journal_data.proofs.run_model.Stations.{is_in}
-use Rattle.journal_data.proofs.run_model.Walk.{Place, IsKept, NoTurn}
-use Rattle.journal_data.proofs.run_laws.DistinctAccess.{AreApart}
-use Rattle.journal_data.proofs.journal_packets.AccessOrder.{AreNth}
-use Rattle.journal_data.proofs.journal_packets.SoFar.{IsBelongingSoFar}
-use Rattle.journal_data.specs.journal_acks.link_calls.Uses.{sends_under}
-use Rattle.journal_data.proofs.journal_acks.Known.{known_of}
-use Rattle.journal_data.proofs.journal_acks.Seen.{IsSeen, seen_last, seen_turn}
-use Rattle.journal_data.proofs.journal_acks.Standing.{phased_at}
-use Rattle.journal_data.proofs.journal_acks.TwoStations.{IsOfTwo}
-use Rattle.journal_data.proofs.FewLinks.{HaveFewLinks}
+use Rattle.journal_leaving.proofs.link_model.Hearing.{IsHeardWhole}
+use Rattle.journal_leaving.specs.run_model.Feeding.{AreDistinct}
+use Rattle.journal_leaving.specs.run_model.History.{Event}
+use Rattle.journal_leaving.specs.run_model.Journal.{journal_of, side_of}
+use Rattle.journal_leaving.specs.run_model.LinkEnds.{HaveAddresses}
+use Rattle.journal_leaving.specs.run_model.Links.{links_of}
+use Rattle.journal_leaving.specs.run_model.Run.{Given, GoesOn, history_of, run_of, setup_at}
+use Rattle.journal_leaving.proofs.run_model.EntryEvents.{is_of_event}
+use Rattle.journal_leaving.proofs.run_model.LinkEnds.{AreTaken, IsUnderstood}
+use Rattle.journal_leaving.proofs.run_model.Stations.{is_in}
+use Rattle.journal_leaving.proofs.run_model.Walk.{Place, IsKept, NoTurn}
+use Rattle.journal_leaving.proofs.journal_data.run_laws.DistinctAccess.{AreApart}
+use Rattle.journal_leaving.proofs.journal_packets.AccessOrder.{AreNth}
+use Rattle.journal_leaving.proofs.journal_packets.SoFar.{IsBelongingSoFar}
+use Rattle.journal_leaving.specs.journal_acks.link_calls.Uses.{sends_under}
+use Rattle.journal_leaving.proofs.journal_acks.Known.{known_of}
+use Rattle.journal_leaving.proofs.journal_acks.Seen.{IsSeen, seen_last, seen_turn}
+use Rattle.journal_leaving.proofs.journal_acks.Standing.{phased_at}
+use Rattle.journal_leaving.proofs.journal_acks.TwoStations.{IsOfTwo}
+use Rattle.journal_leaving.proofs.journal_data.FewLinks.{HaveFewLinks}
 use Rattle.journal_leaving.proofs.OnlyOpen.{turn_of_line}
 use Rattle.journal_sending.specs.Announced.{announced_pdu}
 use Rattle.journal_sending.specs.Pending.{pending_pdu}

@@ -4,20 +4,20 @@ use Rattle.std.proofs.lemmas.Bool.Decides.{nat_tests}
 use Rattle.ack_bit.specs.Nonempty.{nonempty}
 use Rattle.acl_banks.specs.History.{octets_of}
 use Rattle.acl_banks.specs.Packets.{Marked}
-use Rattle.journal_data.specs.Lines.{Lines, PduLine, data_on, pdus_on}
-use Rattle.journal_data.specs.link_model.Acknowledgement.{Pdu}
-use Rattle.journal_data.specs.link_model.Data.{data_in, data_of, is_empty, next_piece, numbered, sent_data, unsent_of}
-use Rattle.journal_data.specs.link_model.End.{facts_of}
-use Rattle.journal_data.specs.link_model.Facts.{Facts}
-use Rattle.journal_data.specs.link_model.Fixing.{data_cut}
-use Rattle.journal_data.specs.link_model.Setup.{Setup}
-use Rattle.journal_data.specs.link_model.Step.{Step, PacketSent}
-use Rattle.journal_data.specs.open_links.OpenLinks.{OpenLink, facts_in, link_after}
-use Rattle.journal_data.proofs.Arriving.{IsEndBooked, data_nonempty, lines_data, lines_length, pdu_lines}
-use Rattle.journal_data.proofs.SameGiven.{own_same}
-use Rattle.journal_data.proofs.link_model.Outgoing.{data-push}
-use Rattle.journal_data.proofs.link_model.Sending.{in_order, past_together}
-use Rattle.journal_data.proofs.run_laws.Agreed.{ack_sent, sent_ack}
+use Rattle.journal_leaving.specs.journal_data.Lines.{Lines, PduLine, data_on, pdus_on}
+use Rattle.journal_leaving.specs.link_model.Acknowledgement.{Pdu}
+use Rattle.journal_leaving.specs.link_model.Data.{data_in, data_of, is_empty, next_piece, numbered, sent_data, unsent_of}
+use Rattle.journal_leaving.specs.link_model.End.{facts_of}
+use Rattle.journal_leaving.specs.link_model.Facts.{Facts}
+use Rattle.journal_leaving.specs.link_model.Fixing.{data_cut}
+use Rattle.journal_leaving.specs.link_model.Setup.{Setup}
+use Rattle.journal_leaving.specs.link_model.Step.{Step, PacketSent}
+use Rattle.journal_leaving.specs.journal_data.open_links.OpenLinks.{OpenLink, facts_in, link_after}
+use Rattle.journal_leaving.proofs.journal_data.Arriving.{IsEndBooked, data_nonempty, lines_data, lines_length, pdu_lines}
+use Rattle.journal_leaving.proofs.journal_data.SameGiven.{own_same}
+use Rattle.journal_leaving.proofs.link_model.Outgoing.{data-push}
+use Rattle.journal_leaving.proofs.link_model.Sending.{in_order, past_together}
+use Rattle.journal_leaving.proofs.journal_data.run_laws.Agreed.{ack_sent, sent_ack}
 use Rattle.journal_fixing.specs.NextPdu.{data_waits, data_waits_after, piece_limit}
 use Rattle.journal_sending.specs.Outgoing.{data_of_lines, octets_sent, octets_wait, piece_after}
 use Rattle.journal_sending.proofs.NextPieces.{piece_cut}

@@ -21,6 +21,12 @@ pub mod TakenPdus
 pub mod TakenInRuns
 pub mod AtRest
 -- what the crates above use of those below
-pub use Rattle.journal_data.proofs as journal_data
+pub use Rattle.journal_leaving.proofs.journal_data as journal_data
 pub use Rattle.journal_fixing.proofs as journal_fixing
 pub use Rattle.journal_leaving.proofs as journal_leaving
+pub use Rattle.journal_leaving.proofs.journal_acks as journal_acks
+pub use Rattle.journal_leaving.proofs.journal_packets as journal_packets
+pub use Rattle.run_model.proofs as run_model
+pub use Rattle.journal_leaving.proofs.controller_model as controller_model
+pub use Rattle.journal_hosts.proofs as journal_hosts
+pub use Rattle.journal_leaving.proofs.journal_links as journal_links

@@ -6,62 +6,62 @@ use Rattle.ble_base.specs.declared.notes.Note.TheVariants.{Up as UpNote, Sent as
 use Rattle.ble_base.specs.declared.roles.Role.{Role}
 use Rattle.ble_base.specs.declared.roles.Role.TheVariants.{Central, Peripheral}
 use Rattle.ble_base.specs.declared.roles.Side.{Side}
-use Rattle.controller_model.specs.Facts.{Facts}
-use Rattle.controller_model.specs.Heard.{has_room, replies_in}
-use Rattle.controller_model.specs.Since.{data_waiting}
-use Rattle.controller_model.specs.Side.{facts_after, facts_of as side_facts, notes_after}
-use Rattle.controller_model.specs.Step.{Step, HostOctet, PacketHeard, TurnBegins, TurnEnds}
-use Rattle.controller_model.proofs.Handles.{own_handles}
+use Rattle.journal_leaving.specs.controller_model.Facts.{Facts}
+use Rattle.journal_leaving.specs.controller_model.Heard.{has_room, replies_in}
+use Rattle.journal_leaving.specs.controller_model.Since.{data_waiting}
+use Rattle.journal_leaving.specs.controller_model.Side.{facts_after, facts_of as side_facts, notes_after}
+use Rattle.journal_leaving.specs.controller_model.Step.{Step, HostOctet, PacketHeard, TurnBegins, TurnEnds}
+use Rattle.journal_leaving.proofs.controller_model.Handles.{own_handles}
 use Rattle.journal.specs.declared.entries.Entry.TheVariants.{Sent}
-use Rattle.journal_data.specs.Lines.{Lines, data_on, line_after, pdus_on}
-use Rattle.journal_data.specs.journal_acks.link_calls.Uses.{fixes_under, listens_under, sends_under}
-use Rattle.journal_data.specs.link_model.Acknowledgement.{Pdu}
-use Rattle.journal_data.specs.link_model.Data.{next_piece, numbered}
-use Rattle.journal_data.specs.link_model.End.{facts_after as end_after, facts_of as end_facts}
-use Rattle.journal_data.specs.link_model.Facts.{Facts as EndFacts}
-use Rattle.journal_data.specs.link_model.Fixing.{data_cut}
-use Rattle.journal_data.specs.link_model.Packets.{good_pdu}
-use Rattle.journal_data.specs.link_model.Receiving.{replies_by, replies_of}
-use Rattle.journal_data.specs.link_model.Setup.{Setup as EndSetup}
-use Rattle.journal_data.specs.link_model.Step.{Step as EndStep, EventEntered}
-use Rattle.journal_data.specs.open_links.OpenLinks.{OpenLink, facts_in, link_at}
-use Rattle.journal_data.specs.open_links.Turns.{enters_in}
-use Rattle.journal_data.specs.run_model.Feeding.{AreDistinct}
-use Rattle.journal_data.specs.run_model.History.{Event, Called, Noted, packet_received, past_of}
-use Rattle.journal_data.specs.run_model.Journal.{entry_of, journal_of, side_of}
-use Rattle.journal_data.specs.run_model.LinkEnds.{HaveAddresses}
-use Rattle.journal_data.specs.run_model.NoteLines.{sent_line}
-use Rattle.journal_data.specs.run_model.Run.{Given, facts_at, history_of, run_of, setup_at, step_of}
-use Rattle.journal_data.proofs.EachLine.{call_leaves, lines_at}
-use Rattle.journal_data.proofs.Ends.{IsWell, sound}
-use Rattle.journal_data.proofs.FewLinks.{HaveFewLinks}
-use Rattle.journal_data.proofs.KeptData.{IsDataAt, data_kept}
-use Rattle.journal_data.proofs.Law.{first_data}
-use Rattle.journal_data.proofs.Submitting.{call_submits}
-use Rattle.journal_data.proofs.journal_acks.Counting.{AreKnown}
-use Rattle.journal_data.proofs.journal_acks.EachCall.{HaveCalls, OfCall, run_calls}
-use Rattle.journal_data.proofs.journal_acks.Exchanging.{number_at, number_notes}
-use Rattle.journal_data.proofs.journal_acks.FirstCounts.{IsCallOf, OfNone}
-use Rattle.journal_data.proofs.journal_acks.KeptCounts.{begun_call, call_is}
-use Rattle.journal_data.proofs.journal_acks.Known.{known_of}
-use Rattle.journal_data.proofs.journal_acks.NewPdus.{between_turns, none_opened}
-use Rattle.journal_data.proofs.journal_acks.TwoStations.{IsOfTwo}
-use Rattle.journal_data.proofs.journal_acks.link_calls.CallNotes.{HasNoData, end_noted, is_sending, no_data, octet_noted}
-use Rattle.journal_data.proofs.journal_acks.link_calls.LinkCalls.{turn_begun_under}
-use Rattle.journal_data.proofs.journal_links.OfTwo.{are_distinct}
-use Rattle.journal_data.proofs.journal_packets.AccessOrder.{AreNth}
-use Rattle.journal_data.proofs.journal_packets.SoFar.{IsBelongingSoFar}
-use Rattle.journal_data.proofs.link_model.Hearing.{IsHeardWhole}
-use Rattle.journal_data.proofs.run_laws.Agreed.{ack_of}
-use Rattle.journal_data.proofs.run_laws.DistinctAccess.{AreApart}
-use Rattle.journal_data.proofs.run_laws.LinkPhases.{begins_in}
-use Rattle.journal_data.proofs.run_laws.Hearings.{own_facts}
-use Rattle.journal_data.proofs.run_model.Calls.{past_own}
-use Rattle.journal_data.proofs.run_model.LinkEnds.{AreTaken, IsUnderstood}
-use Rattle.journal_data.proofs.run_model.NoteLines.{line_in_call, to_line}
-use Rattle.journal_data.proofs.run_model.Places.{each_at}
-use Rattle.journal_data.proofs.run_model.Stations.{among, is_in}
-use Rattle.journal_data.proofs.run_model.Walk.{Place}
+use Rattle.journal_leaving.specs.journal_data.Lines.{Lines, data_on, line_after, pdus_on}
+use Rattle.journal_leaving.specs.journal_acks.link_calls.Uses.{fixes_under, listens_under, sends_under}
+use Rattle.journal_leaving.specs.link_model.Acknowledgement.{Pdu}
+use Rattle.journal_leaving.specs.link_model.Data.{next_piece, numbered}
+use Rattle.journal_leaving.specs.link_model.End.{facts_after as end_after, facts_of as end_facts}
+use Rattle.journal_leaving.specs.link_model.Facts.{Facts as EndFacts}
+use Rattle.journal_leaving.specs.link_model.Fixing.{data_cut}
+use Rattle.journal_leaving.specs.link_model.Packets.{good_pdu}
+use Rattle.journal_leaving.specs.link_model.Receiving.{replies_by, replies_of}
+use Rattle.journal_leaving.specs.link_model.Setup.{Setup as EndSetup}
+use Rattle.journal_leaving.specs.link_model.Step.{Step as EndStep, EventEntered}
+use Rattle.journal_leaving.specs.journal_data.open_links.OpenLinks.{OpenLink, facts_in, link_at}
+use Rattle.journal_leaving.specs.journal_data.open_links.Turns.{enters_in}
+use Rattle.journal_leaving.specs.run_model.Feeding.{AreDistinct}
+use Rattle.journal_leaving.specs.run_model.History.{Event, Called, Noted, packet_received, past_of}
+use Rattle.journal_leaving.specs.run_model.Journal.{entry_of, journal_of, side_of}
+use Rattle.journal_leaving.specs.run_model.LinkEnds.{HaveAddresses}
+use Rattle.journal_leaving.specs.run_model.NoteLines.{sent_line}
+use Rattle.journal_leaving.specs.run_model.Run.{Given, facts_at, history_of, run_of, setup_at, step_of}
+use Rattle.journal_leaving.proofs.journal_data.EachLine.{call_leaves, lines_at}
+use Rattle.journal_leaving.proofs.journal_data.Ends.{IsWell, sound}
+use Rattle.journal_leaving.proofs.journal_data.FewLinks.{HaveFewLinks}
+use Rattle.journal_leaving.proofs.journal_data.KeptData.{IsDataAt, data_kept}
+use Rattle.journal_leaving.proofs.journal_data.Law.{first_data}
+use Rattle.journal_leaving.proofs.journal_data.Submitting.{call_submits}
+use Rattle.journal_leaving.proofs.journal_acks.Counting.{AreKnown}
+use Rattle.journal_leaving.proofs.journal_acks.EachCall.{HaveCalls, OfCall, run_calls}
+use Rattle.journal_leaving.proofs.journal_acks.Exchanging.{number_at, number_notes}
+use Rattle.journal_leaving.proofs.journal_acks.FirstCounts.{IsCallOf, OfNone}
+use Rattle.journal_leaving.proofs.journal_acks.KeptCounts.{begun_call, call_is}
+use Rattle.journal_leaving.proofs.journal_acks.Known.{known_of}
+use Rattle.journal_leaving.proofs.journal_acks.NewPdus.{between_turns, none_opened}
+use Rattle.journal_leaving.proofs.journal_acks.TwoStations.{IsOfTwo}
+use Rattle.journal_leaving.proofs.journal_acks.link_calls.CallNotes.{HasNoData, end_noted, is_sending, no_data, octet_noted}
+use Rattle.journal_leaving.proofs.journal_acks.link_calls.LinkCalls.{turn_begun_under}
+use Rattle.journal_leaving.proofs.journal_links.OfTwo.{are_distinct}
+use Rattle.journal_leaving.proofs.journal_packets.AccessOrder.{AreNth}
+use Rattle.journal_leaving.proofs.journal_packets.SoFar.{IsBelongingSoFar}
+use Rattle.journal_leaving.proofs.link_model.Hearing.{IsHeardWhole}
+use Rattle.journal_leaving.proofs.journal_data.run_laws.Agreed.{ack_of}
+use Rattle.journal_leaving.proofs.journal_data.run_laws.DistinctAccess.{AreApart}
+use Rattle.journal_leaving.proofs.journal_data.run_laws.LinkPhases.{begins_in}
+use Rattle.journal_leaving.proofs.journal_data.run_laws.Hearings.{own_facts}
+use Rattle.journal_leaving.proofs.run_model.Calls.{past_own}
+use Rattle.journal_leaving.proofs.run_model.LinkEnds.{AreTaken, IsUnderstood}
+use Rattle.journal_leaving.proofs.run_model.NoteLines.{line_in_call, to_line}
+use Rattle.journal_leaving.proofs.run_model.Places.{each_at}
+use Rattle.journal_leaving.proofs.run_model.Stations.{among, is_in}
+use Rattle.journal_leaving.proofs.run_model.Walk.{Place}
 use Rattle.journal_fixing.specs.NextPdu.{pdu_next}
 use Rattle.journal_fixing.specs.OnLines.{control_fixing, control_going}
 use Rattle.journal_fixing.specs.PastFixing.{facts_fixing, past_fixing}

@@ -9,11 +9,11 @@ use Rattle.acl_banks.specs.History.{HostData, Past, octets_of}
 use Rattle.acl_banks.specs.Packets.{AreFresh, AreInOrder, DataPacket, marked_octets, octets_out, piece_of, sent_length}
 use Rattle.acl_banks.proofs.Octets.{length-marked_octets}
 use Rattle.acl_banks.proofs.OneLink.{IsKept, outs}
-use Rattle.journal_data.specs.link_model.Data.{is_unsent, next_piece, sent_data}
-use Rattle.journal_data.specs.link_model.End.{facts_of}
-use Rattle.journal_data.specs.link_model.Setup.{Setup}
-use Rattle.journal_data.specs.link_model.Step.{Step}
-use Rattle.journal_data.proofs.link_model.Sending.{past_of, past_together}
+use Rattle.journal_leaving.specs.link_model.Data.{is_unsent, next_piece, sent_data}
+use Rattle.journal_leaving.specs.link_model.End.{facts_of}
+use Rattle.journal_leaving.specs.link_model.Setup.{Setup}
+use Rattle.journal_leaving.specs.link_model.Step.{Step}
+use Rattle.journal_leaving.proofs.link_model.Sending.{past_of, past_together}
 use Rattle.journal_sending.specs.Outgoing.{piece_after}
 
 abbrev given : DataPacket → HostData

@@ -8,21 +8,21 @@ use Rattle.ble_base.specs.declared.notes.Note.TheVariants.{Done, Took, Up}
 use Rattle.ble_base.specs.declared.procedure_kinds.Kind.{Kind}
 use Rattle.journal.specs.declared.entries.Entry.{Entry}
 use Rattle.journal.specs.declared.entries.Entry.TheVariants.{Air, Done as DoneLine, Fed}
-use Rattle.controller_model.specs.Step.{Step}
-use Rattle.controller_model.specs.Side.{notes_after}
-use Rattle.journal_data.specs.run_model.Due.{Each}
-use Rattle.journal_data.specs.run_model.History.{Event, TurnBegan, HostFed, Called, Noted, Transmitted, Hearing}
-use Rattle.journal_data.specs.run_model.Journal.{air_entries, entry_of, journal_of, mark_of, side_of}
-use Rattle.journal_data.specs.run_model.Links.{Links, links_of}
-use Rattle.journal_data.specs.run_model.Run.{Given, after_call, facts_at, setup_at}
-use Rattle.journal_data.proofs.run_model.LinksKnown.{links_event}
-use Rattle.journal_data.proofs.run_model.Parts.{journal_event}
-use Rattle.journal_data.proofs.run_model.Places.{each_append}
-use Rattle.journal_data.specs.journal_packets.Belonging.{is_side}
-use Rattle.journal_data.proofs.journal_acks.link_calls.CallNotes.{TakesNone}
-use Rattle.journal_data.proofs.journal_acks.Exchanging.{any_note, call_keeps}
-use Rattle.journal_data.proofs.journal_acks.TwoStations.{side_same}
-use Rattle.journal_data.specs.Lines.{PduLine}
+use Rattle.journal_leaving.specs.controller_model.Step.{Step}
+use Rattle.journal_leaving.specs.controller_model.Side.{notes_after}
+use Rattle.journal_leaving.specs.run_model.Due.{Each}
+use Rattle.journal_leaving.specs.run_model.History.{Event, TurnBegan, HostFed, Called, Noted, Transmitted, Hearing}
+use Rattle.journal_leaving.specs.run_model.Journal.{air_entries, entry_of, journal_of, mark_of, side_of}
+use Rattle.journal_leaving.specs.run_model.Links.{Links, links_of}
+use Rattle.journal_leaving.specs.run_model.Run.{Given, after_call, facts_at, setup_at}
+use Rattle.journal_leaving.proofs.run_model.LinksKnown.{links_event}
+use Rattle.journal_leaving.proofs.run_model.Parts.{journal_event}
+use Rattle.journal_leaving.proofs.run_model.Places.{each_append}
+use Rattle.journal_leaving.specs.journal_packets.Belonging.{is_side}
+use Rattle.journal_leaving.proofs.journal_acks.link_calls.CallNotes.{TakesNone}
+use Rattle.journal_leaving.proofs.journal_acks.Exchanging.{any_note, call_keeps}
+use Rattle.journal_leaving.proofs.journal_acks.TwoStations.{side_same}
+use Rattle.journal_leaving.specs.journal_data.Lines.{PduLine}
 use Rattle.journal_sending.specs.Pending.{is_done_on, pending_pdu, pending_pdu_after, pending_pdu_from, taken_pdu}
 
 -- what is pending for a station, as the journal of a history has it

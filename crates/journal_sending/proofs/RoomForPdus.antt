@@ -3,16 +3,16 @@ use Rattle.std.proofs.Common.{◌≡◌, ℕ, ◌<◌, ◌==◌, ◌&&◌, Bool,
 use Rattle.std.proofs.lemmas.Bool.Decides.{nat_tests}
 use Rattle.acl_banks.specs.declared.pieces.Piece.{Piece}
 use Rattle.adv_pdu.specs.declared.pdu.AdvPdu.{AdvPdu}
-use Rattle.controller_model.specs.declared.doing.Doing.{Doing}
-use Rattle.controller_model.specs.declared.doing.Doing.TheVariants.{Advertises, CentralSends, CentralListens, PeripheralListens}
-use Rattle.controller_model.specs.Commands.{facts_asking, facts_commanded, facts_known, is_asking, received_after}
-use Rattle.controller_model.specs.Data.{facts_handed, facts_offered, offer_of}
-use Rattle.controller_model.specs.Facts.{Facts, Setup, first_facts}
-use Rattle.controller_model.specs.Heard.{asks_if, has_room, link_taken, replies_in, reply_if}
-use Rattle.controller_model.specs.Outcome.{facts_passed}
-use Rattle.controller_model.specs.Side.{facts_after, facts_fed, result_of}
-use Rattle.controller_model.proofs.Always.{leaving_is, opening_passes, start_keeps}
-use Rattle.controller_model.proofs.Phases.{EachOutcome, heard_is, unheard_is}
+use Rattle.journal_leaving.specs.controller_model.declared.doing.Doing.{Doing}
+use Rattle.journal_leaving.specs.controller_model.declared.doing.Doing.TheVariants.{Advertises, CentralSends, CentralListens, PeripheralListens}
+use Rattle.journal_leaving.specs.controller_model.Commands.{facts_asking, facts_commanded, facts_known, is_asking, received_after}
+use Rattle.journal_leaving.specs.controller_model.Data.{facts_handed, facts_offered, offer_of}
+use Rattle.journal_leaving.specs.controller_model.Facts.{Facts, Setup, first_facts}
+use Rattle.journal_leaving.specs.controller_model.Heard.{asks_if, has_room, link_taken, replies_in, reply_if}
+use Rattle.journal_leaving.specs.controller_model.Outcome.{facts_passed}
+use Rattle.journal_leaving.specs.controller_model.Side.{facts_after, facts_fed, result_of}
+use Rattle.journal_leaving.proofs.controller_model.Always.{leaving_is, opening_passes, start_keeps}
+use Rattle.journal_leaving.proofs.controller_model.Phases.{EachOutcome, heard_is, unheard_is}
 use Rattle.h4_frames.specs.declared.packet.HostPacket.TheVariants.{Command as HostCommand, Acl}
 use Rattle.h4_frames.specs.declared.packet.Fed.{Fed}
 use Rattle.h4_frames.specs.declared.packet.Fed.TheVariants.{More, Packet, LostSync}
@@ -23,13 +23,13 @@ use Rattle.hci_cmd.specs.declared.command.CmdRead.TheVariants.{Known, UnknownOpc
 use Rattle.hci_cmd.specs.Command.{command_of}
 use Rattle.host_view.specs.Unbuilt.{status_of}
 use Rattle.scan_init.specs.Reports.{does_ask, scan_answer}
-use Rattle.journal_data.specs.journal_acks.link_calls.Uses.{listens_under}
-use Rattle.journal_data.specs.open_links.OpenLinks.{link_at}
-use Rattle.journal_data.specs.open_links.declared.offers.Offer.{Offer}
-use Rattle.journal_data.specs.open_links.declared.offers.Offer.TheVariants.{NoLink, Empty, Overflow, Kept}
-use Rattle.journal_data.specs.open_links.Turns.{ending_in}
-use Rattle.journal_data.specs.run_model.Run.{step_of}
-use Rattle.journal_data.proofs.run_laws.TurnPlaces.{Between, IsTurned, Stage, Within}
+use Rattle.journal_leaving.specs.journal_acks.link_calls.Uses.{listens_under}
+use Rattle.journal_leaving.specs.journal_data.open_links.OpenLinks.{link_at}
+use Rattle.journal_leaving.specs.journal_data.open_links.declared.offers.Offer.{Offer}
+use Rattle.journal_leaving.specs.journal_data.open_links.declared.offers.Offer.TheVariants.{NoLink, Empty, Overflow, Kept}
+use Rattle.journal_leaving.specs.journal_data.open_links.Turns.{ending_in}
+use Rattle.journal_leaving.specs.run_model.Run.{step_of}
+use Rattle.journal_leaving.proofs.journal_data.run_laws.TurnPlaces.{Between, IsTurned, Stage, Within}
 use Rattle.journal_hosts.proofs.Calm.{received_none}
 
 -- ---- nothing waits for the host while a link is still to receive

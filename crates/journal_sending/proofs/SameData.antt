@@ -1,16 +1,16 @@
 -- Steps of an end in which its host gives it no data, and it sends none.
 use Rattle.std.proofs.Common.{◌≡◌, ℕ, Bool, false, List, refl, sym, ap, ◌∙◌}
-use Rattle.journal_data.specs.link_model.Acknowledgement.{Acknowledgement}
-use Rattle.journal_data.specs.link_model.End.{facts_after}
-use Rattle.journal_data.specs.link_model.Facts.{Facts}
-use Rattle.journal_data.specs.link_model.Hearing.{is_on_air}
-use Rattle.journal_data.specs.link_model.Step.{Step, PacketReceived}
-use Rattle.journal_data.specs.open_links.OpenLinks.{OpenLink, facts_in, link_after}
-use Rattle.journal_data.proofs.DataSteps.{IsOwnStep}
-use Rattle.journal_data.proofs.SameGiven.{own_same}
-use Rattle.journal_data.proofs.journal_acks.PhaseNotes.{sent_same}
-use Rattle.journal_data.proofs.link_model.Agreeing.{others_leave}
-use Rattle.journal_data.proofs.run_laws.Agreed.{step_facts}
+use Rattle.journal_leaving.specs.link_model.Acknowledgement.{Acknowledgement}
+use Rattle.journal_leaving.specs.link_model.End.{facts_after}
+use Rattle.journal_leaving.specs.link_model.Facts.{Facts}
+use Rattle.journal_leaving.specs.link_model.Hearing.{is_on_air}
+use Rattle.journal_leaving.specs.link_model.Step.{Step, PacketReceived}
+use Rattle.journal_leaving.specs.journal_data.open_links.OpenLinks.{OpenLink, facts_in, link_after}
+use Rattle.journal_leaving.proofs.journal_data.DataSteps.{IsOwnStep}
+use Rattle.journal_leaving.proofs.journal_data.SameGiven.{own_same}
+use Rattle.journal_leaving.proofs.journal_acks.PhaseNotes.{sent_same}
+use Rattle.journal_leaving.proofs.link_model.Agreeing.{others_leave}
+use Rattle.journal_leaving.proofs.journal_data.run_laws.Agreed.{step_facts}
 
 -- an end with these facts was given, and has sent, what one with those was and has
 pub record HasSameData (one other : Facts) : Type 0 where

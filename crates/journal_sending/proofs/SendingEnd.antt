@@ -1,34 +1,34 @@
 -- The end that is to transmit a packet on its link, by what the lines before it say.
 use Rattle.std.proofs.Common.{◌≡◌, ℕ, ◌+◌, true, false, List, [], ◌∷◌, ◌++◌, length, sym, ap, ◌∙◌}
-use Rattle.journal_data.proofs.link_model.Hearing.{IsHeardWhole}
-use Rattle.journal_data.specs.link_model.Acknowledgement.{Acknowledgement}
-use Rattle.journal_data.specs.link_model.Step.{PacketSent}
-use Rattle.journal_data.specs.open_links.OpenLinks.{OpenLink, facts_in, link_after}
-use Rattle.controller_model.specs.Facts.{Facts, Sends}
-use Rattle.controller_model.specs.Since.{data_waiting}
-use Rattle.journal_data.specs.run_model.Feeding.{AreDistinct}
-use Rattle.journal_data.specs.run_model.History.{Event}
-use Rattle.journal_data.specs.run_model.Journal.{journal_of, side_of}
-use Rattle.journal_data.specs.run_model.LinkEnds.{HaveAddresses}
-use Rattle.journal_data.specs.run_model.Links.{is_advertising}
-use Rattle.journal_data.specs.run_model.Run.{Given, facts_at, setup_at, use_at}
-use Rattle.journal_data.proofs.run_model.Stations.{is_in, among}
-use Rattle.journal_data.proofs.run_model.Walk.{Place, AtPackets}
-use Rattle.journal_data.proofs.run_laws.Agreed.{ack_of, ack_sent, sent_ack}
-use Rattle.journal_data.specs.journal_packets.Senders.{IsOfSendersLink}
-use Rattle.journal_data.specs.journal_acks.Carried.{carried_of}
-use Rattle.journal_data.specs.journal_acks.Exchange.{Exchanged}
-use Rattle.journal_data.proofs.journal_acks.AirCounts.{sender_counted, sends_it}
-use Rattle.journal_data.proofs.journal_acks.Counting.{AreKnown}
-use Rattle.journal_data.proofs.journal_acks.Exchanging.{exchange_at, number_at}
-use Rattle.journal_data.proofs.journal_acks.FixedPdus.{sent_out}
-use Rattle.journal_data.proofs.journal_acks.KeptCounts.{AreCountedAt}
-use Rattle.journal_data.specs.journal_acks.link_calls.Uses.{sends_under}
-use Rattle.journal_data.proofs.journal_acks.TwoStations.{IsOfTwo}
-use Rattle.journal_data.proofs.Arriving.{IsEndBooked}
-use Rattle.journal_data.proofs.EachLine.{lines_at}
-use Rattle.journal_data.proofs.Ends.{sound}
-use Rattle.journal_data.proofs.FewLinks.{HaveFewLinks}
+use Rattle.journal_leaving.proofs.link_model.Hearing.{IsHeardWhole}
+use Rattle.journal_leaving.specs.link_model.Acknowledgement.{Acknowledgement}
+use Rattle.journal_leaving.specs.link_model.Step.{PacketSent}
+use Rattle.journal_leaving.specs.journal_data.open_links.OpenLinks.{OpenLink, facts_in, link_after}
+use Rattle.journal_leaving.specs.controller_model.Facts.{Facts, Sends}
+use Rattle.journal_leaving.specs.controller_model.Since.{data_waiting}
+use Rattle.journal_leaving.specs.run_model.Feeding.{AreDistinct}
+use Rattle.journal_leaving.specs.run_model.History.{Event}
+use Rattle.journal_leaving.specs.run_model.Journal.{journal_of, side_of}
+use Rattle.journal_leaving.specs.run_model.LinkEnds.{HaveAddresses}
+use Rattle.journal_leaving.specs.run_model.Links.{is_advertising}
+use Rattle.journal_leaving.specs.run_model.Run.{Given, facts_at, setup_at, use_at}
+use Rattle.journal_leaving.proofs.run_model.Stations.{is_in, among}
+use Rattle.journal_leaving.proofs.run_model.Walk.{Place, AtPackets}
+use Rattle.journal_leaving.proofs.journal_data.run_laws.Agreed.{ack_of, ack_sent, sent_ack}
+use Rattle.journal_leaving.specs.journal_packets.Senders.{IsOfSendersLink}
+use Rattle.journal_leaving.specs.journal_acks.Carried.{carried_of}
+use Rattle.journal_leaving.specs.journal_acks.Exchange.{Exchanged}
+use Rattle.journal_leaving.proofs.journal_acks.AirCounts.{sender_counted, sends_it}
+use Rattle.journal_leaving.proofs.journal_acks.Counting.{AreKnown}
+use Rattle.journal_leaving.proofs.journal_acks.Exchanging.{exchange_at, number_at}
+use Rattle.journal_leaving.proofs.journal_acks.FixedPdus.{sent_out}
+use Rattle.journal_leaving.proofs.journal_acks.KeptCounts.{AreCountedAt}
+use Rattle.journal_leaving.specs.journal_acks.link_calls.Uses.{sends_under}
+use Rattle.journal_leaving.proofs.journal_acks.TwoStations.{IsOfTwo}
+use Rattle.journal_leaving.proofs.journal_data.Arriving.{IsEndBooked}
+use Rattle.journal_leaving.proofs.journal_data.EachLine.{lines_at}
+use Rattle.journal_leaving.proofs.journal_data.Ends.{sound}
+use Rattle.journal_leaving.proofs.journal_data.FewLinks.{HaveFewLinks}
 use Rattle.journal_sending.proofs.Together.{IsKnownAt}
 
 module _ (whole : IsHeardWhole) (given : Given) (Q : Place → List Event → Type 0) (known : AreKnown given Q) (are_two : IsOfTwo given) (few_links : HaveFewLinks given)

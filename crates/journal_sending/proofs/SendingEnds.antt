@@ -2,30 +2,30 @@
 use Rattle.std.proofs.Common.{◌≡◌, ℕ, suc, ◌+◌, ◌⊎◌, inl, inr, Bool, true, false, Option, Some, List, [], ◌∷◌, ◌++◌, refl, sym, ap, subst, ◌∙◌, append_assoc, arith}
 use Rattle.ble_base.specs.declared.roles.Role.{Role}
 use Rattle.ble_base.specs.declared.roles.Role.TheVariants.{Central, Peripheral}
-use Rattle.controller_model.specs.Facts.{Facts, Setup, first_facts}
-use Rattle.controller_model.specs.Heard.{has_room}
-use Rattle.controller_model.specs.Side.{facts_after}
-use Rattle.controller_model.specs.Step.{HostOctet, TurnBegins, TurnEnds}
-use Rattle.controller_model.specs.declared.doing.Doing.{Doing}
-use Rattle.controller_model.specs.declared.doing.Doing.TheVariants.{Rests}
-use Rattle.journal_data.specs.journal_acks.link_calls.Phases.{HasPassed, IsNew, Stays, Takes, link_receiving, refuses_at}
-use Rattle.journal_data.specs.journal_acks.link_calls.Turns.{sent_if}
-use Rattle.journal_data.specs.journal_acks.link_calls.Uses.{fixes_under, listens_under, sends_under}
-use Rattle.journal_data.specs.link_model.End.{facts_after as end_after, facts_of as end_facts}
-use Rattle.journal_data.specs.link_model.Setup.{Setup as EndSetup}
-use Rattle.journal_data.specs.link_model.Step.{Step, EventEntered, PacketReceived, PacketSent, PduFixed}
-use Rattle.journal_data.specs.open_links.OpenLinks.{OpenLink, facts_in, link_after, link_at}
-use Rattle.journal_data.specs.open_links.Turns.{enters_in}
-use Rattle.journal_data.specs.run_model.Feeding.{AreDistinct}
-use Rattle.journal_data.specs.run_model.History.{Event, past_of}
-use Rattle.journal_data.specs.run_model.Run.{Given, facts_at, history_of, run_of, setup_at, step_of}
-use Rattle.journal_data.proofs.journal_acks.Standing.{sender_role}
-use Rattle.journal_data.proofs.journal_acks.link_calls.LinkCalls.{passes_under, turn_begun_under}
-use Rattle.journal_data.proofs.journal_acks.link_calls.RadioUses.{no_link}
-use Rattle.journal_data.proofs.journal_acks.link_calls.Refusals.{only_central_refuses}
-use Rattle.journal_data.proofs.run_laws.Agreed.{step_facts}
-use Rattle.journal_data.proofs.run_laws.TurnPlaces.{Between, IsTurned, Stage, stands_in_run, turned}
-use Rattle.journal_data.proofs.run_model.Stations.{is_in}
+use Rattle.journal_leaving.specs.controller_model.Facts.{Facts, Setup, first_facts}
+use Rattle.journal_leaving.specs.controller_model.Heard.{has_room}
+use Rattle.journal_leaving.specs.controller_model.Side.{facts_after}
+use Rattle.journal_leaving.specs.controller_model.Step.{HostOctet, TurnBegins, TurnEnds}
+use Rattle.journal_leaving.specs.controller_model.declared.doing.Doing.{Doing}
+use Rattle.journal_leaving.specs.controller_model.declared.doing.Doing.TheVariants.{Rests}
+use Rattle.journal_leaving.specs.journal_acks.link_calls.Phases.{HasPassed, IsNew, Stays, Takes, link_receiving, refuses_at}
+use Rattle.journal_leaving.specs.journal_acks.link_calls.Turns.{sent_if}
+use Rattle.journal_leaving.specs.journal_acks.link_calls.Uses.{fixes_under, listens_under, sends_under}
+use Rattle.journal_leaving.specs.link_model.End.{facts_after as end_after, facts_of as end_facts}
+use Rattle.journal_leaving.specs.link_model.Setup.{Setup as EndSetup}
+use Rattle.journal_leaving.specs.link_model.Step.{Step, EventEntered, PacketReceived, PacketSent, PduFixed}
+use Rattle.journal_leaving.specs.journal_data.open_links.OpenLinks.{OpenLink, facts_in, link_after, link_at}
+use Rattle.journal_leaving.specs.journal_data.open_links.Turns.{enters_in}
+use Rattle.journal_leaving.specs.run_model.Feeding.{AreDistinct}
+use Rattle.journal_leaving.specs.run_model.History.{Event, past_of}
+use Rattle.journal_leaving.specs.run_model.Run.{Given, facts_at, history_of, run_of, setup_at, step_of}
+use Rattle.journal_leaving.proofs.journal_acks.Standing.{sender_role}
+use Rattle.journal_leaving.proofs.journal_acks.link_calls.LinkCalls.{passes_under, turn_begun_under}
+use Rattle.journal_leaving.proofs.journal_acks.link_calls.RadioUses.{no_link}
+use Rattle.journal_leaving.proofs.journal_acks.link_calls.Refusals.{only_central_refuses}
+use Rattle.journal_leaving.proofs.journal_data.run_laws.Agreed.{step_facts}
+use Rattle.journal_leaving.proofs.journal_data.run_laws.TurnPlaces.{Between, IsTurned, Stage, stands_in_run, turned}
+use Rattle.journal_leaving.proofs.run_model.Stations.{is_in}
 use Rattle.journal_fixing.specs.PastFixing.{facts_fixing, past_fixing}
 use Rattle.journal_fixing.specs.journal_controls.TurnSteps.{first_if, steps_begun}
 use Rattle.journal_fixing.proofs.FixedPasts.{begun_past as past_begun, facts_more, fixing_begun, same_before}

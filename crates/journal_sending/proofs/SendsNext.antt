@@ -2,17 +2,17 @@
 use Rattle.std.proofs.Common.{◌≡◌, ℕ, ◌≤◌, ◌&&◌, ◌||◌, not, Bool, true, false, Option, Some, None, List, refl, sym, ap, ◌∙◌, if◌then◌else◌}
 use Rattle.ble_base.specs.declared.roles.Role.TheVariants.{Peripheral}
 use Rattle.data_pdu.specs.Header.{header_in}
-use Rattle.journal_data.specs.link_model.Acknowledgement.{is_acked}
-use Rattle.journal_data.specs.link_model.Controls.{pdu_fixed}
-use Rattle.journal_data.specs.link_model.Data.{Data, is_empty, next_piece}
-use Rattle.journal_data.specs.link_model.End.{facts_after}
-use Rattle.journal_data.specs.link_model.Facts.{Facts}
-use Rattle.journal_data.specs.link_model.Fixing.{data_cut}
-use Rattle.journal_data.specs.link_model.Packets.{good_pdu, pdu_sent}
-use Rattle.journal_data.specs.link_model.Receiving.{acks_control, control_acked_if, facts_received, has_acknowledged}
-use Rattle.journal_data.specs.link_model.Setup.{Setup}
-use Rattle.journal_data.specs.link_model.Step.{PacketReceived, PduFixed}
-use Rattle.journal_data.specs.open_links.OpenLinks.{OpenLink}
+use Rattle.journal_leaving.specs.link_model.Acknowledgement.{is_acked}
+use Rattle.journal_leaving.specs.link_model.Controls.{pdu_fixed}
+use Rattle.journal_leaving.specs.link_model.Data.{Data, is_empty, next_piece}
+use Rattle.journal_leaving.specs.link_model.End.{facts_after}
+use Rattle.journal_leaving.specs.link_model.Facts.{Facts}
+use Rattle.journal_leaving.specs.link_model.Fixing.{data_cut}
+use Rattle.journal_leaving.specs.link_model.Packets.{good_pdu, pdu_sent}
+use Rattle.journal_leaving.specs.link_model.Receiving.{acks_control, control_acked_if, facts_received, has_acknowledged}
+use Rattle.journal_leaving.specs.link_model.Setup.{Setup}
+use Rattle.journal_leaving.specs.link_model.Step.{PacketReceived, PduFixed}
+use Rattle.journal_leaving.specs.journal_data.open_links.OpenLinks.{OpenLink}
 use Rattle.journal_fixing.specs.NextPdu.{IsFixedBy, data_waits, lets_data_go, more_with_old, pdu_next}
 use Rattle.journal_fixing.specs.PastFixing.{facts_fixing, past_fixing}
 use Rattle.journal_fixing.specs.journal_controls.LineSteps.{has_next}

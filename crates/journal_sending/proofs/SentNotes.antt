@@ -3,33 +3,35 @@ use Rattle.std.proofs.Common.{◌≡◌, ℕ, ◌+◌, ◌&&◌, not, Bool, true
 use Rattle.std.specs.Prelude.{All}
 use Rattle.std.proofs.lemmas.List.Elements.{All-head, All-tail}
 use Rattle.ble_base.specs.declared.notes.Note.{Note}
-use Rattle.controller_model.specs.Facts.{Facts, Setup}
-use Rattle.controller_model.specs.Heard.{has_room, link_heard, link_received, replies_in, reply_if}
-use Rattle.controller_model.specs.Outcome.{notes_passed}
-use Rattle.controller_model.specs.Packets.{notes_doing, notes_sent}
-use Rattle.controller_model.specs.Radio.{outcome_begun}
-use Rattle.controller_model.specs.Side.{facts_after, notes_after}
-use Rattle.controller_model.specs.Step.{Step, HostOctet, PacketHeard, TurnBegins, TurnEnds}
-use Rattle.controller_model.proofs.Handles.{HaveOwnHandles}
-use Rattle.controller_model.proofs.Places.{link_receiving}
-use Rattle.journal_data.specs.journal_acks.link_calls.Uses.{listens_under, sends_under}
-use Rattle.journal_data.specs.link_model.Acknowledgement.{Acknowledgement, Pdu, is_acked}
-use Rattle.journal_data.specs.link_model.Controls.{pdu_fixed}
-use Rattle.journal_data.specs.link_model.Data.{is_empty, numbered}
-use Rattle.journal_data.specs.link_model.Numbers.{sent_note}
-use Rattle.journal_data.specs.link_model.Sending.{sent_notes, sent_notes_if}
-use Rattle.journal_data.specs.link_model.Setup.{Setup as EndSetup}
-use Rattle.journal_data.specs.link_model.Step.{PacketSent}
-use Rattle.journal_data.specs.open_links.OpenLinks.{OpenLink, facts_in, link_after, link_at}
-use Rattle.journal_data.specs.run_model.Run.{step_of}
-use Rattle.journal_data.proofs.Openness.{AreNot}
-use Rattle.journal_data.proofs.journal_acks.DataCalls.{own_begun, received_at, sent_at, unfound}
-use Rattle.journal_data.proofs.journal_acks.PhaseNotes.{IsOnLink, IsPhaseOf, IsPlainPhase, SendsFrom, SendsNothing, SendsOne, phase_of, sends_from, sent_same}
-use Rattle.journal_data.proofs.journal_acks.TwoStations.{same_number}
-use Rattle.journal_data.proofs.journal_acks.link_calls.CallNotes.{HasNoData, SendsNone, all_more, end_noted, is_sending, no_data, notes_starting, octet_noted, start_noted}
-use Rattle.journal_data.proofs.journal_acks.link_calls.LinkCalls.{base_ack, begins_under, received_noted, receiving_ack, receiving_setup, taking_sends}
-use Rattle.journal_data.proofs.open_links.Handles.{handle_is}
-use Rattle.journal_data.proofs.run_laws.Agreed.{ack_of}
+use Rattle.journal_leaving.specs.controller_model.Facts.{Facts, Setup}
+use Rattle.journal_leaving.specs.controller_model.Heard.{has_room, link_heard, link_received, replies_in, reply_if}
+use Rattle.journal_leaving.specs.controller_model.Outcome.{notes_passed}
+use Rattle.journal_leaving.specs.controller_model.Packets.{notes_doing, notes_sent}
+use Rattle.journal_leaving.specs.controller_model.Radio.{outcome_begun}
+use Rattle.journal_leaving.specs.controller_model.Side.{facts_after, notes_after}
+use Rattle.journal_leaving.specs.controller_model.Step.{Step, HostOctet, PacketHeard, TurnBegins, TurnEnds}
+use Rattle.journal_leaving.proofs.controller_model.Handles.{HaveOwnHandles}
+use Rattle.journal_leaving.proofs.controller_model.Places.{link_receiving}
+use Rattle.journal_leaving.specs.journal_acks.link_calls.Uses.{listens_under, sends_under}
+use Rattle.journal_leaving.specs.link_model.Acknowledgement.{Acknowledgement, Pdu, is_acked}
+use Rattle.journal_leaving.specs.link_model.Controls.{pdu_fixed}
+use Rattle.journal_leaving.specs.link_model.Data.{is_empty, numbered}
+use Rattle.journal_leaving.specs.link_model.Numbers.{sent_note}
+use Rattle.journal_leaving.specs.link_model.Sending.{sent_notes, sent_notes_if}
+use Rattle.journal_leaving.specs.link_model.Setup.{Setup as EndSetup}
+use Rattle.journal_leaving.specs.link_model.Step.{PacketSent}
+use Rattle.journal_leaving.specs.journal_data.open_links.OpenLinks.{OpenLink, facts_in, link_after, link_at}
+use Rattle.journal_leaving.specs.run_model.Run.{step_of}
+use Rattle.journal_leaving.proofs.journal_data.Openness.{AreNot}
+use Rattle.journal_leaving.proofs.journal_acks.DataCalls.{own_begun, received_at, sent_at, unfound}
+use Rattle.journal_leaving.proofs.journal_acks.PhaseNotes.{IsOnLink, IsPhaseOf, IsPlainPhase, SendsFrom, SendsNothing, SendsOne, phase_of, sends_from}
+use Rattle.journal_leaving.proofs.journal_acks.PhaseNotes.{sent_same}
+use Rattle.journal_leaving.proofs.journal_acks.TwoStations.{same_number}
+use Rattle.journal_leaving.proofs.journal_acks.link_calls.CallNotes.{HasNoData, SendsNone, all_more, end_noted, is_sending, no_data, notes_starting}
+use Rattle.journal_leaving.proofs.journal_acks.link_calls.CallNotes.{octet_noted, start_noted}
+use Rattle.journal_leaving.proofs.journal_acks.link_calls.LinkCalls.{base_ack, begins_under, received_noted, receiving_ack, receiving_setup, taking_sends}
+use Rattle.journal_leaving.proofs.journal_data.open_links.Handles.{handle_is}
+use Rattle.journal_leaving.proofs.journal_data.run_laws.Agreed.{ack_of}
 
 -- ---- a new PDU is noted last in its call
 

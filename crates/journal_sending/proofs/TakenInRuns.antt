@@ -7,70 +7,74 @@ use Rattle.ble_base.specs.Side.{other_side}
 use Rattle.ble_base.specs.declared.roles.Side.{Side}
 use Rattle.journal.specs.declared.entries.Entry.{Entry}
 use Rattle.journal.specs.declared.entries.Entry.TheVariants.{Air}
-use Rattle.journal_data.specs.link_model.Acknowledgement.{Acknowledgement}
-use Rattle.journal_data.specs.link_model.Data.{is_empty, numbered}
-use Rattle.journal_data.specs.link_model.Packets.{pdu_sent}
-use Rattle.journal_data.specs.link_model.OneLink.{AreInAgreement}
-use Rattle.journal_data.specs.link_model.Step.{PacketSent}
-use Rattle.journal_data.proofs.link_model.Hearing.{IsHeardWhole}
-use Rattle.journal_data.specs.open_links.OpenLinks.{OpenLink, facts_in, link_after, link_at}
-use Rattle.journal_data.specs.journal_acks.link_calls.Uses.{listens_under, sends_under}
-use Rattle.journal_data.proofs.run_model.Parts.{journal_event}
-use Rattle.journal_data.proofs.open_links.Handles.{handle_is}
-use Rattle.controller_model.specs.Facts.{Facts, Sends, Listens}
-use Rattle.controller_model.specs.Heard.{has_room}
-use Rattle.controller_model.specs.Packets.{verdict_of}
-use Rattle.controller_model.specs.Side.{notes_after}
-use Rattle.controller_model.specs.Step.{Step, HostOctet, TurnBegins, TurnEnds}
-use Rattle.controller_model.proofs.DataChannels.{link_channel}
-use Rattle.controller_model.proofs.Sent.{sends_well}
+use Rattle.journal_leaving.specs.link_model.Acknowledgement.{Acknowledgement}
+use Rattle.journal_leaving.specs.link_model.Data.{is_empty, numbered}
+use Rattle.journal_leaving.specs.link_model.Packets.{pdu_sent}
+use Rattle.journal_leaving.specs.link_model.OneLink.{AreInAgreement}
+use Rattle.journal_leaving.specs.link_model.Step.{PacketSent}
+use Rattle.journal_leaving.proofs.link_model.Hearing.{IsHeardWhole}
+use Rattle.journal_leaving.specs.journal_data.open_links.OpenLinks.{OpenLink, facts_in, link_after, link_at}
+use Rattle.journal_leaving.specs.journal_acks.link_calls.Uses.{listens_under, sends_under}
+use Rattle.journal_leaving.proofs.run_model.Parts.{journal_event}
+use Rattle.journal_leaving.proofs.journal_data.open_links.Handles.{handle_is}
+use Rattle.journal_leaving.specs.controller_model.Facts.{Facts, Sends, Listens}
+use Rattle.journal_leaving.specs.controller_model.Heard.{has_room}
+use Rattle.journal_leaving.specs.controller_model.Packets.{verdict_of}
+use Rattle.journal_leaving.specs.controller_model.Side.{notes_after}
+use Rattle.journal_leaving.specs.controller_model.Step.{Step, HostOctet, TurnBegins, TurnEnds}
+use Rattle.journal_leaving.proofs.controller_model.DataChannels.{link_channel}
+use Rattle.journal_leaving.proofs.controller_model.Sent.{sends_well}
 use Rattle.radio_replay.specs.Damage.{damaged_packet}
 use Rattle.radio_replay.specs.Script.{Script}
 use Rattle.radio_replay.specs.declared.fates.Fate.{Fate}
-use Rattle.journal_data.specs.run_model.Due.{Each}
-use Rattle.journal_data.specs.run_model.Feeding.{AreDistinct}
-use Rattle.journal_data.specs.run_model.History.{Event, TurnBegan, HostFed, Called, Noted, Transmitted, Hearing, fates_used, has_received, is_good, packet_received, past_of, turns_begun}
-use Rattle.journal_data.specs.run_model.Journal.{air_entries, entries_of, entry_of, journal_of, mark_of, side_of}
-use Rattle.journal_data.specs.run_model.LinkEnds.{HaveAddresses}
-use Rattle.journal_data.specs.run_model.Links.{is_advertising, links_of}
-use Rattle.journal_data.specs.run_model.Pair.{given_of}
-use Rattle.journal_data.specs.run_model.Run.{Given, after_call, after_feed, after_octets, facts_at, fate_at, hearings_of, history_of, octets_left, run_of, setup_at, step_of, unseen_in, use_at}
-use Rattle.journal_data.proofs.run_model.EntryEvents.{is_of_event}
-use Rattle.journal_data.proofs.run_model.LinkEnds.{AreTaken, IsUnderstood, is_listener, received_by, received_event}
-use Rattle.journal_data.proofs.run_model.Places.{each_at, each_event}
-use Rattle.journal_data.proofs.run_model.Stations.{is_in, among, in_more_other, in_more_same, not_before}
-use Rattle.journal_data.proofs.run_model.Walk.{Place, NoTurn, AtFeeds, AtBegins, AfterPhases, AtPackets, AtListening, AtEnds, IsKept, IsStopped, IsWhole, ends_with, run_kept}
-use Rattle.journal_data.specs.run_laws.Ends.{HaveOneConnectInd}
-use Rattle.journal_data.proofs.run_laws.Agreed.{Agree, ack_of, ack_sent, sent_ack}
-use Rattle.journal_data.proofs.run_laws.DistinctAccess.{AreApart}
-use Rattle.journal_data.proofs.run_laws.Hearings.{other_facts, wanted_is}
-use Rattle.journal_data.proofs.run_laws.InAgreement.{WithAll, differs_back}
-use Rattle.journal_data.proofs.run_laws.OpenSteps.{open_has}
-use Rattle.journal_data.proofs.run_laws.TurnPlaces.{Within, turned}
-use Rattle.journal_data.specs.journal_packets.Belonging.{is_side, link_of_packet}
-use Rattle.journal_data.specs.journal_packets.Senders.{IsOfSendersLink}
-use Rattle.journal_data.proofs.journal_packets.AccessOrder.{AreNth}
-use Rattle.journal_data.proofs.journal_packets.SoFar.{IsBelongingSoFar}
-use Rattle.journal_data.specs.journal_acks.Carried.{carried_of}
-use Rattle.journal_data.specs.journal_acks.Counted.{IsCounted}
-use Rattle.journal_data.specs.journal_acks.Exchange.{with_sent}
-use Rattle.journal_data.proofs.journal_acks.AirCounts.{sender_counted, one_number}
-use Rattle.journal_data.proofs.journal_acks.link_calls.InRange.{sent_ranges}
-use Rattle.journal_data.proofs.journal_acks.link_calls.CallNotes.{TakesNone, begin_noted, end_noted, none_taken, octet_noted}
-use Rattle.journal_data.proofs.journal_acks.Counting.{AreKnown, facts_event, one_begun}
-use Rattle.journal_data.proofs.journal_acks.Exchanging.{exchange_at, number_at, number_other, number_sent as sent_number}
-use Rattle.journal_data.proofs.journal_acks.FixedPdus.{sent_out}
-use Rattle.journal_data.proofs.journal_acks.KeptCounts.{AreCountedAt, unsent}
-use Rattle.journal_data.proofs.journal_acks.Known.{known_of}
-use Rattle.journal_data.proofs.journal_acks.link_calls.LinkPhases.{IsPhased}
-use Rattle.journal_data.proofs.journal_acks.Standing.{listener_sends, listens_wanted, other_listens, phased_at}
-use Rattle.journal_data.proofs.journal_acks.TwoStations.{IsListening, IsOfTwo, hearing_of, judged, link_listens, one_hearing, other_apart, other_is, other_of, other_received, own_differs, own_received, same_number, side_other, side_same, unchanged}
-use Rattle.journal_data.specs.Lines.{PduLine}
-use Rattle.journal_data.proofs.Arriving.{lines_length}
-use Rattle.journal_data.proofs.Ends.{sound}
-use Rattle.journal_data.proofs.KeptData.{other_in}
-use Rattle.journal_data.proofs.FewLinks.{HaveFewLinks}
-use Rattle.journal_data.proofs.OneCall.{far_side}
+use Rattle.journal_leaving.specs.run_model.Due.{Each}
+use Rattle.journal_leaving.specs.run_model.Feeding.{AreDistinct}
+use Rattle.journal_leaving.specs.run_model.History.{Event, TurnBegan, HostFed, Called, Noted, Transmitted, Hearing, fates_used, has_received, is_good}
+use Rattle.journal_leaving.specs.run_model.History.{packet_received, past_of, turns_begun}
+use Rattle.journal_leaving.specs.run_model.Journal.{air_entries, entries_of, entry_of, journal_of, mark_of, side_of}
+use Rattle.journal_leaving.specs.run_model.LinkEnds.{HaveAddresses}
+use Rattle.journal_leaving.specs.run_model.Links.{is_advertising, links_of}
+use Rattle.journal_leaving.specs.run_model.Pair.{given_of}
+use Rattle.journal_leaving.specs.run_model.Run.{Given, after_call, after_feed, after_octets, facts_at, fate_at, hearings_of, history_of, octets_left, run_of}
+use Rattle.journal_leaving.specs.run_model.Run.{setup_at, step_of, unseen_in, use_at}
+use Rattle.journal_leaving.proofs.run_model.EntryEvents.{is_of_event}
+use Rattle.journal_leaving.proofs.run_model.LinkEnds.{AreTaken, IsUnderstood, is_listener, received_by, received_event}
+use Rattle.journal_leaving.proofs.run_model.Places.{each_at, each_event}
+use Rattle.journal_leaving.proofs.run_model.Stations.{is_in, among, in_more_other, in_more_same, not_before}
+use Rattle.journal_leaving.proofs.run_model.Walk.{Place, NoTurn, AtFeeds, AtBegins, AfterPhases, AtPackets, AtListening, AtEnds, IsKept, IsStopped, IsWhole}
+use Rattle.journal_leaving.proofs.run_model.Walk.{ends_with, run_kept}
+use Rattle.journal_leaving.specs.journal_data.run_laws.Ends.{HaveOneConnectInd}
+use Rattle.journal_leaving.proofs.journal_data.run_laws.Agreed.{Agree, ack_of, ack_sent, sent_ack}
+use Rattle.journal_leaving.proofs.journal_data.run_laws.DistinctAccess.{AreApart}
+use Rattle.journal_leaving.proofs.journal_data.run_laws.Hearings.{other_facts, wanted_is}
+use Rattle.journal_leaving.proofs.journal_data.run_laws.InAgreement.{WithAll, differs_back}
+use Rattle.journal_leaving.proofs.journal_data.run_laws.OpenSteps.{open_has}
+use Rattle.journal_leaving.proofs.journal_data.run_laws.TurnPlaces.{Within, turned}
+use Rattle.journal_leaving.specs.journal_packets.Belonging.{is_side, link_of_packet}
+use Rattle.journal_leaving.specs.journal_packets.Senders.{IsOfSendersLink}
+use Rattle.journal_leaving.proofs.journal_packets.AccessOrder.{AreNth}
+use Rattle.journal_leaving.proofs.journal_packets.SoFar.{IsBelongingSoFar}
+use Rattle.journal_leaving.specs.journal_acks.Carried.{carried_of}
+use Rattle.journal_leaving.specs.journal_acks.Counted.{IsCounted}
+use Rattle.journal_leaving.specs.journal_acks.Exchange.{with_sent}
+use Rattle.journal_leaving.proofs.journal_acks.AirCounts.{sender_counted, one_number}
+use Rattle.journal_leaving.proofs.journal_acks.link_calls.InRange.{sent_ranges}
+use Rattle.journal_leaving.proofs.journal_acks.link_calls.CallNotes.{TakesNone, begin_noted, end_noted, none_taken, octet_noted}
+use Rattle.journal_leaving.proofs.journal_acks.Counting.{AreKnown, facts_event, one_begun}
+use Rattle.journal_leaving.proofs.journal_acks.Exchanging.{exchange_at, number_at, number_other, number_sent as sent_number}
+use Rattle.journal_leaving.proofs.journal_acks.FixedPdus.{sent_out}
+use Rattle.journal_leaving.proofs.journal_acks.KeptCounts.{AreCountedAt, unsent}
+use Rattle.journal_leaving.proofs.journal_acks.Known.{known_of}
+use Rattle.journal_leaving.proofs.journal_acks.link_calls.LinkPhases.{IsPhased}
+use Rattle.journal_leaving.proofs.journal_acks.Standing.{listener_sends, listens_wanted, other_listens, phased_at}
+use Rattle.journal_leaving.proofs.journal_acks.TwoStations.{IsListening, IsOfTwo, hearing_of, judged, link_listens, one_hearing, other_apart, other_is}
+use Rattle.journal_leaving.proofs.journal_acks.TwoStations.{other_of, other_received, own_differs, own_received, same_number, side_other, side_same, unchanged}
+use Rattle.journal_leaving.specs.journal_data.Lines.{PduLine}
+use Rattle.journal_leaving.proofs.journal_data.Arriving.{lines_length}
+use Rattle.journal_leaving.proofs.journal_data.Ends.{sound}
+use Rattle.journal_leaving.proofs.journal_data.KeptData.{other_in}
+use Rattle.journal_leaving.proofs.journal_data.FewLinks.{HaveFewLinks}
+use Rattle.journal_leaving.proofs.journal_data.OneCall.{far_side}
 use Rattle.journal_sending.specs.Announced.{last_number_sent, pdu_line_if, side_of_line}
 use Rattle.journal_sending.specs.Pending.{AllAreTakenAtOnce, has_left, is_done_on, last_number_taken, pending_pdu, taken_pdu, untaken_pdu}
 use Rattle.journal_sending.proofs.PendingLines.{IsSpent, IsTakenEvent, air_pending, call_other, call_own, call_taken, fed_other, fed_own, first_taken, pending_at, same_taken, spends_none, turn_pending}

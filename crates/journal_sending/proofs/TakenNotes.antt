@@ -9,23 +9,25 @@ use Rattle.ble_base.specs.declared.error_codes.ErrCode.{ErrCode}
 use Rattle.ble_base.specs.declared.notes.Note.{Note}
 use Rattle.ble_base.specs.declared.notes.Note.TheVariants.{Done, Refused}
 use Rattle.ble_base.specs.declared.procedure_kinds.Kind.{Kind}
-use Rattle.controller_model.specs.Heard.{notes_taken}
+use Rattle.journal_leaving.specs.controller_model.Heard.{notes_taken}
 use Rattle.data_pdu.specs.Header.{header_in}
 use Rattle.data_pdu.specs.declared.header.DataHeader.{DataHeader}
-use Rattle.journal_data.specs.link_model.Acknowledgement.{Pdu}
-use Rattle.journal_data.specs.link_model.Controls.{is_procedure_pdu}
-use Rattle.journal_data.specs.link_model.Data.{is_accepted, is_empty, numbered}
-use Rattle.journal_data.specs.link_model.Entering.{done_notes}
-use Rattle.journal_data.specs.link_model.Facts.{Facts}
-use Rattle.journal_data.specs.link_model.Packets.{good_pdu}
-use Rattle.journal_data.specs.link_model.Receiving.{accepts, acked_kind, acknowledged_if, acks_control, answers_with_control, facts_before_taking, given_if, given_notes, has_acknowledged, has_new_pdu, heard_in_slot, notes_hearing, received_notes, refused_notes, taken_notes, took_notes_if}
-use Rattle.journal_data.specs.link_model.Sending.{control_gone_if}
-use Rattle.journal_data.specs.link_model.Setup.{Setup}
-use Rattle.journal_data.specs.link_model.Verdicts.{pdu_of}
-use Rattle.journal_data.specs.link_model.control_end.declared.answers.Taken.{Taken}
-use Rattle.journal_data.specs.open_links.OpenLinks.{OpenLink, facts_in}
-use Rattle.journal_data.proofs.journal_acks.TwoStations.{same_number}
-use Rattle.journal_data.proofs.journal_acks.link_calls.CallNotes.{TakesNone}
+use Rattle.journal_leaving.specs.link_model.Acknowledgement.{Pdu}
+use Rattle.journal_leaving.specs.link_model.Controls.{is_procedure_pdu}
+use Rattle.journal_leaving.specs.link_model.Data.{is_accepted, is_empty, numbered}
+use Rattle.journal_leaving.specs.link_model.Entering.{done_notes}
+use Rattle.journal_leaving.specs.link_model.Facts.{Facts}
+use Rattle.journal_leaving.specs.link_model.Packets.{good_pdu}
+use Rattle.journal_leaving.specs.link_model.Receiving.{accepts, acked_kind, acknowledged_if, acks_control, answers_with_control, facts_before_taking, given_if}
+use Rattle.journal_leaving.specs.link_model.Receiving.{given_notes, has_acknowledged, has_new_pdu, heard_in_slot, notes_hearing, received_notes, refused_notes}
+use Rattle.journal_leaving.specs.link_model.Receiving.{taken_notes, took_notes_if}
+use Rattle.journal_leaving.specs.link_model.Sending.{control_gone_if}
+use Rattle.journal_leaving.specs.link_model.Setup.{Setup}
+use Rattle.journal_leaving.specs.link_model.Verdicts.{pdu_of}
+use Rattle.journal_leaving.specs.link_model.control_end.declared.answers.Taken.{Taken}
+use Rattle.journal_leaving.specs.journal_data.open_links.OpenLinks.{OpenLink, facts_in}
+use Rattle.journal_leaving.proofs.journal_acks.TwoStations.{same_number}
+use Rattle.journal_leaving.proofs.journal_acks.link_calls.CallNotes.{TakesNone}
 use Rattle.journal_sending.specs.Announced.{pdu_line_if}
 use Rattle.journal_sending.proofs.PendingLines.{IsOnLink, TakesFirst, first_fits, first_none, first_taken}
 

@@ -11,36 +11,36 @@ use Rattle.ack_bit.specs.AckBits.{is_new}
 use Rattle.ack_bit.proofs.Links.{says}
 use Rattle.ack_bit.proofs.Nonempties.{new_number}
 use Rattle.ble_base.specs.declared.notes.Note.{Note}
-use Rattle.controller_model.specs.Events.{notes_of_events}
-use Rattle.controller_model.specs.Facts.{Facts, Setup}
-use Rattle.controller_model.specs.Heard.{events_received, has_room, heard, link_heard, link_received, notes_taken, replies_in, reply_if}
-use Rattle.controller_model.specs.Outcome.{notes_passed}
-use Rattle.controller_model.specs.Packets.{notes_doing}
-use Rattle.controller_model.specs.Side.{notes_after}
+use Rattle.journal_leaving.specs.controller_model.Events.{notes_of_events}
+use Rattle.journal_leaving.specs.controller_model.Facts.{Facts, Setup}
+use Rattle.journal_leaving.specs.controller_model.Heard.{events_received, has_room, heard, link_heard, link_received, notes_taken, replies_in, reply_if}
+use Rattle.journal_leaving.specs.controller_model.Outcome.{notes_passed}
+use Rattle.journal_leaving.specs.controller_model.Packets.{notes_doing}
+use Rattle.journal_leaving.specs.controller_model.Side.{notes_after}
 use Rattle.data_pdu.specs.Header.{header_in}
-use Rattle.journal_data.specs.journal_acks.link_calls.Ranges.{HasRanges}
-use Rattle.journal_data.specs.journal_acks.link_calls.Uses.{listens_under}
-use Rattle.journal_data.specs.link_model.Acknowledgement.{Acknowledgement, Pdu, bits_of, end_of, is_acked}
-use Rattle.journal_data.specs.link_model.Controls.{pdu_fixed}
-use Rattle.journal_data.specs.link_model.Data.{is_accepted, is_empty, numbered}
-use Rattle.journal_data.specs.link_model.Facts.{Facts as EndFacts}
-use Rattle.journal_data.specs.link_model.Hearing.{pdu_octets}
-use Rattle.journal_data.specs.link_model.OneLink.{AreInAgreement}
-use Rattle.journal_data.specs.link_model.Packets.{good_pdu, header_sent, packet_sent, pdu_sent}
-use Rattle.journal_data.specs.link_model.Receiving.{has_new_pdu, received_notes}
-use Rattle.journal_data.specs.link_model.Verdicts.{pdu_of}
-use Rattle.journal_data.specs.open_links.OpenLinks.{OpenLink, facts_in, link_at}
-use Rattle.journal_data.specs.Lines.{PduLine}
-use Rattle.journal_data.specs.run_model.Run.{step_of}
-use Rattle.journal_data.proofs.journal_acks.Acks.{sent_again}
-use Rattle.journal_data.proofs.journal_acks.DataCalls.{on_link_notes, unfound}
-use Rattle.journal_data.proofs.journal_acks.PhaseNotes.{IsOnLink, IsPhaseOf, IsPlainPhase, phase_of}
-use Rattle.journal_data.proofs.journal_acks.TwoStations.{same_number}
-use Rattle.journal_data.proofs.journal_acks.link_calls.CallNotes.{HasNoData, TakesNone, all_more, doing_noted, events_noted, no_data}
-use Rattle.journal_data.proofs.journal_acks.link_calls.Pieces.{ranged_understand, sent_readable}
-use Rattle.journal_data.proofs.link_model.Hearing.{IsHeardWhole}
-use Rattle.journal_data.proofs.link_model.Received.{header_read, heard_good, pdu_read}
-use Rattle.journal_data.proofs.run_laws.Agreed.{ack_of, out_after, packet_of, sent_ack}
+use Rattle.journal_leaving.specs.journal_acks.link_calls.Ranges.{HasRanges}
+use Rattle.journal_leaving.specs.journal_acks.link_calls.Uses.{listens_under}
+use Rattle.journal_leaving.specs.link_model.Acknowledgement.{Acknowledgement, Pdu, bits_of, end_of, is_acked}
+use Rattle.journal_leaving.specs.link_model.Controls.{pdu_fixed}
+use Rattle.journal_leaving.specs.link_model.Data.{is_accepted, is_empty, numbered}
+use Rattle.journal_leaving.specs.link_model.Facts.{Facts as EndFacts}
+use Rattle.journal_leaving.specs.link_model.Hearing.{pdu_octets}
+use Rattle.journal_leaving.specs.link_model.OneLink.{AreInAgreement}
+use Rattle.journal_leaving.specs.link_model.Packets.{good_pdu, header_sent, packet_sent, pdu_sent}
+use Rattle.journal_leaving.specs.link_model.Receiving.{has_new_pdu, received_notes}
+use Rattle.journal_leaving.specs.link_model.Verdicts.{pdu_of}
+use Rattle.journal_leaving.specs.journal_data.open_links.OpenLinks.{OpenLink, facts_in, link_at}
+use Rattle.journal_leaving.specs.journal_data.Lines.{PduLine}
+use Rattle.journal_leaving.specs.run_model.Run.{step_of}
+use Rattle.journal_leaving.proofs.journal_acks.Acks.{sent_again}
+use Rattle.journal_leaving.proofs.journal_acks.DataCalls.{on_link_notes, unfound}
+use Rattle.journal_leaving.proofs.journal_acks.PhaseNotes.{IsOnLink, IsPhaseOf, IsPlainPhase, phase_of}
+use Rattle.journal_leaving.proofs.journal_acks.TwoStations.{same_number}
+use Rattle.journal_leaving.proofs.journal_acks.link_calls.CallNotes.{HasNoData, TakesNone, all_more, doing_noted, events_noted, no_data}
+use Rattle.journal_leaving.proofs.journal_acks.link_calls.Pieces.{ranged_understand, sent_readable}
+use Rattle.journal_leaving.proofs.link_model.Hearing.{IsHeardWhole}
+use Rattle.journal_leaving.proofs.link_model.Received.{header_read, heard_good, pdu_read}
+use Rattle.journal_leaving.proofs.journal_data.run_laws.Agreed.{ack_of, out_after, packet_of, sent_ack}
 use Rattle.journal_fixing.specs.link_model.declared.state.Leaving.{Leaving}
 use Rattle.journal_leaving.specs.Hearing.{leaving_hearing}
 use Rattle.journal_sending.specs.Announced.{pdu_line_if}

@@ -1,19 +1,19 @@
 -- What is known of all stations at each place of a run of a pair: what the lines of their data say, and those of new PDUs.
 use Rattle.std.proofs.Common.{◌≡◌, ℕ, List, []}
-use Rattle.journal_data.proofs.link_model.Hearing.{IsHeardWhole}
-use Rattle.journal_data.specs.run_model.Feeding.{AreDistinct}
-use Rattle.journal_data.specs.run_model.History.{Event}
-use Rattle.journal_data.specs.run_model.LinkEnds.{HaveAddresses}
-use Rattle.journal_data.specs.run_model.Run.{Given, setup_at}
-use Rattle.journal_data.proofs.run_model.Walk.{Place, NoTurn, IsKept}
-use Rattle.journal_data.proofs.journal_packets.SoFar.{IsBelongingSoFar}
-use Rattle.journal_data.proofs.journal_acks.Counting.{AreKnown}
-use Rattle.journal_data.proofs.journal_acks.KeptLines.{AreLinedAt, lines_kept}
-use Rattle.journal_data.proofs.journal_acks.LinkPackets.{lines_first}
-use Rattle.journal_data.proofs.journal_acks.TwoStations.{IsOfTwo}
-use Rattle.journal_data.proofs.KeptData.{IsDataAt, data_kept}
-use Rattle.journal_data.proofs.Law.{first_data}
-use Rattle.journal_data.proofs.FewLinks.{HaveFewLinks}
+use Rattle.journal_leaving.proofs.link_model.Hearing.{IsHeardWhole}
+use Rattle.journal_leaving.specs.run_model.Feeding.{AreDistinct}
+use Rattle.journal_leaving.specs.run_model.History.{Event}
+use Rattle.journal_leaving.specs.run_model.LinkEnds.{HaveAddresses}
+use Rattle.journal_leaving.specs.run_model.Run.{Given, setup_at}
+use Rattle.journal_leaving.proofs.run_model.Walk.{Place, NoTurn, IsKept}
+use Rattle.journal_leaving.proofs.journal_packets.SoFar.{IsBelongingSoFar}
+use Rattle.journal_leaving.proofs.journal_acks.Counting.{AreKnown}
+use Rattle.journal_leaving.proofs.journal_acks.KeptLines.{AreLinedAt, lines_kept}
+use Rattle.journal_leaving.proofs.journal_acks.LinkPackets.{lines_first}
+use Rattle.journal_leaving.proofs.journal_acks.TwoStations.{IsOfTwo}
+use Rattle.journal_leaving.proofs.journal_data.KeptData.{IsDataAt, data_kept}
+use Rattle.journal_leaving.proofs.journal_data.Law.{first_data}
+use Rattle.journal_leaving.proofs.journal_data.FewLinks.{HaveFewLinks}
 
 pub record IsKnownAt (given : Given) (Q : Place → List Event → Type 0) (place : Place) (history : List Event) : Type 0 where
   pub data_is : IsDataAt given Q place history

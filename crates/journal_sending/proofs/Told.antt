@@ -9,55 +9,57 @@ use Rattle.ble_base.specs.declared.notes.Note.{Note}
 use Rattle.ble_base.specs.declared.roles.Side.{Side}
 use Rattle.journal.specs.declared.entries.Entry.{Entry}
 use Rattle.journal.specs.declared.entries.Entry.TheVariants.{Air}
-use Rattle.journal_data.specs.link_model.Acknowledgement.{Acknowledgement, Pdu, is_acked, next_sent}
-use Rattle.journal_data.specs.link_model.Data.{is_empty, numbered}
-use Rattle.journal_data.specs.link_model.Controls.{pdu_fixed}
-use Rattle.journal_data.specs.link_model.Sending.{sent_notes_if}
-use Rattle.journal_data.specs.link_model.Facts.{Facts as EndFacts}
-use Rattle.journal_data.specs.link_model.Step.{PacketSent}
-use Rattle.journal_data.specs.link_model.Setup.{Setup as EndSetup}
-use Rattle.journal_data.specs.open_links.OpenLinks.{Links, OpenLink, facts_in, link_after, link_at}
-use Rattle.journal_data.proofs.open_links.Handles.{handle_is}
-use Rattle.controller_model.specs.declared.doing.Doing.{Doing}
-use Rattle.controller_model.specs.declared.doing.Doing.TheVariants.{Advertises, CentralSends, PeripheralSends, Rests}
-use Rattle.controller_model.specs.Step.{Step, HostOctet, TurnBegins}
-use Rattle.controller_model.specs.Facts.{Setup, Facts}
-use Rattle.controller_model.specs.Heard.{has_room, heard, link_heard, link_received, replies_in, reply_if}
-use Rattle.controller_model.specs.Outcome.{Outcome, facts_passed, notes_passed}
-use Rattle.controller_model.specs.Packets.{notes_doing, notes_sent}
-use Rattle.controller_model.specs.Radio.{outcome_begun}
-use Rattle.controller_model.specs.Side.{facts_after, notes_after}
-use Rattle.controller_model.proofs.Places.{link_receiving, receiving_is}
-use Rattle.journal_data.specs.run_model.Feeding.{AreDistinct}
-use Rattle.journal_data.specs.run_model.History.{Event, TurnBegan, HostFed, Transmitted, Hearing, is_good, packet_received}
-use Rattle.journal_data.specs.run_model.Journal.{air_entries, journal_of, mark_of, side_of}
-use Rattle.journal_data.specs.run_model.Links.{is_advertising}
-use Rattle.journal_data.specs.run_model.Run.{Given, after_call, after_feed, after_octets, facts_at, setup_at, step_of}
-use Rattle.journal_data.proofs.run_model.Parts.{journal_event}
-use Rattle.journal_data.proofs.run_model.Stations.{is_in}
-use Rattle.journal_data.proofs.run_model.Walk.{Place, AtListening}
-use Rattle.journal_data.proofs.run_laws.Agreed.{ack_of}
-use Rattle.journal_data.proofs.run_laws.ByCalls.{Holds}
-use Rattle.journal_data.proofs.run_laws.Hearings.{other_facts, own_facts}
-use Rattle.journal_data.proofs.run_laws.InAgreement.{AreStations, IsStation, differs_back}
-use Rattle.journal_data.specs.journal_links.Begun.{link_numbered}
-use Rattle.journal_data.specs.journal_packets.Belonging.{is_side, link_of_packet}
-use Rattle.journal_data.specs.journal_acks.Exchange.{Exchanged, after_packet, carries_empty, exchange_of, is_number, with_heard, with_sent}
-use Rattle.journal_data.proofs.journal_acks.link_calls.CallNotes.{HasNoData, SendsNone, all_more, doing_noted, no_data, notes_starting, start_noted}
-use Rattle.journal_data.proofs.journal_acks.Counting.{AreCountedSo, AreKnown, facts_event, plain}
-use Rattle.journal_data.proofs.journal_acks.DataCalls.{on_link_notes, own_begun, sent_at}
-use Rattle.journal_data.proofs.journal_acks.link_calls.CallNotes.{OpensNone, opening_none}
-use Rattle.journal_data.proofs.journal_acks.Exchanging.{exchange_at, exchange_more, exchange_other, exchange_same, feed_quiet, number_at, number_called, number_other, number_quiet, number_sent as number_aired, turn_quiet}
-use Rattle.journal_data.proofs.journal_acks.KeptCounts.{AreCountedAt, before_call, own_at, phased, station_is, unsent, was_taking}
-use Rattle.journal_data.proofs.journal_acks.KeptLines.{rests_deaf, rests_none}
-use Rattle.journal_data.specs.journal_acks.link_calls.Phases.{HasPassed, IsNew, Stays, Takes}
-use Rattle.journal_data.proofs.journal_acks.link_calls.LinkCalls.{base_ack, begins_under, off_sends, passes_under, received_noted, receiving_ack, receiving_setup, taking_opens, taking_sends}
-use Rattle.journal_data.specs.journal_acks.link_calls.Uses.{listens_under, sends_under}
-use Rattle.journal_data.proofs.journal_acks.PhaseNotes.{IsOnLink, IsPhaseOf, IsPlainPhase, phase_of, same_but}
-use Rattle.journal_data.proofs.journal_acks.TwoStations.{IsOfTwo, other_apart, same_number}
-use Rattle.journal_data.proofs.journal_acks.link_calls.UnderHandles.{WasOpen, change_under, sending_under}
-use Rattle.journal_data.specs.journal_acks.link_calls.Turns.{change_if}
-use Rattle.journal_data.specs.Lines.{PduLine}
+use Rattle.journal_leaving.specs.link_model.Acknowledgement.{Acknowledgement, Pdu, is_acked, next_sent}
+use Rattle.journal_leaving.specs.link_model.Data.{is_empty, numbered}
+use Rattle.journal_leaving.specs.link_model.Controls.{pdu_fixed}
+use Rattle.journal_leaving.specs.link_model.Sending.{sent_notes_if}
+use Rattle.journal_leaving.specs.link_model.Facts.{Facts as EndFacts}
+use Rattle.journal_leaving.specs.link_model.Step.{PacketSent}
+use Rattle.journal_leaving.specs.link_model.Setup.{Setup as EndSetup}
+use Rattle.journal_leaving.specs.journal_data.open_links.OpenLinks.{Links, OpenLink, facts_in, link_after, link_at}
+use Rattle.journal_leaving.proofs.journal_data.open_links.Handles.{handle_is}
+use Rattle.journal_leaving.specs.controller_model.declared.doing.Doing.{Doing}
+use Rattle.journal_leaving.specs.controller_model.declared.doing.Doing.TheVariants.{Advertises, CentralSends, PeripheralSends, Rests}
+use Rattle.journal_leaving.specs.controller_model.Step.{Step, HostOctet, TurnBegins}
+use Rattle.journal_leaving.specs.controller_model.Facts.{Setup, Facts}
+use Rattle.journal_leaving.specs.controller_model.Heard.{has_room, heard, link_heard, link_received, replies_in, reply_if}
+use Rattle.journal_leaving.specs.controller_model.Outcome.{Outcome, facts_passed, notes_passed}
+use Rattle.journal_leaving.specs.controller_model.Packets.{notes_doing, notes_sent}
+use Rattle.journal_leaving.specs.controller_model.Radio.{outcome_begun}
+use Rattle.journal_leaving.specs.controller_model.Side.{facts_after, notes_after}
+use Rattle.journal_leaving.proofs.controller_model.Places.{link_receiving, receiving_is}
+use Rattle.journal_leaving.specs.run_model.Feeding.{AreDistinct}
+use Rattle.journal_leaving.specs.run_model.History.{Event, TurnBegan, HostFed, Transmitted, Hearing, is_good, packet_received}
+use Rattle.journal_leaving.specs.run_model.Journal.{air_entries, journal_of, mark_of, side_of}
+use Rattle.journal_leaving.specs.run_model.Links.{is_advertising}
+use Rattle.journal_leaving.specs.run_model.Run.{Given, after_call, after_feed, after_octets, facts_at, setup_at, step_of}
+use Rattle.journal_leaving.proofs.run_model.Parts.{journal_event}
+use Rattle.journal_leaving.proofs.run_model.Stations.{is_in}
+use Rattle.journal_leaving.proofs.run_model.Walk.{Place, AtListening}
+use Rattle.journal_leaving.proofs.journal_data.run_laws.Agreed.{ack_of}
+use Rattle.journal_leaving.proofs.journal_data.run_laws.ByCalls.{Holds}
+use Rattle.journal_leaving.proofs.journal_data.run_laws.Hearings.{other_facts, own_facts}
+use Rattle.journal_leaving.proofs.journal_data.run_laws.InAgreement.{AreStations, IsStation, differs_back}
+use Rattle.journal_leaving.specs.journal_links.Begun.{link_numbered}
+use Rattle.journal_leaving.specs.journal_packets.Belonging.{is_side, link_of_packet}
+use Rattle.journal_leaving.specs.journal_acks.Exchange.{Exchanged, after_packet, carries_empty, exchange_of, is_number, with_heard, with_sent}
+use Rattle.journal_leaving.proofs.journal_acks.link_calls.CallNotes.{HasNoData, SendsNone, all_more, doing_noted, no_data, notes_starting, start_noted}
+use Rattle.journal_leaving.proofs.journal_acks.Counting.{AreCountedSo, AreKnown, facts_event, plain}
+use Rattle.journal_leaving.proofs.journal_acks.DataCalls.{on_link_notes, own_begun, sent_at}
+use Rattle.journal_leaving.proofs.journal_acks.link_calls.CallNotes.{OpensNone, opening_none}
+use Rattle.journal_leaving.proofs.journal_acks.Exchanging.{exchange_at, exchange_more, exchange_other, exchange_same, feed_quiet, number_at, number_called}
+use Rattle.journal_leaving.proofs.journal_acks.Exchanging.{number_other, number_quiet, number_sent as number_aired, turn_quiet}
+use Rattle.journal_leaving.proofs.journal_acks.KeptCounts.{AreCountedAt, before_call, own_at, phased, station_is, unsent, was_taking}
+use Rattle.journal_leaving.proofs.journal_acks.KeptLines.{rests_deaf, rests_none}
+use Rattle.journal_leaving.specs.journal_acks.link_calls.Phases.{HasPassed, IsNew, Stays, Takes}
+use Rattle.journal_leaving.proofs.journal_acks.link_calls.LinkCalls.{base_ack, begins_under, off_sends, passes_under, received_noted, receiving_ack}
+use Rattle.journal_leaving.proofs.journal_acks.link_calls.LinkCalls.{receiving_setup, taking_opens, taking_sends}
+use Rattle.journal_leaving.specs.journal_acks.link_calls.Uses.{listens_under, sends_under}
+use Rattle.journal_leaving.proofs.journal_acks.PhaseNotes.{IsOnLink, IsPhaseOf, IsPlainPhase, phase_of, same_but}
+use Rattle.journal_leaving.proofs.journal_acks.TwoStations.{IsOfTwo, other_apart, same_number}
+use Rattle.journal_leaving.proofs.journal_acks.link_calls.UnderHandles.{WasOpen, change_under, sending_under}
+use Rattle.journal_leaving.specs.journal_acks.link_calls.Turns.{change_if}
+use Rattle.journal_leaving.specs.journal_data.Lines.{PduLine}
 use Rattle.journal_sending.specs.Announced.{is_first_sent, pdu_line_if}
 use Rattle.journal_sending.proofs.ToldLines.{air_other_told, called_none, called_other, called_sent, fed_other_told, told_at, turn_told}
 

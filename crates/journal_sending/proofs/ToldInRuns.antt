@@ -8,54 +8,56 @@ use Rattle.ble_base.specs.declared.notes.Note.TheVariants.{Up as UpNote}
 use Rattle.ble_base.specs.declared.roles.Side.{Side}
 use Rattle.journal.specs.declared.entries.Entry.{Entry}
 use Rattle.journal.specs.declared.entries.Entry.TheVariants.{Turn, Fed, Air}
-use Rattle.journal_data.specs.link_model.Acknowledgement.{Pdu, is_acked}
-use Rattle.journal_data.specs.link_model.Data.{is_empty, numbered}
-use Rattle.journal_data.specs.link_model.Controls.{pdu_fixed}
-use Rattle.journal_data.specs.link_model.Sending.{sent_notes_if}
-use Rattle.journal_data.proofs.link_model.Hearing.{IsHeardWhole}
-use Rattle.journal_data.specs.open_links.OpenLinks.{OpenLink, facts_in, link_at}
-use Rattle.controller_model.specs.declared.doing.Doing.{Doing}
-use Rattle.controller_model.specs.declared.doing.Doing.TheVariants.{Advertises, CentralSends, PeripheralSends}
-use Rattle.controller_model.specs.Step.{Step, HostOctet, TurnBegins, TurnEnds}
-use Rattle.controller_model.specs.Facts.{Facts}
-use Rattle.controller_model.specs.Heard.{link_heard}
-use Rattle.controller_model.specs.Outcome.{notes_passed}
-use Rattle.controller_model.specs.Packets.{notes_doing, notes_sent}
-use Rattle.controller_model.specs.Radio.{outcome_begun}
-use Rattle.controller_model.specs.Side.{notes_after}
-use Rattle.journal_data.specs.run_model.Due.{Each, packet_in}
-use Rattle.journal_data.specs.run_model.Feeding.{AreDistinct}
-use Rattle.journal_data.specs.run_model.History.{Event, TurnBegan, HostFed, Called, Noted, Transmitted, packet_received, turns_begun}
-use Rattle.journal_data.specs.run_model.Journal.{entries_of, entry_of, journal_of, mark_of, radio_in, side_of}
-use Rattle.journal_data.specs.run_model.LinkEnds.{HaveAddresses}
-use Rattle.journal_data.specs.run_model.Links.{Links, links_of}
-use Rattle.journal_data.specs.run_model.Run.{Given, Stop, Stops, after_call, after_feed, after_octets, facts_at, hearings_of, history_of, octets_left, run_of, setup_at, step_of}
-use Rattle.journal_data.proofs.run_model.CallNotes.{noted_in_call}
-use Rattle.journal_data.proofs.run_model.EntryEvents.{is_of_event}
-use Rattle.journal_data.proofs.run_model.LinkEnds.{AreTaken, IsUnderstood}
-use Rattle.journal_data.proofs.run_model.Places.{each_at, each_called, each_event}
-use Rattle.journal_data.proofs.run_model.Stations.{is_in, among, in_more_other, in_more_same, not_before}
-use Rattle.journal_data.proofs.run_model.Walk.{Place, AtPackets, AtBegins, AtFeeds, AtEnds, NoTurn, IsKept, IsStopped, IsWhole, ends_with, run_kept}
-use Rattle.journal_data.proofs.run_laws.Agreed.{ack_of}
-use Rattle.journal_data.proofs.run_laws.DistinctAccess.{AreApart}
-use Rattle.journal_data.proofs.run_laws.Hearings.{own_facts, wanted_is}
-use Rattle.journal_data.proofs.run_laws.TurnPlaces.{Between, Within, at_stage}
-use Rattle.journal_data.specs.journal_packets.Belonging.{is_side}
-use Rattle.journal_data.proofs.journal_packets.AccessOrder.{AreNth}
-use Rattle.journal_data.proofs.journal_packets.SoFar.{IsBelongingSoFar}
-use Rattle.journal_data.proofs.journal_acks.link_calls.CallNotes.{HasNoData, SendsNone, all_more, end_noted, no_data, notes_starting, octet_noted, start_noted}
-use Rattle.journal_data.proofs.journal_acks.Counting.{AreKnown}
-use Rattle.journal_data.proofs.journal_acks.DataCalls.{on_link_notes}
-use Rattle.journal_data.proofs.journal_acks.KeptCounts.{AreCountedAt, unsent}
-use Rattle.journal_data.proofs.journal_acks.Known.{known_of}
-use Rattle.journal_data.proofs.journal_acks.link_calls.LinkCalls.{received_noted, taking_sends}
-use Rattle.journal_data.specs.journal_acks.link_calls.Uses.{sends_under}
-use Rattle.journal_data.proofs.journal_acks.RunCounts.{counts_first}
-use Rattle.journal_data.proofs.journal_acks.Seen.{seen_stop}
-use Rattle.journal_data.proofs.journal_acks.PhaseNotes.{IsOnLink, IsPhaseOf, IsPlainPhase, phase_of}
-use Rattle.journal_data.proofs.journal_acks.Standing.{PhasedBy, last_phase, phased_at, silent_sends}
-use Rattle.journal_data.proofs.journal_acks.TwoStations.{IsOfTwo, hearing_of, one_hearing, same_number}
-use Rattle.journal_data.proofs.FewLinks.{HaveFewLinks}
+use Rattle.journal_leaving.specs.link_model.Acknowledgement.{Pdu, is_acked}
+use Rattle.journal_leaving.specs.link_model.Data.{is_empty, numbered}
+use Rattle.journal_leaving.specs.link_model.Controls.{pdu_fixed}
+use Rattle.journal_leaving.specs.link_model.Sending.{sent_notes_if}
+use Rattle.journal_leaving.proofs.link_model.Hearing.{IsHeardWhole}
+use Rattle.journal_leaving.specs.journal_data.open_links.OpenLinks.{OpenLink, facts_in, link_at}
+use Rattle.journal_leaving.specs.controller_model.declared.doing.Doing.{Doing}
+use Rattle.journal_leaving.specs.controller_model.declared.doing.Doing.TheVariants.{Advertises, CentralSends, PeripheralSends}
+use Rattle.journal_leaving.specs.controller_model.Step.{Step, HostOctet, TurnBegins, TurnEnds}
+use Rattle.journal_leaving.specs.controller_model.Facts.{Facts}
+use Rattle.journal_leaving.specs.controller_model.Heard.{link_heard}
+use Rattle.journal_leaving.specs.controller_model.Outcome.{notes_passed}
+use Rattle.journal_leaving.specs.controller_model.Packets.{notes_doing, notes_sent}
+use Rattle.journal_leaving.specs.controller_model.Radio.{outcome_begun}
+use Rattle.journal_leaving.specs.controller_model.Side.{notes_after}
+use Rattle.journal_leaving.specs.run_model.Due.{Each, packet_in}
+use Rattle.journal_leaving.specs.run_model.Feeding.{AreDistinct}
+use Rattle.journal_leaving.specs.run_model.History.{Event, TurnBegan, HostFed, Called, Noted, Transmitted, packet_received, turns_begun}
+use Rattle.journal_leaving.specs.run_model.Journal.{entries_of, entry_of, journal_of, mark_of, radio_in, side_of}
+use Rattle.journal_leaving.specs.run_model.LinkEnds.{HaveAddresses}
+use Rattle.journal_leaving.specs.run_model.Links.{Links, links_of}
+use Rattle.journal_leaving.specs.run_model.Run.{Given, Stop, Stops, after_call, after_feed, after_octets, facts_at, hearings_of, history_of, octets_left}
+use Rattle.journal_leaving.specs.run_model.Run.{run_of, setup_at, step_of}
+use Rattle.journal_leaving.proofs.run_model.CallNotes.{noted_in_call}
+use Rattle.journal_leaving.proofs.run_model.EntryEvents.{is_of_event}
+use Rattle.journal_leaving.proofs.run_model.LinkEnds.{AreTaken, IsUnderstood}
+use Rattle.journal_leaving.proofs.run_model.Places.{each_at, each_called, each_event}
+use Rattle.journal_leaving.proofs.run_model.Stations.{is_in, among, in_more_other, in_more_same, not_before}
+use Rattle.journal_leaving.proofs.run_model.Walk.{Place, AtPackets, AtBegins, AtFeeds, AtEnds, NoTurn, IsKept, IsStopped, IsWhole, ends_with, run_kept}
+use Rattle.journal_leaving.proofs.journal_data.run_laws.Agreed.{ack_of}
+use Rattle.journal_leaving.proofs.journal_data.run_laws.DistinctAccess.{AreApart}
+use Rattle.journal_leaving.proofs.journal_data.run_laws.Hearings.{own_facts, wanted_is}
+use Rattle.journal_leaving.proofs.journal_data.run_laws.TurnPlaces.{Between, Within, at_stage}
+use Rattle.journal_leaving.specs.journal_packets.Belonging.{is_side}
+use Rattle.journal_leaving.proofs.journal_packets.AccessOrder.{AreNth}
+use Rattle.journal_leaving.proofs.journal_packets.SoFar.{IsBelongingSoFar}
+use Rattle.journal_leaving.proofs.journal_acks.link_calls.CallNotes.{HasNoData, SendsNone, all_more, end_noted, no_data, notes_starting, octet_noted}
+use Rattle.journal_leaving.proofs.journal_acks.link_calls.CallNotes.{start_noted}
+use Rattle.journal_leaving.proofs.journal_acks.Counting.{AreKnown}
+use Rattle.journal_leaving.proofs.journal_acks.DataCalls.{on_link_notes}
+use Rattle.journal_leaving.proofs.journal_acks.KeptCounts.{AreCountedAt, unsent}
+use Rattle.journal_leaving.proofs.journal_acks.Known.{known_of}
+use Rattle.journal_leaving.proofs.journal_acks.link_calls.LinkCalls.{received_noted, taking_sends}
+use Rattle.journal_leaving.specs.journal_acks.link_calls.Uses.{sends_under}
+use Rattle.journal_leaving.proofs.journal_acks.RunCounts.{counts_first}
+use Rattle.journal_leaving.proofs.journal_acks.Seen.{seen_stop}
+use Rattle.journal_leaving.proofs.journal_acks.PhaseNotes.{IsOnLink, IsPhaseOf, IsPlainPhase, phase_of}
+use Rattle.journal_leaving.proofs.journal_acks.Standing.{PhasedBy, last_phase, phased_at, silent_sends}
+use Rattle.journal_leaving.proofs.journal_acks.TwoStations.{IsOfTwo, hearing_of, one_hearing, same_number}
+use Rattle.journal_leaving.proofs.journal_data.FewLinks.{HaveFewLinks}
 use Rattle.journal_sending.specs.Announced.{AllGoOutAtOnce, announced_pdu, new_pdu_in, side_of_line}
 use Rattle.journal_sending.proofs.Together.{IsKnownAt, known_first, known_kept}
 use Rattle.journal_sending.proofs.ToldLines.{air_told, call_told, called_none, fed_told, noted_none, told_at}

@@ -6,19 +6,19 @@ use Rattle.std.proofs.lemmas.List.Sums.{fold-append}
 use Rattle.ble_base.specs.declared.roles.Side.{Side}
 use Rattle.ble_base.specs.declared.notes.Note.{Note}
 use Rattle.ble_base.specs.declared.notes.Note.TheVariants.{Up, Sent}
-use Rattle.controller_model.specs.Step.{Step}
-use Rattle.controller_model.specs.Side.{notes_after}
-use Rattle.journal_data.specs.run_model.History.{Event, TurnBegan, HostFed, Called, Noted, Transmitted, Hearing}
-use Rattle.journal_data.specs.run_model.Journal.{air_entries, entries_of, entry_of, journal_of, side_of}
-use Rattle.journal_data.specs.run_model.Links.{links_of}
-use Rattle.journal_data.specs.run_model.Run.{Given, after_call, facts_at, setup_at}
-use Rattle.journal_data.proofs.run_model.Parts.{journal_event}
-use Rattle.journal_data.specs.journal_packets.Belonging.{is_side}
-use Rattle.journal_data.proofs.journal_acks.link_calls.CallNotes.{SendsNone}
-use Rattle.journal_data.proofs.journal_acks.link_calls.CallNotes.{OpensNone}
-use Rattle.journal_data.proofs.journal_acks.Exchanging.{any_note, call_keeps, map_both, number_at, number_notes}
-use Rattle.journal_data.proofs.journal_acks.TwoStations.{side_same}
-use Rattle.journal_data.specs.Lines.{PduLine}
+use Rattle.journal_leaving.specs.controller_model.Step.{Step}
+use Rattle.journal_leaving.specs.controller_model.Side.{notes_after}
+use Rattle.journal_leaving.specs.run_model.History.{Event, TurnBegan, HostFed, Called, Noted, Transmitted, Hearing}
+use Rattle.journal_leaving.specs.run_model.Journal.{air_entries, entries_of, entry_of, journal_of, side_of}
+use Rattle.journal_leaving.specs.run_model.Links.{links_of}
+use Rattle.journal_leaving.specs.run_model.Run.{Given, after_call, facts_at, setup_at}
+use Rattle.journal_leaving.proofs.run_model.Parts.{journal_event}
+use Rattle.journal_leaving.specs.journal_packets.Belonging.{is_side}
+use Rattle.journal_leaving.proofs.journal_acks.link_calls.CallNotes.{SendsNone}
+use Rattle.journal_leaving.proofs.journal_acks.link_calls.CallNotes.{OpensNone}
+use Rattle.journal_leaving.proofs.journal_acks.Exchanging.{any_note, call_keeps, map_both, number_at, number_notes}
+use Rattle.journal_leaving.proofs.journal_acks.TwoStations.{side_same}
+use Rattle.journal_leaving.specs.journal_data.Lines.{PduLine}
 use Rattle.journal_sending.specs.Announced.{announced_pdu, announced_pdu_after, announcement_in}
 
 -- what the last line of a station tells, as the journal of a history has it

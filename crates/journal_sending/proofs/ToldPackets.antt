@@ -4,35 +4,35 @@ use Rattle.std.specs.Prelude.{if◌then◌else◌}
 use Rattle.ack_bit.specs.Nonempty.{nonempty}
 use Rattle.ble_base.specs.declared.roles.Side.{Side}
 use Rattle.journal.specs.declared.entries.Entry.{Entry}
-use Rattle.journal_data.specs.link_model.Acknowledgement.{Acknowledgement, is_acked}
-use Rattle.journal_data.specs.link_model.Data.{is_empty, numbered}
-use Rattle.journal_data.specs.link_model.Controls.{pdu_fixed}
-use Rattle.journal_data.specs.link_model.Step.{PacketSent}
-use Rattle.journal_data.proofs.link_model.Hearing.{IsHeardWhole}
-use Rattle.journal_data.specs.open_links.OpenLinks.{OpenLink, facts_in, link_after, link_at}
-use Rattle.controller_model.specs.Facts.{Sends}
-use Rattle.journal_data.specs.run_model.Feeding.{AreDistinct}
-use Rattle.journal_data.specs.run_model.History.{Event}
-use Rattle.journal_data.specs.run_model.Journal.{journal_of, side_of}
-use Rattle.journal_data.specs.run_model.LinkEnds.{HaveAddresses}
-use Rattle.journal_data.specs.run_model.Links.{is_advertising}
-use Rattle.journal_data.specs.run_model.Run.{Given, facts_at, setup_at, use_at}
-use Rattle.journal_data.proofs.run_model.Stations.{among}
-use Rattle.journal_data.proofs.run_model.Walk.{Place, AtPackets}
-use Rattle.journal_data.proofs.run_laws.Agreed.{ack_of, ack_sent, sent_ack}
-use Rattle.journal_data.proofs.run_laws.Hearings.{wanted_is}
-use Rattle.journal_data.specs.journal_packets.Belonging.{link_of_packet}
-use Rattle.journal_data.specs.journal_packets.Senders.{IsOfSendersLink}
-use Rattle.journal_data.specs.journal_acks.Carried.{carried_of}
-use Rattle.journal_data.proofs.journal_acks.Counting.{AreKnown}
-use Rattle.journal_data.proofs.journal_acks.Exchanging.{exchange_at, number_at}
-use Rattle.journal_data.specs.journal_acks.link_calls.Uses.{sends_under}
-use Rattle.journal_data.proofs.journal_acks.Standing.{other_sends, phased_at}
-use Rattle.journal_data.proofs.journal_acks.TwoStations.{IsOfTwo}
-use Rattle.journal_data.proofs.journal_acks.link_calls.UnderHandles.{same_base}
-use Rattle.journal_data.specs.Lines.{PduLine}
-use Rattle.journal_data.proofs.Arriving.{lines_length}
-use Rattle.journal_data.proofs.FewLinks.{HaveFewLinks}
+use Rattle.journal_leaving.specs.link_model.Acknowledgement.{Acknowledgement, is_acked}
+use Rattle.journal_leaving.specs.link_model.Data.{is_empty, numbered}
+use Rattle.journal_leaving.specs.link_model.Controls.{pdu_fixed}
+use Rattle.journal_leaving.specs.link_model.Step.{PacketSent}
+use Rattle.journal_leaving.proofs.link_model.Hearing.{IsHeardWhole}
+use Rattle.journal_leaving.specs.journal_data.open_links.OpenLinks.{OpenLink, facts_in, link_after, link_at}
+use Rattle.journal_leaving.specs.controller_model.Facts.{Sends}
+use Rattle.journal_leaving.specs.run_model.Feeding.{AreDistinct}
+use Rattle.journal_leaving.specs.run_model.History.{Event}
+use Rattle.journal_leaving.specs.run_model.Journal.{journal_of, side_of}
+use Rattle.journal_leaving.specs.run_model.LinkEnds.{HaveAddresses}
+use Rattle.journal_leaving.specs.run_model.Links.{is_advertising}
+use Rattle.journal_leaving.specs.run_model.Run.{Given, facts_at, setup_at, use_at}
+use Rattle.journal_leaving.proofs.run_model.Stations.{among}
+use Rattle.journal_leaving.proofs.run_model.Walk.{Place, AtPackets}
+use Rattle.journal_leaving.proofs.journal_data.run_laws.Agreed.{ack_of, ack_sent, sent_ack}
+use Rattle.journal_leaving.proofs.journal_data.run_laws.Hearings.{wanted_is}
+use Rattle.journal_leaving.specs.journal_packets.Belonging.{link_of_packet}
+use Rattle.journal_leaving.specs.journal_packets.Senders.{IsOfSendersLink}
+use Rattle.journal_leaving.specs.journal_acks.Carried.{carried_of}
+use Rattle.journal_leaving.proofs.journal_acks.Counting.{AreKnown}
+use Rattle.journal_leaving.proofs.journal_acks.Exchanging.{exchange_at, number_at}
+use Rattle.journal_leaving.specs.journal_acks.link_calls.Uses.{sends_under}
+use Rattle.journal_leaving.proofs.journal_acks.Standing.{other_sends, phased_at}
+use Rattle.journal_leaving.proofs.journal_acks.TwoStations.{IsOfTwo}
+use Rattle.journal_leaving.proofs.journal_acks.link_calls.UnderHandles.{same_base}
+use Rattle.journal_leaving.specs.journal_data.Lines.{PduLine}
+use Rattle.journal_leaving.proofs.journal_data.Arriving.{lines_length}
+use Rattle.journal_leaving.proofs.journal_data.FewLinks.{HaveFewLinks}
 use Rattle.journal_sending.specs.Announced.{new_pdu_on, last_number_sent, new_pdu_of}
 use Rattle.journal_sending.proofs.Together.{IsKnownAt}
 use Rattle.journal_sending.proofs.ToldLines.{told_at}

@@ -5,51 +5,51 @@ use Rattle.acl_banks.specs.History.{octets_of}
 use Rattle.acl_banks.specs.Packets.{Marked}
 use Rattle.ble_base.specs.declared.roles.Side.{Side}
 use Rattle.ble_base.specs.declared.verdicts.Verdict.{Verdict}
-use Rattle.controller_model.specs.Facts.{Sends}
-use Rattle.controller_model.specs.Since.{data_waiting}
-use Rattle.controller_model.specs.Step.{TurnBegins}
+use Rattle.journal_leaving.specs.controller_model.Facts.{Sends}
+use Rattle.journal_leaving.specs.controller_model.Since.{data_waiting}
+use Rattle.journal_leaving.specs.controller_model.Step.{TurnBegins}
 use Rattle.journal.specs.declared.entries.Entry.{Entry}
 use Rattle.journal.specs.declared.entries.Entry.TheVariants.{Air}
 use Rattle.journal.specs.declared.entries.Mark.{Mark}
-use Rattle.journal_data.specs.journal_acks.Carried.{carried_of}
-use Rattle.journal_data.specs.journal_acks.link_calls.Uses.{sends_under}
-use Rattle.journal_data.specs.journal_packets.Senders.{IsOfSendersLink}
-use Rattle.journal_data.specs.link_model.Acknowledgement.{Pdu, is_acked}
-use Rattle.journal_data.specs.link_model.Controls.{pdu_fixed}
-use Rattle.journal_data.specs.link_model.Data.{data_in, data_of, is_empty, unsent_of}
-use Rattle.journal_data.specs.link_model.End.{facts_of as end_facts}
-use Rattle.journal_data.specs.link_model.Facts.{Facts as EndFacts}
-use Rattle.journal_data.specs.link_model.Fixing.{data_cut}
-use Rattle.journal_data.specs.link_model.Packets.{more_sent, pdu_sent}
-use Rattle.journal_data.specs.link_model.Sending.{control_gone_if}
-use Rattle.journal_data.specs.link_model.Step.{PacketSent}
-use Rattle.journal_data.specs.open_links.OpenLinks.{OpenLink, facts_in, link_after}
-use Rattle.journal_data.specs.run_model.Entries.{IsAired}
-use Rattle.journal_data.specs.run_model.Feeding.{AreDistinct}
-use Rattle.journal_data.specs.run_model.History.{Event, Transmitted}
-use Rattle.journal_data.specs.run_model.Journal.{journal_of, side_of}
-use Rattle.journal_data.specs.run_model.LinkEnds.{HaveAddresses}
-use Rattle.journal_data.specs.run_model.Links.{is_advertising}
-use Rattle.journal_data.specs.run_model.Run.{Given, Stop, Stops, facts_at, history_of, run_of, setup_at, use_at}
-use Rattle.journal_data.proofs.Arriving.{data_nonempty}
-use Rattle.journal_data.proofs.EachLine.{lines_at}
-use Rattle.journal_data.proofs.FewLinks.{HaveFewLinks}
-use Rattle.journal_data.proofs.journal_acks.Counting.{AreKnown}
-use Rattle.journal_data.proofs.journal_acks.Exchanging.{number_at}
-use Rattle.journal_data.proofs.journal_acks.Known.{known_of}
-use Rattle.journal_data.proofs.journal_acks.LinkPackets.{IsPacketOf, link_packet}
-use Rattle.journal_data.proofs.journal_acks.Seen.{IsSeen, seen_packet, seen_stop}
-use Rattle.journal_data.proofs.journal_acks.TwoStations.{IsOfTwo}
-use Rattle.journal_data.proofs.journal_acks.link_calls.InRange.{ranges_in}
-use Rattle.journal_data.proofs.journal_links.OfTwo.{are_distinct}
-use Rattle.journal_data.proofs.journal_packets.AccessOrder.{AreNth}
-use Rattle.journal_data.proofs.journal_packets.SoFar.{IsBelongingSoFar}
-use Rattle.journal_data.proofs.link_model.Hearing.{IsHeardWhole}
-use Rattle.journal_data.proofs.run_laws.Agreed.{ack_of, sent_ack, step_facts}
-use Rattle.journal_data.proofs.run_laws.DistinctAccess.{AreApart}
-use Rattle.journal_data.proofs.run_model.LinkEnds.{AreTaken, IsUnderstood}
-use Rattle.journal_data.proofs.run_model.Stations.{among, is_in}
-use Rattle.journal_data.proofs.run_model.Walk.{Place, AtPackets, IsKept, IsStopped, IsWhole, ends_with, run_kept}
+use Rattle.journal_leaving.specs.journal_acks.Carried.{carried_of}
+use Rattle.journal_leaving.specs.journal_acks.link_calls.Uses.{sends_under}
+use Rattle.journal_leaving.specs.journal_packets.Senders.{IsOfSendersLink}
+use Rattle.journal_leaving.specs.link_model.Acknowledgement.{Pdu, is_acked}
+use Rattle.journal_leaving.specs.link_model.Controls.{pdu_fixed}
+use Rattle.journal_leaving.specs.link_model.Data.{data_in, data_of, is_empty, unsent_of}
+use Rattle.journal_leaving.specs.link_model.End.{facts_of as end_facts}
+use Rattle.journal_leaving.specs.link_model.Facts.{Facts as EndFacts}
+use Rattle.journal_leaving.specs.link_model.Fixing.{data_cut}
+use Rattle.journal_leaving.specs.link_model.Packets.{more_sent, pdu_sent}
+use Rattle.journal_leaving.specs.link_model.Sending.{control_gone_if}
+use Rattle.journal_leaving.specs.link_model.Step.{PacketSent}
+use Rattle.journal_leaving.specs.journal_data.open_links.OpenLinks.{OpenLink, facts_in, link_after}
+use Rattle.journal_leaving.specs.run_model.Entries.{IsAired}
+use Rattle.journal_leaving.specs.run_model.Feeding.{AreDistinct}
+use Rattle.journal_leaving.specs.run_model.History.{Event, Transmitted}
+use Rattle.journal_leaving.specs.run_model.Journal.{journal_of, side_of}
+use Rattle.journal_leaving.specs.run_model.LinkEnds.{HaveAddresses}
+use Rattle.journal_leaving.specs.run_model.Links.{is_advertising}
+use Rattle.journal_leaving.specs.run_model.Run.{Given, Stop, Stops, facts_at, history_of, run_of, setup_at, use_at}
+use Rattle.journal_leaving.proofs.journal_data.Arriving.{data_nonempty}
+use Rattle.journal_leaving.proofs.journal_data.EachLine.{lines_at}
+use Rattle.journal_leaving.proofs.journal_data.FewLinks.{HaveFewLinks}
+use Rattle.journal_leaving.proofs.journal_acks.Counting.{AreKnown}
+use Rattle.journal_leaving.proofs.journal_acks.Exchanging.{number_at}
+use Rattle.journal_leaving.proofs.journal_acks.Known.{known_of}
+use Rattle.journal_leaving.proofs.journal_acks.LinkPackets.{IsPacketOf, link_packet}
+use Rattle.journal_leaving.proofs.journal_acks.Seen.{IsSeen, seen_packet, seen_stop}
+use Rattle.journal_leaving.proofs.journal_acks.TwoStations.{IsOfTwo}
+use Rattle.journal_leaving.proofs.journal_acks.link_calls.InRange.{ranges_in}
+use Rattle.journal_leaving.proofs.journal_links.OfTwo.{are_distinct}
+use Rattle.journal_leaving.proofs.journal_packets.AccessOrder.{AreNth}
+use Rattle.journal_leaving.proofs.journal_packets.SoFar.{IsBelongingSoFar}
+use Rattle.journal_leaving.proofs.link_model.Hearing.{IsHeardWhole}
+use Rattle.journal_leaving.proofs.journal_data.run_laws.Agreed.{ack_of, sent_ack, step_facts}
+use Rattle.journal_leaving.proofs.journal_data.run_laws.DistinctAccess.{AreApart}
+use Rattle.journal_leaving.proofs.run_model.LinkEnds.{AreTaken, IsUnderstood}
+use Rattle.journal_leaving.proofs.run_model.Stations.{among, is_in}
+use Rattle.journal_leaving.proofs.run_model.Walk.{Place, AtPackets, IsKept, IsStopped, IsWhole, ends_with, run_kept}
 use Rattle.journal_fixing.specs.NextPdu.{data_waits, data_waits_after, more_with_new, more_with_old}
 use Rattle.journal_fixing.specs.OnLines.{control_fixing}
 use Rattle.journal_fixing.specs.PastFixing.{facts_fixing, past_fixing}

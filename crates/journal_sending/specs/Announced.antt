@@ -3,14 +3,14 @@ use Rattle.std.specs.Prelude.{◌≡◌, ℕ, ◌==◌, ◌&&◌, not, Bool, tru
 use Rattle.ble_base.specs.declared.roles.Side.{Side}
 use Rattle.journal.specs.declared.entries.Entry.{Entry}
 use Rattle.journal.specs.declared.entries.Entry.TheVariants.{Air, Sent}
-use Rattle.journal_data.specs.link_model.Acknowledgement.{Pdu}
-use Rattle.journal_data.specs.link_model.Data.{is_empty}
-use Rattle.journal_data.specs.run_model.Links.{is_advertising}
-use Rattle.journal_data.specs.journal_packets.Belonging.{link_of_packet}
-use Rattle.journal_data.specs.journal_acks.Carried.{carried_of}
-use Rattle.journal_data.specs.journal_acks.Exchange.{Exchanged, exchange_of}
-use Rattle.journal_data.specs.Delivered.{host_buffers}
-use Rattle.journal_data.specs.Lines.{PduLine, lines_of, pdus_on}
+use Rattle.journal_leaving.specs.link_model.Acknowledgement.{Pdu}
+use Rattle.journal_leaving.specs.link_model.Data.{is_empty}
+use Rattle.journal_leaving.specs.run_model.Links.{is_advertising}
+use Rattle.journal_leaving.specs.journal_packets.Belonging.{link_of_packet}
+use Rattle.journal_leaving.specs.journal_acks.Carried.{carried_of}
+use Rattle.journal_leaving.specs.journal_acks.Exchange.{Exchanged, exchange_of}
+use Rattle.journal_leaving.specs.journal_data.Delivered.{host_buffers}
+use Rattle.journal_leaving.specs.journal_data.Lines.{PduLine, lines_of, pdus_on}
 pub use Rattle.journal_due.specs.ProcedureLines.{is_same_side, side_of_line}
 
 abbrev pub is_line_of : Side → Entry → Bool

@@ -4,9 +4,9 @@ use Rattle.std.specs.Prelude.{◌≡◌, ℕ, ◌+◌, List, ◌∷◌, ◌++◌
 use Rattle.ble_base.specs.declared.roles.Side.{Side}
 use Rattle.journal.specs.declared.entries.Entry.{Entry}
 use Rattle.journal.specs.declared.entries.Entry.TheVariants.{Sent}
-use Rattle.journal_data.specs.Delivered.{host_buffers}
-use Rattle.journal_data.specs.Lines.{lines_of, pdus_on}
-use Rattle.journal_data.specs.link_model.Acknowledgement.{Pdu}
+use Rattle.journal_leaving.specs.journal_data.Delivered.{host_buffers}
+use Rattle.journal_leaving.specs.journal_data.Lines.{lines_of, pdus_on}
+use Rattle.journal_leaving.specs.link_model.Acknowledgement.{Pdu}
 use Rattle.journal_fixing.specs.NextPdu.{pdu_next, piece_limit}
 use Rattle.journal_fixing.specs.OnLines.{control_fixing, control_going}
 use Rattle.journal_fixing.specs.link_model.control_model.Control.{Control}

@@ -9,9 +9,9 @@ use Rattle.acl_banks.specs.History.{HostData, octets_of}
 use Rattle.acl_banks.specs.Packets.{Marked}
 use Rattle.ble_base.specs.declared.roles.Side.{Side}
 use Rattle.journal.specs.declared.entries.Entry.{Entry}
-use Rattle.journal_data.specs.Delivered.{host_buffers}
-use Rattle.journal_data.specs.Lines.{Lines, PduLine, data_on, lines_of, pdus_on}
-use Rattle.journal_data.specs.link_model.Data.{data_in}
+use Rattle.journal_leaving.specs.journal_data.Delivered.{host_buffers}
+use Rattle.journal_leaving.specs.journal_data.Lines.{Lines, PduLine, data_on, lines_of, pdus_on}
+use Rattle.journal_leaving.specs.link_model.Data.{data_in}
 
 -- the data of these PDUs
 abbrev pub data_of_lines : List PduLine → List Marked

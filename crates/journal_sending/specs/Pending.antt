@@ -4,13 +4,13 @@ use Rattle.ble_base.specs.Side.{other_side}
 use Rattle.ble_base.specs.declared.roles.Side.{Side}
 use Rattle.journal.specs.declared.entries.Entry.{Entry}
 use Rattle.journal.specs.declared.entries.Entry.TheVariants.{Air, Done, Took}
-use Rattle.journal_data.specs.Delivered.{host_buffers}
-use Rattle.journal_data.specs.Lines.{PduLine, lines_of, pdus_on}
-use Rattle.journal_data.specs.journal_acks.Carried.{carried_of}
-use Rattle.journal_data.specs.journal_packets.Belonging.{is_side, link_of_packet}
-use Rattle.journal_data.specs.link_model.Data.{is_empty}
-use Rattle.journal_data.specs.run_model.History.{is_good}
-use Rattle.journal_data.specs.run_model.Links.{is_advertising}
+use Rattle.journal_leaving.specs.journal_data.Delivered.{host_buffers}
+use Rattle.journal_leaving.specs.journal_data.Lines.{PduLine, lines_of, pdus_on}
+use Rattle.journal_leaving.specs.journal_acks.Carried.{carried_of}
+use Rattle.journal_leaving.specs.journal_packets.Belonging.{is_side, link_of_packet}
+use Rattle.journal_leaving.specs.link_model.Data.{is_empty}
+use Rattle.journal_leaving.specs.run_model.History.{is_good}
+use Rattle.journal_leaving.specs.run_model.Links.{is_advertising}
 use Rattle.journal_fixing.specs.link_model.declared.state.Leaving.{Leaving}
 use Rattle.journal_leaving.specs.Leaving.{leaving_on}
 use Rattle.journal_sending.specs.Announced.{is_line_of, last_number_sent, pdu_line_if, side_of_line}

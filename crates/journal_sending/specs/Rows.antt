@@ -6,8 +6,8 @@ use Rattle.ble_base.specs.declared.verdicts.Verdict.TheVariants.{Good}
 use Rattle.journal.specs.declared.entries.Entry.{Entry}
 use Rattle.journal.specs.declared.entries.Entry.TheVariants.{Air, Fed, Sent}
 use Rattle.journal.specs.declared.entries.Mark.TheVariants.{Pass as Passed}
-use Rattle.journal_data.specs.journal_acks.Rows.{data_pdu, host_packet}
-use Rattle.journal_data.specs.run_model.Rows.{turn_entry}
+use Rattle.journal_leaving.specs.journal_acks.Rows.{data_pdu, host_packet}
+use Rattle.journal_leaving.specs.run_model.Rows.{turn_entry}
 use Rattle.journal_fixing.specs.Rows.{version_heard}
 use Rattle.journal_fixing.specs.journal_controls.Rows.{first_on, version_pdu}
 use Rattle.journal_fixing.specs.link_model.Controls.{read_of}

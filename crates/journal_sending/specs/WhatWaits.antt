@@ -6,12 +6,12 @@ use Rattle.ble_base.specs.declared.verdicts.Verdict.{Verdict}
 use Rattle.journal.specs.declared.entries.Entry.{Entry}
 use Rattle.journal.specs.declared.entries.Entry.TheVariants.{Air}
 use Rattle.journal.specs.declared.entries.Mark.{Mark}
-use Rattle.journal_data.specs.Delivered.{host_buffers}
-use Rattle.journal_data.specs.Lines.{lines_of}
-use Rattle.journal_data.specs.journal_acks.Carried.{IsLinkPacket, carried_of}
-use Rattle.journal_data.specs.journal_acks.Exchange.{exchange_of}
-use Rattle.journal_data.specs.link_model.Data.{is_empty}
-use Rattle.journal_data.specs.run_model.Links.{is_advertising}
+use Rattle.journal_leaving.specs.journal_data.Delivered.{host_buffers}
+use Rattle.journal_leaving.specs.journal_data.Lines.{lines_of}
+use Rattle.journal_leaving.specs.journal_acks.Carried.{IsLinkPacket, carried_of}
+use Rattle.journal_leaving.specs.journal_acks.Exchange.{exchange_of}
+use Rattle.journal_leaving.specs.link_model.Data.{is_empty}
+use Rattle.journal_leaving.specs.run_model.Links.{is_advertising}
 use Rattle.journal_fixing.specs.NextPdu.{lets_data_go, more_with_new, more_with_old}
 use Rattle.journal_fixing.specs.OnLines.{control_fixing}
 use Rattle.journal_fixing.specs.journal_controls.LineSteps.{control_on, has_next}

@@ -19,3 +19,18 @@ pub use crate::rows::{
     worked_waiting,
 };
 pub use crate::taking::each_pdu_is_taken_at_once;
+
+// What the crates above call of those below.
+pub use journal_due::each_line_of_a_procedure_is_where_it_is_due;
+pub use journal_hosts::{
+    credits_of_a_turn_are_in_the_order_of_handles, each_command_is_answered,
+    each_credit_is_of_some_packets, each_early_credit_is_of_one_packet,
+    each_late_credit_comes_as_its_turn_ends, each_late_end_is_reported_at_once,
+};
+pub use journal_leaving::{
+    a_pdu_is_understood, data_arrives_in_order_in_every_journal, each_enter_line_is_at_its_anchor,
+    each_link_has_the_next_address, each_opened_line_names_its_link,
+    each_sent_line_is_of_a_new_pdu, each_shut_line_has_its_reason_by_the_lines,
+    each_side_enters_its_events_in_order, lines_are_of_open_links_in_every_journal,
+    links_end_in_time_by_the_lines,
+};

@@ -1,9 +1,9 @@
 //! Which PDU each line of a new PDU says, by the lines before it. The body only calls the laws that
 //! it rests on: the contract is the law.
-ghost use Rattle.std.specs.Prelude.{◌≡◌, ◌≤◌, ◌∷◌, [], ℕ, List};
-ghost use Rattle.journal_data.specs.run_model.Journal.{journal_of};
-ghost use Rattle.journal_data.specs.run_model.LinkEnds.{HaveAddresses};
-ghost use Rattle.journal_data.specs.run_model.Run.{Given, history_of, run_of, setup_at};
+ghost use Rattle.std.specs.Prelude.{◌≡◌, ◌≤◌, ◌∷◌, [], ℕ};
+ghost use Rattle.journal_leaving.specs.run_model.Journal.{journal_of};
+ghost use Rattle.journal_leaving.specs.run_model.LinkEnds.{HaveAddresses};
+ghost use Rattle.journal_leaving.specs.run_model.Run.{Given, history_of, run_of, setup_at};
 ghost use Rattle.journal_sending.specs.NextPdus.{AllNewPdusAreNext};
 
 /// In the journal of a run of two stations, with any number of links each and whatever control
@@ -18,7 +18,7 @@ pub fn each_new_pdu_is_next_by_the_lines()
         → ((station : ℕ) → (setup_at given station).host_buffers ≡ 8)
         → AllNewPdusAreNext (journal_of (history_of (run_of given))) }
 {
-    controller_model::a_pdu_is_understood();
+    journal_leaving::a_pdu_is_understood();
     advertise::laws::connections_are_taken();
     scan_init::laws::searches_give_each_valid_address();
     air_frame::laws::packet_tells_its_pdu();

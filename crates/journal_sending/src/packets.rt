@@ -1,12 +1,12 @@
 //! What each packet of a link tells, and the line of the new PDU that it brings, by the lines
 //! before it. The bodies only call the laws that they rest on: the contracts are the laws.
 ghost use Rattle.std.specs.Prelude.{◌≡◌, ◌≤◌, ◌∷◌, [], ℕ, List, false};
-ghost use Rattle.journal_data.specs.run_model.History.{Event};
-ghost use Rattle.journal_data.specs.run_model.Journal.{journal_of, side_of};
-ghost use Rattle.journal_data.specs.run_model.LinkEnds.{HaveAddresses};
-ghost use Rattle.journal_data.specs.run_model.Links.{is_advertising};
-ghost use Rattle.journal_data.specs.run_model.Run.{Given, Stop, Stops, history_of, run_of};
-ghost use Rattle.journal_data.specs.run_model.Run.{setup_at};
+ghost use Rattle.journal_leaving.specs.run_model.History.{Event};
+ghost use Rattle.journal_leaving.specs.run_model.Journal.{journal_of, side_of};
+ghost use Rattle.journal_leaving.specs.run_model.LinkEnds.{HaveAddresses};
+ghost use Rattle.journal_leaving.specs.run_model.Links.{is_advertising};
+ghost use Rattle.journal_leaving.specs.run_model.Run.{Given, Stop, Stops, history_of, run_of};
+ghost use Rattle.journal_leaving.specs.run_model.Run.{setup_at};
 ghost use Rattle.journal_sending.specs.Announced.{AllGoOutAtOnce, announced_pdu, new_pdu_on};
 ghost use Rattle.journal_sending.specs.WhatWaits.{AllTellWhatWaits, TellsWhatWaits};
 
@@ -28,7 +28,7 @@ pub fn each_packet_of_a_link_tells_what_waits()
         → run_of given ≡ Stops history stop → is_advertising stop.channel ≡ false
         → TellsWhatWaits (journal_of history) (side_of stop.sender) stop.channel stop.sent }
 {
-    controller_model::a_pdu_is_understood();
+    journal_leaving::a_pdu_is_understood();
     advertise::laws::connections_are_taken();
     scan_init::laws::searches_give_each_valid_address();
     air_frame::laws::packet_tells_its_pdu();
@@ -51,7 +51,7 @@ pub fn the_line_of_each_new_pdu_is_just_before_its_packet()
         → announced_pdu (side_of stop.sender) (journal_of history)
         ≡ new_pdu_on (journal_of history) (side_of stop.sender) stop.channel stop.sent }
 {
-    controller_model::a_pdu_is_understood();
+    journal_leaving::a_pdu_is_understood();
     advertise::laws::connections_are_taken();
     scan_init::laws::searches_give_each_valid_address();
     air_frame::laws::packet_tells_its_pdu();

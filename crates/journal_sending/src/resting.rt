@@ -1,10 +1,10 @@
 //! That no PDU is under way between two turns. The body only calls the laws that it rests on: the
 //! contract is the law.
 ghost use Rattle.std.specs.Prelude.{◌≡◌, ◌≤◌, ◌<◌, ◌∷◌, [], ℕ, List};
-ghost use Rattle.journal_data.specs.run_model.History.{Event};
-ghost use Rattle.journal_data.specs.run_model.Journal.{journal_of};
-ghost use Rattle.journal_data.specs.run_model.LinkEnds.{HaveAddresses};
-ghost use Rattle.journal_data.specs.run_model.Run.{Given, GoesOn, history_of, run_of, setup_at};
+ghost use Rattle.journal_leaving.specs.run_model.History.{Event};
+ghost use Rattle.journal_leaving.specs.run_model.Journal.{journal_of};
+ghost use Rattle.journal_leaving.specs.run_model.LinkEnds.{HaveAddresses};
+ghost use Rattle.journal_leaving.specs.run_model.Run.{Given, GoesOn, history_of, run_of, setup_at};
 ghost use Rattle.journal_sending.specs.Resting.{AllAreAtRest, IsAtRest};
 
 /// In the journal of a run of two stations, with any number of links each and whatever control
@@ -23,7 +23,7 @@ pub fn nothing_is_under_way_between_turns()
         → ((station : ℕ) → 0 < (setup_at given station).air_buffers)
         → run_of given ≡ GoesOn history → IsAtRest (journal_of history) }
 {
-    controller_model::a_pdu_is_understood();
+    journal_leaving::a_pdu_is_understood();
     advertise::laws::connections_are_taken();
     scan_init::laws::searches_give_each_valid_address();
     air_frame::laws::packet_tells_its_pdu();

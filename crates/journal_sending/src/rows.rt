@@ -1,5 +1,5 @@
 //! Worked examples and wrong ones, which the definitions compute.
-ghost use Rattle.std.specs.Prelude.{◌≡◌, ◌++◌, ◌∷◌, [], List, None, Some, false, replicate, true};
+ghost use Rattle.std.specs.Prelude.{◌≡◌, ◌++◌, ◌∷◌, [], None, Some, false, replicate, true};
 ghost use Rattle.ble_base.specs.declared.procedure_kinds.Kind.TheVariants.{Version};
 ghost use Rattle.ble_base.specs.declared.roles.Role.TheVariants.{Central};
 ghost use Rattle.ble_base.specs.declared.roles.Side.TheVariants.{A, B};
@@ -7,11 +7,11 @@ ghost use Rattle.ble_base.specs.declared.verdicts.Verdict.TheVariants.{Good, Mis
 ghost use Rattle.journal.specs.declared.entries.Entry.TheVariants.{Air, Done, Fed, Opened, Sent};
 ghost use Rattle.journal.specs.declared.entries.Entry.TheVariants.{Took};
 ghost use Rattle.journal.specs.declared.entries.Mark.TheVariants.{Lost as WasLost, Pass};
-ghost use Rattle.journal_data.specs.Lines.{lines_of};
-ghost use Rattle.journal_data.specs.journal_acks.Rows.{data_heard, data_packet, data_pdu};
-ghost use Rattle.journal_data.specs.journal_acks.Rows.{data_sent, data_taken};
-ghost use Rattle.journal_data.specs.link_model.Acknowledgement.{empty_pdu};
-ghost use Rattle.journal_data.specs.run_model.Rows.{first_packet, one_event_journal};
+ghost use Rattle.journal_leaving.specs.journal_data.Lines.{lines_of};
+ghost use Rattle.journal_leaving.specs.journal_acks.Rows.{data_heard, data_packet, data_pdu};
+ghost use Rattle.journal_leaving.specs.journal_acks.Rows.{data_sent, data_taken};
+ghost use Rattle.journal_leaving.specs.link_model.Acknowledgement.{empty_pdu};
+ghost use Rattle.journal_leaving.specs.run_model.Rows.{first_packet, one_event_journal};
 ghost use Rattle.journal_fixing.specs.NextPdu.{pdu_next};
 ghost use Rattle.journal_fixing.specs.OnLines.{control_fixing};
 ghost use Rattle.journal_fixing.specs.Rows.{end_sent, length_taken, link_ended, long_allowed};
@@ -45,7 +45,6 @@ pub fn worked_pieces()
 {}
 
 /// Data waits until the last piece is sent.
-#[tactic(auto, unfolding(journal_data::specs::Lines::lines_of, h4_frames::specs::Frames::frames))]
 pub fn worked_waiting()
     ensures each { let submitted = Opened A 1 0 Central
         ∷ Fed A (0x02 ∷ 0x00 ∷ 0x00 ∷ 0x1C ∷ 0x00 ∷ replicate 28 0xA1) ∷ [] in

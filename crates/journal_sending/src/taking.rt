@@ -1,9 +1,9 @@
 //! Where each side of a journal says that it takes a PDU. The body only calls the laws that it
 //! rests on: the contract is the law.
-ghost use Rattle.std.specs.Prelude.{◌≡◌, ◌≤◌, ◌<◌, ◌∷◌, [], ℕ, List};
-ghost use Rattle.journal_data.specs.run_model.Journal.{journal_of};
-ghost use Rattle.journal_data.specs.run_model.LinkEnds.{HaveAddresses};
-ghost use Rattle.journal_data.specs.run_model.Run.{Given, history_of, run_of, setup_at};
+ghost use Rattle.std.specs.Prelude.{◌≡◌, ◌≤◌, ◌<◌, ◌∷◌, [], ℕ};
+ghost use Rattle.journal_leaving.specs.run_model.Journal.{journal_of};
+ghost use Rattle.journal_leaving.specs.run_model.LinkEnds.{HaveAddresses};
+ghost use Rattle.journal_leaving.specs.run_model.Run.{Given, history_of, run_of, setup_at};
 ghost use Rattle.journal_sending.specs.Pending.{AllAreTakenAtOnce};
 
 /// In the journal of a run of two stations, with any number of links each and whatever control
@@ -18,7 +18,7 @@ pub fn each_pdu_is_taken_at_once()
         → ((station : ℕ) → 0 < (setup_at given station).air_buffers)
         → AllAreTakenAtOnce (journal_of (history_of (run_of given))) }
 {
-    controller_model::a_pdu_is_understood();
+    journal_leaving::a_pdu_is_understood();
     advertise::laws::connections_are_taken();
     scan_init::laws::searches_give_each_valid_address();
     air_frame::laws::packet_tells_its_pdu();

@@ -31,17 +31,18 @@ use Rattle.journal_acks.proofs.link_calls.control_model.Moving.{enters_track}
 use Rattle.slot_plan.specs.Holding.{is_held_in, winner_of}
 use Rattle.slot_plan.specs.declared.Activity.{Activity}
 use Rattle.slot_plan.specs.declared.Activity.TheVariants.{Link, Advertise, Scan, Initiate}
-use Rattle.controller_model.specs.declared.doing.Doing.TheVariants.{Rests}
-use Rattle.controller_model.specs.Entering.{all_entered}
-use Rattle.controller_model.specs.Facts.{Facts, Setup, first_facts}
-use Rattle.controller_model.specs.Heard.{has_room, link_taken}
-use Rattle.controller_model.specs.Links.{facts_ending}
-use Rattle.controller_model.specs.Radio.{doing_held, doing_won, exchange_if, facts_entering, first_exchange, initiator_channel, plan_in, radio_served, scanner_channel, second_exchange, served, slots_since, turn_begins, winner_served}
-use Rattle.controller_model.specs.Side.{facts_after}
-use Rattle.controller_model.specs.Step.{TurnBegins}
-use Rattle.controller_model.proofs.Always.{ending_is}
-use Rattle.controller_model.proofs.Places.{link_receiving}
-use Rattle.controller_model.proofs.Asked.{IsAskedStep}
+use Rattle.journal_acks.specs.controller_model.declared.doing.Doing.TheVariants.{Rests}
+use Rattle.journal_acks.specs.controller_model.Entering.{all_entered}
+use Rattle.journal_acks.specs.controller_model.Facts.{Facts, Setup, first_facts}
+use Rattle.journal_acks.specs.controller_model.Heard.{has_room, link_taken}
+use Rattle.journal_acks.specs.controller_model.Links.{facts_ending}
+use Rattle.journal_acks.specs.controller_model.Radio.{doing_held, doing_won, exchange_if, facts_entering, first_exchange, initiator_channel, plan_in}
+use Rattle.journal_acks.specs.controller_model.Radio.{radio_served, scanner_channel, second_exchange, served, slots_since, turn_begins, winner_served}
+use Rattle.journal_acks.specs.controller_model.Side.{facts_after}
+use Rattle.journal_acks.specs.controller_model.Step.{TurnBegins}
+use Rattle.journal_acks.proofs.controller_model.Always.{ending_is}
+use Rattle.journal_acks.proofs.controller_model.Places.{link_receiving}
+use Rattle.journal_acks.proofs.controller_model.Asked.{IsAskedStep}
 use Rattle.journal_acks.specs.run_model.Run.{step_of}
 use Rattle.journal_acks.proofs.run_laws.Agreed.{step_facts}
 use Rattle.journal_acks.proofs.run_laws.OpenSteps.{AsksForMap, EachOpen, IsKeptByHosts, IsKeptOpen, IsKeptServed, KeepsAsked, MayOpen, begin_open, end_open, none_open, octet_open, phase_open}

@@ -16,10 +16,10 @@ use Rattle.link_changes.specs.InForce.{HasRanges}
 use Rattle.link_changes.specs.Noted.{changes_noted}
 use Rattle.link_changes.proofs.Alike.{Alike, alike_changes, alike_more, alike_silent, alike_then}
 use Rattle.link_changes.proofs.Entries.{past_follows}
-use Rattle.controller_model.specs.Facts.{Facts, Setup}
-use Rattle.controller_model.specs.Links.{note_opened}
-use Rattle.controller_model.specs.Since.{notes_opened_on}
-use Rattle.controller_model.proofs.Exchanges.{always_in_event}
+use Rattle.journal_acks.specs.controller_model.Facts.{Facts, Setup}
+use Rattle.journal_acks.specs.controller_model.Links.{note_opened}
+use Rattle.journal_acks.specs.controller_model.Since.{notes_opened_on}
+use Rattle.journal_acks.proofs.controller_model.Exchanges.{always_in_event}
 use Rattle.journal_acks.specs.link_model.End.{notes_of as end_notes_of}
 use Rattle.journal_acks.specs.link_model.Facts.{Facts as EndFacts}
 use Rattle.journal_acks.specs.link_model.Setup.{Setup as EndSetup, first_anchor, first_params}

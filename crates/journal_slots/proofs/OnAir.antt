@@ -23,9 +23,9 @@ use Rattle.journal_acks.specs.link_model.Step.{EventEntered, PacketReceived, Pac
 use Rattle.journal_acks.specs.open_links.OpenLinks.{OpenLink, facts_in, link_after}
 use Rattle.journal_acks.specs.open_links.Turns.{entered_if, enters_in, link_entered}
 use Rattle.journal_acks.proofs.open_links.Unmoved.{entered_setup}
-use Rattle.controller_model.specs.declared.doing.Doing.{Doing}
-use Rattle.controller_model.specs.declared.doing.Turn.{Turn}
-use Rattle.controller_model.specs.Facts.{Facts}
+use Rattle.journal_acks.specs.controller_model.declared.doing.Doing.{Doing}
+use Rattle.journal_acks.specs.controller_model.declared.doing.Turn.{Turn}
+use Rattle.journal_acks.specs.controller_model.Facts.{Facts}
 use Rattle.journal_acks.proofs.run_laws.Agreed.{step_facts}
 use Rattle.journal_acks.proofs.Counting.{taking_if, nothing_taken}
 use Rattle.journal_acks.proofs.link_calls.LinkCalls.{HasBegun}

@@ -8,13 +8,13 @@ use Rattle.journal_acks.specs.link_model.Events.{no_event}
 use Rattle.journal_acks.specs.link_model.Packets.{more_sent}
 use Rattle.journal_acks.specs.link_model.Step.{PacketReceived}
 use Rattle.journal_acks.specs.open_links.OpenLinks.{OpenLink, facts_in, link_after, link_at}
-use Rattle.controller_model.specs.declared.doing.Doing.TheVariants.{Rests}
-use Rattle.controller_model.specs.declared.doing.Turn.{Turn}
-use Rattle.controller_model.specs.Step.{Step, HostOctet, TurnBegins, TurnEnds}
-use Rattle.controller_model.specs.Facts.{Facts}
-use Rattle.controller_model.specs.Heard.{has_room}
-use Rattle.controller_model.specs.Side.{facts_after, notes_after}
-use Rattle.controller_model.proofs.Places.{link_receiving}
+use Rattle.journal_acks.specs.controller_model.declared.doing.Doing.TheVariants.{Rests}
+use Rattle.journal_acks.specs.controller_model.declared.doing.Turn.{Turn}
+use Rattle.journal_acks.specs.controller_model.Step.{Step, HostOctet, TurnBegins, TurnEnds}
+use Rattle.journal_acks.specs.controller_model.Facts.{Facts}
+use Rattle.journal_acks.specs.controller_model.Heard.{has_room}
+use Rattle.journal_acks.specs.controller_model.Side.{facts_after, notes_after}
+use Rattle.journal_acks.proofs.controller_model.Places.{link_receiving}
 use Rattle.journal_acks.specs.run_model.Feeding.{AreDistinct}
 use Rattle.journal_acks.specs.run_model.History.{Event, Called, HostFed, Noted, packet_received, steps_in, turns_begun}
 use Rattle.journal_acks.specs.run_model.Journal.{entries_of, journal_from, journal_of, side_of}

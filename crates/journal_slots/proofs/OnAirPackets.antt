@@ -21,8 +21,8 @@ use Rattle.journal_acks.specs.link_model.Step.{PacketReceived, PacketSent}
 use Rattle.journal_acks.proofs.link_model.Hearing.{IsHeardWhole}
 use Rattle.journal_acks.proofs.link_model.Received.{header_read}
 use Rattle.journal_acks.specs.open_links.OpenLinks.{OpenLink, facts_in, link_after, link_at}
-use Rattle.controller_model.specs.declared.doing.Turn.{Turn}
-use Rattle.controller_model.specs.Facts.{Facts, Sends}
+use Rattle.journal_acks.specs.controller_model.declared.doing.Turn.{Turn}
+use Rattle.journal_acks.specs.controller_model.Facts.{Facts, Sends}
 use Rattle.radio_replay.specs.declared.fates.Fate.{Fate}
 use Rattle.journal_acks.specs.run_model.Feeding.{AreDistinct}
 use Rattle.journal_acks.specs.run_model.History.{Event, Hearing, Transmitted, has_received, is_good, packet_received, turns_begun}

@@ -10,10 +10,10 @@ use Rattle.journal_acks.specs.link_model.Packets.{more_sent}
 use Rattle.journal_acks.specs.link_model.Step.{PacketSent}
 use Rattle.journal_acks.proofs.link_model.Hearing.{IsHeardWhole}
 use Rattle.journal_acks.specs.open_links.OpenLinks.{OpenLink, facts_in, link_after, link_at}
-use Rattle.controller_model.specs.declared.doing.Turn.{Turn}
-use Rattle.controller_model.specs.Facts.{Sends}
-use Rattle.controller_model.specs.Side.{facts_of}
-use Rattle.controller_model.specs.Step.{TurnBegins, TurnEnds}
+use Rattle.journal_acks.specs.controller_model.declared.doing.Turn.{Turn}
+use Rattle.journal_acks.specs.controller_model.Facts.{Sends}
+use Rattle.journal_acks.specs.controller_model.Side.{facts_of}
+use Rattle.journal_acks.specs.controller_model.Step.{TurnBegins, TurnEnds}
 use Rattle.journal_acks.specs.run_model.Due.{packet_in}
 use Rattle.journal_acks.specs.run_model.Feeding.{AreDistinct}
 use Rattle.journal_acks.specs.run_model.History.{Event, TurnBegan, packet_received, past_of, turns_begun}

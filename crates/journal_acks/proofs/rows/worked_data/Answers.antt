@@ -5,7 +5,7 @@ use Rattle.adv_pdu.specs.Reading.{read_of}
 use Rattle.air_frame.specs.Hearing.{heard_in}
 use Rattle.frame_bits.specs.Crc.{crc, crc_octets, crc_of_bits, remainder}
 use Rattle.frame_bits.specs.Whitening.{mask_of, next_mask, whitening_bit, whitening_of}
-use Rattle.controller_model.specs.Packets.{pdu_heard}
+use Rattle.journal_packets.specs.controller_model.Packets.{pdu_heard}
 use Rattle.wire_fields.specs.Field.{little_endian}
 use Rattle.journal_packets.specs.journal_links.Begun.{links_begun}
 use Rattle.journal_packets.specs.Belonging.{is_answer, link_of_packet}

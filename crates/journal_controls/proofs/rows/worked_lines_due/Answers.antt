@@ -7,7 +7,7 @@ use Rattle.frame_bits.specs.Crc.{crc, crc_octets, crc_of_bits, remainder}
 use Rattle.frame_bits.specs.Whitening.{mask_of, next_mask, whitening_bit, whitening_of}
 use Rattle.h4_frames.specs.Frames.{frames}
 use Rattle.hci_cmd.specs.Command.{command_of, layout_of, layouts}
-use Rattle.controller_model.specs.Packets.{pdu_heard}
+use Rattle.journal_ends.specs.controller_model.Packets.{pdu_heard}
 use Rattle.wire_fields.specs.Field.{little_endian}
 use Rattle.journal_ends.specs.journal_acks.Carried.{sent_line_of}
 use Rattle.journal_ends.specs.journal_acks.Exchange.{exchange_of}

@@ -7,7 +7,7 @@ use Rattle.air_frame.specs.Hearing.{heard_in}
 use Rattle.ble_base.specs.ChannelMap.{data_channels, used_channels}
 use Rattle.frame_bits.specs.Crc.{crc, crc_octets, crc_of_bits, remainder}
 use Rattle.frame_bits.specs.Whitening.{mask_of, next_mask, whitening_bit, whitening_of}
-use Rattle.controller_model.specs.Packets.{pdu_heard}
+use Rattle.journal_data.specs.controller_model.Packets.{pdu_heard}
 use Rattle.wire_fields.specs.Field.{little_endian}
 use Rattle.journal_data.specs.Lines.{lines_of}
 use Rattle.h4_frames.specs.Frames.{frames}

@@ -5,7 +5,7 @@ use Rattle.adv_pdu.specs.Reading.{read_of}
 use Rattle.air_frame.specs.Hearing.{heard_in}
 use Rattle.frame_bits.specs.Crc.{crc, crc_octets, crc_of_bits, remainder}
 use Rattle.frame_bits.specs.Whitening.{mask_of, next_mask, whitening_bit, whitening_of}
-use Rattle.controller_model.specs.Packets.{pdu_heard}
+use Rattle.journal_controls.specs.controller_model.Packets.{pdu_heard}
 use Rattle.wire_fields.specs.Field.{little_endian}
 use Rattle.data_pdu.specs.Layouts.{makers}
 use Rattle.data_pdu.specs.Reading.{ctrl_of}

@@ -1,5 +1,5 @@
 -- Proof of `packets::the_line_of_each_new_pdu_is_just_before_its_packet`.
-use Rattle.journal_data.proofs.journal_links.OfTwo.{are_distinct}
+use Rattle.journal_leaving.proofs.journal_links.OfTwo.{are_distinct}
 use Rattle.journal_sending.proofs.ToldInRuns.{told_at_stop, told_lines}
 use Rattle.journal_sending.proofs.packets.the_line_of_each_new_pdu_is_just_before_its_packet.Goals as goal
 

@@ -1,5 +1,5 @@
 -- Proof of `resting::nothing_is_under_way_between_turns`.
-use Rattle.journal_data.proofs.journal_links.OfTwo.{are_distinct}
+use Rattle.journal_leaving.proofs.journal_links.OfTwo.{are_distinct}
 use Rattle.journal_sending.proofs.AtRest.{resting_last, resting_lines}
 use Rattle.journal_sending.proofs.resting.nothing_is_under_way_between_turns.Goals as goal
 

@@ -6,13 +6,13 @@ use Rattle.air_frame.specs.Hearing.{heard_in}
 use Rattle.frame_bits.specs.Crc.{crc, crc_octets, crc_of_bits, remainder}
 use Rattle.frame_bits.specs.Whitening.{mask_of, next_mask, whitening_bit, whitening_of}
 use Rattle.h4_frames.specs.Frames.{frames}
-use Rattle.controller_model.specs.Packets.{pdu_heard}
+use Rattle.journal_leaving.specs.controller_model.Packets.{pdu_heard}
 use Rattle.wire_fields.specs.Field.{little_endian}
-use Rattle.journal_data.specs.Lines.{lines_of}
-use Rattle.journal_data.specs.journal_acks.Carried.{sent_line_of}
-use Rattle.journal_data.specs.journal_acks.Exchange.{exchange_of}
-use Rattle.journal_data.specs.journal_links.Begun.{links_begun}
-use Rattle.journal_data.specs.journal_packets.Belonging.{is_answer, link_of_packet}
+use Rattle.journal_leaving.specs.journal_data.Lines.{lines_of}
+use Rattle.journal_leaving.specs.journal_acks.Carried.{sent_line_of}
+use Rattle.journal_leaving.specs.journal_acks.Exchange.{exchange_of}
+use Rattle.journal_leaving.specs.journal_links.Begun.{links_begun}
+use Rattle.journal_leaving.specs.journal_packets.Belonging.{is_answer, link_of_packet}
 use Rattle.data_pdu.specs.Layouts.{makers}
 use Rattle.data_pdu.specs.Reading.{ctrl_of, length_of}
 use Rattle.journal_fixing.specs.OnLines.{fixing_kept}

@@ -1,5 +1,5 @@
 -- Proof of `taking::each_pdu_is_taken_at_once`.
-use Rattle.journal_data.proofs.journal_links.OfTwo.{are_distinct}
+use Rattle.journal_leaving.proofs.journal_links.OfTwo.{are_distinct}
 use Rattle.journal_sending.proofs.TakenInRuns.{taken_lines}
 use Rattle.journal_sending.proofs.taking.each_pdu_is_taken_at_once.Goals as goal
 

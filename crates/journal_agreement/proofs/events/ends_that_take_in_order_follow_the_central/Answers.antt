@@ -1,0 +1,6 @@
+-- Proof of `events::ends_that_take_in_order_follow_the_central`.
+use Rattle.journal_agreement.proofs.InOrder.{follow_in_order}
+use Rattle.journal_agreement.proofs.events.ends_that_take_in_order_follow_the_central.Goals as goal
+
+pub returns : goal.returns
+returns c = λ journal arrives as_sent in_time. follow_in_order journal arrives as_sent in_time
