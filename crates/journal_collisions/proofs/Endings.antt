@@ -1,0 +1,476 @@
+-- A central whose host ended the link sends LL_TERMINATE_IND next, or nothing more.
+use Rattle.std.proofs.Common.{◌≡◌, ℕ, ◌+◌, ◌<◌, ◌%◌, ◌&&◌, not, Bool, true, false, List, [], ◌∷◌, ◌++◌, Option, None, Some, is_some, is_none, refl, ap, sym, ◌∙◌, subst, arith, if◌then◌else◌}
+use Rattle.std.specs.Prelude.{⊤, Result, Ok, Err}
+use Rattle.ble_base.specs.declared.error_codes.ErrCode.{ErrCode}
+use Rattle.ble_base.specs.declared.roles.Role.{Role}
+use Rattle.ble_base.specs.declared.roles.Role.TheVariants.{Central}
+use Rattle.data_pdu.specs.declared.ctrl.CtrlRead.{CtrlRead}
+use Rattle.instants.specs.declared.indications.Indication.{Indication}
+use Rattle.instants.specs.Track.{event_of, next_number}
+use Rattle.link_runs.specs.link_pairs.control_model.Control.{Answers, Asks, Control, Disconnects, Enters, SeesAcknowledged, Sends, Step as ControlStep, Takes, after, after_all, following, goes_out, indicated_by, is_to_come, table_if, taken, went}
+use Rattle.link_runs.specs.link_pairs.procedure_stages.Closing.{is_disconnecting, is_open}
+use Rattle.link_runs.specs.link_pairs.procedure_stages.Queue.{QueueFacts, waiting_in, next_after_rejections, next_by, next_disconnect, with_reply}
+use Rattle.link_runs.specs.link_pairs.procedure_stages.Steps.{closing_after}
+use Rattle.link_runs.specs.link_pairs.procedure_stages.InProgress.{is_host_asked}
+use Rattle.link_runs.specs.link_pairs.procedure_stages.declared.closing.Closing.{Closing}
+use Rattle.link_runs.specs.link_pairs.procedure_stages.declared.closing.Closing.TheVariants.{Closed, Disconnecting, Open}
+use Rattle.link_runs.specs.link_pairs.procedure_stages.declared.steps.Effect.{Effect}
+use Rattle.link_runs.specs.link_pairs.procedure_stages.declared.steps.Effect.TheVariants.{PeerEnds}
+use Rattle.link_runs.specs.link_pairs.procedure_values.declared.asks.Ask.{Ask}
+use Rattle.link_runs.specs.link_pairs.procedure_values.declared.asks.Ask.TheVariants.{Length, Update}
+use Rattle.link_runs.specs.link_pairs.procedure_values.declared.drafts.Draft.{Draft}
+use Rattle.link_runs.specs.link_pairs.procedure_values.declared.drafts.Outgoing.{Outgoing}
+use Rattle.link_runs.specs.link_pairs.procedure_values.declared.drafts.Rejection.{Rejection as TheRejection}
+use Rattle.link_runs.specs.link_pairs.procedures.Beginning.{ask_at, ask_step, begin_at, first_draft, place_to_begin, with_first_draft}
+use Rattle.link_runs.specs.link_pairs.procedures.Going.{entered_step, host_answer_step, is_answer, terminate_step}
+use Rattle.link_runs.specs.link_pairs.procedures.Sending.{acked_step}
+use Rattle.link_runs.specs.link_pairs.procedures.Table.{TableFacts}
+use Rattle.link_runs.specs.link_pairs.procedures.Taking.{facts_with, outcome_of}
+use Rattle.procedure_values.specs.Drafts.{is_out}
+use Rattle.link_runs.specs.link_pairs.procedure_stages.declared.reply.Reply.{Reply}
+use Rattle.link_runs.specs.link_pairs.procedure_stages.declared.reply.Reply.TheVariants.{Answer, Nothing as no_reply, Reject}
+use Rattle.std.specs.List.{AllByRecursion, list_any}
+use Rattle.std.proofs.lemmas.Bool.{and_parts, or_parts}
+use Rattle.std.proofs.lemmas.List.Folds.{list_any-append}
+use Rattle.ble_base.specs.declared.notes.Note.TheVariants.{Sent}
+use Rattle.data_pdu.specs.Layouts.{written}
+use Rattle.data_pdu.specs.declared.ctrl.Ctrl.{Ctrl}
+use Rattle.data_pdu.specs.declared.ctrl.Ctrl.TheVariants.{TerminateInd}
+use Rattle.wire_fields.specs.Field.{little_endian}
+use Rattle.procedure_values.specs.Drafts.{ctrl_of_outgoing}
+use Rattle.link_calls.proofs.CallNotes.{is_sending}
+use Rattle.journal_indications.specs.journal_data.link_model.Acknowledgement.{empty_pdu, is_acked}
+use Rattle.journal_indications.specs.journal_data.link_model.ControlSteps.{control_steps_in, step_if, steps_received}
+use Rattle.journal_indications.specs.journal_data.link_model.Controls.{goes_on, is_procedure_pdu, is_quiet_now, next_control, pdu_fixed, pdu_of_control, read_of}
+use Rattle.journal_indications.specs.journal_data.link_model.Receiving.{accepts, acks_control, facts_before_taking, has_acknowledged}
+use Rattle.journal_indications.specs.journal_data.link_model.Verdicts.{pdu_of}
+use Rattle.data_pdu.specs.Header.{header_in}
+use Rattle.journal_indications.specs.journal_data.link_model.Fixing.{data_cut, data_fixed_by, data_goes, facts_fixed, fixed_anew}
+use Rattle.arrayvec.specs.ArrayVec.{ArrayVec}
+use Rattle.data_pdu.specs.Layouts.{IsCtrl}
+use Rattle.data_pdu.specs.Reading.{ctrl_of}
+use Rattle.data_pdu.specs.declared.ctrl.CtrlRead.TheVariants.{Known}
+use Rattle.data_pdu.proofs.Rows.{written_is_known}
+use Rattle.link_runs.specs.link_pairs.procedure_stages.Kinds.{role_of}
+use Rattle.journal_indications.specs.journal_data.link_model.Data.{is_control, is_empty, numbered}
+use Rattle.journal_indications.specs.journal_data.link_model.End.{facts_after, notes_after, notes_from}
+use Rattle.journal_indications.specs.journal_data.link_model.Facts.{Facts}
+use Rattle.journal_indications.specs.journal_data.link_model.Hosts.{is_to_come as asks_to_come}
+use Rattle.journal_indications.specs.journal_data.link_model.Packets.{good_pdu}
+use Rattle.journal_indications.specs.journal_data.link_model.Sending.{sent_notes, sent_notes_if, takes_leave}
+use Rattle.journal_indications.specs.journal_data.link_model.Setup.{Setup}
+use Rattle.journal_indications.specs.journal_data.link_model.Step.{DataGiven, DataReported, Disconnected, EventEntered, PacketReceived, PacketSent, PduFixed, ProcedureAsked, RequestAnswered, Step}
+use Rattle.journal_indications.proofs.journal_data.link_model.ControlSteps.{one_step}
+use Rattle.run_collisions.specs.Prevailing.{next_outgoing}
+use Rattle.run_collisions.specs.Waiting.{facts_from, sends_control}
+use Rattle.journal_collisions.proofs.Waits.{ends_go}
+use Rattle.link_runs.proofs.link_pairs.TakingNothing.{draft_left, rejection_left}
+use Rattle.link_calls.proofs.control_model.Calls.{any_step, either_way, took_by}
+
+-- ---- a table with this Disconnect of the host
+
+pub record EndsWith (d : Option ErrCode) (f : TableFacts) : Type 0 where
+  pub closing : is_disconnecting f.closing ≡ true
+  pub rejections : f.queue.rejections ≡ []
+  pub disconnect : f.queue.disconnect ≡ d
+
+shut_by : (closing : Closing) → is_disconnecting closing ≡ true → is_open closing ≡ false
+shut_by Open is = absurd cc
+shut_by Closed is = refl
+shut_by Disconnecting is = refl
+
+ends_after : (effect : Effect) (closing : Closing) → is_disconnecting closing ≡ true → is_disconnecting (closing_after effect closing) ≡ true
+ends_after (PeerEnds code) Open is = absurd (cc)
+ends_after (PeerEnds code) Closed is = absurd (cc)
+ends_after (PeerEnds code) Disconnecting is = refl
+ends_after effect closing is = is
+
+reply_left : (closing : Closing) → is_open closing ≡ false → (reply : Reply) (q : QueueFacts) → with_reply closing reply q ≡ q
+reply_left closing shut no_reply q = refl
+reply_left closing shut (Reject rejection) q = rejection_left closing shut q rejection
+reply_left closing shut (Answer draft) q = draft_left closing shut q draft
+
+module _ (d : Option ErrCode) where
+  abbrev IsEnding : Control → Type 0
+  IsEnding c = EndsWith d c.table
+
+  same_queue : (f g : TableFacts) → is_disconnecting g.closing ≡ true → g.queue ≡ f.queue → EndsWith d f → EndsWith d g
+  same_queue f g closing queue ends = record {
+    closing = closing;
+    rejections = ap (λ (q : QueueFacts). q.rejections) queue ∙ ends.rejections;
+    disconnect = ap (λ (q : QueueFacts). q.disconnect) queue ∙ ends.disconnect;
+  }
+
+  entered_ends : (f : TableFacts) (holds : Bool) → EndsWith d f → EndsWith d (entered_step f holds).0
+  entered_ends f true ends = same_queue f (entered_step f true).0 ends.closing refl ends
+  entered_ends f false ends = ends
+
+  first_left : (closing : Closing) → is_open closing ≡ false → (draft : Option Draft) (q : QueueFacts) → with_first_draft closing draft q ≡ q
+  first_left closing shut None q = refl
+  first_left closing shut (Some draft) q = draft_left closing shut q draft
+
+  begun_ends : (f : TableFacts) (slot : ℕ) (place : Option ℕ) (ask : Option Ask) → EndsWith d f → EndsWith d (begin_at f slot place ask).0
+  begun_ends f slot None ask ends = ends
+  begun_ends f slot (Some place) None ends = ends
+  begun_ends f slot (Some place) (Some ask) ends =
+      same_queue f (begin_at f slot (Some place) (Some ask)).0 ends.closing
+      (first_left f.closing (shut_by f.closing ends.closing) (first_draft f ask) f.queue) ends
+
+  answered_ends : (f : TableFacts) (answer : Result Ask ErrCode) → EndsWith d f → EndsWith d (host_answer_step f answer)
+  answered_ends f (Ok (Update interval latency timeout)) ends =
+      same_queue f (host_answer_step f (Ok (Update interval latency timeout))) ends.closing
+      (draft_left f.closing (shut_by f.closing ends.closing) f.queue _) ends
+  answered_ends f (Ok (Length tx)) ends = ends
+  answered_ends f (Ok ask) ends = ends
+  answered_ends f (Err code) ends =
+      same_queue f (host_answer_step f (Err code)) ends.closing (rejection_left f.closing (shut_by f.closing ends.closing) f.queue _) ends
+
+  table_ends : (may : Bool) (g : TableFacts) (c : Control) → EndsWith d g → IsEnding c → IsEnding (table_if may g c)
+  table_ends true g c now before = now
+  table_ends false g c now before = before
+
+  shut_ends : (open_now : Bool) (reason : ErrCode) (c : Control) → open_now ≡ false → IsEnding c
+      → IsEnding (table_if open_now (terminate_step c.table reason) c)
+  shut_ends true reason c is ends = absurd cc
+  shut_ends false reason c is ends = ends
+
+  taken_ends : (g : TableFacts) (indication : Option Indication) (c : Control) → EndsWith d g → IsEnding c → IsEnding (taken g None indication c)
+  taken_ends g None c now before = now
+  taken_ends g (Some indication) c now before = either_way IsEnding (is_to_come c.track indication) _ _ now before
+
+  -- steps in which it sends no control PDU
+  abbrev pub IsUnsent : ControlStep → Type 0
+  IsUnsent (Enters slot quiet) = ⊤
+  IsUnsent (Asks ask) = ⊤
+  IsUnsent (Answers answer) = ⊤
+  IsUnsent (Disconnects reason) = ⊤
+  IsUnsent SeesAcknowledged = ⊤
+  IsUnsent (Takes read slot quiet) = ⊤
+  IsUnsent step = ⊥
+
+  pub step_ends : (step : ControlStep) (c : Control) → IsUnsent step → IsEnding c → IsEnding (after step c)
+  step_ends (Enters slot quiet) c unsent ends =
+      let f = (entered_step c.table (is_some (next_number c.track))).0 in
+      any_step IsEnding (Enters slot quiet) c
+      (begun_ends f slot (place_to_begin f quiet) (ask_at (place_to_begin f quiet) f.wanted) (entered_ends c.table (is_some (next_number c.track)) ends)) ends
+  step_ends (Asks ask) c unsent ends = any_step IsEnding (Asks ask) c (same_queue c.table (ask_step c.table ask) ends.closing refl ends) ends
+  step_ends (Answers answer) c unsent ends =
+      any_step IsEnding (Answers answer) c
+      (table_ends (is_host_asked c.table.progress && is_answer answer) (host_answer_step c.table answer) c (answered_ends c.table answer ends) ends) ends
+  step_ends (Disconnects reason) c unsent ends =
+      any_step IsEnding (Disconnects reason) c (shut_ends (is_open c.table.closing) reason c (shut_by c.table.closing ends.closing) ends) ends
+  step_ends SeesAcknowledged c unsent ends =
+      any_step IsEnding SeesAcknowledged c
+      (table_ends (is_out c.table.out) (acked_step c.table).0 c (same_queue c.table (acked_step c.table).0 ends.closing refl ends) ends) ends
+  step_ends (Takes read slot quiet) c unsent ends =
+      let outcome = outcome_of c.table quiet read in
+      any_step IsEnding (Takes read slot quiet) c
+      (took_by IsEnding c (λ code. ends) read slot quiet
+      (taken_ends (facts_with c.table slot outcome) (indicated_by outcome.step.effect) c
+      (same_queue c.table (facts_with c.table slot outcome) (ends_after outcome.step.effect c.table.closing ends.closing)
+      (reply_left c.table.closing (shut_by c.table.closing ends.closing) outcome.reply c.table.queue) ends) ends)) ends
+  step_ends (Sends slot quiet) c unsent ends = absurd unsent
+  step_ends other c unsent ends = absurd unsent
+
+-- ---- an end
+
+to_end : (d : Option ErrCode) (steps : List ControlStep) (c : Control) → AllByRecursion (IsUnsent d) steps → EndsWith d c.table
+    → EndsWith d (after_all steps c).table
+to_end d [] c unsent ends = ends
+to_end d (step ∷ steps) c unsent ends = to_end d steps (after step c) unsent.1 (step_ends d step c unsent.0 ends)
+
+one_if_taken : (d : Option ErrCode) (taken_now : Bool) (step : ControlStep) → IsUnsent d step → AllByRecursion (IsUnsent d) (step_if taken_now step)
+one_if_taken d true step is = (is, tt)
+one_if_taken d false step is = tt
+
+both_unsent : (d : Option ErrCode) (steps more : List ControlStep) → AllByRecursion (IsUnsent d) steps → AllByRecursion (IsUnsent d) more
+    → AllByRecursion (IsUnsent d) (steps ++ more)
+both_unsent d [] more one other = other
+both_unsent d (step ∷ steps) more one other = (one.0, both_unsent d steps more one.1 other)
+
+module _ (d : Option ErrCode) (setup : Setup) (is_central : setup.link.role ≡ Central) where
+  received_unsent : (slot : ℕ) (room : Bool) (pdu : Option (List ℕ)) (facts : Facts) → AllByRecursion (IsUnsent d) (steps_received Central slot room pdu facts)
+  received_unsent slot room None facts = tt
+  received_unsent slot room (Some octets) facts =
+      let header = header_in octets in
+      let pdu = pdu_of octets in
+      let now = facts_before_taking Central slot header facts in
+      let acks = acks_control (has_acknowledged facts header) facts in
+      let takes = accepts room header pdu now && is_procedure_pdu pdu in
+      both_unsent d (step_if acks SeesAcknowledged ++ []) (step_if takes (Takes (read_of pdu) slot (is_quiet_now now)))
+      (both_unsent d (step_if acks SeesAcknowledged) [] (one_if_taken d acks SeesAcknowledged tt) tt)
+      (one_if_taken d takes (Takes (read_of pdu) slot (is_quiet_now now)) tt)
+
+  step_unsent : (step : Step) (facts : Facts) → sends_control facts step ≡ false → AllByRecursion (IsUnsent d) (control_steps_in setup facts step)
+  step_unsent (DataGiven start body) facts none = tt
+  step_unsent (ProcedureAsked ask) facts none = one_if_taken d (not (asks_to_come ask facts)) (Asks ask) tt
+  step_unsent (RequestAnswered answer) facts none = (tt, tt)
+  step_unsent (Disconnected reason slot) facts none = (tt, tt)
+  step_unsent (EventEntered slot) facts none = one_if_taken d (goes_on facts) (Enters slot true) tt
+  step_unsent PduFixed facts none = tt
+  step_unsent (PacketSent slot) facts none =
+      subst (λ (b : Bool). AllByRecursion (IsUnsent d) (step_if b (Sends slot true))) (sym none) tt
+  step_unsent (PacketReceived slot octets room) facts none =
+      subst (λ (role : Role). AllByRecursion (IsUnsent d) (steps_received role slot room (good_pdu setup facts octets) facts)) (sym is_central)
+      (received_unsent slot room (good_pdu setup facts octets) facts)
+  step_unsent DataReported facts none = tt
+
+  pub end_step : (step : Step) (facts : Facts) → sends_control facts step ≡ false → EndsWith d facts.control.table
+      → EndsWith d (facts_after setup facts step).control.table
+  end_step step facts none ends =
+      subst (λ (c : Control). EndsWith d c.table) (sym (one_step setup facts step))
+      (to_end d (control_steps_in setup facts step) facts.control (step_unsent step facts none) ends)
+
+-- ---- what it sends next
+
+-- what goes next
+next_by_end : (d : Option ErrCode) (facts : Facts) → EndsWith d facts.control.table → next_outgoing facts ≡ next_disconnect d
+next_by_end d facts ends =
+    (λ i. next_by (ends.rejections i) (next_after_rejections (ends.closing i && true) facts.control.table.progress (event_of facts.control.track)
+    facts.control.table.queue))
+    ∙ ap next_disconnect ends.disconnect
+
+-- LL_TERMINATE_IND waits until it is sent
+module _ (code : ErrCode) (setup : Setup) (is_central : setup.link.role ≡ Central) where
+  control_next : (facts : Facts) → EndsWith (Some code) facts.control.table → goes_on facts ≡ true → next_control facts ≡ Some (TerminateInd code.0)
+  control_next facts ends goes =
+      (λ i. if goes i then ctrl_of_outgoing (next_by_end (Some code) facts ends i) (event_of facts.control.track) facts.control.track.params.latency else None)
+
+  full : not (is_empty (pdu_of_control (Some (TerminateInd code.0)))) ≡ true
+  unfolding little_endian
+  full = refl
+
+  goes_out_so : (facts : Facts) → EndsWith (Some code) facts.control.table → goes_on facts ≡ true → takes_leave facts ≡ true
+      → sent_notes setup facts
+      ≡ Sent setup.link.handle (numbered facts.acknowledgement.sent + 1) 3 (record { items = written (TerminateInd code.0) }) ∷ []
+  goes_out_so facts ends goes leaves =
+      let both = and_parts (is_acked facts.acknowledgement) facts.fixes_control leaves in
+      let fixed : pdu_fixed facts ≡ pdu_of_control (Some (TerminateInd code.0)) =
+      (λ i. if both.1 i then pdu_of_control (control_next facts ends goes i) else facts.outgoing.fixed) in
+      (λ i. sent_notes_if (both.0 i && not (is_empty (fixed i))) setup.link.handle (numbered facts.acknowledgement.sent) (fixed i))
+      ∙ ap (λ (b : Bool). sent_notes_if b setup.link.handle (numbered facts.acknowledgement.sent) (pdu_of_control (Some (TerminateInd code.0)))) full
+
+  unsent_one : (step : Step) (facts : Facts) → EndsWith (Some code) facts.control.table → facts.control.ends ≡ None
+      → list_any is_sending (notes_after setup facts step) ≡ false → sends_control facts step ≡ false
+  unsent_one (PacketSent slot) facts ends goes none = by (takes_leave facts) refl
+    where
+      by : (leaves : Bool) → takes_leave facts ≡ leaves → leaves ≡ false
+      by false leaves = refl
+      by true leaves =
+          absurd (let h : true ≡ false = ap (list_any is_sending) (sym (goes_out_so facts ends (ap (λ (e : Option ErrCode). is_none e) goes) leaves))
+          ∙ none in absurd cc)
+  unsent_one (DataGiven start body) facts ends goes none = refl
+  unsent_one (ProcedureAsked ask) facts ends goes none = refl
+  unsent_one (RequestAnswered answer) facts ends goes none = refl
+  unsent_one (Disconnected reason slot) facts ends goes none = refl
+  unsent_one (EventEntered slot) facts ends goes none = refl
+  unsent_one PduFixed facts ends goes none = refl
+  unsent_one (PacketReceived slot octets room) facts ends goes none = refl
+  unsent_one DataReported facts ends goes none = refl
+
+  pub ending_still : (steps : List Step) (facts : Facts) → EndsWith (Some code) facts.control.table → (facts_from setup facts steps).control.ends ≡ None
+      → list_any is_sending (notes_from setup facts steps) ≡ false → EndsWith (Some code) (facts_from setup facts steps).control.table
+  ending_still [] facts ends goes none = ends
+  ending_still (step ∷ steps) facts ends goes none =
+      let after_step = facts_after setup facts step in
+      let parts = or_parts (list_any is_sending (notes_after setup facts step)) (list_any is_sending (notes_from setup after_step steps))
+      (sym (list_any-append is_sending (notes_after setup facts step) (notes_from setup after_step steps)) ∙ none) in
+      ending_still steps after_step
+      (end_step (Some code) setup is_central step facts (unsent_one step facts ends (ends_go setup facts (step ∷ steps) goes) parts.0) ends) goes parts.1
+
+  same_pdu : (handle count other counted llid : ℕ) (body items : List ℕ)
+      → Sent handle count 3 (record { items = items }) ∷ [] ≡ Sent other counted llid (record { items = body }) ∷ [] → (llid ≡ 3) × (body ≡ items)
+  same_pdu handle count other counted llid body items is =
+      let one : Sent handle count 3 (record { items = items }) ≡ Sent other counted llid (record { items = body }) = cc in
+      let llids : 3 ≡ llid = cc in
+      let bodies : ◌≡◌ {A = ArrayVec ℕ} (record { items = items }) (record { items = body }) = cc in
+      (sym llids, ap (λ (v : ArrayVec ℕ). v.items) (sym bodies))
+
+  -- the next PDU that it sends is LL_TERMINATE_IND
+  pub sent_ending : (facts : Facts) → is_control facts.outgoing.fixed ≡ false → EndsWith (Some code) facts.control.table → facts.control.ends ≡ None
+      → (handle count llid : ℕ) (body : List ℕ) → sent_notes setup (facts_fixed facts) ≡ Sent handle count llid (record { items = body }) ∷ []
+      → (llid ≡ 3) × (body ≡ written (TerminateInd code.0))
+  sent_ending facts none ends lasts handle count llid body sent = by (is_acked facts.acknowledgement) refl
+    where
+      notes : sent_notes setup (fixed_anew facts) ≡ Sent handle count llid (record { items = body }) ∷ []
+      notes = ap (sent_notes setup) (sym (ap (λ (b : Bool). if b then facts else fixed_anew facts) none)) ∙ sent
+
+      goes : goes_on facts ≡ true
+      goes = ap (λ (e : Option ErrCode). is_none e) lasts
+
+      by : (acked : Bool) → is_acked facts.acknowledgement ≡ acked → (llid ≡ 3) × (body ≡ written (TerminateInd code.0))
+      by true acked =
+          let fixes = ap (λ (c : Option Ctrl). is_some c) (control_next facts ends goes) in
+          let out = goes_out_so (fixed_anew facts) ends goes (λ i. acked i && fixes i) in
+          same_pdu setup.link.handle (numbered facts.acknowledgement.sent + 1) handle count llid body (written (TerminateInd code.0)) (sym out ∙ notes)
+      by false acked =
+          absurd (let h : [] ≡ Sent handle count llid (record { items = body }) ∷ [] =
+          ap (λ (b : Bool). sent_notes_if (b && not (is_empty (pdu_fixed (fixed_anew facts)))) setup.link.handle (numbered facts.acknowledgement.sent)
+          (pdu_fixed (fixed_anew facts))) (sym acked) ∙ notes in absurd cc)
+
+-- ---- after LL_TERMINATE_IND nothing goes
+
+module _ (setup : Setup) (is_central : setup.link.role ≡ Central) where
+  sends_none : (slot : ℕ) (c : Control) → goes_out true c ≡ false → EndsWith None c.table → EndsWith None (after (Sends slot true) c).table
+  sends_none slot c none ends =
+      any_step (λ (k : Control). EndsWith None k.table) (Sends slot true) c
+      (subst (λ (b : Bool). EndsWith None
+      (if b then following (role_of c.table.progress) (went slot true c).1 (record c { table = (went slot true c).0 }) else c).table) (sym none) ends) ends
+
+  none_next : (facts : Facts) → EndsWith None facts.control.table → goes_out true facts.control ≡ false
+  none_next facts ends =
+      ap (λ (o : Outgoing). is_some (ctrl_of_outgoing o (event_of facts.control.track) facts.control.track.params.latency)) (next_by_end None facts ends)
+
+  end_any : (step : Step) (facts : Facts) → EndsWith None facts.control.table → EndsWith None (facts_after setup facts step).control.table
+  end_any (PacketSent slot) facts ends =
+      subst (λ (c : Control). EndsWith None c.table) (sym (one_step setup facts (PacketSent slot))) (by (takes_leave facts))
+    where
+      by : (leaves : Bool) → EndsWith None (after_all (step_if leaves (Sends slot true)) facts.control).table
+      by true = sends_none slot facts.control (none_next facts ends) ends
+      by false = ends
+  end_any (DataGiven start body) facts ends = end_step None setup is_central (DataGiven start body) facts refl ends
+  end_any (ProcedureAsked ask) facts ends = end_step None setup is_central (ProcedureAsked ask) facts refl ends
+  end_any (RequestAnswered answer) facts ends = end_step None setup is_central (RequestAnswered answer) facts refl ends
+  end_any (Disconnected reason slot) facts ends = end_step None setup is_central (Disconnected reason slot) facts refl ends
+  end_any (EventEntered slot) facts ends = end_step None setup is_central (EventEntered slot) facts refl ends
+  end_any PduFixed facts ends = end_step None setup is_central PduFixed facts refl ends
+  end_any (PacketReceived slot octets room) facts ends = end_step None setup is_central (PacketReceived slot octets room) facts refl ends
+  end_any DataReported facts ends = end_step None setup is_central DataReported facts refl ends
+
+  pub nothing_still : (steps : List Step) (facts : Facts) → EndsWith None facts.control.table → EndsWith None (facts_from setup facts steps).control.table
+  nothing_still [] facts ends = ends
+  nothing_still (step ∷ steps) facts ends = nothing_still steps (facts_after setup facts step) (end_any step facts ends)
+
+  if_none : (b : Bool) → ◌≡◌ {A = Option Ctrl} (if b then None else None) None
+  if_none true = refl
+  if_none false = refl
+
+  none_noted : (acked : Bool) (handle number : ℕ) → sent_notes_if (acked && false) handle number empty_pdu ≡ []
+  none_noted true handle number = refl
+  none_noted false handle number = refl
+
+  pub sent_nothing : (X : Type 0) (facts : Facts) → is_control facts.outgoing.fixed ≡ false → EndsWith None facts.control.table
+      → (handle count llid : ℕ) (body : List ℕ) → sent_notes setup (facts_fixed facts) ≡ Sent handle count llid (record { items = body }) ∷ [] → X
+  sent_nothing X facts none ends handle count llid body sent =
+      let next : next_control facts ≡ None =
+      ap (λ (o : Outgoing). if goes_on facts then ctrl_of_outgoing o (event_of facts.control.track) facts.control.track.params.latency else None)
+      (next_by_end None facts ends) ∙ if_none (goes_on facts) in
+      let stays : data_goes facts ≡ false = ap not ends.closing in
+      let fixed : pdu_fixed (fixed_anew facts) ≡ empty_pdu =
+      (λ i. if is_some (next i) then pdu_of_control (next_control facts)
+      else (data_fixed_by (is_some (next i)) (waiting_in facts.control.table.queue) (stays i) (data_cut facts)).fixed) in
+      absurd (let h : [] ≡ Sent handle count llid (record { items = body }) ∷ [] =
+      sym (none_noted (is_acked facts.acknowledgement) setup.link.handle (numbered facts.acknowledgement.sent))
+      ∙ sym (λ i. sent_notes_if (is_acked facts.acknowledgement && not (is_empty (fixed i))) setup.link.handle (numbered facts.acknowledgement.sent) (fixed i))
+      ∙ ap (sent_notes setup) (sym (ap (λ (b : Bool). if b then facts else fixed_anew facts) none)) ∙ sent in absurd cc)
+
+-- ---- LL_TERMINATE_IND is read as it was written, with the low octet of its error
+
+reduced : (n : ℕ) → n % 256 ≡ (n % 256) % 256
+reduced n = omega arith
+
+octet_reduced : (n : ℕ) → little_endian 1 n ≡ little_endian 1 (n % 256)
+unfolding little_endian
+octet_reduced n = ap (λ k. k ∷ []) (reduced n)
+
+less_than : (n : ℕ) → n % 256 < 256
+less_than n = omega arith
+
+terminate_written : (n : ℕ) → written (TerminateInd n) ≡ written (TerminateInd (n % 256))
+terminate_written n = ap (λ xs. little_endian 1 2 ++ (xs ++ [])) (octet_reduced n)
+
+pub terminate_read : (n : ℕ) → ctrl_of (written (TerminateInd n)) ≡ Known (TerminateInd (n % 256))
+terminate_read n =
+    let less = less_than n in
+    let fits : IsCtrl (TerminateInd (n % 256)) = record { fits = (omega arith, (omega (arith, less), tt)); six_offsets = tt; range = tt } in
+    ap ctrl_of (terminate_written n) ∙ written_is_known (TerminateInd (n % 256)) fits
+
+-- ---- as it takes a PDU
+
+disconnecting_kept : (read : CtrlRead) (slot : ℕ) (c : Control) → is_disconnecting c.table.closing ≡ true
+    → is_disconnecting (after (Takes read slot true) c).table.closing ≡ true
+disconnecting_kept read slot c is =
+    let outcome = outcome_of c.table true read in
+    any_step EndsSo (Takes read slot true) c
+    (took_by EndsSo c (λ code. is) read slot true (taken_so (facts_with c.table slot outcome) (indicated_by outcome.step.effect) c
+    (ends_after outcome.step.effect c.table.closing is) is)) is
+  where
+    EndsSo : Control → Type 0
+    EndsSo c = is_disconnecting c.table.closing ≡ true
+
+    taken_so : (g : TableFacts) (indication : Option Indication) (c : Control) → is_disconnecting g.closing ≡ true → is_disconnecting c.table.closing ≡ true
+        → is_disconnecting (taken g None indication c).table.closing ≡ true
+    taken_so g None c now before = now
+    taken_so g (Some indication) c now before = either_way (λ (k : Control). is_disconnecting k.table.closing ≡ true)
+        (is_to_come c.track indication) _ _ now before
+
+-- a PDU that the peer acknowledges, and one that is taken
+abbrev IsHeard : ControlStep → Type 0
+IsHeard SeesAcknowledged = ⊤
+IsHeard (Takes read slot quiet) = quiet ≡ true
+IsHeard step = ⊥
+
+table_kept : (may : Bool) (g : TableFacts) (c : Control) → is_disconnecting g.closing ≡ true → is_disconnecting c.table.closing ≡ true
+    → is_disconnecting (table_if may g c).table.closing ≡ true
+table_kept true g c now before = now
+table_kept false g c now before = before
+
+heard_kept : (step : ControlStep) (c : Control) → IsHeard step → is_disconnecting c.table.closing ≡ true → is_disconnecting (after step c).table.closing ≡ true
+heard_kept SeesAcknowledged c heard is =
+    any_step (λ (k : Control). is_disconnecting k.table.closing ≡ true) SeesAcknowledged c
+    (table_kept (is_out c.table.out) (acked_step c.table).0 c is is) is
+heard_kept (Takes read slot quiet) c heard is =
+    subst (λ (b : Bool). is_disconnecting (after (Takes read slot b) c).table.closing ≡ true) (sym heard) (disconnecting_kept read slot c is)
+heard_kept other c heard is = absurd heard
+
+all_kept : (steps : List ControlStep) (c : Control) → AllByRecursion IsHeard steps → is_disconnecting c.table.closing ≡ true
+    → is_disconnecting (after_all steps c).table.closing ≡ true
+all_kept [] c heard is = is
+all_kept (step ∷ steps) c heard is = all_kept steps (after step c) heard.1 (heard_kept step c heard.0 is)
+
+one_heard : (taken_now : Bool) (step : ControlStep) → IsHeard step → AllByRecursion IsHeard (step_if taken_now step)
+one_heard true step is = (is, tt)
+one_heard false step is = tt
+
+both_heard : (steps more : List ControlStep) → AllByRecursion IsHeard steps → AllByRecursion IsHeard more → AllByRecursion IsHeard (steps ++ more)
+both_heard [] more one other = other
+both_heard (step ∷ steps) more one other = (one.0, both_heard steps more one.1 other)
+
+received_heard : (slot : ℕ) (room : Bool) (pdu : Option (List ℕ)) (facts : Facts) → AllByRecursion IsHeard (steps_received Central slot room pdu facts)
+received_heard slot room None facts = tt
+received_heard slot room (Some octets) facts =
+    let header = header_in octets in
+    let pdu = pdu_of octets in
+    let now = facts_before_taking Central slot header facts in
+    let acks = acks_control (has_acknowledged facts header) facts in
+    let takes = accepts room header pdu now && is_procedure_pdu pdu in
+    both_heard (step_if acks SeesAcknowledged ++ []) (step_if takes (Takes (read_of pdu) slot (is_quiet_now now)))
+    (both_heard (step_if acks SeesAcknowledged) [] (one_heard acks SeesAcknowledged tt) tt)
+    (one_heard takes (Takes (read_of pdu) slot (is_quiet_now now)) refl)
+
+no_rejection : (rejections : List TheRejection) (d : Option ErrCode) → next_by rejections (next_disconnect d) ≡ next_disconnect d → rejections ≡ []
+no_rejection [] d is = refl
+no_rejection (rejection ∷ rejections) None is = absurd (cc)
+no_rejection (rejection ∷ rejections) (Some code) is = absurd (cc)
+
+-- a central whose host ended the link, and that sends only LL_TERMINATE_IND next or nothing
+pub ends_now : (setup : Setup) → setup.link.role ≡ Central → (slot : ℕ) (octets : List ℕ) (room : Bool) (facts : Facts) (d : Option ErrCode)
+    → is_disconnecting facts.control.table.closing ≡ true
+    → (facts_after setup facts (PacketReceived slot octets room)).control.table.queue.disconnect ≡ d
+    → next_outgoing (facts_after setup facts (PacketReceived slot octets room))
+    ≡ next_disconnect (facts_after setup facts (PacketReceived slot octets room)).control.table.queue.disconnect
+    → EndsWith d (facts_after setup facts (PacketReceived slot octets room)).control.table
+ends_now setup is_central slot octets room facts d is disconnect next =
+    let now = facts_after setup facts (PacketReceived slot octets room) in
+    let closing : is_disconnecting now.control.table.closing ≡ true =
+    ap (λ (c : Control). is_disconnecting c.table.closing) (one_step setup facts (PacketReceived slot octets room))
+    ∙ all_kept (control_steps_in setup facts (PacketReceived slot octets room)) facts.control
+    (subst (λ (role : Role). AllByRecursion IsHeard (steps_received role slot room (good_pdu setup facts octets) facts)) (sym is_central)
+    (received_heard slot room (good_pdu setup facts octets) facts)) is in
+    record {
+      closing = closing;
+      rejections = no_rejection now.control.table.queue.rejections now.control.table.queue.disconnect
+          (sym (λ i. next_by now.control.table.queue.rejections (next_after_rejections (closing i && true) now.control.table.progress
+          (event_of now.control.track) now.control.table.queue)) ∙ next);
+      disconnect = disconnect;
+    }

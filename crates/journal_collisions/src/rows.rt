@@ -1,0 +1,33 @@
+//! A worked collision, which the definitions compute, and journals that they refuse.
+ghost use Rattle.std.specs.Prelude.{◌≡◌, [], ◌∷◌, true, false};
+ghost use Rattle.ble_base.specs.declared.procedure_kinds.Kind.{Kind};
+ghost use Rattle.ble_base.specs.declared.roles.Side.TheVariants.{A, B};
+ghost use Rattle.journal_collisions.specs.Collisions.{AllAreRefused, AllAreRejectedNext};
+ghost use Rattle.journal_collisions.specs.Collisions.{Collides, IsRejection, runs_on};
+ghost use Rattle.journal_collisions.specs.Rows.{both_begun, done_all_the_same, map_octets};
+ghost use Rattle.journal_collisions.specs.Rows.{refused_otherwise, rejected_second, rejection};
+ghost use Rattle.journal_collisions.specs.Rows.{request_octets, sent_next};
+ghost use Rattle.journal_indications.specs.journal_data.journal_links.Rows.{one_link};
+
+/// A channel map of the central and a request of the peripheral cross on a link. The central takes
+/// the request while its map is in progress: the two collide, and are of two kinds, so the
+/// rejection has the error 0x2A.
+pub fn worked_collision()
+    ensures own { runs_on Kind.Map B 1 both_begun ≡ true }
+    ensures other { runs_on Kind.Request B 1 both_begun ≡ false }
+    ensures peripheral { runs_on Kind.Request A 1 both_begun ≡ true }
+    ensures collides { Collides both_begun one_link 1 3 request_octets Kind.Map Kind.Request }
+    ensures rejection { IsRejection Kind.Map Kind.Request 3 (rejection 0x0F 0x2A) }
+{}
+
+/// The central rejects with the error of procedures of one kind; with the opcode of the answer; or
+/// only after its own indication. The peripheral says that its procedure is refused with another
+/// error, or that it is done.
+pub fn wrong_collisions_are_refused()
+    ensures error { AllAreRejectedNext (sent_next (rejection 0x0F 0x23)) → ⊥ }
+    ensures opcode { AllAreRejectedNext (sent_next (rejection 0x10 0x2A)) → ⊥ }
+    ensures second { AllAreRejectedNext rejected_second → ⊥ }
+    ensures indication { AllAreRejectedNext (sent_next map_octets) → ⊥ }
+    ensures refused { AllAreRefused refused_otherwise → ⊥ }
+    ensures done { AllAreRefused done_all_the_same → ⊥ }
+{}
