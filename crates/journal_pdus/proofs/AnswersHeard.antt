@@ -5,55 +5,55 @@ use Rattle.ble_base.specs.declared.roles.Role.{Role}
 use Rattle.ble_base.specs.declared.roles.Role.TheVariants.{Central, Peripheral}
 use Rattle.ble_base.specs.declared.verdicts.Verdict.TheVariants.{Good}
 use Rattle.journal.specs.declared.entries.Mark.TheVariants.{Pass as Passed}
-use Rattle.journal_data.specs.link_model.Packets.{verdict_of as end_verdict}
-use Rattle.journal_data.specs.link_model.Step.{PacketSent}
-use Rattle.journal_data.proofs.link_model.Hearing.{IsHeardWhole}
-use Rattle.journal_data.proofs.link_model.Received.{judged_good}
-use Rattle.journal_data.specs.open_links.OpenLinks.{Links, OpenLink, facts_in, link_after, link_at}
+use Rattle.journal_sending.specs.journal_data.link_model.Packets.{verdict_of as end_verdict}
+use Rattle.journal_sending.specs.journal_data.link_model.Step.{PacketSent}
+use Rattle.journal_sending.proofs.journal_data.link_model.Hearing.{IsHeardWhole}
+use Rattle.journal_sending.proofs.journal_data.link_model.Received.{judged_good}
+use Rattle.journal_sending.specs.journal_data.open_links.OpenLinks.{Links, OpenLink, facts_in, link_after, link_at}
 use Rattle.radio_replay.specs.Damage.{damaged_packet}
 use Rattle.radio_replay.specs.declared.fates.Fate.{Fate}
 use Rattle.radio_replay.specs.declared.fates.Fate.TheVariants.{Pass}
-use Rattle.controller_model.specs.declared.doing.Doing.{Doing}
-use Rattle.controller_model.specs.declared.doing.Doing.TheVariants.{Advertises, CentralSends, CentralListens, PeripheralSends}
-use Rattle.controller_model.specs.Facts.{Facts, Use, Sends, Listens}
-use Rattle.controller_model.specs.Packets.{channel_listened, listens_on, verdict_doing, verdict_of, verdict_of_link}
-use Rattle.controller_model.specs.Sent.{SendsOn}
-use Rattle.run_model.specs.Feeding.{AreDistinct}
-use Rattle.run_model.specs.History.{Event, Hearing, Transmitted, packet_received, turns_begun}
-use Rattle.run_model.specs.Journal.{journal_of, mark_of, side_of}
-use Rattle.run_model.specs.LinkEnds.{HaveAddresses}
-use Rattle.run_model.specs.Links.{is_advertising}
-use Rattle.run_model.specs.Run.{Given, facts_at, hearing_at, history_of, reaches, run_of, use_at, verdict_where}
-use Rattle.run_model.proofs.EntryEvents.{is_aired}
-use Rattle.run_model.proofs.LinkEnds.{AreTaken, IsUnderstood}
-use Rattle.run_model.proofs.OfStations.{OfStations, run_of_stations}
-use Rattle.run_model.proofs.Places.{each_at}
-use Rattle.run_model.proofs.Stations.{is_in, among}
-use Rattle.run_model.proofs.Walk.{AtPackets}
-use Rattle.journal_data.specs.run_laws.Ends.{HaveOneConnectInd}
-use Rattle.journal_data.proofs.run_laws.DistinctAccess.{AreApart}
-use Rattle.journal_data.proofs.run_laws.Hearings.{sends_deaf, wanted_is}
-use Rattle.journal_data.proofs.run_laws.LinkPhases.{HasRole, IsInPhase}
-use Rattle.journal_data.proofs.run_laws.OwnLinks.{sent_begins}
-use Rattle.journal_data.proofs.run_laws.TurnPlaces.{Within, at_stage}
-use Rattle.journal_data.proofs.run_laws.TurnSteps.{IsListening}
-use Rattle.journal_links.specs.Begun.{links_begun}
-use Rattle.journal_links.specs.Opened.{central_side}
-use Rattle.journal_links.proofs.OfTwo.{are_distinct}
-use Rattle.journal_packets.specs.Belonging.{first_number, is_answer}
-use Rattle.journal_packets.specs.Senders.{IsOfSendersLink}
-use Rattle.journal_packets.proofs.AccessOrder.{AreNth}
-use Rattle.journal_packets.proofs.Asked.{is_asked}
-use Rattle.journal_packets.proofs.SoFar.{IsBelongingSoFar}
-use Rattle.journal_acks.proofs.Counting.{AreKnown, one_begun}
-use Rattle.journal_acks.proofs.Exchanging.{number_at}
-use Rattle.journal_acks.proofs.link_calls.InRange.{ranges_in, sent_ranges}
-use Rattle.journal_acks.proofs.link_calls.Pieces.{ranged_understand}
-use Rattle.journal_acks.proofs.Known.{known_of}
-use Rattle.journal_acks.proofs.Seen.{IsSeen, seen_packet}
-use Rattle.journal_acks.proofs.Standing.{PhasedBy, phased_at}
-use Rattle.journal_acks.proofs.TwoStations.{IsOfTwo, hearing_of, one_hearing, other_of, same_number, side_other}
-use Rattle.journal_data.proofs.KeptData.{other_in}
+use Rattle.journal_sending.specs.controller_model.declared.doing.Doing.{Doing}
+use Rattle.journal_sending.specs.controller_model.declared.doing.Doing.TheVariants.{Advertises, CentralSends, CentralListens, PeripheralSends}
+use Rattle.journal_sending.specs.controller_model.Facts.{Facts, Use, Sends, Listens}
+use Rattle.journal_sending.specs.controller_model.Packets.{channel_listened, listens_on, verdict_doing, verdict_of, verdict_of_link}
+use Rattle.journal_sending.specs.controller_model.Sent.{SendsOn}
+use Rattle.journal_sending.specs.run_model.Feeding.{AreDistinct}
+use Rattle.journal_sending.specs.run_model.History.{Event, Hearing, Transmitted, packet_received, turns_begun}
+use Rattle.journal_sending.specs.run_model.Journal.{journal_of, mark_of, side_of}
+use Rattle.journal_sending.specs.run_model.LinkEnds.{HaveAddresses}
+use Rattle.journal_sending.specs.run_model.Links.{is_advertising}
+use Rattle.journal_sending.specs.run_model.Run.{Given, facts_at, hearing_at, history_of, reaches, run_of, use_at, verdict_where}
+use Rattle.journal_sending.proofs.run_model.EntryEvents.{is_aired}
+use Rattle.journal_sending.proofs.run_model.LinkEnds.{AreTaken, IsUnderstood}
+use Rattle.journal_sending.proofs.run_model.OfStations.{OfStations, run_of_stations}
+use Rattle.journal_sending.proofs.run_model.Places.{each_at}
+use Rattle.journal_sending.proofs.run_model.Stations.{is_in, among}
+use Rattle.journal_sending.proofs.run_model.Walk.{AtPackets}
+use Rattle.journal_sending.specs.journal_data.run_laws.Ends.{HaveOneConnectInd}
+use Rattle.journal_sending.proofs.journal_data.run_laws.DistinctAccess.{AreApart}
+use Rattle.journal_sending.proofs.journal_data.run_laws.Hearings.{sends_deaf, wanted_is}
+use Rattle.journal_sending.proofs.journal_data.run_laws.LinkPhases.{HasRole, IsInPhase}
+use Rattle.journal_sending.proofs.journal_data.run_laws.OwnLinks.{sent_begins}
+use Rattle.journal_sending.proofs.journal_data.run_laws.TurnPlaces.{Within, at_stage}
+use Rattle.journal_sending.proofs.journal_data.run_laws.TurnSteps.{IsListening}
+use Rattle.journal_sending.specs.journal_links.Begun.{links_begun}
+use Rattle.journal_sending.specs.journal_links.Opened.{central_side}
+use Rattle.journal_sending.proofs.journal_links.OfTwo.{are_distinct}
+use Rattle.journal_sending.specs.journal_packets.Belonging.{first_number, is_answer}
+use Rattle.journal_sending.specs.journal_packets.Senders.{IsOfSendersLink}
+use Rattle.journal_sending.proofs.journal_packets.AccessOrder.{AreNth}
+use Rattle.journal_sending.proofs.journal_packets.Asked.{is_asked}
+use Rattle.journal_sending.proofs.journal_packets.SoFar.{IsBelongingSoFar}
+use Rattle.journal_sending.proofs.journal_acks.Counting.{AreKnown, one_begun}
+use Rattle.journal_sending.proofs.journal_acks.Exchanging.{number_at}
+use Rattle.journal_sending.proofs.journal_acks.link_calls.InRange.{ranges_in, sent_ranges}
+use Rattle.journal_sending.proofs.journal_acks.link_calls.Pieces.{ranged_understand}
+use Rattle.journal_sending.proofs.journal_acks.Known.{known_of}
+use Rattle.journal_sending.proofs.journal_acks.Seen.{IsSeen, seen_packet}
+use Rattle.journal_sending.proofs.journal_acks.Standing.{PhasedBy, phased_at}
+use Rattle.journal_sending.proofs.journal_acks.TwoStations.{IsOfTwo, hearing_of, one_hearing, other_of, same_number, side_other}
+use Rattle.journal_sending.proofs.journal_data.KeptData.{other_in}
 use Rattle.journal_hearings.proofs.RequestsHeard.{pass_mark, judged_where, one_of_list}
 use Rattle.journal_pdus.specs.Answered.{AllAnswersAreHeard}
 use Rattle.journal_pdus.proofs.Awaited.{AreAskedWell, IsAsker, IsAsking, asked_well_first, asked_well_kept}

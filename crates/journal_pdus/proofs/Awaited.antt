@@ -5,47 +5,47 @@ use Rattle.std.specs.Prelude.{⊤, if◌then◌else◌}
 use Rattle.std.proofs.lemmas.Bool.{eqb-true}
 use Rattle.std.proofs.lemmas.Slice.Eq.{bytes_eq-Decides}
 use Rattle.air_frame.specs.Packet.{access_octets}
-use Rattle.journal_data.specs.link_model.declared.events.ConnectionEvent.{ConnectionEvent}
-use Rattle.journal_data.specs.link_model.Packets.{good_pdu}
-use Rattle.journal_data.specs.link_model.Step.{PacketSent}
-use Rattle.journal_data.specs.open_links.OpenLinks.{Links, OpenLink, facts_in, link_after, link_at}
+use Rattle.journal_sending.specs.journal_data.link_model.declared.events.ConnectionEvent.{ConnectionEvent}
+use Rattle.journal_sending.specs.journal_data.link_model.Packets.{good_pdu}
+use Rattle.journal_sending.specs.journal_data.link_model.Step.{PacketSent}
+use Rattle.journal_sending.specs.journal_data.open_links.OpenLinks.{Links, OpenLink, facts_in, link_after, link_at}
 use Rattle.radio_replay.specs.declared.fates.Fate.{Fate}
-use Rattle.controller_model.specs.declared.doing.Doing.{Doing}
-use Rattle.controller_model.specs.declared.doing.Doing.TheVariants.{Advertises, CentralSends, CentralListens, PeripheralSends}
-use Rattle.controller_model.specs.Facts.{Setup, Facts, Use, Sends, Listens}
-use Rattle.controller_model.specs.Heard.{has_room, heard, unheard}
-use Rattle.controller_model.specs.Outcome.{facts_passed}
-use Rattle.controller_model.specs.Sent.{SendsOn}
-use Rattle.controller_model.specs.Side.{facts_after, facts_of}
-use Rattle.controller_model.specs.Step.{Step}
-use Rattle.controller_model.proofs.Places.{link_receiving}
-use Rattle.run_model.specs.Feeding.{AreDistinct}
-use Rattle.run_model.specs.History.{Event, Hearing, Transmitted, has_received, packet_received, turns_begun}
-use Rattle.run_model.specs.LinkEnds.{HaveAddresses}
-use Rattle.run_model.specs.Links.{is_advertising}
-use Rattle.run_model.specs.Run.{Given, after_call, facts_at, hearings_of, setup_at, step_of, use_at}
-use Rattle.run_model.proofs.LinkEnds.{AreTaken, IsUnderstood, is_listener}
-use Rattle.run_model.proofs.Stations.{is_in, among, in_more_other, in_more_same, not_before}
-use Rattle.run_model.proofs.Walk.{Place, NoTurn, AtFeeds, AtBegins, AfterPhases, AtPackets, AtListening, AtEnds, IsKept}
-use Rattle.journal_data.proofs.run_laws.ConnectInds.{on_channel}
-use Rattle.journal_data.proofs.run_laws.Hearings.{other_facts, own_facts, use_same, use_sent_at, wanted_is}
-use Rattle.journal_data.proofs.run_laws.InAgreement.{differs_back}
-use Rattle.journal_data.proofs.run_laws.LinkPhases.{IsInPhase}
-use Rattle.journal_data.proofs.run_laws.OwnLinks.{sent_begins}
-use Rattle.journal_data.proofs.run_laws.SentPackets.{IsUseSent}
-use Rattle.journal_data.proofs.run_laws.TurnPlaces.{Within, at_stage, event_past}
-use Rattle.journal_data.proofs.run_laws.TurnSteps.{IsListening}
-use Rattle.journal_links.proofs.OfTwo.{of_two_stations}
-use Rattle.journal_packets.specs.Belonging.{have_one_access}
-use Rattle.journal_packets.proofs.Asked.{asked_called, asked_packet, asks_in, is_asked}
-use Rattle.journal_packets.proofs.SoFar.{IsBelongingSoFar, belonging_first, belonging_kept}
-use Rattle.journal_acks.proofs.Standing.{PhasedBy, listens_wanted, phased_at, sends_on}
-use Rattle.journal_acks.proofs.TwoStations.{IsOfTwo, other_is, other_of}
-use Rattle.journal_acks.specs.link_calls.Phases.{HasPassed, IsNew, Stays, Takes}
-use Rattle.journal_acks.specs.link_calls.Turns.{sent_if}
-use Rattle.journal_acks.specs.link_calls.Uses.{sends_under}
-use Rattle.journal_acks.proofs.link_calls.LinkCalls.{off_sends, phase_under, receiving_event}
-use Rattle.journal_acks.proofs.link_calls.UnderHandles.{same_base}
+use Rattle.journal_sending.specs.controller_model.declared.doing.Doing.{Doing}
+use Rattle.journal_sending.specs.controller_model.declared.doing.Doing.TheVariants.{Advertises, CentralSends, CentralListens, PeripheralSends}
+use Rattle.journal_sending.specs.controller_model.Facts.{Setup, Facts, Use, Sends, Listens}
+use Rattle.journal_sending.specs.controller_model.Heard.{has_room, heard, unheard}
+use Rattle.journal_sending.specs.controller_model.Outcome.{facts_passed}
+use Rattle.journal_sending.specs.controller_model.Sent.{SendsOn}
+use Rattle.journal_sending.specs.controller_model.Side.{facts_after, facts_of}
+use Rattle.journal_sending.specs.controller_model.Step.{Step}
+use Rattle.journal_sending.proofs.controller_model.Places.{link_receiving}
+use Rattle.journal_sending.specs.run_model.Feeding.{AreDistinct}
+use Rattle.journal_sending.specs.run_model.History.{Event, Hearing, Transmitted, has_received, packet_received, turns_begun}
+use Rattle.journal_sending.specs.run_model.LinkEnds.{HaveAddresses}
+use Rattle.journal_sending.specs.run_model.Links.{is_advertising}
+use Rattle.journal_sending.specs.run_model.Run.{Given, after_call, facts_at, hearings_of, setup_at, step_of, use_at}
+use Rattle.journal_sending.proofs.run_model.LinkEnds.{AreTaken, IsUnderstood, is_listener}
+use Rattle.journal_sending.proofs.run_model.Stations.{is_in, among, in_more_other, in_more_same, not_before}
+use Rattle.journal_sending.proofs.run_model.Walk.{Place, NoTurn, AtFeeds, AtBegins, AfterPhases, AtPackets, AtListening, AtEnds, IsKept}
+use Rattle.journal_sending.proofs.journal_data.run_laws.ConnectInds.{on_channel}
+use Rattle.journal_sending.proofs.journal_data.run_laws.Hearings.{other_facts, own_facts, use_same, use_sent_at, wanted_is}
+use Rattle.journal_sending.proofs.journal_data.run_laws.InAgreement.{differs_back}
+use Rattle.journal_sending.proofs.journal_data.run_laws.LinkPhases.{IsInPhase}
+use Rattle.journal_sending.proofs.journal_data.run_laws.OwnLinks.{sent_begins}
+use Rattle.journal_sending.proofs.journal_data.run_laws.SentPackets.{IsUseSent}
+use Rattle.journal_sending.proofs.journal_data.run_laws.TurnPlaces.{Within, at_stage, event_past}
+use Rattle.journal_sending.proofs.journal_data.run_laws.TurnSteps.{IsListening}
+use Rattle.journal_sending.proofs.journal_links.OfTwo.{of_two_stations}
+use Rattle.journal_sending.specs.journal_packets.Belonging.{have_one_access}
+use Rattle.journal_sending.proofs.journal_packets.Asked.{asked_called, asked_packet, asks_in, is_asked}
+use Rattle.journal_sending.proofs.journal_packets.SoFar.{IsBelongingSoFar, belonging_first, belonging_kept}
+use Rattle.journal_sending.proofs.journal_acks.Standing.{PhasedBy, listens_wanted, phased_at, sends_on}
+use Rattle.journal_sending.proofs.journal_acks.TwoStations.{IsOfTwo, other_is, other_of}
+use Rattle.journal_sending.specs.journal_acks.link_calls.Phases.{HasPassed, IsNew, Stays, Takes}
+use Rattle.journal_sending.specs.journal_acks.link_calls.Turns.{sent_if}
+use Rattle.journal_sending.specs.journal_acks.link_calls.Uses.{sends_under}
+use Rattle.journal_sending.proofs.journal_acks.link_calls.LinkCalls.{off_sends, phase_under, receiving_event}
+use Rattle.journal_sending.proofs.journal_acks.link_calls.UnderHandles.{same_base}
 use Rattle.journal_slots.proofs.ExchangeSlots.{event_after_receiving, event_after_sending, event_received}
 use Rattle.journal_slots.proofs.OnAir.{either}
 

@@ -1,17 +1,17 @@
 -- In every journal of a run of a pair nothing waits for a host between turns, nor on a link that is shut after the packets of a turn.
 use Rattle.std.proofs.Common.{◌≡◌, ℕ, List, length, refl}
-use Rattle.journal_data.proofs.link_model.Hearing.{IsHeardWhole}
+use Rattle.journal_sending.proofs.journal_data.link_model.Hearing.{IsHeardWhole}
 use Rattle.radio_replay.specs.Script.{Script}
-use Rattle.run_model.specs.History.{Event}
-use Rattle.run_model.specs.Journal.{journal_of}
-use Rattle.run_model.specs.Pair.{given_of}
-use Rattle.run_model.specs.Run.{GoesOn, history_of, run_of}
-use Rattle.run_model.proofs.LinkEnds.{AreTaken, IsUnderstood, pair_addresses}
-use Rattle.run_model.proofs.Ordered.{pair_distinct}
-use Rattle.journal_data.proofs.run_laws.DistinctAccess.{AreApart}
-use Rattle.journal_packets.proofs.AccessOrder.{AreNth}
-use Rattle.journal_data.proofs.Law.{eight_of}
-use Rattle.journal_data.proofs.FewLinks.{pair_links}
+use Rattle.journal_sending.specs.run_model.History.{Event}
+use Rattle.journal_sending.specs.run_model.Journal.{journal_of}
+use Rattle.journal_sending.specs.run_model.Pair.{given_of}
+use Rattle.journal_sending.specs.run_model.Run.{GoesOn, history_of, run_of}
+use Rattle.journal_sending.proofs.run_model.LinkEnds.{AreTaken, IsUnderstood, pair_addresses}
+use Rattle.journal_sending.proofs.run_model.Ordered.{pair_distinct}
+use Rattle.journal_sending.proofs.journal_data.run_laws.DistinctAccess.{AreApart}
+use Rattle.journal_sending.proofs.journal_packets.AccessOrder.{AreNth}
+use Rattle.journal_sending.proofs.journal_data.Law.{eight_of}
+use Rattle.journal_sending.proofs.journal_data.FewLinks.{pair_links}
 use Rattle.journal_pdus.specs.Exchanged.{AllAreSettled, AllAreSettledAsShut}
 use Rattle.journal_pdus.specs.Settled.{AreSettled}
 use Rattle.journal_pdus.proofs.SettledRuns.{settled_last, settled_lines}

@@ -11,4 +11,4 @@ mod PacketTurns
 mod ResetAnswers
 mod ResetsLeaveNone
 -- what the crates above use of those below
-pub use Rattle.journal_leaving.proofs as journal_leaving
+pub use Rattle.journal_sending.proofs.journal_leaving as journal_leaving

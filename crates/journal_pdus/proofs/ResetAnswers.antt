@@ -27,26 +27,27 @@ use Rattle.host_view.specs.Noted.{two_octets}
 use Rattle.host_view.specs.OnLinks.{asks_links}
 use Rattle.host_view.specs.View.{View}
 use Rattle.host_view.specs.Unbuilt.{status_of}
-use Rattle.journal_data.specs.open_links.OpenLinks.{Links, handles_from, without_links}
-use Rattle.journal_data.specs.open_links.declared.offers.Offer.{Offer}
-use Rattle.journal_data.specs.open_links.declared.offers.Offer.TheVariants.{NoLink, Empty, Overflow, Kept}
-use Rattle.controller_model.specs.Step.{Step, HostOctet}
-use Rattle.controller_model.specs.Facts.{Setup, Facts}
-use Rattle.controller_model.specs.Answers.{accepted_answer, answer_to, complete_answer, has_status_answer, refused_fields, returned, status_answer}
-use Rattle.controller_model.specs.Commands.{events_caused, facts_commanded, facts_known, notes_before, notes_commanded, notes_known}
-use Rattle.controller_model.specs.Data.{notes_offered, offer_of}
-use Rattle.controller_model.specs.Events.{notes_of_events, passes}
-use Rattle.controller_model.specs.Links.{connection_failed, note_shut, notes_reset, wants_enhanced}
-use Rattle.controller_model.specs.Notes.{is_event}
-use Rattle.controller_model.specs.Side.{facts_after, facts_fed, notes_after, notes_fed, result_of}
-use Rattle.controller_model.proofs.Always.{IsInTurn}
-use Rattle.controller_model.proofs.Handles.{HaveOwnHandles}
-use Rattle.controller_model.proofs.OpenPlaces.{is_reset}
-use Rattle.controller_model.proofs.ProcedureEvents.{AreOfProcedures, IsOfProcedure}
-use Rattle.controller_model.specs.link_commands.LinksCommanded.{events_commanded_on}
-use Rattle.controller_model.proofs.Asked.{asking_links, both_asking, events_at_once_are, notes_at_once}
-use Rattle.controller_model.proofs.TurnNotes.{EachNote, IsOfTurn, event_noted, turn_noted}
-use Rattle.journal_data.proofs.Openness.{all_append}
+use Rattle.journal_sending.specs.journal_data.open_links.OpenLinks.{Links, handles_from, without_links}
+use Rattle.journal_sending.specs.journal_data.open_links.declared.offers.Offer.{Offer}
+use Rattle.journal_sending.specs.journal_data.open_links.declared.offers.Offer.TheVariants.{NoLink, Empty, Overflow, Kept}
+use Rattle.journal_sending.specs.controller_model.Step.{Step, HostOctet}
+use Rattle.journal_sending.specs.controller_model.Facts.{Setup, Facts}
+use Rattle.journal_sending.specs.controller_model.Answers.{accepted_answer, answer_to, complete_answer, has_status_answer, refused_fields, returned}
+use Rattle.journal_sending.specs.controller_model.Answers.{status_answer}
+use Rattle.journal_sending.specs.controller_model.Commands.{events_caused, facts_commanded, facts_known, notes_before, notes_commanded, notes_known}
+use Rattle.journal_sending.specs.controller_model.Data.{notes_offered, offer_of}
+use Rattle.journal_sending.specs.controller_model.Events.{notes_of_events, passes}
+use Rattle.journal_sending.specs.controller_model.Links.{connection_failed, note_shut, notes_reset, wants_enhanced}
+use Rattle.journal_sending.specs.controller_model.Notes.{is_event}
+use Rattle.journal_sending.specs.controller_model.Side.{facts_after, facts_fed, notes_after, notes_fed, result_of}
+use Rattle.journal_sending.proofs.controller_model.Always.{IsInTurn}
+use Rattle.journal_sending.proofs.controller_model.Handles.{HaveOwnHandles}
+use Rattle.journal_sending.proofs.controller_model.OpenPlaces.{is_reset}
+use Rattle.journal_sending.proofs.controller_model.ProcedureEvents.{AreOfProcedures, IsOfProcedure}
+use Rattle.journal_sending.specs.controller_model.link_commands.LinksCommanded.{events_commanded_on}
+use Rattle.journal_sending.proofs.controller_model.Asked.{asking_links, both_asking, events_at_once_are, notes_at_once}
+use Rattle.journal_sending.proofs.controller_model.TurnNotes.{EachNote, IsOfTurn, event_noted, turn_noted}
+use Rattle.journal_sending.proofs.journal_data.Openness.{all_append}
 use Rattle.journal_pdus.specs.Resetting.{answers_reset}
 
 -- ---- what is no such answer

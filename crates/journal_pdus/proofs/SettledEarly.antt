@@ -2,38 +2,38 @@
 -- its packets that are complete are reported to it.
 use Rattle.std.proofs.Common.{◌≡◌, ℕ, ◌&&◌, Bool, true, false, Option, Some, None, List, ◌∷◌, ◌++◌, refl, sym, ap, subst, ◌∙◌}
 use Rattle.ble_base.specs.declared.roles.Side.{Side}
-use Rattle.journal_data.proofs.link_model.Hearing.{IsHeardWhole}
-use Rattle.journal_data.proofs.link_model.Sending.{past_together}
-use Rattle.journal_data.specs.open_links.OpenLinks.{OpenLink, facts_in, link_at}
-use Rattle.controller_model.specs.declared.doing.Turn.{Turn}
-use Rattle.controller_model.specs.Since.{data_waiting}
-use Rattle.run_model.specs.Feeding.{AreDistinct}
-use Rattle.run_model.specs.History.{Event, packet_received}
-use Rattle.run_model.specs.Journal.{journal_of, side_of}
-use Rattle.run_model.specs.LinkEnds.{HaveAddresses}
-use Rattle.run_model.specs.Readers.{turn_packets}
-use Rattle.run_model.specs.Run.{Given, facts_at, history_of, run_of, setup_at}
-use Rattle.run_model.proofs.EntryEvents.{is_aired}
-use Rattle.run_model.proofs.LinkEnds.{AreTaken, IsUnderstood}
-use Rattle.run_model.proofs.Stations.{is_in}
-use Rattle.run_model.proofs.Walk.{Place, AtPackets, IsKept}
-use Rattle.journal_data.proofs.run_laws.Agreed.{ack_of}
-use Rattle.journal_data.proofs.run_laws.DistinctAccess.{AreApart}
-use Rattle.journal_packets.proofs.AccessOrder.{AreNth}
-use Rattle.journal_packets.proofs.SoFar.{IsBelongingSoFar}
-use Rattle.journal_acks.specs.Exchange.{Exchanged}
-use Rattle.journal_acks.proofs.Counting.{IsEndCounted, ahead_if, taking_if}
-use Rattle.journal_acks.proofs.Exchanging.{exchange_at, number_at}
-use Rattle.journal_acks.proofs.Known.{known_of}
-use Rattle.journal_acks.specs.link_calls.Uses.{listens_under, sends_under}
-use Rattle.journal_acks.proofs.Seen.{IsSeen, seen_packet}
-use Rattle.journal_acks.proofs.TwoStations.{IsOfTwo}
-use Rattle.journal_data.specs.HostLines.{OpenUnder}
-use Rattle.journal_data.specs.Lines.{lines_of}
-use Rattle.journal_data.proofs.Ends.{sound}
-use Rattle.journal_data.proofs.FewLinks.{HaveFewLinks}
-use Rattle.journal_hosts.proofs.Calm.{IsCalm, calm_under}
-use Rattle.journal_hosts.proofs.QuietTurns.{AreQuiet, IsSilent, quiet_first, quiet_kept}
+use Rattle.journal_sending.proofs.journal_data.link_model.Hearing.{IsHeardWhole}
+use Rattle.journal_sending.proofs.journal_data.link_model.Sending.{past_together}
+use Rattle.journal_sending.specs.journal_data.open_links.OpenLinks.{OpenLink, facts_in, link_at}
+use Rattle.journal_sending.specs.controller_model.declared.doing.Turn.{Turn}
+use Rattle.journal_sending.specs.controller_model.Since.{data_waiting}
+use Rattle.journal_sending.specs.run_model.Feeding.{AreDistinct}
+use Rattle.journal_sending.specs.run_model.History.{Event, packet_received}
+use Rattle.journal_sending.specs.run_model.Journal.{journal_of, side_of}
+use Rattle.journal_sending.specs.run_model.LinkEnds.{HaveAddresses}
+use Rattle.journal_sending.specs.run_model.Readers.{turn_packets}
+use Rattle.journal_sending.specs.run_model.Run.{Given, facts_at, history_of, run_of, setup_at}
+use Rattle.journal_sending.proofs.run_model.EntryEvents.{is_aired}
+use Rattle.journal_sending.proofs.run_model.LinkEnds.{AreTaken, IsUnderstood}
+use Rattle.journal_sending.proofs.run_model.Stations.{is_in}
+use Rattle.journal_sending.proofs.run_model.Walk.{Place, AtPackets, IsKept}
+use Rattle.journal_sending.proofs.journal_data.run_laws.Agreed.{ack_of}
+use Rattle.journal_sending.proofs.journal_data.run_laws.DistinctAccess.{AreApart}
+use Rattle.journal_sending.proofs.journal_packets.AccessOrder.{AreNth}
+use Rattle.journal_sending.proofs.journal_packets.SoFar.{IsBelongingSoFar}
+use Rattle.journal_sending.specs.journal_acks.Exchange.{Exchanged}
+use Rattle.journal_sending.proofs.journal_acks.Counting.{IsEndCounted, ahead_if, taking_if}
+use Rattle.journal_sending.proofs.journal_acks.Exchanging.{exchange_at, number_at}
+use Rattle.journal_sending.proofs.journal_acks.Known.{known_of}
+use Rattle.journal_sending.specs.journal_acks.link_calls.Uses.{listens_under, sends_under}
+use Rattle.journal_sending.proofs.journal_acks.Seen.{IsSeen, seen_packet}
+use Rattle.journal_sending.proofs.journal_acks.TwoStations.{IsOfTwo}
+use Rattle.journal_sending.specs.journal_data.HostLines.{OpenUnder}
+use Rattle.journal_sending.specs.journal_data.Lines.{lines_of}
+use Rattle.journal_sending.proofs.journal_data.Ends.{sound}
+use Rattle.journal_sending.proofs.journal_data.FewLinks.{HaveFewLinks}
+use Rattle.journal_sending.proofs.journal_hosts.Calm.{IsCalm, calm_under}
+use Rattle.journal_sending.proofs.journal_hosts.QuietTurns.{AreQuiet, IsSilent, quiet_first, quiet_kept}
 use Rattle.journal_pdus.specs.AtOnce.{AllAreCreditedAtOnce}
 use Rattle.journal_pdus.specs.Settled.{AreSettled, IsSettled}
 use Rattle.journal_pdus.proofs.SettledEnds.{settled_end}

@@ -4,41 +4,41 @@ use Rattle.std.proofs.Common.{◌≡◌, ℕ, true, Some, List, ◌∷◌, ◌++
 use Rattle.ble_base.specs.declared.roles.Side.{Side}
 use Rattle.ble_base.specs.declared.roles.Side.TheVariants.{A, B}
 use Rattle.journal.specs.declared.entries.Entry.TheVariants.{Turn}
-use Rattle.journal_data.proofs.link_model.Hearing.{IsHeardWhole}
-use Rattle.journal_data.proofs.link_model.Sending.{past_together}
-use Rattle.journal_data.specs.open_links.OpenLinks.{OpenLink, facts_in, link_at}
-use Rattle.controller_model.specs.Between.{is_between_turns}
-use Rattle.controller_model.specs.Since.{data_waiting}
-use Rattle.controller_model.proofs.BetweenTurns.{none_complete, nothing_waits}
-use Rattle.run_model.specs.Feeding.{AreDistinct}
-use Rattle.run_model.specs.History.{Event, past_of, turns_begun}
-use Rattle.run_model.specs.Journal.{journal_of, side_of}
-use Rattle.run_model.specs.LinkEnds.{HaveAddresses}
-use Rattle.run_model.specs.Links.{links_of}
-use Rattle.run_model.specs.Run.{Given, GoesOn, facts_at, history_of, run_of, setup_at}
-use Rattle.run_model.proofs.EntryEvents.{is_of_event}
-use Rattle.run_model.proofs.LinkEnds.{AreTaken, IsUnderstood}
-use Rattle.run_model.proofs.Stations.{is_in}
-use Rattle.run_model.proofs.Walk.{Place, NoTurn, IsKept}
-use Rattle.journal_data.proofs.run_laws.DistinctAccess.{AreApart}
-use Rattle.journal_data.proofs.run_laws.TurnPlaces.{stands_at}
-use Rattle.journal_packets.proofs.AccessOrder.{AreNth}
-use Rattle.journal_packets.proofs.SoFar.{IsBelongingSoFar}
-use Rattle.journal_acks.proofs.Known.{known_of}
-use Rattle.journal_acks.proofs.RunCounts.{between_turns}
-use Rattle.journal_acks.proofs.Seen.{IsSeen, seen_last, seen_turn}
-use Rattle.journal_acks.proofs.TwoStations.{IsOfTwo}
-use Rattle.journal_data.specs.HostLines.{OpenUnder}
-use Rattle.journal_data.specs.Lines.{lines_of}
-use Rattle.journal_data.proofs.EachLine.{lines_at, numbers_at}
-use Rattle.journal_data.proofs.HeldLinks.{one_of}
-use Rattle.journal_data.proofs.Openness.{is_open}
-use Rattle.journal_acks.proofs.Exchanging.{number_at}
-use Rattle.journal_data.proofs.Ends.{sound}
-use Rattle.journal_data.proofs.FedInRuns.{between_standing}
-use Rattle.journal_data.proofs.FewLinks.{HaveFewLinks}
-use Rattle.journal_data.proofs.NotedLines.{is_link}
-use Rattle.journal_data.proofs.StationLines.{IsStationBooked}
+use Rattle.journal_sending.proofs.journal_data.link_model.Hearing.{IsHeardWhole}
+use Rattle.journal_sending.proofs.journal_data.link_model.Sending.{past_together}
+use Rattle.journal_sending.specs.journal_data.open_links.OpenLinks.{OpenLink, facts_in, link_at}
+use Rattle.journal_sending.specs.controller_model.Between.{is_between_turns}
+use Rattle.journal_sending.specs.controller_model.Since.{data_waiting}
+use Rattle.journal_sending.proofs.controller_model.BetweenTurns.{none_complete, nothing_waits}
+use Rattle.journal_sending.specs.run_model.Feeding.{AreDistinct}
+use Rattle.journal_sending.specs.run_model.History.{Event, past_of, turns_begun}
+use Rattle.journal_sending.specs.run_model.Journal.{journal_of, side_of}
+use Rattle.journal_sending.specs.run_model.LinkEnds.{HaveAddresses}
+use Rattle.journal_sending.specs.run_model.Links.{links_of}
+use Rattle.journal_sending.specs.run_model.Run.{Given, GoesOn, facts_at, history_of, run_of, setup_at}
+use Rattle.journal_sending.proofs.run_model.EntryEvents.{is_of_event}
+use Rattle.journal_sending.proofs.run_model.LinkEnds.{AreTaken, IsUnderstood}
+use Rattle.journal_sending.proofs.run_model.Stations.{is_in}
+use Rattle.journal_sending.proofs.run_model.Walk.{Place, NoTurn, IsKept}
+use Rattle.journal_sending.proofs.journal_data.run_laws.DistinctAccess.{AreApart}
+use Rattle.journal_sending.proofs.journal_data.run_laws.TurnPlaces.{stands_at}
+use Rattle.journal_sending.proofs.journal_packets.AccessOrder.{AreNth}
+use Rattle.journal_sending.proofs.journal_packets.SoFar.{IsBelongingSoFar}
+use Rattle.journal_sending.proofs.journal_acks.Known.{known_of}
+use Rattle.journal_sending.proofs.journal_acks.RunCounts.{between_turns}
+use Rattle.journal_sending.proofs.journal_acks.Seen.{IsSeen, seen_last, seen_turn}
+use Rattle.journal_sending.proofs.journal_acks.TwoStations.{IsOfTwo}
+use Rattle.journal_sending.specs.journal_data.HostLines.{OpenUnder}
+use Rattle.journal_sending.specs.journal_data.Lines.{lines_of}
+use Rattle.journal_sending.proofs.journal_data.EachLine.{lines_at, numbers_at}
+use Rattle.journal_sending.proofs.journal_data.HeldLinks.{one_of}
+use Rattle.journal_sending.proofs.journal_data.Openness.{is_open}
+use Rattle.journal_sending.proofs.journal_acks.Exchanging.{number_at}
+use Rattle.journal_sending.proofs.journal_data.Ends.{sound}
+use Rattle.journal_sending.proofs.journal_data.FedInRuns.{between_standing}
+use Rattle.journal_sending.proofs.journal_data.FewLinks.{HaveFewLinks}
+use Rattle.journal_sending.proofs.journal_data.NotedLines.{is_link}
+use Rattle.journal_sending.proofs.journal_data.StationLines.{IsStationBooked}
 use Rattle.journal_hearings.proofs.LinksOpened.{turn_event}
 use Rattle.journal_pdus.specs.Exchanged.{AllAreSettled}
 use Rattle.journal_pdus.specs.Settled.{AreSettled, IsSettled}

@@ -11,58 +11,58 @@ use Rattle.ble_base.specs.declared.roles.Side.{Side}
 use Rattle.hci_cmd.specs.declared.command.Command.TheVariants.{Reset}
 use Rattle.journal.specs.declared.entries.Entry.{Entry}
 use Rattle.journal.specs.declared.entries.Entry.TheVariants.{Shut}
-use Rattle.controller_model.specs.Data.{facts_handed, notes_handed}
-use Rattle.controller_model.specs.Facts.{Facts}
-use Rattle.controller_model.specs.Host.{commands_accepted_after}
-use Rattle.controller_model.specs.Links.{notes_leaving}
-use Rattle.controller_model.specs.Shutting.{IsShut, leaving as shut_leaving, overdue as shut_overdue, reset as shut_reset}
-use Rattle.controller_model.specs.Side.{notes_after}
-use Rattle.controller_model.specs.Step.{Step, HostOctet, TurnBegins, PacketHeard, NothingHeard, TurnEnds}
-use Rattle.journal_data.proofs.link_model.Hearing.{IsHeardWhole}
-use Rattle.journal_data.proofs.link_model.Sending.{past_together}
-use Rattle.journal_data.specs.link_model.Acknowledgement.{Acknowledgement}
-use Rattle.journal_data.specs.link_model.Facts.{Facts as EndFacts}
-use Rattle.journal_data.specs.link_model.Step.{DataReported}
-use Rattle.journal_data.specs.open_links.Data.{complete_in, link_reported}
-use Rattle.journal_data.specs.open_links.OpenLinks.{OpenLink, facts_in, link_after, link_at}
-use Rattle.run_model.specs.Due.{Each}
-use Rattle.run_model.specs.Feeding.{AreDistinct}
-use Rattle.run_model.specs.History.{Event, Called, Noted, packet_received, turns_begun}
-use Rattle.run_model.specs.Journal.{journal_of, side_of}
-use Rattle.run_model.specs.LinkEnds.{HaveAddresses}
-use Rattle.run_model.specs.NoteLines.{IsLineInCall, shut_line}
-use Rattle.run_model.specs.OnAir.{ends_phase}
-use Rattle.run_model.specs.Run.{Given, facts_at, history_of, run_of, setup_at, step_of}
-use Rattle.run_model.proofs.LinkEnds.{AreTaken, IsUnderstood}
-use Rattle.run_model.proofs.NoteLines.{line_in_call, number_then, to_line}
-use Rattle.run_model.proofs.Places.{each_at}
-use Rattle.run_model.proofs.Stations.{among, not_before}
-use Rattle.run_model.proofs.Walk.{Place, AtEnds}
-use Rattle.journal_data.proofs.run_laws.Agreed.{ack_of, step_facts}
-use Rattle.journal_data.proofs.run_laws.DistinctAccess.{AreApart}
-use Rattle.journal_data.proofs.run_laws.TurnPlaces.{Between, Within, at_stage}
-use Rattle.journal_acks.proofs.link_calls.CallNotes.{HasNoData, SendsNone, all_more, end_noted, no_data}
-use Rattle.journal_packets.proofs.AccessOrder.{AreNth}
-use Rattle.journal_packets.proofs.SoFar.{IsBelongingSoFar}
-use Rattle.journal_acks.proofs.Counting.{AreKnown, HaveOwnNumbers, plain}
-use Rattle.journal_acks.proofs.EachCall.{HaveCalls, OfCall, run_calls}
-use Rattle.journal_acks.proofs.Exchanging.{exchange_at, notes_counts, number_at}
-use Rattle.journal_acks.proofs.KeptLines.{IsLined}
-use Rattle.journal_acks.proofs.Known.{known_of}
-use Rattle.journal_acks.proofs.SentLines.{line_in_call as sent_line_in_call, sent_line_at}
-use Rattle.journal_acks.proofs.Standing.{PhasedBy, last_phase, phased_at}
-use Rattle.journal_acks.proofs.TwoStations.{IsOfTwo}
-use Rattle.journal_data.proofs.Arriving.{IsEndBooked}
-use Rattle.journal_data.proofs.EachLine.{lines_at}
-use Rattle.journal_data.proofs.EndedLinks.{booked_within, reported_ack}
-use Rattle.journal_data.proofs.Ends.{IsWell}
-use Rattle.journal_data.proofs.FewLinks.{HaveFewLinks}
-use Rattle.journal_data.proofs.KeptData.{own_numbers}
-use Rattle.journal_data.proofs.Openness.{AreNot, handed_not, is_shutting}
-use Rattle.journal_leaving.specs.Reasons.{packets_passed}
-use Rattle.journal_leaving.proofs.QuietTurns.{in_call_passed, is_early, none_passed, passed_at}
-use Rattle.journal_leaving.proofs.ShutCalls.{handed}
-use Rattle.journal_leaving.proofs.ShutLines.{shut_in}
+use Rattle.journal_sending.specs.controller_model.Data.{facts_handed, notes_handed}
+use Rattle.journal_sending.specs.controller_model.Facts.{Facts}
+use Rattle.journal_sending.specs.controller_model.Host.{commands_accepted_after}
+use Rattle.journal_sending.specs.controller_model.Links.{notes_leaving}
+use Rattle.journal_sending.specs.controller_model.Shutting.{IsShut, leaving as shut_leaving, overdue as shut_overdue, reset as shut_reset}
+use Rattle.journal_sending.specs.controller_model.Side.{notes_after}
+use Rattle.journal_sending.specs.controller_model.Step.{Step, HostOctet, TurnBegins, PacketHeard, NothingHeard, TurnEnds}
+use Rattle.journal_sending.proofs.journal_data.link_model.Hearing.{IsHeardWhole}
+use Rattle.journal_sending.proofs.journal_data.link_model.Sending.{past_together}
+use Rattle.journal_sending.specs.journal_data.link_model.Acknowledgement.{Acknowledgement}
+use Rattle.journal_sending.specs.journal_data.link_model.Facts.{Facts as EndFacts}
+use Rattle.journal_sending.specs.journal_data.link_model.Step.{DataReported}
+use Rattle.journal_sending.specs.journal_data.open_links.Data.{complete_in, link_reported}
+use Rattle.journal_sending.specs.journal_data.open_links.OpenLinks.{OpenLink, facts_in, link_after, link_at}
+use Rattle.journal_sending.specs.run_model.Due.{Each}
+use Rattle.journal_sending.specs.run_model.Feeding.{AreDistinct}
+use Rattle.journal_sending.specs.run_model.History.{Event, Called, Noted, packet_received, turns_begun}
+use Rattle.journal_sending.specs.run_model.Journal.{journal_of, side_of}
+use Rattle.journal_sending.specs.run_model.LinkEnds.{HaveAddresses}
+use Rattle.journal_sending.specs.run_model.NoteLines.{IsLineInCall, shut_line}
+use Rattle.journal_sending.specs.run_model.OnAir.{ends_phase}
+use Rattle.journal_sending.specs.run_model.Run.{Given, facts_at, history_of, run_of, setup_at, step_of}
+use Rattle.journal_sending.proofs.run_model.LinkEnds.{AreTaken, IsUnderstood}
+use Rattle.journal_sending.proofs.run_model.NoteLines.{line_in_call, number_then, to_line}
+use Rattle.journal_sending.proofs.run_model.Places.{each_at}
+use Rattle.journal_sending.proofs.run_model.Stations.{among, not_before}
+use Rattle.journal_sending.proofs.run_model.Walk.{Place, AtEnds}
+use Rattle.journal_sending.proofs.journal_data.run_laws.Agreed.{ack_of, step_facts}
+use Rattle.journal_sending.proofs.journal_data.run_laws.DistinctAccess.{AreApart}
+use Rattle.journal_sending.proofs.journal_data.run_laws.TurnPlaces.{Between, Within, at_stage}
+use Rattle.journal_sending.proofs.journal_acks.link_calls.CallNotes.{HasNoData, SendsNone, all_more, end_noted, no_data}
+use Rattle.journal_sending.proofs.journal_packets.AccessOrder.{AreNth}
+use Rattle.journal_sending.proofs.journal_packets.SoFar.{IsBelongingSoFar}
+use Rattle.journal_sending.proofs.journal_acks.Counting.{AreKnown, HaveOwnNumbers, plain}
+use Rattle.journal_sending.proofs.journal_acks.EachCall.{HaveCalls, OfCall, run_calls}
+use Rattle.journal_sending.proofs.journal_acks.Exchanging.{exchange_at, notes_counts, number_at}
+use Rattle.journal_sending.proofs.journal_acks.KeptLines.{IsLined}
+use Rattle.journal_sending.proofs.journal_acks.Known.{known_of}
+use Rattle.journal_sending.proofs.journal_acks.SentLines.{line_in_call as sent_line_in_call, sent_line_at}
+use Rattle.journal_sending.proofs.journal_acks.Standing.{PhasedBy, last_phase, phased_at}
+use Rattle.journal_sending.proofs.journal_acks.TwoStations.{IsOfTwo}
+use Rattle.journal_sending.proofs.journal_data.Arriving.{IsEndBooked}
+use Rattle.journal_sending.proofs.journal_data.EachLine.{lines_at}
+use Rattle.journal_sending.proofs.journal_data.EndedLinks.{booked_within, reported_ack}
+use Rattle.journal_sending.proofs.journal_data.Ends.{IsWell}
+use Rattle.journal_sending.proofs.journal_data.FewLinks.{HaveFewLinks}
+use Rattle.journal_sending.proofs.journal_data.KeptData.{own_numbers}
+use Rattle.journal_sending.proofs.journal_data.Openness.{AreNot, handed_not, is_shutting}
+use Rattle.journal_sending.specs.journal_leaving.Reasons.{packets_passed}
+use Rattle.journal_sending.proofs.journal_leaving.QuietTurns.{in_call_passed, is_early, none_passed, passed_at}
+use Rattle.journal_sending.proofs.journal_leaving.ShutCalls.{handed}
+use Rattle.journal_sending.proofs.journal_leaving.ShutLines.{shut_in}
 use Rattle.journal_pdus.specs.Exchanged.{AllAreSettledAsShut}
 use Rattle.journal_pdus.specs.Settled.{IsSettled}
 use Rattle.journal_pdus.proofs.SettledEnds.{settled_end}

@@ -6,8 +6,8 @@ use Rattle.ble_base.specs.declared.verdicts.Verdict.TheVariants.{Good}
 use Rattle.journal.specs.declared.entries.Entry.{Entry}
 use Rattle.journal.specs.declared.entries.Entry.TheVariants.{Air}
 use Rattle.journal.specs.declared.entries.Mark.TheVariants.{Pass as Passed}
-use Rattle.run_model.specs.Links.{is_advertising}
-use Rattle.journal_packets.specs.Belonging.{is_answer}
+use Rattle.journal_sending.specs.run_model.Links.{is_advertising}
+use Rattle.journal_sending.specs.journal_packets.Belonging.{is_answer}
 
 -- a central listens for the answer to its packet, so an answer on a link that passes is judged good
 abbrev pub AllAnswersAreHeard : List Entry → Type 0

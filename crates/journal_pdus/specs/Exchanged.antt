@@ -5,8 +5,8 @@ use Rattle.ble_base.specs.declared.ErrCode.{ErrCode}
 use Rattle.ble_base.specs.declared.roles.Side.{Side}
 use Rattle.journal.specs.declared.entries.Entry.{Entry}
 use Rattle.journal.specs.declared.entries.Entry.TheVariants.{Turn, Sent, Shut}
-use Rattle.journal_acks.specs.Carried.{IsNewPdu}
-use Rattle.journal_leaving.specs.Reasons.{packets_passed}
+use Rattle.journal_sending.specs.journal_acks.Carried.{IsNewPdu}
+use Rattle.journal_sending.specs.journal_leaving.Reasons.{packets_passed}
 use Rattle.journal_sending.specs.Announced.{AllGoOutAtOnce}
 use Rattle.journal_sending.specs.NextPdus.{AllNewPdusAreNext}
 use Rattle.journal_sending.specs.Pending.{AllAreTakenAtOnce}

@@ -5,19 +5,23 @@ use Rattle.ble_base.specs.declared.roles.Side.{Side}
 use Rattle.journal.specs.declared.entries.Entry.{Entry}
 use Rattle.journal.specs.declared.entries.Entry.TheVariants.{Opened}
 use Rattle.radio_replay.specs.Script.{Script}
-use Rattle.journal_links.specs.Entered.{AllAreEntered}
-use Rattle.journal_links.specs.Opened.{IsOpenedInTime}
-use Rattle.journal_packets.specs.Addresses.{AllAddressesAreNext}
-use Rattle.journal_acks.specs.EventOrder.{AllAreInOrder}
-use Rattle.journal_data.specs.Delivered.{AllDataArrives}
-use Rattle.journal_data.specs.Held.{LinesAreOfOpenLinks}
-use Rattle.journal_due.specs.ProcedureLines.{AllIndicationsAreDue, AllProceduresAreDue, NoneIsDue, NoneIsLeftOut}
+use Rattle.journal_sending.specs.journal_links.Entered.{AllAreEntered}
+use Rattle.journal_sending.specs.journal_links.Opened.{IsOpenedInTime}
+use Rattle.journal_sending.specs.journal_packets.Addresses.{AllAddressesAreNext}
+use Rattle.journal_sending.specs.journal_acks.EventOrder.{AllAreInOrder}
+use Rattle.journal_sending.specs.journal_data.Delivered.{AllDataArrives}
+use Rattle.journal_sending.specs.journal_data.Held.{LinesAreOfOpenLinks}
+use Rattle.journal_sending.specs.journal_due.ProcedureLines.{AllIndicationsAreDue, AllProceduresAreDue, NoneIsDue}
+use Rattle.journal_sending.specs.journal_due.ProcedureLines.{NoneIsLeftOut}
+use Rattle.journal_collisions.specs.Collisions.{AllAreRefused, AllAreRejectedNext}
+use Rattle.journal_collisions.specs.journal_agreement.Indications.{AllAreEnteredAlike, AllFollowCentral}
 use Rattle.journal_hearings.specs.Openings.{AllHeardLinksAreOpened, HeardLinksAreOpened, OpenedLinksWereToOpen}
 use Rattle.journal_hearings.specs.Requests.{AllRequestsAreHeard}
-use Rattle.journal_hosts.specs.Answered.{AllAreAnswered}
-use Rattle.journal_hosts.specs.Credits.{AllCreditsAreOfOne, AllCreditsAreOfSome, AllCreditsAscend, AllEarlyCreditsComeAtOnce, AllLateCreditsComeLast}
-use Rattle.journal_hosts.specs.Ends.{AllLateEndsAreReported}
-use Rattle.journal_leaving.specs.Reasons.{AllAreShutAs, AllEndInTime, AllStayOpen}
+use Rattle.journal_sending.specs.journal_hosts.Answered.{AllAreAnswered}
+use Rattle.journal_sending.specs.journal_hosts.Credits.{AllCreditsAreOfOne, AllCreditsAreOfSome, AllCreditsAscend}
+use Rattle.journal_sending.specs.journal_hosts.Credits.{AllEarlyCreditsComeAtOnce, AllLateCreditsComeLast}
+use Rattle.journal_sending.specs.journal_hosts.Ends.{AllLateEndsAreReported}
+use Rattle.journal_sending.specs.journal_leaving.Reasons.{AllAreShutAs, AllEndInTime, AllStayOpen}
 use Rattle.journal_sending.specs.Resting.{IsAtRest}
 use Rattle.journal_slots.specs.SecondSlot.{AllAreContinued}
 use Rattle.journal_turns.specs.Follows.{FollowsSchedule}
@@ -56,6 +60,13 @@ pub record ProcedureLinesAreDue (journal : List Entry) : Type 0 where
   -- before each packet and each turn nothing of the kind is due
   pub none_left_out : NoneIsLeftOut journal
 
+-- what becomes of two procedures that collide on a link
+pub record CollisionsAreRefused (journal : List Entry) : Type 0 where
+  -- the next PDU of the central is the rejection of the peripheral's procedure, or LL_TERMINATE_IND
+  pub rejected : AllAreRejectedNext journal
+  -- a peripheral that takes the rejection says next that its procedure is refused with that error
+  pub refused : AllAreRefused journal
+
 -- a journal of a run of these streams by this script, up to its end or to some place in a turn
 pub record IsLawful (a b : List ℕ) (script : Script) (journal : List Entry) : Type 0 where
   -- its turns, what is fed in them, and the fates of packets are those of the script
@@ -70,6 +81,10 @@ pub record IsLawful (a b : List ℕ) (script : Script) (journal : List Entry) : 
   pub to_open : OpenedLinksWereToOpen journal
   pub entered : AllAreEntered journal
   pub events : AllAreInOrder journal
+  -- each end lets the indications hold that its central sent, and both ends enter an event in one turn, on one channel and
+  -- with equal parameters wherever the same number of them is in force
+  pub follows_central : AllFollowCentral journal
+  pub alike : AllAreEnteredAlike journal
   -- a packet of a link is in the turn of the event that its side entered last, or in the next one
   pub in_events : AllAreInEvents journal
   -- in the next one only where a packet in the turn of the event says that more waits
@@ -83,6 +98,8 @@ pub record IsLawful (a b : List ℕ) (script : Script) (journal : List Entry) : 
   pub resets : ResetsLeaveNoLink journal
   -- each line of a control procedure is due, and each that is due is there
   pub procedure_lines : ProcedureLinesAreDue journal
+  -- of two procedures that collide the peripheral's is rejected, and refused
+  pub collisions : CollisionsAreRefused journal
   -- an answer on a link that passes is heard, and so are requests and responses on the advertising channels
   pub answered : AllAnswersAreHeard journal
   pub requested : AllRequestsAreHeard journal

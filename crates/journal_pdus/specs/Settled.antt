@@ -5,11 +5,12 @@ use Rattle.ble_base.specs.declared.roles.Side.{Side}
 use Rattle.acl_banks.specs.History.{whole_packets}
 use Rattle.acl_banks.specs.Packets.{Marked}
 use Rattle.journal.specs.declared.entries.Entry.{Entry}
-use Rattle.journal_acks.specs.Carried.{SentLine, sent_line_of}
-use Rattle.journal_acks.specs.Exchange.{exchange_of}
-use Rattle.journal_data.specs.Delivered.{host_buffers}
-use Rattle.journal_data.specs.HostLines.{OpenUnder}
-use Rattle.journal_data.specs.Lines.{accepted_on, credited_on, data_on, empties_on, lines_of, pdus_on, received_on}
+use Rattle.journal_sending.specs.journal_acks.Carried.{SentLine, sent_line_of}
+use Rattle.journal_sending.specs.journal_acks.Exchange.{exchange_of}
+use Rattle.journal_sending.specs.journal_data.Delivered.{host_buffers}
+use Rattle.journal_sending.specs.journal_data.HostLines.{OpenUnder}
+use Rattle.journal_sending.specs.journal_data.Lines.{accepted_on, credited_on, data_on, empties_on, lines_of, pdus_on}
+use Rattle.journal_sending.specs.journal_data.Lines.{received_on}
 use Rattle.journal_sending.specs.Outgoing.{data_of_lines}
 
 -- 1 where the PDU of the last `sent` line is not acknowledged: no PDU of its side was, since that line

@@ -4,7 +4,7 @@ use Rattle.std.specs.Prelude.{◌≡◌, ℕ, false, List}
 use Rattle.ble_base.specs.declared.roles.Side.{Side}
 use Rattle.journal.specs.declared.entries.Entry.{Entry}
 use Rattle.radio_replay.specs.Script.{Script}
-use Rattle.run_model.specs.Links.{is_advertising}
+use Rattle.journal_sending.specs.run_model.Links.{is_advertising}
 use Rattle.journal_turns.specs.Stopped.{IsStoppedAt}
 use Rattle.journal_sending.specs.Announced.{announced_pdu, new_pdu_on}
 use Rattle.journal_sending.specs.WhatWaits.{TellsWhatWaits}

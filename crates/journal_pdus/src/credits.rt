@@ -2,9 +2,9 @@
 //! that it rests on: the contract is the law.
 ghost use Rattle.std.specs.Prelude.{◌≡◌, ◌≤◌, ◌∷◌, [], ℕ};
 ghost use Rattle.journal_pdus.specs.AtOnce.{AllAreCreditedAtOnce};
-ghost use Rattle.run_model.specs.Journal.{journal_of};
-ghost use Rattle.run_model.specs.LinkEnds.{HaveAddresses};
-ghost use Rattle.run_model.specs.Run.{Given, history_of, run_of, setup_at};
+ghost use Rattle.journal_sending.specs.run_model.Journal.{journal_of};
+ghost use Rattle.journal_sending.specs.run_model.LinkEnds.{HaveAddresses};
+ghost use Rattle.journal_sending.specs.run_model.Run.{Given, history_of, run_of, setup_at};
 
 /// In the journal of a run of two stations, with any number of links each, before the first packet
 /// of a turn, on each link that a side has open, its host has received all data that the side took,
@@ -17,7 +17,7 @@ pub fn each_complete_packet_is_reported_at_once()
         → ((station : ℕ) → (setup_at given station).host_buffers ≡ 8)
         → AllAreCreditedAtOnce (journal_of (history_of (run_of given))) }
 {
-    controller_model::a_pdu_is_understood();
+    journal_sending::a_pdu_is_understood();
     advertise::laws::connections_are_taken();
     scan_init::laws::searches_give_each_valid_address();
     air_frame::laws::packet_tells_its_pdu();

@@ -2,10 +2,10 @@
 //! The body only calls the laws that it rests on: the contract is the law.
 ghost use Rattle.std.specs.Prelude.{◌≡◌, ℕ, List, length};
 ghost use Rattle.radio_replay.specs.Script.{Script};
-ghost use Rattle.run_model.specs.History.{Event};
-ghost use Rattle.run_model.specs.Journal.{journal_of};
-ghost use Rattle.run_model.specs.Pair.{given_of};
-ghost use Rattle.run_model.specs.Run.{GoesOn, Stop, Stops, history_of, run_of};
+ghost use Rattle.journal_sending.specs.run_model.History.{Event};
+ghost use Rattle.journal_sending.specs.run_model.Journal.{journal_of};
+ghost use Rattle.journal_sending.specs.run_model.Pair.{given_of};
+ghost use Rattle.journal_sending.specs.run_model.Run.{GoesOn, Stop, Stops, history_of, run_of};
 ghost use Rattle.journal_pdus.specs.Lawful.{IsLawful, IsWhole};
 ghost use Rattle.journal_pdus.specs.Undelivered.{IsUndelivered};
 
@@ -18,18 +18,20 @@ use crate::links::{
 /// The journal of a run of a pair, whole or ended by damage, follows its schedule
 /// (`journal_turns::each_journal_follows_its_schedule`). Links and their events are those of their
 /// CONNECT_INDs, each of which has the next access address of its side and opens its link there
-/// before the next turn; each side enters the events of a link one after another, and sends on it
-/// only in the turn of the last one, or in the next turn where MD says that more waits; lines name
-/// links that are open at their side; each link that is shut has its reason, none that is to end
-/// stays open after that turn (`journal_leaving`), and a Reset leaves none; a line of a control
-/// procedure comes where it is due by the lines before and nowhere else (`journal_due`); an answer
-/// on a link that passes is heard, and so are requests on the advertising channels; a side opens a
-/// link as its peripheral exactly where it heard the CONNECT_IND and is to open it
-/// (`journal_hearings`); each command is answered once, and complete packets are reported in their
-/// order (`journal_hosts`); and data arrives in order
+/// before the next turn; each side enters the events of a link one after another, both sides let the
+/// indications of the central hold and enter an event alike (`journal_indications`), and a side
+/// sends only in the turn of the event that it entered last, or in the next turn where MD says that
+/// more waits; lines name links that are open at their side; each link that is shut has its reason,
+/// none that is to end stays open after that turn (`journal_leaving`), and a Reset leaves none; a
+/// line of a control procedure comes where it is due by the lines before and nowhere else
+/// (`journal_due`), and of two procedures that collide the peripheral's is rejected next and
+/// refused (`journal_collisions`); an answer on a link that passes is heard, and so are requests on
+/// the advertising channels; a side opens a link as its peripheral exactly where it heard the
+/// CONNECT_IND and is to open it (`journal_hearings`); each command is answered once, and complete
+/// packets are reported in their order (`journal_hosts`); and data arrives in order
 /// (`journal_data::data_arrives_in_order_in_every_journal`). The packet at which damage ends a run
-/// is due as those before it are. Line by line (Core 5.2, volume 6 part B, sections 2.4, 4.5.6, 4.5.9,
-/// 4.5.10 and 5.1.6, and volume 4 part E, section 7.7.19):
+/// is due as those before it are. Line by line (Core 5.2, volume 6 part B, sections 2.4, 4.5.6,
+/// 4.5.9, 4.5.10 and 5.1.6, and volume 4 part E, section 7.7.19):
 ///
 /// - each packet of a link has the channel, the access address, the CRCInit, SN and NESN that the
 ///   lines before it give, and carries the PDU that its side sent last, until that is acknowledged;
@@ -62,34 +64,38 @@ pub fn each_journal_is_lawful()
         → run_of (given_of a b script) ≡ Stops history stop
         → IsUndelivered script stop.slot stop.place stop.sent stop.heard (journal_of history) }
 {
-    controller_model::a_pdu_is_understood();
+    journal_sending::a_pdu_is_understood();
     advertise::laws::connections_are_taken();
     scan_init::laws::searches_give_each_valid_address();
     air_frame::laws::packet_tells_its_pdu();
     journal_turns::each_journal_follows_its_schedule();
     journal_turns::a_run_stops_in_its_turn();
-    journal_links::each_opened_line_names_its_link();
-    journal_links::each_enter_line_is_at_its_anchor();
-    journal_packets::each_link_has_the_next_address();
-    journal_acks::each_sent_line_is_of_a_new_pdu();
-    journal_acks::each_side_enters_its_events_in_order();
-    journal_data::lines_are_of_open_links_in_every_journal();
-    journal_data::data_arrives_in_order_in_every_journal();
-    journal_due::each_line_of_a_procedure_is_where_it_is_due();
-    journal_leaving::each_shut_line_has_its_reason_by_the_lines();
-    journal_leaving::links_end_in_time_by_the_lines();
+    journal_sending::each_opened_line_names_its_link();
+    journal_sending::each_enter_line_is_at_its_anchor();
+    journal_sending::each_link_has_the_next_address();
+    journal_sending::each_sent_line_is_of_a_new_pdu();
+    journal_sending::each_side_enters_its_events_in_order();
+    journal_sending::lines_are_of_open_links_in_every_journal();
+    journal_sending::data_arrives_in_order_in_every_journal();
+    journal_collisions::ends_follow_their_central_in_every_journal();
+    journal_collisions::ends_enter_each_event_alike_in_every_journal();
+    journal_collisions::colliding_procedures_are_rejected_next();
+    journal_collisions::rejected_procedures_are_refused();
+    journal_sending::each_line_of_a_procedure_is_where_it_is_due();
+    journal_sending::each_shut_line_has_its_reason_by_the_lines();
+    journal_sending::links_end_in_time_by_the_lines();
     journal_sending::each_new_pdu_is_next_by_the_lines();
     journal_sending::each_packet_of_a_link_tells_what_waits();
     journal_sending::the_line_of_each_new_pdu_is_just_before_its_packet();
     journal_sending::each_pdu_is_taken_at_once();
     journal_sending::nothing_is_under_way_between_turns();
     journal_slots::each_second_slot_has_its_reason();
-    journal_hosts::each_command_is_answered();
-    journal_hosts::each_credit_is_of_some_packets();
-    journal_hosts::each_early_credit_is_of_one_packet();
-    journal_hosts::credits_of_a_turn_are_in_the_order_of_handles();
-    journal_hosts::each_late_credit_comes_as_its_turn_ends();
-    journal_hosts::each_late_end_is_reported_at_once();
+    journal_sending::each_command_is_answered();
+    journal_sending::each_credit_is_of_some_packets();
+    journal_sending::each_early_credit_is_of_one_packet();
+    journal_sending::credits_of_a_turn_are_in_the_order_of_handles();
+    journal_sending::each_late_credit_comes_as_its_turn_ends();
+    journal_sending::each_late_end_is_reported_at_once();
     journal_hearings::each_request_is_heard();
     journal_hearings::each_heard_link_is_opened();
     journal_hearings::each_opened_link_was_to_open();

@@ -6,10 +6,10 @@ ghost use Rattle.journal_pdus.specs.Answered.{AllAnswersAreHeard};
 ghost use Rattle.journal_pdus.specs.InEvent.{AllAreInEvents};
 ghost use Rattle.journal_pdus.specs.OpenedLinks.{AllAreOpenedByThen, AreOpened};
 ghost use Rattle.journal_pdus.specs.Resetting.{ResetsLeaveNoLink};
-ghost use Rattle.run_model.specs.History.{Event};
-ghost use Rattle.run_model.specs.Journal.{journal_of};
-ghost use Rattle.run_model.specs.LinkEnds.{HaveAddresses};
-ghost use Rattle.run_model.specs.Run.{Given, GoesOn, history_of, run_of, setup_at};
+ghost use Rattle.journal_sending.specs.run_model.History.{Event};
+ghost use Rattle.journal_sending.specs.run_model.Journal.{journal_of};
+ghost use Rattle.journal_sending.specs.run_model.LinkEnds.{HaveAddresses};
+ghost use Rattle.journal_sending.specs.run_model.Run.{Given, GoesOn, history_of, run_of, setup_at};
 
 /// In the journal of a run of two stations, with any number of links each, each answer on a link
 /// that passes is judged good: who sends first listens for the answer, on the channel of the event,
@@ -18,7 +18,7 @@ pub fn each_answer_on_a_link_is_heard()
     ensures { (given : Given) → given.stations ≡ 0 ∷ 1 ∷ [] → HaveAddresses given
         → AllAnswersAreHeard (journal_of (history_of (run_of given))) }
 {
-    controller_model::a_pdu_is_understood();
+    journal_sending::a_pdu_is_understood();
     advertise::laws::connections_are_taken();
     scan_init::laws::searches_give_each_valid_address();
     air_frame::laws::packet_tells_its_pdu();
@@ -33,7 +33,7 @@ pub fn each_link_is_opened_at_its_central()
     ensures at_the_end { (given : Given) (history : List Event) → given.stations ≡ 0 ∷ 1 ∷ []
         → HaveAddresses given → run_of given ≡ GoesOn history → AreOpened (journal_of history) }
 {
-    controller_model::a_pdu_is_understood();
+    journal_sending::a_pdu_is_understood();
     advertise::laws::connections_are_taken();
 }
 
@@ -45,7 +45,7 @@ pub fn each_packet_is_in_its_event()
     ensures { (given : Given) → given.stations ≡ 0 ∷ 1 ∷ [] → HaveAddresses given
         → AllAreInEvents (journal_of (history_of (run_of given))) }
 {
-    controller_model::a_pdu_is_understood();
+    journal_sending::a_pdu_is_understood();
     advertise::laws::connections_are_taken();
     scan_init::laws::searches_give_each_valid_address();
     air_frame::laws::packet_tells_its_pdu();
@@ -60,7 +60,7 @@ pub fn a_reset_leaves_no_link()
         → ((station : ℕ) → (setup_at given station).host_buffers ≡ 8)
         → ResetsLeaveNoLink (journal_of (history_of (run_of given))) }
 {
-    controller_model::a_pdu_is_understood();
+    journal_sending::a_pdu_is_understood();
     advertise::laws::connections_are_taken();
     scan_init::laws::searches_give_each_valid_address();
     air_frame::laws::packet_tells_its_pdu();

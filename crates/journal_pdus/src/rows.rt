@@ -4,7 +4,8 @@ ghost use Rattle.ble_base.specs.declared.roles.Side.TheVariants.{A, B};
 ghost use Rattle.ble_base.specs.declared.verdicts.Verdict.TheVariants.{Missed};
 ghost use Rattle.journal.specs.declared.entries.Entry.TheVariants.{Air};
 ghost use Rattle.journal.specs.declared.entries.Mark.TheVariants.{Lost as WasLost};
-ghost use Rattle.journal_acks.specs.Rows.{data_acknowledged, data_sent, data_taken, reply_packet};
+ghost use Rattle.journal_sending.specs.journal_acks.Rows.{data_acknowledged, data_sent, data_taken};
+ghost use Rattle.journal_sending.specs.journal_acks.Rows.{reply_packet};
 ghost use Rattle.journal_pdus.specs.Settled.{acked_on};
 
 /// A PDU of data is acknowledged with the reply that reaches its sender, and not before.

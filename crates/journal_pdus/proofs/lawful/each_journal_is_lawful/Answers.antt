@@ -2,13 +2,13 @@
 use Rattle.std.proofs.Common.{◌≤◌, ℕ, zero, suc, List, refl, arith, subst}
 use Rattle.host_view.specs.declared.view.TheConstants.{MOST_LINKS}
 use Rattle.radio_replay.specs.Script.{Script}
-use Rattle.run_model.specs.Run.{history_of, setup_at}
-use Rattle.run_model.specs.Journal.{journal_of, side_of}
-use Rattle.run_model.specs.Pair.{given_of}
-use Rattle.run_model.proofs.LinkEnds.{pair_addresses}
-use Rattle.journal_data.proofs.FewLinks.{pair_links}
-use Rattle.journal_data.proofs.Law.{eight_of}
-use Rattle.journal_due.specs.ProcedureLines.{NoneIsDue}
+use Rattle.journal_sending.specs.run_model.Run.{history_of, setup_at}
+use Rattle.journal_sending.specs.run_model.Journal.{journal_of, side_of}
+use Rattle.journal_sending.specs.run_model.Pair.{given_of}
+use Rattle.journal_sending.proofs.run_model.LinkEnds.{pair_addresses}
+use Rattle.journal_sending.proofs.journal_data.FewLinks.{pair_links}
+use Rattle.journal_sending.proofs.journal_data.Law.{eight_of}
+use Rattle.journal_sending.specs.journal_due.ProcedureLines.{NoneIsDue}
 use Rattle.journal_sending.proofs.TakenInRuns.{some_air}
 use Rattle.journal_pdus.proofs.Law.{journal_settled, journal_settled_as_shut, settled_at_the_end}
 use Rattle.journal_pdus.proofs.lawful.each_journal_is_lawful.Goals as goal
@@ -31,6 +31,8 @@ returns-clause-lawful c = λ a b script six six_too. record {
   to_open = c.each_opened_link_was_to_open.ensures (given_of a b script) refl (pair_addresses a b script six six_too) (pair_links a b script).links (eight_of a b script);
   entered = λ front rest side number event channel at. c.each_enter_line_is_at_its_anchor.ensures a b script front rest side number event channel six six_too at;
   events = λ front rest side number event channel at. c.each_side_enters_its_events_in_order.ensures a b script front rest side number event channel six six_too at;
+  follows_central = c.ends_follow_their_central_in_every_journal.ensures.pair a b script six six_too;
+  alike = c.ends_enter_each_event_alike_in_every_journal.ensures a b script six six_too;
   in_events = c.each_packet_is_in_its_event.ensures (given_of a b script) refl (pair_addresses a b script six six_too);
   continued = c.each_second_slot_has_its_reason.ensures (given_of a b script) refl (pair_addresses a b script six six_too);
   held = c.lines_are_of_open_links_in_every_journal.ensures a b script six six_too;
@@ -41,6 +43,10 @@ returns-clause-lawful c = λ a b script six six_too. record {
     procedures = c.each_line_of_a_procedure_is_where_it_is_due.ensures.procedures (given_of a b script) refl (pair_addresses a b script six six_too);
     indications = c.each_line_of_a_procedure_is_where_it_is_due.ensures.indications (given_of a b script) refl (pair_addresses a b script six six_too);
     none_left_out = c.each_line_of_a_procedure_is_where_it_is_due.ensures.none_left_out (given_of a b script) refl (pair_addresses a b script six six_too);
+  };
+  collisions = record {
+    rejected = c.colliding_procedures_are_rejected_next.ensures.pair a b script six six_too;
+    refused = c.rejected_procedures_are_refused.ensures.pair a b script six six_too;
   };
   answered = c.each_answer_on_a_link_is_heard.ensures (given_of a b script) refl (pair_addresses a b script six six_too);
   requested = c.each_request_is_heard.ensures (given_of a b script) refl (pair_addresses a b script six six_too);
