@@ -1,7 +1,7 @@
 -- What refuses a line of a procedure: none is due; and what refuses the line of an indication: another one is.
 use Rattle.std.proofs.Common.{◌≡◌, nat_eq, false, List, [], Option, Some, None, sym, ap, ◌∙◌}
 use Rattle.journal.specs.declared.entries.Entry.{Entry}
-use Rattle.journal_due.specs.ProcedureLines.{AppliedLine, first_of}
+use Rattle.journal_pdus.specs.journal_due.ProcedureLines.{AppliedLine, first_of}
 use Rattle.wrong_journals.proofs.Differing.{numbers_differ}
 use Rattle.wrong_journals.proofs.Packets.{some_is}
 

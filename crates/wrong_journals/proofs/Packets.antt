@@ -10,7 +10,7 @@ use Rattle.journal_pdus.specs.journal_links.Begun.{LinkBegun, link_numbered}
 use Rattle.journal_pdus.specs.journal_packets.Belonging.{link_of_packet}
 use Rattle.journal_pdus.specs.journal_acks.Carried.{bits_of, carried_of, channel_entered, pdu_octets}
 use Rattle.journal_pdus.specs.journal_acks.Exchange.{exchange_of}
-use Rattle.journal_controls.specs.LineSteps.{control_on}
+use Rattle.journal_pdus.specs.journal_controls.LineSteps.{control_on}
 use Rattle.journal_pdus.specs.journal_data.Delivered.{host_buffers}
 use Rattle.journal_pdus.specs.journal_data.Lines.{lines_of}
 use Rattle.journal_pdus.specs.journal_sending.NextPdus.{IsNextPdu}

@@ -8,11 +8,12 @@ use Rattle.ble_base.specs.declared.verdicts.Verdict.TheVariants.{Good}
 use Rattle.journal.specs.declared.entries.Entry.{Entry}
 use Rattle.journal.specs.declared.entries.Entry.TheVariants.{Air, Began, Done, Enter, Fed, Sent, Took, Up}
 use Rattle.journal.specs.declared.entries.Mark.TheVariants.{Pass}
-use Rattle.journal_controls.specs.Rows.{first_on, version_wanted}
-use Rattle.journal_controls.specs.link_model.Acknowledgement.{Pdu}
-use Rattle.journal_controls.specs.link_model.Controls.{read_of}
-use Rattle.journal_controls.specs.link_model.control_model.Control.{Asks, Control, Disconnects, Enters, Takes, after, after_all}
-use Rattle.journal_controls.specs.link_model.procedure_values.declared.asks.Ask.TheVariants.{Update as ask_update}
+use Rattle.journal_pdus.specs.journal_controls.Rows.{first_on, version_wanted}
+use Rattle.journal_pdus.specs.link_model.Acknowledgement.{Pdu}
+use Rattle.journal_pdus.specs.link_model.Controls.{read_of}
+use Rattle.journal_pdus.specs.link_model.control_model.Control.{Asks, Control, Disconnects, Enters, Takes, after}
+use Rattle.journal_pdus.specs.link_model.control_model.Control.{after_all}
+use Rattle.journal_pdus.specs.link_model.procedure_values.declared.asks.Ask.TheVariants.{Update as ask_update}
 use Rattle.journal_pdus.specs.journal_acks.Rows.{data_heard, host_packet, more_packet, more_reply, second_slot}
 use Rattle.journal_pdus.specs.journal_leaving.Rows.{terminate_packet, terminate_pdu}
 use Rattle.journal_pdus.specs.journal_sending.Rows.{data_reply}
@@ -179,10 +180,10 @@ update_unasked = sent_after second_slot (update_pdu 0x30 0x06)
 
 -- ---- a PDU is taken late
 
--- behind an event to the host
+-- after an event to the host
 abbrev pub taken_after_event : List Entry
 taken_after_event = data_heard ++ Up A (0x04 ∷ 0x10 ∷ 0x01 ∷ 0x00 ∷ []) ∷ Took A 1 1 2 (0xAA ∷ []) ∷ []
 
--- behind the line that a procedure is done on another link
+-- after the line that a procedure is done on another link
 abbrev pub taken_after_done : List Entry
 taken_after_done = data_heard ++ Done A 2 Version ∷ Took A 1 1 2 (0xAA ∷ []) ∷ []

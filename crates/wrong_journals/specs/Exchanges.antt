@@ -6,8 +6,8 @@ use Rattle.ble_base.specs.declared.verdicts.Verdict.TheVariants.{Good, Missed}
 use Rattle.journal.specs.declared.entries.Entry.{Entry}
 use Rattle.journal.specs.declared.entries.Entry.TheVariants.{Air, Fed, Sent, Took, Up}
 use Rattle.journal.specs.declared.entries.Mark.TheVariants.{Lost, Pass}
-use Rattle.journal_controls.specs.Rows.{first_on}
-use Rattle.journal_controls.specs.link_model.control_model.Control.{Control, Enters, after}
+use Rattle.journal_pdus.specs.journal_controls.Rows.{first_on}
+use Rattle.journal_pdus.specs.link_model.control_model.Control.{Control, Enters, after}
 use Rattle.run_model.specs.Rows.{one_event_journal, turn_entry}
 use Rattle.journal_pdus.specs.journal_acks.Rows.{central_says_more, data_heard, data_packet, data_sent, data_taken, host_packet, second_slot}
 use Rattle.journal_pdus.specs.journal_slots.Rows.{next_packet}

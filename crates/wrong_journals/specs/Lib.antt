@@ -1,4 +1,5 @@
 -- The journals of this crate.
+pub mod Alike
 pub mod Answers
 pub mod Commanded
 pub mod Events

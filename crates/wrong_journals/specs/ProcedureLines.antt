@@ -7,11 +7,12 @@ use Rattle.ble_base.specs.declared.roles.Role.TheVariants.{Central, Peripheral}
 use Rattle.ble_base.specs.declared.roles.Side.TheVariants.{A, B}
 use Rattle.journal.specs.declared.entries.Entry.{Entry}
 use Rattle.journal.specs.declared.entries.Entry.TheVariants.{Applied, Began, Done, Enter, Refused, Sent, Took}
-use Rattle.journal_controls.specs.Rows.{first_on, version_sent, version_wanted}
-use Rattle.journal_controls.specs.link_model.Acknowledgement.{Pdu}
-use Rattle.journal_controls.specs.link_model.Controls.{read_of}
-use Rattle.journal_controls.specs.link_model.control_model.Control.{Asks, Control, Enters, Sends, Takes, after_all}
-use Rattle.journal_controls.specs.link_model.procedure_values.declared.asks.Ask.TheVariants.{Features as ask_features, Map as ask_map}
+use Rattle.journal_pdus.specs.journal_controls.Rows.{first_on, version_sent, version_wanted}
+use Rattle.journal_pdus.specs.link_model.Acknowledgement.{Pdu}
+use Rattle.journal_pdus.specs.link_model.Controls.{read_of}
+use Rattle.journal_pdus.specs.link_model.control_model.Control.{Asks, Control, Enters, Sends, Takes, after_all}
+use Rattle.journal_pdus.specs.link_model.procedure_values.declared.asks.Ask.TheVariants.{Features as ask_features}
+use Rattle.journal_pdus.specs.link_model.procedure_values.declared.asks.Ask.TheVariants.{Map as ask_map}
 use Rattle.journal_pdus.specs.journal_acks.Rows.{second_slot}
 use Rattle.run_model.specs.Rows.{one_connection_journal, one_event_journal, turn_entry}
 use Rattle.wrong_journals.specs.Events.{turn_entries}

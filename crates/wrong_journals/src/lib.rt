@@ -2,6 +2,7 @@
 //! its law names. No code.
 #![tactic(auto)]
 
+mod alike;
 mod answers;
 mod commanded;
 mod events;
@@ -18,6 +19,7 @@ mod slots;
 mod turns;
 mod unanswered;
 
+pub use crate::alike::ends_that_differ_are_refused;
 pub use crate::answers::{missed_answers_are_refused, unopened_links_are_refused};
 pub use crate::commanded::{
     late_taking_is_refused, wrong_more_bits_are_refused, wrong_pdus_are_refused,

@@ -18,7 +18,7 @@ use Rattle.journal_pdus.specs.journal_links.Begun.{links_begun}
 use Rattle.journal_pdus.specs.journal_packets.Belonging.{is_answer, link_of_packet}
 use Rattle.journal_pdus.specs.journal_acks.Carried.{sent_line_of}
 use Rattle.journal_pdus.specs.journal_acks.Exchange.{exchange_of}
-use Rattle.journal_controls.specs.LineSteps.{control_on}
+use Rattle.journal_pdus.specs.journal_controls.LineSteps.{control_on}
 use Rattle.journal_pdus.specs.journal_data.Lines.{PduLine, lines_of}
 use Rattle.journal_pdus.specs.journal_acks.Rows.{data_heard}
 use Rattle.journal_pdus.specs.journal_leaving.Leaving.{leaving_on}

@@ -22,7 +22,7 @@ use Rattle.journal_pdus.specs.journal_acks.Exchange.{exchange_of}
 use Rattle.journal_pdus.specs.journal_data.Lines.{lines_of}
 use Rattle.data_pdu.specs.Layouts.{makers}
 use Rattle.data_pdu.specs.Reading.{ctrl_of, length_of}
-use Rattle.journal_controls.specs.LineSteps.{control_on}
+use Rattle.journal_pdus.specs.journal_controls.LineSteps.{control_on}
 use Rattle.journal_pdus.specs.journal_sending.journal_fixing.OnLines.{fixing_kept}
 use Rattle.journal_pdus.specs.journal_acks.Rows.{data_packet, data_sent, second_slot}
 use Rattle.wrong_journals.specs.Exchanges.{central_entered, data_as_first, data_on_another, data_with_more, empty_with_more, other_data, two_submitted}

@@ -22,7 +22,7 @@ use Rattle.journal_pdus.specs.journal_data.Lines.{PduLine, lines_of}
 use Rattle.journal_pdus.specs.journal_sending.Announced.{announced_pdu}
 use Rattle.data_pdu.specs.Layouts.{makers}
 use Rattle.data_pdu.specs.Reading.{ctrl_of, length_of}
-use Rattle.journal_controls.specs.LineSteps.{control_on}
+use Rattle.journal_pdus.specs.journal_controls.LineSteps.{control_on}
 use Rattle.journal_pdus.specs.journal_sending.journal_fixing.OnLines.{fixing_kept, going_kept}
 use Rattle.run_model.specs.Rows.{one_event_journal, turn_entry}
 use Rattle.journal_pdus.specs.journal_acks.Rows.{data_sent, second_slot}

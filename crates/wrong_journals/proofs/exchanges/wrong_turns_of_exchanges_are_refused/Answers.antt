@@ -21,7 +21,7 @@ use Rattle.journal_pdus.specs.journal_sending.Announced.{announced_pdu}
 use Rattle.journal_pdus.specs.journal_sending.Pending.{pending_pdu}
 use Rattle.data_pdu.specs.Layouts.{makers}
 use Rattle.data_pdu.specs.Reading.{ctrl_of, length_of}
-use Rattle.journal_controls.specs.LineSteps.{control_on}
+use Rattle.journal_pdus.specs.journal_controls.LineSteps.{control_on}
 use Rattle.journal_pdus.specs.journal_leaving.Leaving.{leaving_on}
 use Rattle.journal_pdus.specs.journal_acks.Rows.{data_heard, data_packet}
 use Rattle.wrong_journals.specs.Exchanges.{sent_in_first_slot}

@@ -12,13 +12,13 @@ use Rattle.data_pdu.specs.Reading.{ctrl_of, length_of}
 use Rattle.frame_bits.specs.Crc.{crc, crc_octets, crc_of_bits, remainder}
 use Rattle.frame_bits.specs.Whitening.{mask_of, next_mask, whitening_bit, whitening_of}
 use Rattle.journal.specs.declared.entries.Entry.TheVariants.{Applied, Began, Done, Enter, Refused}
-use Rattle.journal_controls.specs.LineSteps.{control_on}
-use Rattle.journal_controls.specs.LinesDue.{lines_due}
-use Rattle.journal_controls.specs.Rows.{version_sent}
+use Rattle.journal_pdus.specs.journal_controls.LineSteps.{control_on}
+use Rattle.journal_pdus.specs.journal_controls.LinesDue.{lines_due}
+use Rattle.journal_pdus.specs.journal_controls.Rows.{version_sent}
 use Rattle.journal_pdus.specs.controller_model.Packets.{pdu_heard}
 use Rattle.journal_pdus.specs.journal_acks.Carried.{sent_line_of}
 use Rattle.journal_pdus.specs.journal_acks.Exchange.{exchange_of}
-use Rattle.journal_due.specs.ProcedureLines.{applied_by, applied_last, applied_line}
+use Rattle.journal_pdus.specs.journal_due.ProcedureLines.{applied_by, applied_last, applied_line}
 use Rattle.journal_pdus.specs.journal_links.Begun.{links_begun}
 use Rattle.journal_pdus.specs.journal_packets.Belonging.{is_answer, link_of_packet}
 use Rattle.run_model.specs.Rows.{one_connection_journal, one_event_journal, turn_entry}

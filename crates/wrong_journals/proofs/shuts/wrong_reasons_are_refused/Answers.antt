@@ -10,7 +10,7 @@ use Rattle.data_pdu.specs.Reading.{ctrl_of}
 use Rattle.frame_bits.specs.Crc.{crc, crc_octets, crc_of_bits, remainder}
 use Rattle.frame_bits.specs.Whitening.{mask_of, next_mask, whitening_bit, whitening_of}
 use Rattle.h4_frames.specs.Frames.{frames}
-use Rattle.journal_controls.specs.LineSteps.{control_on}
+use Rattle.journal_pdus.specs.journal_controls.LineSteps.{control_on}
 use Rattle.journal_pdus.specs.controller_model.Packets.{pdu_heard}
 use Rattle.wire_fields.specs.Field.{little_endian}
 use Rattle.journal_pdus.specs.journal_acks.Carried.{sent_line_of}
