@@ -1,18 +1,19 @@
 -- An accepted command may come on its link, and the view knows the end after it.
-use Rattle.std.proofs.Common.{◌≡◌, ℕ, ◌<◌, ◌^◌, ◌+◌, ◌==◌, Bool, true, false, ◌&&◌, ◌||◌, not, if◌then◌else◌, [], ◌∷◌, length, nat_le, nat_lt, Option, Some, None, Result, Ok, Err, is_some, refl, ap, sym, ◌∙◌, subst, arith, eqb-true}
+use Rattle.std.proofs.Common.{◌≡◌, ℕ, ◌<◌, ◌^◌, ◌+◌, ◌%◌, ◌==◌, Bool, true, false, ◌&&◌, ◌||◌, not, if◌then◌else◌, List, [], ◌∷◌, length, nat_le, nat_lt, Option, Some, None, Result, Ok, Err, is_some, refl, ap, sym, ◌∙◌, subst, arith, eqb-true}
 use Rattle.std.proofs.lemmas.Bool.Decides.{nat_tests}
+use Rattle.ble_base.specs.Bits.{has_bit}
 use Rattle.ble_base.specs.ChannelMap.{IsMap, used_channels}
 use Rattle.ble_base.specs.declared.error_codes.ErrCode.{ErrCode}
 use Rattle.ble_base.specs.declared.procedure_kinds.Kind.{Kind}
-use Rattle.ble_base.specs.declared.procedure_kinds.Kind.TheVariants.{Features as features_kind, Length as length_kind, Map as map_kind, Version as version_kind}
+use Rattle.ble_base.specs.declared.procedure_kinds.Kind.TheVariants.{Features as features_kind, Length as length_kind, Map as map_kind, Phy as phy_kind, Version as version_kind}
 use Rattle.ble_base.specs.declared.roles.Role.{Role}
 use Rattle.ble_base.specs.declared.roles.Role.TheVariants.{Central, Peripheral}
 use Rattle.hci_cmd.specs.declared.command.Command.{Command}
-use Rattle.hci_cmd.specs.declared.command.Command.TheVariants.{Disconnect, LeConnectionUpdate, LeParamNegative, LeParamReply, LeReadRemoteFeatures, LeSetChannels, LeSetDataLength, ReadRemoteVersion}
+use Rattle.hci_cmd.specs.declared.command.Command.TheVariants.{Disconnect, LeConnectionUpdate, LeParamNegative, LeParamReply, LeReadRemoteFeatures, LeSetChannels, LeSetDataLength, LeSetPhy, ReadRemoteVersion}
 use Rattle.exclusive_stages.specs.declared.stages.PeerAtCentral.{PeerAtCentral}
 use Rattle.exclusive_stages.specs.declared.stages.PeerAtCentral.TheVariants.{Absent, GrantUnsent}
 use Rattle.open_links.specs.procedure_values.declared.asks.Ask.{Ask}
-use Rattle.open_links.specs.procedure_values.declared.asks.Ask.TheVariants.{Features, Length, Map, Request, Update, Version}
+use Rattle.open_links.specs.procedure_values.declared.asks.Ask.TheVariants.{Features, Length, Map, Phy, Request, Update, Version}
 use Rattle.open_links.specs.procedure_values.Asks.{is_same_kind, kind_of_ask}
 use Rattle.open_links.specs.procedure_values.Wants.{count_of}
 use Rattle.procedure_events.specs.procedure_stages.declared.closing.Closing.{Closing}
@@ -43,10 +44,10 @@ use Rattle.host_view.specs.View.{View}
 use Rattle.host_view.specs.declared.links.Asked.{Asked}
 use Rattle.host_view.specs.Changes.{answered, asking, with_asked}
 use Rattle.host_view.specs.Links.{is_asked, link_in, update_kind}
-use Rattle.host_view.specs.Refusals.{are_parameters, asked_row, count_if, first_refusal, link_rows, parameters_row}
+use Rattle.host_view.specs.Refusals.{are_parameters, asked_row, both_phys_rows, count_if, first_refusal, link_rows, parameters_row}
 use Rattle.host_view.specs.Status.{connection_update_rows, data_length_rows, disconnect_rows, is_data_length, is_reason, parameter_request_row, rows_of}
 use Rattle.link_commands.proofs.Ranges.{length_fits, map_fits, not_not, params_fit, passes}
-use Rattle.link_commands.specs.Commands.{FitsReason, answered_if, ask_unless, facts_commanded, host_step_of, is_about, link_commanded, map_by, transmit_maximum, update_by}
+use Rattle.link_commands.specs.Commands.{answered_if, ask_unless, facts_commanded, host_step_of, is_about, link_commanded, map_by, transmit_maximum, update_by}
 use Rattle.host_asks.specs.Commands.{MayComeIf}
 use Rattle.host_asks.specs.Knowing.{KnowsAsks, KnowsTable}
 use Rattle.host_asks.specs.Noting.{effect_after, is_of_host, link_after_step, link_after_notes, link_with_request}
@@ -172,6 +173,9 @@ answer_knows link facts answer waits answers knows lasts =
 reason_fits : (reason : ℕ) → is_reason reason ≡ true → reason < 256
 reason_fits reason is = grind (arith, nat_tests)
 
+octet_fits : (reason : ℕ) → reason % 256 < 256
+octet_fits reason = omega arith
+
 request_fits : (min max latency timeout : ℕ) → are_parameters min max latency timeout ≡ true → RequestFits min max latency timeout
 request_fits min max latency timeout are =
     record {
@@ -183,8 +187,8 @@ request_fits min max latency timeout are =
 
 -- ---- what a command does on its link
 
-pub record IsCarriedOut (setup : Setup) (fits : Type 0) (step : Option Step) (after : Link) (facts : Facts) : Type 0 where
-  pub may : fits → MayComeIf step facts
+pub record IsCarriedOut (setup : Setup) (step : Option Step) (after : Link) (facts : Facts) : Type 0 where
+  pub may : MayComeIf step facts
   pub keeps : (facts_commanded setup step facts).control.ends ≡ None → KnowsAsks after (facts_commanded setup step facts)
 
 may_by : (x same known : Bool) → x ≡ true → (same && known) ≡ false → (false || (x && not (same && known))) ≡ true
@@ -194,10 +198,10 @@ may_by x same known is none = rw (is, none) refl
 asks_out : (setup : Setup) (link : Link) (facts : Facts) (ask : Ask) → KnowsAsks link facts → is_asked (kind_of_ask ask) link.asked ≡ false
     → AskFits ask → asks_no_encryption ask ≡ true → is_same_kind (kind_of_ask ask) map_kind ≡ false → is_map ask ≡ false
     → (is_same_kind (kind_of_ask ask) version_kind && is_some facts.peer.version) ≡ false → is_to_come ask facts ≡ false
-    → (F : Type 0) → IsCarriedOut setup F (Some (ProcedureAsked ask)) (asking (kind_of_ask ask) link) facts
-asks_out setup link facts ask knows new fits plain other no_map unknown comes F =
+    → IsCarriedOut setup (Some (ProcedureAsked ask)) (asking (kind_of_ask ask) link) facts
+asks_out setup link facts ask knows new fits plain other no_map unknown comes =
     record {
-      may = λ fits_too.
+      may =
           record {
             in_range = fits;
             plain = plain;
@@ -220,10 +224,10 @@ asked_again k kind asked new other =
     by false is = asked_with k kind true asked other ∙ ap (λ (b : Bool). if b then true else is_asked kind asked) is
 
 known_out : (setup : Setup) (link : Link) (facts : Facts) (k : Kind) → KnowsAsks link facts → is_asked k link.asked ≡ false
-    → (F : Type 0) → IsCarriedOut setup F None (answered k (asking k link)) facts
-known_out setup link facts k knows new F =
+    → IsCarriedOut setup None (answered k (asking k link)) facts
+known_out setup link facts k knows new =
     record {
-      may = λ fits. tt;
+      may = tt;
       keeps = λ lasts.
           record {
             table =
@@ -240,28 +244,34 @@ known_out setup link facts k knows new F =
 
 version_out : (setup : Setup) (link : Link) (facts : Facts) (known : Bool) → is_some facts.peer.version ≡ known → KnowsAsks link facts
     → is_asked version_kind link.asked ≡ false
-    → (F : Type 0) → IsCarriedOut setup F (ask_unless known Version) (answered_if known version_kind (asking version_kind link)) facts
-version_out setup link facts true is knows new F = known_out setup link facts version_kind knows new F
-version_out setup link facts false is knows new F = asks_out setup link facts Version knows new tt refl refl refl is refl F
+    → IsCarriedOut setup (ask_unless known Version) (answered_if known version_kind (asking version_kind link)) facts
+version_out setup link facts true is knows new = known_out setup link facts version_kind knows new
+version_out setup link facts false is knows new = asks_out setup link facts Version knows new tt refl refl refl is refl
 
 features_out : (setup : Setup) (link : Link) (facts : Facts) (known : Bool) → KnowsAsks link facts → is_asked features_kind link.asked ≡ false
-    → (F : Type 0) → IsCarriedOut setup F (ask_unless known Features) (answered_if known features_kind (asking features_kind link)) facts
-features_out setup link facts true knows new F = known_out setup link facts features_kind knows new F
-features_out setup link facts false knows new F = asks_out setup link facts Features knows new tt refl refl refl refl refl F
+    → IsCarriedOut setup (ask_unless known Features) (answered_if known features_kind (asking features_kind link)) facts
+features_out setup link facts true knows new = known_out setup link facts features_kind knows new
+features_out setup link facts false knows new = asks_out setup link facts Features knows new tt refl refl refl refl refl
 
 update_out : (setup : Setup) (link : Link) (facts : Facts) (role : Role) (min max latency timeout : ℕ) → KnowsAsks link facts
     → are_parameters min max latency timeout ≡ true → is_asked (update_kind role) link.asked ≡ false
-    → (F : Type 0) → IsCarriedOut setup F (Some (ProcedureAsked (update_by role min max latency timeout))) (asking (update_kind role) link) facts
-update_out setup link facts Central min max latency timeout knows are new F =
-    asks_out setup link facts (Update max latency timeout) knows new (params_fit min max latency timeout are) refl refl refl refl refl F
-update_out setup link facts Peripheral min max latency timeout knows are new F =
-    asks_out setup link facts (Request min max latency timeout) knows new (request_fits min max latency timeout are) refl refl refl refl refl F
+    → IsCarriedOut setup (Some (ProcedureAsked (update_by role min max latency timeout))) (asking (update_kind role) link) facts
+update_out setup link facts Central min max latency timeout knows are new =
+    asks_out setup link facts (Update max latency timeout) knows new (params_fit min max latency timeout are) refl refl refl refl refl
+update_out setup link facts Peripheral min max latency timeout knows are new =
+    asks_out setup link facts (Request min max latency timeout) knows new (request_fits min max latency timeout are) refl refl refl refl refl
 
 map_out : (setup : Setup) (link : Link) (facts : Facts) (role : Role) (map : ℕ) → KnowsAsks link facts → IsMap map
-    → (F : Type 0) → IsCarriedOut setup F (map_by role map) link facts
-map_out setup link facts Central map knows is F =
-    record { may = λ fits. record { in_range = is; plain = refl; may = refl }; keeps = λ lasts. map_knows link facts map knows lasts }
-map_out setup link facts Peripheral map knows is F = record { may = λ fits. tt; keeps = λ lasts. knows }
+    → IsCarriedOut setup (map_by role map) link facts
+map_out setup link facts Central map knows is =
+    record { may = record { in_range = is; plain = refl; may = refl }; keeps = λ lasts. map_knows link facts map knows lasts }
+map_out setup link facts Peripheral map knows is = record { may = tt; keeps = λ lasts. knows }
+
+-- the rows of a choice of PHYs do not hold
+phys_pass : (all tx rx : ℕ) (rows : List (Bool × ℕ)) → first_refusal (both_phys_rows all tx rx rows) ≡ 0 → first_refusal rows ≡ 0
+phys_pass all tx rx rows ok =
+    let transmit = passes (not (has_bit all 0) && (tx == 0)) _ _ (passes (not (has_bit all 0) && nat_lt 1 tx) _ _ ok).1 in
+    (passes (not (has_bit all 1) && (rx == 0)) _ _ (passes (not (has_bit all 1) && nat_lt 1 rx) _ _ transmit.1).1).1
 
 -- ---- by command
 
@@ -272,14 +282,14 @@ given_link view given handle link same is = subst (λ (h : ℕ). link_in view.li
 pub carried_out : (setup : Setup) (view : View) (command : Command) (handle slot : ℕ) (link : Link) (facts : Facts)
     → first_refusal (rows_of view command) ≡ 0 → is_about handle command ≡ true → link_in view.links handle ≡ Some link
     → KnowsAsks link facts
-    → IsCarriedOut setup (FitsReason command) (host_step_of command slot link.role facts.peer) (link_commanded command facts.peer link) facts
+    → IsCarriedOut setup (host_step_of command slot link.role facts.peer) (link_commanded command facts.peer link) facts
 carried_out setup view (Disconnect given reason) handle slot link facts ok about is knows =
     let rows =
     passes link.disconnecting _ _
     (subst (λ (l : Option Link). first_refusal (disconnect_rows l reason) ≡ 0) (given_link view given handle link about is) ok)
     in
     record {
-      may = λ fits. reason_fits reason (not_not (is_reason reason) (passes (not (is_reason reason)) _ _ rows.1).0);
+      may = reason_fits reason (not_not (is_reason reason) (passes (not (is_reason reason)) _ _ rows.1).0);
       keeps = λ lasts. disconnect_knows link facts (record { 0 = reason }) slot knows lasts;
     }
 carried_out setup view (ReadRemoteVersion given) handle slot link facts ok about is knows =
@@ -287,13 +297,13 @@ carried_out setup view (ReadRemoteVersion given) handle slot link facts ok about
     passes link.disconnecting _ _
     (subst (λ (l : Option Link). first_refusal (link_rows l (asked_row version_kind l ∷ [])) ≡ 0) (given_link view given handle link about is) ok)
     in
-    version_out setup link facts (is_some facts.peer.version) refl knows (passes (is_asked version_kind link.asked) _ _ rows.1).0 _
+    version_out setup link facts (is_some facts.peer.version) refl knows (passes (is_asked version_kind link.asked) _ _ rows.1).0
 carried_out setup view (LeReadRemoteFeatures given) handle slot link facts ok about is knows =
     let rows =
     passes link.disconnecting _ _
     (subst (λ (l : Option Link). first_refusal (link_rows l (asked_row features_kind l ∷ [])) ≡ 0) (given_link view given handle link about is) ok)
     in
-    features_out setup link facts (is_some facts.peer.features) knows (passes (is_asked features_kind link.asked) _ _ rows.1).0 _
+    features_out setup link facts (is_some facts.peer.features) knows (passes (is_asked features_kind link.asked) _ _ rows.1).0
 carried_out setup view (LeSetDataLength given most time) handle slot link facts ok about is knows =
     let rows =
     passes link.disconnecting _ _
@@ -301,7 +311,7 @@ carried_out setup view (LeSetDataLength given most time) handle slot link facts 
     in
     let long = passes (not (is_data_length most time)) _ _ rows.1 in
     asks_out setup link facts (Length (transmit_maximum most time)) knows (passes (is_asked length_kind link.asked) _ _ long.1).0
-    (length_fits most time (not_not (is_data_length most time) long.0)) refl refl refl refl refl _
+    (length_fits most time (not_not (is_data_length most time) long.0)) refl refl refl refl refl
 carried_out setup view (LeConnectionUpdate given min max latency timeout lengths) handle slot link facts ok about is knows =
     let rows =
     passes link.disconnecting _ _
@@ -309,9 +319,15 @@ carried_out setup view (LeConnectionUpdate given min max latency timeout lengths
     in
     let valid = passes (not (are_parameters min max latency timeout)) _ _ rows.1 in
     update_out setup link facts link.role min max latency timeout knows (not_not (are_parameters min max latency timeout) valid.0)
-    (passes (is_asked (update_kind link.role) link.asked) _ _ valid.1).0 _
+    (passes (is_asked (update_kind link.role) link.asked) _ _ valid.1).0
 carried_out setup view (LeSetChannels map) handle slot link facts ok about is knows =
-    map_out setup link facts link.role map knows (map_fits map (passes (nat_lt (length (used_channels map)) 2 || nat_le (2 ^ 37) map) _ _ ok).0) _
+    map_out setup link facts link.role map knows (map_fits map (passes (nat_lt (length (used_channels map)) 2 || nat_le (2 ^ 37) map) _ _ ok).0)
+carried_out setup view (LeSetPhy given all tx rx options) handle slot link facts ok about is knows =
+    let rows =
+    passes link.disconnecting _ _
+    (subst (λ (l : Option Link). first_refusal (link_rows l (both_phys_rows all tx rx (asked_row phy_kind l ∷ []))) ≡ 0) (given_link view given handle link about is) ok)
+    in
+    asks_out setup link facts Phy knows (passes (is_asked phy_kind link.asked) _ _ (phys_pass all tx rx (asked_row phy_kind (Some link) ∷ []) rows.1)).0 tt refl refl refl refl refl
 carried_out setup view (LeParamReply given min max latency timeout lengths) handle slot link facts ok about is knows =
     let rows =
     passes link.disconnecting _ _
@@ -319,18 +335,18 @@ carried_out setup view (LeParamReply given min max latency timeout lengths) hand
     in
     let waits = passes (not link.waits_for_parameters) _ _ rows.1 in
     record {
-      may = λ fits. params_fit min max latency timeout (not_not (are_parameters min max latency timeout) (passes (not (are_parameters min max latency timeout)) _ _ waits.1).0);
+      may = params_fit min max latency timeout (not_not (are_parameters min max latency timeout) (passes (not (are_parameters min max latency timeout)) _ _ waits.1).0);
       keeps = λ lasts. answer_knows link facts (Ok (Update max latency timeout)) false refl knows lasts;
     }
 carried_out setup view (LeParamNegative given reason) handle slot link facts ok about is knows =
-    record { may = λ fits. fits; keeps = λ lasts. answer_knows link facts (Err (record { 0 = reason })) false refl knows lasts }
+    record { may = octet_fits reason; keeps = λ lasts. answer_knows link facts (Err (record { 0 = reason % 256 })) false refl knows lasts }
 carried_out setup view other handle slot link facts ok about is knows = absurd (cc)
 
 pub command_may_come : (view : View) (command : Command) (handle slot : ℕ) (link : Link) (facts : Facts)
-    → first_refusal (rows_of view command) ≡ 0 → FitsReason command → is_about handle command ≡ true → link_in view.links handle ≡ Some link
+    → first_refusal (rows_of view command) ≡ 0 → is_about handle command ≡ true → link_in view.links handle ≡ Some link
     → KnowsAsks link facts → MayComeIf (host_step_of command slot link.role facts.peer) facts
-command_may_come view command handle slot link facts ok fits about is knows =
-    (carried_out (central_with 0) view command handle slot link facts ok about is knows).may fits
+command_may_come view command handle slot link facts ok about is knows =
+    (carried_out (central_with 0) view command handle slot link facts ok about is knows).may
 
 pub command_keeps : (setup : Setup) (view : View) (command : Command) (handle slot : ℕ) (link : Link) (facts : Facts)
     → first_refusal (rows_of view command) ≡ 0 → is_about handle command ≡ true → link_in view.links handle ≡ Some link

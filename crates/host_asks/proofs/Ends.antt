@@ -121,7 +121,7 @@ leaving_stays : (code : Option ErrCode) (leaving : Leaving) → (leaving_by code
 leaving_stays None leaving = refl
 leaving_stays (Some code) leaving = refl
 
-gone_leaving : (goes : Bool) (slot : ℕ) (facts : Facts) → (control_gone_if goes slot facts).leaving ≡ facts.leaving
+pub gone_leaving : (goes : Bool) (slot : ℕ) (facts : Facts) → (control_gone_if goes slot facts).leaving ≡ facts.leaving
 gone_leaving true slot facts = refl
 gone_leaving false slot facts = refl
 

@@ -31,7 +31,7 @@ use Rattle.host_view.specs.View.{View}
 use Rattle.host_view.specs.Changes.{on_link}
 use Rattle.host_view.specs.Links.{link_in}
 use Rattle.host_view.specs.Noted.{after_packet, event_handle, acl_handle, is_acl_data, is_le_event, view_noted}
-use Rattle.link_commands.specs.Commands.{FitsReason, answered_if, ask_unless, facts_commanded, host_step_of, is_about, is_read_of_peer, link_accepted, link_answered, link_commanded}
+use Rattle.link_commands.specs.Commands.{answered_if, ask_unless, facts_commanded, host_step_of, is_about, is_read_of_peer, link_accepted, link_answered, link_commanded}
 use Rattle.host_asks.specs.Commands.{MayComeIf}
 use Rattle.host_asks.specs.Knowing.{KnowsAsks}
 use Rattle.host_asks.specs.Noting.{effect_after, is_of_host, link_after_notes, link_after_note, link_with_request}
@@ -219,12 +219,12 @@ answered_by view (ReadRemoteVersion given) handle peer link is = known_if view h
 answered_by view (LeReadRemoteFeatures given) handle peer link is = known_if view handle (is_some peer.features) Features link is
 answered_by view other handle peer link is = is
 
-pub command_may : (view : View) (command : Command) (handle slot : ℕ) (facts : Facts) → first_refusal (rows_of view command) ≡ 0 → FitsReason command
+pub command_may : (view : View) (command : Command) (handle slot : ℕ) (facts : Facts) → first_refusal (rows_of view command) ≡ 0
     → is_about handle command ≡ true → KnowsAt view handle facts
     → MayComeIf (host_step_of command slot (role_of facts.control.table.progress) facts.peer) facts
-command_may view command handle slot facts ok fits about known =
+command_may view command handle slot facts ok about known =
     subst (λ (role : Role). MayComeIf (host_step_of command slot role facts.peer) facts) (sym known.knows.table.role)
-    (command_may_come view command handle slot known.link facts ok fits about known.is_open known.knows)
+    (command_may_come view command handle slot known.link facts ok about known.is_open known.knows)
 
 pub command_known : (view : View) (setup : Setup) (command : Command) (slot : ℕ) (facts : Facts) → first_refusal (rows_of view command) ≡ 0
     → is_about setup.link.handle command ≡ true → KnowsAt view setup.link.handle facts

@@ -12,4 +12,3 @@ pub mod StepsListed
 pub mod OpenLinksKnown
 pub mod OpenLinksGoing
 pub mod PairsCommanded
-pub mod ReasonsRead

@@ -183,6 +183,7 @@ command_own view (LeReadRemoteFeatures given) handle about = about_own view give
 command_own view (LeSetDataLength given most time) handle about = about_own view given handle _ about
 command_own view (LeConnectionUpdate given min max latency timeout lengths) handle about = about_own view given handle _ about
 command_own view (LeSetChannels map) handle about = same_link (link_in view.links handle)
+command_own view (LeSetPhy given all tx rx options) handle about = about_own view given handle _ about
 command_own view (LeParamReply given min max latency timeout lengths) handle about = about_own view given handle _ about
 command_own view (LeParamNegative given reason) handle about = about_own view given handle _ about
 command_own view other handle about = absurd (cc)
@@ -204,12 +205,12 @@ command_other view (LeSetDataLength given most time) handle about leaves = about
 command_other view (LeConnectionUpdate given min max latency timeout lengths) handle about leaves = about_other view given handle _ about
 command_other view (LeParamReply given min max latency timeout lengths) handle about leaves = about_other view given handle _ about
 command_other view (LeParamNegative given reason) handle about leaves = about_other view given handle _ about
+command_other view (LeSetPhy given all tx rx options) handle about leaves = about_other view given handle _ about
 command_other view Reset handle about leaves = absurd (cc)
 command_other view (HostCompleted counts) handle about leaves = absurd (cc)
 command_other view (LeEnableEncryption given rand ediv key) handle about leaves = absurd (cc)
 command_other view (LeKeyReply given key) handle about leaves = absurd (cc)
 command_other view (LeKeyNegative given) handle about leaves = absurd (cc)
-command_other view (LeSetPhy given all tx rx options) handle about leaves = absurd (cc)
 command_other view other handle about leaves = refl
 
 -- ---- a link is opened

@@ -17,7 +17,7 @@ use Rattle.host_view.specs.View.{View}
 use Rattle.host_view.specs.Changes.{view_after}
 use Rattle.host_view.specs.Refusals.{first_refusal}
 use Rattle.host_view.specs.Status.{rows_of}
-use Rattle.link_commands.specs.Commands.{FitsReason, facts_commanded, host_step_of, is_about}
+use Rattle.link_commands.specs.Commands.{facts_commanded, host_step_of, is_about}
 use Rattle.host_asks.specs.Commands.{MayComeIf}
 use Rattle.link_commands.specs.LinksCommanded.{known_in, link_after_if, links_commanded, links_commanded_from, open_link_commanded, place_commanded, view_commanded_on}
 use Rattle.host_asks.specs.OpenEnds.{KnowsOpenEnds}
@@ -187,13 +187,13 @@ links_known view command slot links ok leaves known =
 -- ---- the step on each link may come
 
 pub end_may : (view : View) (command : Command) (handle slot : ℕ) (link : OpenLink) → first_refusal (rows_of view command) ≡ 0
-    → FitsReason command → is_about handle command ≡ true → KnowsAt view handle (facts_in link)
+    → is_about handle command ≡ true → KnowsAt view handle (facts_in link)
     → MayComeIf (host_step_of command slot link.setup.link.role (facts_in link).peer) (facts_in link)
-end_may view command handle slot link ok fits about known =
+end_may view command handle slot link ok about known =
     subst (λ (r : Role). MayComeIf (host_step_of command slot r (facts_in link).peer) (facts_in link)) (keeps_role link.setup link.past)
-    (command_may view command handle slot (facts_in link) ok fits about known)
+    (command_may view command handle slot (facts_in link) ok about known)
 
 pub step_may : (view : View) (command : Command) (handle slot : ℕ) (links : Links) (link : OpenLink) → first_refusal (rows_of view command) ≡ 0
-    → FitsReason command → is_about handle command ≡ true → KnowsOpenEnds view links → link_at handle links ≡ Some link → (facts_in link).control.ends ≡ None
+    → is_about handle command ≡ true → KnowsOpenEnds view links → link_at handle links ≡ Some link → (facts_in link).control.ends ≡ None
     → MayComeIf (host_step_of command slot link.setup.link.role (facts_in link).peer) (facts_in link)
-step_may view command handle slot links link ok fits about known is lasts = end_may view command handle slot link ok fits about (known.each handle link is lasts)
+step_may view command handle slot links link ok about known is lasts = end_may view command handle slot link ok about (known.each handle link is lasts)

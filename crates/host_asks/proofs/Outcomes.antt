@@ -70,7 +70,7 @@ at f p = record f { progress = p }
 
 -- ---- the own procedure is over
 
-over_none : (p : Progress) → own_kind (without_own p) ≡ None
+pub over_none : (p : Progress) → own_kind (without_own p) ≡ None
 over_none (central c) = refl
 over_none (peripheral p) = refl
 
@@ -98,7 +98,7 @@ over_refused p wanted code (Some k) asked own knows = over_kinds p wanted k aske
 
 -- which procedure awaits what
 
-features_own : (p : Progress) → awaits_features (own_exchange p) ≡ true → own_kind p ≡ Some Features
+pub features_own : (p : Progress) → awaits_features (own_exchange p) ≡ true → own_kind p ≡ Some Features
 features_own (central c) is = by c.own is
   where
     by : (own : OwnCentral) → awaits_features (own_exchange (central (record c { own = own }))) ≡ true → kind_at_central own ≡ Some Features
@@ -112,7 +112,7 @@ features_own (peripheral p) is = by p.own is
     by (exchange_p other) is = absurd (cc)
     by own is = absurd (cc)
 
-lengths_own : (p : Progress) → awaits_lengths (own_exchange p) ≡ true → own_kind p ≡ Some Length
+pub lengths_own : (p : Progress) → awaits_lengths (own_exchange p) ≡ true → own_kind p ≡ Some Length
 lengths_own (central c) is = by c.own is
   where
     by : (own : OwnCentral) → awaits_lengths (own_exchange (central (record c { own = own }))) ≡ true → kind_at_central own ≡ Some Length
@@ -126,7 +126,7 @@ lengths_own (peripheral p) is = by p.own is
     by (exchange_p other) is = absurd (cc)
     by own is = absurd (cc)
 
-version_own : (p : Progress) → is_version (own_exchange p) ≡ true → own_kind p ≡ Some Version
+pub version_own : (p : Progress) → is_version (own_exchange p) ≡ true → own_kind p ≡ Some Version
 version_own (central c) is = by c.own is
   where
     by : (own : OwnCentral) → is_version (own_exchange (central (record c { own = own }))) ≡ true → kind_at_central own ≡ Some Version
@@ -142,22 +142,22 @@ version_own (peripheral p) is = by p.own is
     by (exchange_p other) is = absurd (cc)
     by own is = absurd (cc)
 
-encrypt_own : (own : OwnCentral) → is_own_encryption own ≡ true → kind_at_central own ≡ Some Encrypt
+pub encrypt_own : (own : OwnCentral) → is_own_encryption own ≡ true → kind_at_central own ≡ Some Encrypt
 encrypt_own EncryptUnsent is = refl
 encrypt_own EncryptSent is = refl
 encrypt_own own is = absurd (cc)
 
-phy_rsp_own : (own : OwnCentral) → awaits_phy_rsp (central_stage own) ≡ true → kind_at_central own ≡ Some Phy
+pub phy_rsp_own : (own : OwnCentral) → awaits_phy_rsp (central_stage own) ≡ true → kind_at_central own ≡ Some Phy
 phy_rsp_own (exclusive PhySent) is = refl
 phy_rsp_own (exclusive other) is = absurd (cc)
 phy_rsp_own own is = absurd (cc)
 
-phy_ind_own : (own : OwnPeripheral) → awaits_phy_ind (peripheral_stage own) ≡ true → kind_at_peripheral own ≡ Some Phy
+pub phy_ind_own : (own : OwnPeripheral) → awaits_phy_ind (peripheral_stage own) ≡ true → kind_at_peripheral own ≡ Some Phy
 phy_ind_own (exclusive_p phy_sent) is = refl
 phy_ind_own (exclusive_p other) is = absurd (cc)
 phy_ind_own own is = absurd (cc)
 
-request_own : (own : OwnPeripheral) → reads_as_answer (peripheral_stage own) ≡ true → kind_at_peripheral own ≡ Some Request
+pub request_own : (own : OwnPeripheral) → reads_as_answer (peripheral_stage own) ≡ true → kind_at_peripheral own ≡ Some Request
 request_own (exclusive_p RequestAcknowledged) is = refl
 request_own (exclusive_p RequestGranted) is = refl
 request_own (exclusive_p other) is = absurd (cc)

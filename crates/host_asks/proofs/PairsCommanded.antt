@@ -10,7 +10,7 @@ use Rattle.link_pairs.specs.Hosts.{MayHost}
 use Rattle.host_view.specs.View.{View}
 use Rattle.host_view.specs.Refusals.{first_refusal}
 use Rattle.host_view.specs.Status.{rows_of}
-use Rattle.link_commands.specs.Commands.{FitsReason, facts_commanded, host_step_of, is_about}
+use Rattle.link_commands.specs.Commands.{facts_commanded, host_step_of, is_about}
 use Rattle.host_asks.specs.Commands.{MayComeIf}
 use Rattle.host_asks.specs.Views.{KnowsAt}
 use Rattle.host_asks.proofs.EndsViewed.{command_may}
@@ -20,8 +20,8 @@ module _ (P : Facts → Type 0) (setup : Setup) (facts : Facts) (now : P facts) 
   left_by None may = now
   left_by (Some step) may = next step may
 
-  pub command_leaves : (view : View) (command : Command) (handle slot : ℕ) → first_refusal (rows_of view command) ≡ 0 → FitsReason command
+  pub command_leaves : (view : View) (command : Command) (handle slot : ℕ) → first_refusal (rows_of view command) ≡ 0
       → is_about handle command ≡ true → KnowsAt view handle facts
       → P (facts_commanded setup (host_step_of command slot (role_of facts.control.table.progress) facts.peer) facts)
-  command_leaves view command handle slot ok fits about known =
-      left_by (host_step_of command slot (role_of facts.control.table.progress) facts.peer) (command_may view command handle slot facts ok fits about known)
+  command_leaves view command handle slot ok about known =
+      left_by (host_step_of command slot (role_of facts.control.table.progress) facts.peer) (command_may view command handle slot facts ok about known)

@@ -12,12 +12,12 @@ use Rattle.host_view.specs.Changes.{asking}
 use Rattle.host_view.specs.Links.{is_asked, link_in}
 use Rattle.host_view.specs.Refusals.{count_if, first_refusal}
 use Rattle.host_view.specs.Status.{rows_of}
-use Rattle.link_commands.specs.Commands.{FitsReason, host_step_of, host_steps, host_steps_from, is_about, step_if_about, with_host_step}
+use Rattle.link_commands.specs.Commands.{host_step_of, host_steps, host_steps_from, is_about, step_if_about, with_host_step}
 use Rattle.host_asks.specs.Commands.{MayComeIf}
 use Rattle.host_asks.specs.Knowing.{KnowsAsks}
 use Rattle.host_asks.proofs.Accepting.{command_may_come}
 
-module _ (view : View) (command : Command) (slot : ℕ) (facts_at : ℕ → Facts) (ok : first_refusal (rows_of view command) ≡ 0) (fits : FitsReason command) where
+module _ (view : View) (command : Command) (slot : ℕ) (facts_at : ℕ → Facts) (ok : first_refusal (rows_of view command) ≡ 0) where
   abbrev All : List (ℕ × Step) → Type 0
   All steps = AllByRecursion (λ (step : ℕ × Step). MayHost step.1 (facts_at step.0)) steps
 
@@ -33,7 +33,7 @@ module _ (view : View) (command : Command) (slot : ℕ) (facts_at : ℕ → Fact
 
   if_about : (handle : ℕ) (about : Bool) (link : Link) → is_about handle command ≡ about → KnowsAsks link (facts_at handle) → link_in view.links handle ≡ Some link
       → MayComeIf (step_if_about about (host_step_of command slot link.role (facts_at handle).peer)) (facts_at handle)
-  if_about handle true link about knows is = command_may_come view command handle slot link (facts_at handle) ok fits about is knows
+  if_about handle true link about knows is = command_may_come view command handle slot link (facts_at handle) ok about is knows
   if_about handle false link about knows is = tt
 
   each : (first : ℕ) (links : List (Option Link)) → AreKnown first links → All (host_steps_from first command slot links (λ handle. (facts_at handle).peer))

@@ -255,7 +255,7 @@ table_entered link f true knows = goes_by link f (progress_held f.progress) (don
 
 -- ---- a procedure begins
 
-begun_kind : (ask : Ask) (used : Bool) (p : Progress) → begins (role_of p) (kind_of_ask ask) ≡ true
+pub begun_kind : (ask : Ask) (used : Bool) (p : Progress) → begins (role_of p) (kind_of_ask ask) ≡ true
     → own_kind (progress_begun ask used p) ≡ Some (kind_of_ask ask)
 begun_kind ask_version true (central c) is = refl
 begun_kind ask_version false (central c) is = refl

@@ -3,7 +3,7 @@ use Rattle.std.specs.Prelude.{◌≡◌, ℕ, Bool, true, false, Some, ⊤}
 use Rattle.ble_base.specs.declared.notes.Note.{Note}
 use Rattle.ble_base.specs.declared.notes.Note.TheVariants.{Done, Opened, Refused, Shut, Up}
 use Rattle.hci_cmd.specs.declared.command.Command.{Command}
-use Rattle.hci_cmd.specs.declared.command.Command.TheVariants.{HostCompleted, LeEnableEncryption, LeKeyNegative, LeKeyReply, LeSetPhy, Reset}
+use Rattle.hci_cmd.specs.declared.command.Command.TheVariants.{HostCompleted, LeEnableEncryption, LeKeyNegative, LeKeyReply, Reset}
 use Rattle.procedure_events.specs.procedure_stages.declared.steps.Effect.{Effect}
 use Rattle.procedure_events.specs.procedure_stages.declared.steps.Effect.TheVariants.{Nothing}
 use Rattle.open_links.specs.link_model.Facts.{Facts}
@@ -32,13 +32,12 @@ IsNoteOf handle (Opened given role own peer) = ⊥
 IsNoteOf handle (Shut given reason) = ⊥
 IsNoteOf handle other = ⊤
 
--- a command that changes no link but those that it is about. Reset shuts all; what commands on encryption, PHYs and
--- complete packets ask of a link is not defined here
+-- a command that changes no link but those that it is about. Reset shuts all; what commands on encryption and complete
+-- packets ask of a link is not defined here
 abbrev pub leaves_other_links : Command → Bool
 leaves_other_links Reset = false
 leaves_other_links (HostCompleted counts) = false
 leaves_other_links (LeEnableEncryption handle rand ediv key) = false
 leaves_other_links (LeKeyReply handle key) = false
 leaves_other_links (LeKeyNegative handle) = false
-leaves_other_links (LeSetPhy handle all tx rx options) = false
 leaves_other_links other = true

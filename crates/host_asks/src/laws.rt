@@ -1,11 +1,8 @@
 //! The laws of what the view of a host knows of the ends of its links. The bodies do nothing: the
 //! contracts are the laws.
-ghost use Rattle.std.specs.Prelude.{◌≡◌, ◌<◌, ℕ, Bool, true, false, List, Some, None, Err};
-ghost use Rattle.std.specs.List.{AllByRecursion};
+ghost use Rattle.std.specs.Prelude.{◌≡◌, ℕ, Bool, true, false, List, Some, None, Err};
 ghost use Rattle.ble_base.specs.declared.addresses.Address.{Address};
 ghost use Rattle.ble_base.specs.declared.error_codes.ErrCode.{ErrCode};
-ghost use Rattle.hci_cmd.specs.Command.{command_of};
-ghost use Rattle.hci_cmd.specs.declared.command.CmdRead.TheVariants.{Known};
 ghost use Rattle.hci_cmd.specs.declared.command.Command.{Command};
 ghost use Rattle.open_links.specs.link_model.Setup.{Setup};
 ghost use Rattle.open_links.specs.link_model.Facts.{Facts, first_facts};
@@ -18,7 +15,7 @@ ghost use Rattle.host_view.specs.Links.{link_in};
 ghost use Rattle.host_view.specs.Noted.{opened_link};
 ghost use Rattle.host_view.specs.Refusals.{first_refusal};
 ghost use Rattle.host_view.specs.Status.{rows_of};
-ghost use Rattle.link_commands.specs.Commands.{FitsReason, facts_commanded, host_step_of};
+ghost use Rattle.link_commands.specs.Commands.{facts_commanded, host_step_of};
 ghost use Rattle.host_asks.specs.Commands.{MayComeIf};
 ghost use Rattle.link_commands.specs.Commands.{is_about, link_commanded};
 ghost use Rattle.host_asks.specs.Knowing.{KnowsAsks};
@@ -38,17 +35,10 @@ pub fn a_new_link_is_known()
 /// and 7.8; volume 6 part B, section 5.1).
 pub fn accepted_commands_may_come()
     ensures { (view : View) (command : Command) (handle slot : ℕ) (link : Link) (facts : Facts)
-        → first_refusal (rows_of view command) ≡ 0 → FitsReason command
+        → first_refusal (rows_of view command) ≡ 0
         → is_about handle command ≡ true → link_in view.links handle ≡ Some link
         → KnowsAsks link facts
         → MayComeIf (host_step_of command slot link.role facts.peer) facts }
-{}
-
-/// A command that is read of octets has a reason of one octet.
-pub fn reasons_that_are_read_fit()
-    ensures { (opcode : ℕ) (octets : List ℕ) (command : Command)
-        → AllByRecursion (λ octet. octet < 256) octets
-        → command_of opcode octets ≡ Known command → FitsReason command }
 {}
 
 /// The view knows the end after the step of an accepted command too, until a procedure ends the

@@ -13,7 +13,6 @@ pub use crate::both_ends::commands_leave_ends_linked;
 pub use crate::laws::{
     a_command_keeps_what_is_known, a_link_is_known_while_it_lasts, a_new_link_is_known,
     a_step_keeps_what_is_known, accepted_commands_may_come, an_answer_keeps_what_is_known,
-    reasons_that_are_read_fit,
 };
 pub use crate::links_going::{links_that_go_on_stay_known, opened_and_shut_links_are_known};
 pub use crate::open_ends::all_links_stay_known;

@@ -6,7 +6,7 @@ ghost use Rattle.open_links.specs.OpenLinks.{Links, OpenLink, facts_in, link_at}
 ghost use Rattle.host_view.specs.View.{View};
 ghost use Rattle.host_view.specs.Refusals.{first_refusal};
 ghost use Rattle.host_view.specs.Status.{rows_of};
-ghost use Rattle.link_commands.specs.Commands.{FitsReason, host_step_of, is_about};
+ghost use Rattle.link_commands.specs.Commands.{host_step_of, is_about};
 ghost use Rattle.host_asks.specs.Commands.{MayComeIf};
 ghost use Rattle.link_commands.specs.LinksCommanded.{links_commanded, view_commanded_on};
 ghost use Rattle.host_asks.specs.OpenEnds.{KnowsOpenEnds};
@@ -14,10 +14,10 @@ ghost use Rattle.host_asks.specs.Views.{leaves_other_links};
 
 /// Where the view knows the ends of all open links, each step that an accepted command makes on
 /// them may come, until a procedure ends the link; and the view knows the ends after it, where the
-/// command is not Reset, Host Number Of Completed Packets, or one on encryption or PHYs.
+/// command is not Reset, Host Number Of Completed Packets, or one on encryption.
 pub fn all_links_stay_known()
     ensures may { (view : View) (command : Command) (handle slot : ℕ) (links : Links)
-        (link : OpenLink) → first_refusal (rows_of view command) ≡ 0 → FitsReason command
+        (link : OpenLink) → first_refusal (rows_of view command) ≡ 0
         → is_about handle command ≡ true → KnowsOpenEnds view links
         → link_at handle links ≡ Some link → (facts_in link).control.ends ≡ None
         → MayComeIf (host_step_of command slot link.setup.link.role (facts_in link).peer)

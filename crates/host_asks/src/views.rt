@@ -29,7 +29,7 @@ ghost use Rattle.host_view.specs.Changes.{view_after};
 ghost use Rattle.host_view.specs.Links.{link_in};
 ghost use Rattle.host_view.specs.Noted.{view_noted};
 ghost use Rattle.host_view.specs.declared.links.Link.{Link};
-ghost use Rattle.link_commands.specs.Commands.{FitsReason, facts_commanded};
+ghost use Rattle.link_commands.specs.Commands.{facts_commanded};
 ghost use Rattle.host_asks.specs.Commands.{MayComeIf};
 ghost use Rattle.link_commands.specs.Commands.{host_step_of, host_steps, is_about};
 ghost use Rattle.host_asks.specs.Knowing.{KnowsAsks};
@@ -63,7 +63,7 @@ pub fn notes_change_their_link()
 
 /// An accepted command changes the links that it is about. It changes no other link, but for the
 /// commands that are left out here: Reset, which shuts all links, Host Number Of Completed Packets,
-/// and those on encryption and PHYs.
+/// and those on encryption.
 pub fn commands_change_their_link()
     ensures own { (view : View) (command : Command) (handle : ℕ)
         → is_about handle command ≡ true
@@ -110,7 +110,7 @@ pub fn steps_keep_what_is_known()
 /// commands that are left out above.
 pub fn commands_keep_what_is_known()
     ensures may { (view : View) (command : Command) (handle slot : ℕ) (facts : Facts)
-        → first_refusal (rows_of view command) ≡ 0 → FitsReason command
+        → first_refusal (rows_of view command) ≡ 0
         → is_about handle command ≡ true → KnowsAt view handle facts
         → MayComeIf (host_step_of command slot (role_of facts.control.table.progress)
         facts.peer) facts }
@@ -135,7 +135,7 @@ pub fn commands_keep_what_is_known()
 /// that it makes on them may come.
 pub fn all_steps_of_a_command_may_come()
     ensures { (view : View) (command : Command) (slot : ℕ) (facts_at : ℕ → Facts)
-        → first_refusal (rows_of view command) ≡ 0 → FitsReason command
+        → first_refusal (rows_of view command) ≡ 0
         → ((handle : ℕ) (link : Link) → link_in view.links handle ≡ Some link
         → KnowsAsks link (facts_at handle))
         → AllByRecursion (λ step. MayHost step.1 (facts_at step.0))

@@ -2,27 +2,19 @@
 use Rattle.std.specs.Prelude.{ℕ, ◌==◌, if◌then◌else◌}
 use Rattle.ble_base.specs.ErrorCodes.{command_disallowed, success, unknown_hci_command}
 use Rattle.hci_cmd.specs.declared.command.Command.{Command}
-use Rattle.hci_cmd.specs.declared.command.Command.TheVariants.{SetHostFlow, HostBufferSize, HostCompleted, LeConnectionUpdate, LeEncrypt, LeEnableEncryption, LeParamReply, LeParamNegative, LeSetPhy}
+use Rattle.hci_cmd.specs.declared.command.Command.TheVariants.{SetHostFlow, HostBufferSize, HostCompleted, LeEncrypt, LeEnableEncryption}
 use Rattle.host_view.specs.View.{View}
-use Rattle.host_view.specs.Links.{link_in}
-use Rattle.host_view.specs.OnLinks.{is_central_link}
 use Rattle.host_view.specs.Refusals.{first_refusal}
 use Rattle.host_view.specs.Status.{rows_of}
 
 -- 01 as an unknown command, 0C as one that is not allowed now; 00 where it is carried out
-abbrev pub unbuilt_status_of : View → Command → ℕ
--- only a central changes the parameters: the host of a peripheral does not request that yet
-unbuilt_status_of view (LeConnectionUpdate handle min max latency timeout lengths) =
-    if is_central_link (link_in view.links handle) then success else command_disallowed
-unbuilt_status_of view (LeParamReply handle min max latency timeout lengths) = command_disallowed
-unbuilt_status_of view (LeParamNegative handle reason) = command_disallowed
-unbuilt_status_of view (LeSetPhy handle all tx rx options) = command_disallowed
-unbuilt_status_of view (LeEnableEncryption handle rand ediv key) = command_disallowed
-unbuilt_status_of view (LeEncrypt key text) = unknown_hci_command
-unbuilt_status_of view (SetHostFlow value) = unknown_hci_command
-unbuilt_status_of view (HostBufferSize acl_length sco_length acl_count sco_count) = unknown_hci_command
-unbuilt_status_of view (HostCompleted counts) = unknown_hci_command
-unbuilt_status_of view other = success
+abbrev pub unbuilt_status_of : Command → ℕ
+unbuilt_status_of (LeEnableEncryption handle rand ediv key) = command_disallowed
+unbuilt_status_of (LeEncrypt key text) = unknown_hci_command
+unbuilt_status_of (SetHostFlow value) = unknown_hci_command
+unbuilt_status_of (HostBufferSize acl_length sco_length acl_count sco_count) = unknown_hci_command
+unbuilt_status_of (HostCompleted counts) = unknown_hci_command
+unbuilt_status_of other = success
 
 -- the table's code, and where that is 00 the one of what is not built
 abbrev pub or_unbuilt : ℕ → ℕ → ℕ
@@ -30,4 +22,4 @@ or_unbuilt table unbuilt = if table == 0 then unbuilt else table
 
 -- the status of a command: 00 where it is accepted
 unfoldable pub status_of : View → Command → ℕ
-status_of view command = or_unbuilt (first_refusal (rows_of view command)) (unbuilt_status_of view command)
+status_of view command = or_unbuilt (first_refusal (rows_of view command)) (unbuilt_status_of command)

@@ -69,7 +69,7 @@ pub fn status(view: &HostView, command: &Command) -> ErrCode
 {
     let code = table_status(view, command);
     if code.0 == 0 {
-        unbuilt_status(view, command)
+        unbuilt_status(command)
     } else {
         code
     }

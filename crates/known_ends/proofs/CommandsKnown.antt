@@ -1,5 +1,5 @@
 -- The view of a controller knows the end of the link under a handle after an octet of the host.
-use Rattle.std.proofs.Common.{◌≡◌, ℕ, ◌-◌, ◌==◌, Bool, true, false, Option, Some, None, List, [], ◌∷◌, refl, sym, subst, ◌∙◌, arith, eqb-true}
+use Rattle.std.proofs.Common.{◌≡◌, ℕ, ◌-◌, ◌==◌, Bool, true, false, Option, Some, None, List, [], ◌∷◌, refl, ap, sym, subst, ◌∙◌, arith, eqb-true}
 use Rattle.std.specs.Prelude.{◌&&◌, if◌then◌else◌}
 use Rattle.ble_base.specs.ErrorCodes.{command_disallowed}
 use Rattle.h4_frames.specs.declared.packet.HostPacket.TheVariants.{Command as HostCommand, Acl}
@@ -30,6 +30,7 @@ use Rattle.host_asks.proofs.OpenLinksKnown.{IsKnownAt, link_known}
 use Rattle.controller_model.specs.Facts.{Setup, Facts}
 use Rattle.controller_model.specs.Commands.{facts_accepted, facts_asking, facts_commanded, facts_known, links_after}
 use Rattle.controller_model.specs.Data.{facts_offered, offer_of}
+use Rattle.controller_model.specs.Host.{commands_accepted_by, commands_accepted_in}
 use Rattle.controller_model.specs.Side.{facts_after, facts_fed, result_of}
 use Rattle.controller_model.specs.Step.{HostOctet}
 use Rattle.controller_model.proofs.Accepted.{table_accepts}
@@ -41,9 +42,33 @@ pub table_of : (view : View) (command : Command) → status_of view command ≡ 
 unfolding status_of
 table_of view command is = table_accepts _ _ is
 
+-- ---- a command that is accepted has status 0
+
+abbrev first_of : Command → List Command → Command
+first_of other [] = other
+first_of other (command ∷ commands) = command
+
+accepted_by : (facts : Facts) (read : CmdRead) (command : Command) → commands_accepted_by facts read ≡ command ∷ []
+    → status_of facts.view command ≡ 0
+accepted_by facts (Known given) command is = by (status_of facts.view given == 0) refl is
+  where
+    by : (accepted : Bool) → (status_of facts.view given == 0) ≡ accepted → (if accepted then given ∷ [] else []) ≡ command ∷ []
+        → status_of facts.view command ≡ 0
+    by true ok is =
+        subst (λ (c : Command). status_of facts.view c ≡ 0) (ap (first_of given) is) (eqb-true (status_of facts.view given) 0 ok)
+    by false ok is = absurd cc
+accepted_by facts UnknownOpcode command is = absurd cc
+accepted_by facts BadLength command is = absurd cc
+
+pub accepted_in : (facts : Facts) (fed : Fed) (command : Command) → commands_accepted_in facts fed ≡ command ∷ [] → status_of facts.view command ≡ 0
+accepted_in facts (Packet (HostCommand opcode body)) command is = accepted_by facts (command_of opcode body.items) command is
+accepted_in facts (Packet (Acl handle start count body)) command is = absurd cc
+accepted_in facts LostSync command is = absurd cc
+accepted_in facts More command is = absurd cc
+
 -- ---- a command that asks nothing of links
 
-pub disallowed : (table : ℕ) → or_unbuilt table command_disallowed ≡ 0 → ⊥
+disallowed : (table : ℕ) → or_unbuilt table command_disallowed ≡ 0 → ⊥
 disallowed table is =
     let code : command_disallowed ≡ 0 = subst (λ (n : ℕ). or_unbuilt n command_disallowed ≡ 0) (table_accepts table command_disallowed is) is in
     absurd (omega (arith, code))
@@ -84,8 +109,6 @@ unasked_known view (LeKeyReply given key) links handle ok none known = still_kno
 unasked_known view (LeKeyNegative given) links handle ok none known = still_known view _ links handle (key_answered view given handle) known
 unasked_known view (LeEnableEncryption given rand ediv key) links handle ok none known =
     absurd (disallowed (first_refusal (rows_of view (LeEnableEncryption given rand ediv key))) ok)
-unasked_known view (LeSetPhy given all tx rx options) links handle ok none known =
-    absurd (disallowed (first_refusal (rows_of view (LeSetPhy given all tx rx options))) ok)
 unasked_known view (LeSetChannels map) links handle ok none known =
     still_known view _ links handle (λ facts known. record { link = known.link; is_open = known.is_open; knows = known.knows }) known
 unasked_known view (Disconnect given reason) links handle ok none known = absurd (cc)
@@ -93,6 +116,7 @@ unasked_known view (ReadRemoteVersion given) links handle ok none known = absurd
 unasked_known view (LeReadRemoteFeatures given) links handle ok none known = absurd (cc)
 unasked_known view (LeSetDataLength given most time) links handle ok none known = absurd (cc)
 unasked_known view (LeConnectionUpdate given min max latency timeout lengths) links handle ok none known = absurd (cc)
+unasked_known view (LeSetPhy given all tx rx options) links handle ok none known = absurd (cc)
 unasked_known view (LeParamReply given min max latency timeout lengths) links handle ok none known = absurd (cc)
 unasked_known view (LeParamNegative given reason) links handle ok none known = absurd (cc)
 unasked_known view other links handle ok none known = still_known view _ links handle (λ facts known. other_known view other handle facts refl refl known) known
@@ -105,7 +129,6 @@ leaves_others view (HostCompleted counts) asks = absurd (cc)
 leaves_others view (LeEnableEncryption given rand ediv key) asks = absurd (cc)
 leaves_others view (LeKeyReply given key) asks = absurd (cc)
 leaves_others view (LeKeyNegative given) asks = absurd (cc)
-leaves_others view (LeSetPhy given all tx rx options) asks = absurd (cc)
 leaves_others view other asks = refl
 
 module _ (setup : Setup) (handle : ℕ) where

@@ -3,5 +3,4 @@ pub mod ViewPlaces
 pub mod TurnsKnown
 pub mod CommandsKnown
 pub mod EndsKnown
-pub mod ReasonsFit
 pub mod StepsMay

@@ -5,7 +5,7 @@ use Rattle.ble_base.specs.ChannelMap.{IsMap}
 use Rattle.ble_base.specs.declared.roles.Role.{Role}
 use Rattle.ble_base.specs.declared.roles.Role.TheVariants.{Central, Peripheral}
 use Rattle.hci_cmd.specs.declared.command.Command.{Command}
-use Rattle.hci_cmd.specs.declared.command.Command.TheVariants.{Disconnect, LeConnectionUpdate, LeParamNegative, LeParamReply, LeReadRemoteFeatures, LeSetChannels, LeSetDataLength, ReadRemoteVersion}
+use Rattle.hci_cmd.specs.declared.command.Command.TheVariants.{Disconnect, LeConnectionUpdate, LeParamNegative, LeParamReply, LeReadRemoteFeatures, LeSetChannels, LeSetDataLength, LeSetPhy, ReadRemoteVersion}
 use Rattle.host_view.specs.declared.links.Link.{Link as ViewLink}
 use Rattle.host_view.specs.Links.{link_in}
 use Rattle.host_view.specs.Refusals.{first_refusal}
@@ -14,7 +14,7 @@ use Rattle.host_view.specs.View.{View}
 use Rattle.link_model.specs.Facts.{Facts as EndFacts}
 use Rattle.link_model.specs.Step.{Step as EndStep}
 use Rattle.open_links.specs.OpenLinks.{OpenLink, facts_in, link_at}
-use Rattle.controller_model.specs.link_commands.Commands.{FitsReason, host_step_of, is_about, map_by, step_if_about, step_on}
+use Rattle.controller_model.specs.link_commands.Commands.{host_step_of, is_about, map_by, step_if_about, step_on}
 use Rattle.controller_model.proofs.link_commands.Ranges.{asked_in_range, passes}
 use Rattle.host_asks.specs.Commands.{MayComeIf}
 use Rattle.host_asks.proofs.OpenLinksKnown.{end_may}
@@ -23,9 +23,8 @@ use Rattle.controller_model.specs.Facts.{Setup}
 use Rattle.controller_model.specs.Host.{commands_accepted_after}
 use Rattle.controller_model.specs.Side.{facts_of, result_of}
 use Rattle.controller_model.specs.Step.{Step, HostOctet}
-use Rattle.known_ends.proofs.CommandsKnown.{table_of}
+use Rattle.known_ends.proofs.CommandsKnown.{accepted_in, table_of}
 use Rattle.known_ends.proofs.EndsKnown.{end_known, six_places}
-use Rattle.known_ends.proofs.ReasonsFit.{accepted_in}
 
 -- ---- a command on one link is refused where the view has no place for the link
 
@@ -50,6 +49,7 @@ has_place view (LeReadRemoteFeatures given) handle one ok about = is_given view 
 has_place view (LeSetDataLength given most time) handle one ok about = is_given view given handle about (passes (is_none (link_in view.links given)) _ _ ok).0
 has_place view (LeConnectionUpdate given min max latency timeout lengths) handle one ok about =
     is_given view given handle about (passes (is_none (link_in view.links given)) _ _ ok).0
+has_place view (LeSetPhy given all tx rx options) handle one ok about = is_given view given handle about (passes (is_none (link_in view.links given)) _ _ ok).0
 has_place view (LeParamReply given min max latency timeout lengths) handle one ok about =
     is_given view given handle about (passes (is_none (link_in view.links given)) _ _ ok).0
 has_place view (LeParamNegative given reason) handle one ok about = is_given view given handle about (passes (is_none (link_in view.links given)) _ _ ok).0
@@ -69,25 +69,25 @@ module _ (setup : Setup) (past : List Step) (handle : ℕ) (link : OpenLink) (is
   abbrev slot : ℕ
   slot = (facts_of setup past).turn.begun
 
-  about_may : (command : Command) → first_refusal (rows_of view command) ≡ 0 → FitsReason command → is_about handle command ≡ true
+  about_may : (command : Command) → first_refusal (rows_of view command) ≡ 0 → is_about handle command ≡ true
       → MayComeIf (host_step_of command slot link.setup.link.role (facts_in link).peer) (facts_in link)
-  about_may (LeSetChannels map) ok fits about = map_may link.setup.link.role map (facts_in link) (asked_in_range view (LeSetChannels map) ok)
-  about_may command ok fits about =
+  about_may (LeSetChannels map) ok about = map_may link.setup.link.role map (facts_in link) (asked_in_range view (LeSetChannels map) ok)
+  about_may command ok about =
       let place = has_place view command handle refl ok about in
       let six = six_places setup past in
-      end_may view command handle slot link ok fits about (end_known setup past handle link (omega (arith, place, six)) is_open lasts)
+      end_may view command handle slot link ok about (end_known setup past handle link (omega (arith, place, six)) is_open lasts)
 
-  may_by : (about : Bool) (command : Command) (step : EndStep) → is_about handle command ≡ about → first_refusal (rows_of view command) ≡ 0 → FitsReason command
+  may_by : (about : Bool) (command : Command) (step : EndStep) → is_about handle command ≡ about → first_refusal (rows_of view command) ≡ 0
       → step_if_about about (host_step_of command slot link.setup.link.role (facts_in link).peer) ≡ Some step → MayHost step (facts_in link)
-  may_by true command step about ok fits asks =
-      subst (λ (found : Option EndStep). MayComeIf found (facts_in link)) asks (about_may command ok fits about)
-  may_by false command step about ok fits asks = absurd (cc)
+  may_by true command step about ok asks =
+      subst (λ (found : Option EndStep). MayComeIf found (facts_in link)) asks (about_may command ok about)
+  may_by false command step about ok asks = absurd (cc)
 
-pub step_may_come : (setup : Setup) (past : List Step) (octet handle : ℕ) (link : OpenLink) (command : Command) (step : EndStep) → FitsReason command
+pub step_may_come : (setup : Setup) (past : List Step) (octet handle : ℕ) (link : OpenLink) (command : Command) (step : EndStep)
     → link_at handle (facts_of setup past).links ≡ Some link → (facts_in link).control.ends ≡ None
     → commands_accepted_after (facts_of setup past) (HostOctet octet) ≡ command ∷ []
     → step_on handle command (facts_of setup past).turn.begun link.setup.link.role (facts_in link).peer ≡ Some step → MayHost step (facts_in link)
-step_may_come setup past octet handle link command step fits is lasts accepted asks =
+step_may_come setup past octet handle link command step is lasts accepted asks =
     let facts = facts_of setup past in
     may_by setup past handle link is lasts (is_about handle command) command step refl
-    (table_of facts.view command (accepted_in facts (result_of facts.octets octet) command accepted)) fits asks
+    (table_of facts.view command (accepted_in facts (result_of facts.octets octet) command accepted)) asks

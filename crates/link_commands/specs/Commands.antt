@@ -1,15 +1,15 @@
 -- Which step of a link an accepted command makes (Core 5.2, volume 4 part E, sections 7.1 and 7.8; volume 6 part B,
 -- section 5.1).
-use Rattle.std.specs.Prelude.{ℕ, ◌+◌, ◌-◌, ◌/◌, ◌==◌, ◌<◌, min, Bool, true, false, List, [], ◌∷◌, Option, Some, None, Ok, Err, is_some, if◌then◌else◌, ⊤}
+use Rattle.std.specs.Prelude.{ℕ, ◌+◌, ◌-◌, ◌/◌, ◌%◌, ◌==◌, ◌<◌, min, Bool, true, false, List, [], ◌∷◌, Option, Some, None, Ok, Err, is_some, if◌then◌else◌, ⊤}
 use Rattle.ble_base.specs.ChannelMap.{IsMap}
 use Rattle.ble_base.specs.declared.procedure_kinds.Kind.{Kind}
-use Rattle.ble_base.specs.declared.procedure_kinds.Kind.TheVariants.{Features as features_kind, Length as length_kind, Version as version_kind}
+use Rattle.ble_base.specs.declared.procedure_kinds.Kind.TheVariants.{Features as features_kind, Length as length_kind, Phy as phy_kind, Version as version_kind}
 use Rattle.ble_base.specs.declared.roles.Role.{Role}
 use Rattle.ble_base.specs.declared.roles.Role.TheVariants.{Central, Peripheral}
 use Rattle.hci_cmd.specs.declared.command.Command.{Command}
-use Rattle.hci_cmd.specs.declared.command.Command.TheVariants.{Disconnect, LeConnectionUpdate, LeParamNegative, LeParamReply, LeReadRemoteFeatures, LeSetChannels, LeSetDataLength, ReadRemoteVersion}
+use Rattle.hci_cmd.specs.declared.command.Command.TheVariants.{Disconnect, LeConnectionUpdate, LeParamNegative, LeParamReply, LeReadRemoteFeatures, LeSetChannels, LeSetDataLength, LeSetPhy, ReadRemoteVersion}
 use Rattle.open_links.specs.procedure_values.declared.asks.Ask.{Ask}
-use Rattle.open_links.specs.procedure_values.declared.asks.Ask.TheVariants.{Features, Length, Map, Request, Update, Version}
+use Rattle.open_links.specs.procedure_values.declared.asks.Ask.TheVariants.{Features, Length, Map, Phy, Request, Update, Version}
 use Rattle.open_links.specs.procedure_values.Wants.{IsAsk}
 use Rattle.open_links.specs.link_model.declared.state.PeerFacts.{PeerFacts}
 use Rattle.open_links.specs.link_model.End.{facts_after}
@@ -41,7 +41,8 @@ abbrev pub map_by : Role → ℕ → Option Step
 map_by Central map = Some (ProcedureAsked (Map map))
 map_by Peripheral map = None
 
--- the step, if there is one: a Disconnect is accepted in this slot
+-- the step, if there is one: a Disconnect is accepted in this slot. The reason for which a host refuses a request has one
+-- octet (volume 4 part E, section 7.8.32)
 abbrev pub host_step_of : Command → ℕ → Role → PeerFacts → Option Step
 host_step_of (Disconnect handle reason) slot role peer = Some (Disconnected (record { 0 = reason }) slot)
 host_step_of (ReadRemoteVersion handle) slot role peer = ask_unless (is_some peer.version) Version
@@ -51,9 +52,10 @@ host_step_of (LeSetDataLength handle octets time) slot role peer =
 host_step_of (LeConnectionUpdate handle min max latency timeout lengths) slot role peer =
     Some (ProcedureAsked (update_by role min max latency timeout))
 host_step_of (LeSetChannels map) slot role peer = map_by role map
+host_step_of (LeSetPhy handle all tx rx options) slot role peer = Some (ProcedureAsked Phy)
 host_step_of (LeParamReply handle min max latency timeout lengths) slot role peer =
     Some (RequestAnswered (Ok (Update max latency timeout)))
-host_step_of (LeParamNegative handle reason) slot role peer = Some (RequestAnswered (Err (record { 0 = reason })))
+host_step_of (LeParamNegative handle reason) slot role peer = Some (RequestAnswered (Err (record { 0 = reason % 256 })))
 host_step_of other slot role peer = None
 
 -- the host asks for what the end may know already (volume 4 part E, sections 7.1.23 and 7.8.21)
@@ -72,6 +74,7 @@ is_about handle (LeReadRemoteFeatures given) = given == handle
 is_about handle (LeSetDataLength given octets time) = given == handle
 is_about handle (LeConnectionUpdate given min max latency timeout lengths) = given == handle
 is_about handle (LeSetChannels map) = true
+is_about handle (LeSetPhy given all tx rx options) = given == handle
 is_about handle (LeParamReply given min max latency timeout lengths) = given == handle
 is_about handle (LeParamNegative given reason) = given == handle
 is_about handle other = false
@@ -109,6 +112,7 @@ link_accepted (ReadRemoteVersion handle) link = asking version_kind link
 link_accepted (LeReadRemoteFeatures handle) link = asking features_kind link
 link_accepted (LeSetDataLength handle octets time) link = asking length_kind link
 link_accepted (LeConnectionUpdate handle min max latency timeout lengths) link = asking (update_kind link.role) link
+link_accepted (LeSetPhy handle all tx rx options) link = asking phy_kind link
 link_accepted (LeParamReply handle min max latency timeout lengths) link = record link { waits_for_parameters = false }
 link_accepted (LeParamNegative handle reason) link = record link { waits_for_parameters = false }
 link_accepted other link = link
@@ -132,11 +136,6 @@ facts_commanded setup None facts = facts
 facts_commanded setup (Some step) facts = facts_after setup facts step
 
 -- ---- the ranges of its values
-
--- the reason for which a host refuses a request has one octet (volume 4 part E, section 7.8.32)
-abbrev pub FitsReason : Command → Type 0
-FitsReason (LeParamNegative handle reason) = reason < 256
-FitsReason other = ⊤
 
 -- what it asks for is in its range, whichever the role of the end
 abbrev pub AsksInRange : Command → Type 0

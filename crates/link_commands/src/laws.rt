@@ -1,6 +1,6 @@
 //! That each command is one call on the open links, and what it may ask for. The bodies do nothing:
 //! the contracts are the laws.
-ghost use Rattle.std.specs.Prelude.{◌≡◌, ℕ, List, Some, Ok, Err, is_some};
+ghost use Rattle.std.specs.Prelude.{◌≡◌, ◌%◌, ℕ, List, Some, Ok, Err, is_some};
 ghost use Rattle.std.specs.Prelude.{if◌then◌else◌};
 ghost use Rattle.hci_cmd.specs.declared.command.Command.{Command};
 ghost use Rattle.open_links.specs.procedure_values.declared.asks.Ask.{Ask};
@@ -37,6 +37,9 @@ pub fn each_command_is_one_call()
         (links : Links) (link : OpenLink) → link_at handle links ≡ Some link
         → links_commanded (Command.LeConnectionUpdate handle min max latency timeout lengths) slot
         links ≡ links_asked handle (update_by link.setup.link.role min max latency timeout) links }
+    ensures phy { (handle all tx rx options slot : ℕ) (links : Links)
+        → links_commanded (Command.LeSetPhy handle all tx rx options) slot links
+        ≡ links_asked handle Ask.Phy links }
     ensures map { (map slot : ℕ) (links : Links)
         → links_commanded (Command.LeSetChannels map) slot links ≡ links_asked_map map links }
     ensures granted { (handle min max latency timeout slot : ℕ) (lengths : List ℕ)
@@ -45,7 +48,7 @@ pub fn each_command_is_one_call()
         ≡ links_answered handle (Ok (Ask.Update max latency timeout)) links }
     ensures refused { (handle reason slot : ℕ) (links : Links)
         → links_commanded (Command.LeParamNegative handle reason) slot links
-        ≡ links_answered handle (Err (record { 0 = reason })) links }
+        ≡ links_answered handle (Err (record { 0 = reason % 256 })) links }
 {}
 
 /// What a command that the table of conditions accepts asks for is in its range: the parameters of

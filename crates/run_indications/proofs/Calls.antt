@@ -1,8 +1,7 @@
 -- A peripheral that is called with a packet in a run takes the indication that the central sent last.
-use Rattle.std.proofs.Common.{◌≡◌, inl, inr, ℕ, zero, suc, ◌+◌, ◌<◌, Bool, true, false, List, [], ◌∷◌, ◌++◌, append-nil, Some, refl, sym, ap, subst, ◌∙◌, arith}
+use Rattle.std.proofs.Common.{◌≡◌, inl, inr, ℕ, zero, suc, ◌+◌, ◌<◌, Bool, true, List, [], ◌∷◌, ◌++◌, append-nil, Some, refl, sym, ap, subst, ◌∙◌, arith}
 use Rattle.std.specs.Prelude.{if◌then◌else◌}
 use Rattle.std.specs.List.{filter}
-use Rattle.std.proofs.lemmas.Bool.{eq-eqb}
 use Rattle.std.proofs.lemmas.List.{append_assoc}
 use Rattle.std.proofs.lemmas.List.Elements.{filter-append}
 use Rattle.arrayvec.specs.ArrayVec.{ArrayVec}
@@ -12,10 +11,8 @@ use Rattle.ble_base.specs.declared.verdicts.Verdict.TheVariants.{Good}
 use Rattle.instants.specs.Track.{event_of, gap_ahead}
 use Rattle.instants.specs.declared.indications.Indication.{Indication}
 use Rattle.two_tracks.specs.TwoEnds.{change_of}
-use Rattle.controller_model.specs.declared.doing.Doing.{Doing}
-use Rattle.controller_model.specs.declared.doing.Doing.TheVariants.{Advertises, CentralListens, PeripheralListens}
 use Rattle.controller_model.specs.Facts.{Facts}
-use Rattle.controller_model.specs.Step.{Step, PacketHeard}
+use Rattle.controller_model.specs.Step.{PacketHeard}
 use Rattle.link_changes.specs.Noted.{indication_in}
 use Rattle.link_calls.specs.link_model.End.{notes_after}
 use Rattle.link_calls.specs.link_model.Facts.{Facts as EndFacts}
@@ -29,13 +26,12 @@ use Rattle.link_calls.specs.run_model.Feeding.{AreDistinct}
 use Rattle.link_calls.specs.run_model.History.{Called, Event, past_of}
 use Rattle.link_calls.specs.run_model.LinkEnds.{HaveAddresses}
 use Rattle.link_calls.specs.run_model.Run.{Given, facts_at, history_of, run_of, setup_at}
-use Rattle.link_calls.specs.Uses.{is_on_link, listens_under}
 use Rattle.link_calls.proofs.link_model.Hearing.{IsHeardWhole}
 use Rattle.link_calls.proofs.run_laws.InAgreement.{OpenedBefore}
 use Rattle.link_calls.proofs.run_laws.LinkPhases.{in_phase}
 use Rattle.link_calls.proofs.run_laws.OpenSteps.{open_has}
 use Rattle.link_calls.proofs.run_laws.SameEvent.{apart_ends}
-use Rattle.link_calls.proofs.run_laws.TurnPlaces.{Within, at_stage, standing, turned}
+use Rattle.link_calls.proofs.run_laws.TurnPlaces.{Within, at_stage, turned}
 use Rattle.link_calls.proofs.run_model.LinkEnds.{AreTaken, IsUnderstood}
 use Rattle.link_calls.proofs.run_model.Stations.{is_in}
 use Rattle.link_runs.specs.joint_controls.Joint.{last_change}
@@ -46,7 +42,7 @@ use Rattle.run_pairs.specs.InTurns.{HasSentNow, HearEachInTurn, HearsInTurn}
 use Rattle.run_pairs.specs.Stages.{AreBegunEnds}
 use Rattle.run_pairs.proofs.BothEnds.{at_standing, kept_to, packet_now}
 use Rattle.run_pairs.proofs.CallPlaces.{StandsInPhase, stands_called}
-use Rattle.run_pairs.proofs.Conclusions.{pair_ends}
+use Rattle.run_pairs.proofs.Conclusions.{listens_by, not_new, on_link, pair_ends, phase_of}
 use Rattle.run_pairs.proofs.EndCalls.{peripheral_takes_in}
 use Rattle.run_pairs.proofs.LinkSteps.{AsksMayCome}
 use Rattle.run_pairs.proofs.OneSide.{StationAt, station_first, station_kept}
@@ -88,27 +84,6 @@ front_hear given before more one other hear =
     }
 
 -- ---- the place of a call of the peripheral
-
-listens_by : (handle : ℕ) (doing : Doing) → link_listened doing ≡ Some handle → listens_under handle doing ≡ true
-listens_by handle (CentralListens other) is = let same : other ≡ handle = cc in eq-eqb other handle same
-listens_by handle (PeripheralListens other) is = let same : other ≡ handle = cc in eq-eqb other handle same
-listens_by handle (Advertises channel) is = absurd cc
-listens_by handle other is = absurd cc
-
-on_link : (handle : ℕ) (doing : Doing) → link_listened doing ≡ Some handle → is_on_link doing ≡ true
-on_link handle (CentralListens other) is = refl
-on_link handle (PeripheralListens other) is = refl
-on_link handle (Advertises channel) is = absurd cc
-on_link handle other is = absurd cc
-
-phase_of : (b : Bool) (phases turns : ℕ) (past : List Step)
-    → standing past ≡ Some (if b then at_stage (Within (suc phases)) turns else at_stage (Within phases) turns)
-    → standing past ≡ Some (at_stage (Within (if b then suc phases else phases)) turns)
-phase_of true phases turns past is = is
-phase_of false phases turns past is = is
-
-not_new : (X : Type 0) (opened slot turns : ℕ) → opened < slot → slot + 1 ≡ turns → opened + 1 ≡ turns → X
-not_new X opened slot turns before is new = absurd (omega (arith, before, is, new))
 
 module _ (whole : IsHeardWhole) (understood : IsUnderstood) (taken : AreTaken) (given : Given) (six : HaveAddresses given)
     (distinct : AreDistinct given.stations) (asks : AsksMayCome given) (before rest : List Event) (octets : List ℕ) (central peripheral : OpenEnd)

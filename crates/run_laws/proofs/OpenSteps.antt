@@ -1,5 +1,5 @@
 -- The open links of a controller after each call on it.
-use Rattle.std.proofs.Common.{◌≡◌, ℕ, zero, suc, ◌+◌, ◌≤◌, ◌==◌, Bool, true, false, Option, Some, None, List, [], ◌∷◌, replicate, refl, sym, subst, ◌∙◌, arith}
+use Rattle.std.proofs.Common.{◌≡◌, ℕ, zero, suc, ◌+◌, ◌%◌, ◌≤◌, ◌==◌, Bool, true, false, Option, Some, None, List, [], ◌∷◌, replicate, refl, sym, subst, ◌∙◌, arith}
 use Rattle.std.proofs.lemmas.Bool.{eqb-true}
 use Rattle.std.specs.Prelude.{⊤, nat_lt, if◌then◌else◌, ◌&&◌, Ok, Err, is_some}
 use Rattle.std.specs.Option.{option_map}
@@ -12,7 +12,7 @@ use Rattle.h4_frames.specs.declared.packet.HostPacket.TheVariants.{Command as Ho
 use Rattle.h4_frames.specs.declared.packet.Fed.{Fed}
 use Rattle.h4_frames.specs.declared.packet.Fed.TheVariants.{More, Packet, LostSync}
 use Rattle.hci_cmd.specs.declared.command.Command.{Command}
-use Rattle.hci_cmd.specs.declared.command.Command.TheVariants.{Disconnect, LeConnectionUpdate, LeParamNegative, LeParamReply, LeReadRemoteFeatures, LeSetChannels, LeSetDataLength, ReadRemoteVersion, Reset}
+use Rattle.hci_cmd.specs.declared.command.Command.TheVariants.{Disconnect, LeConnectionUpdate, LeParamNegative, LeParamReply, LeReadRemoteFeatures, LeSetChannels, LeSetDataLength, LeSetPhy, ReadRemoteVersion, Reset}
 use Rattle.hci_cmd.specs.declared.command.CmdRead.{CmdRead}
 use Rattle.hci_cmd.specs.declared.command.CmdRead.TheVariants.{Known, UnknownOpcode, BadLength}
 use Rattle.hci_cmd.specs.Command.{command_of}
@@ -28,7 +28,7 @@ use Rattle.run_model.specs.link_model.ControlSteps.{IsAskInRange}
 use Rattle.run_model.specs.link_model.Step.{Step as EndStep, DataGiven, DataReported, Disconnected, PacketReceived, PacketSent, PduFixed, ProcedureAsked, RequestAnswered}
 use Rattle.run_model.specs.link_model.declared.state.PeerFacts.{PeerFacts}
 use Rattle.run_model.specs.procedure_values.declared.asks.Ask.{Ask}
-use Rattle.run_model.specs.procedure_values.declared.asks.Ask.TheVariants.{Features, Length, Map, Request, Update, Version}
+use Rattle.run_model.specs.procedure_values.declared.asks.Ask.TheVariants.{Features, Length, Map, Phy, Request, Update, Version}
 use Rattle.run_model.specs.procedure_values.Wants.{IsAsk}
 use Rattle.run_model.specs.link_model.declared.setup.LinkSetup.{LinkSetup}
 use Rattle.slot_plan.specs.declared.Activity.{Activity}
@@ -192,10 +192,11 @@ step_is_well (LeSetDataLength handle octets time) slot role peer step ranged is 
 step_is_well (LeConnectionUpdate handle min max latency timeout lengths) slot role peer step ranged is =
     update_well role min max latency timeout step (ranged role) is
 step_is_well (LeSetChannels map) slot role peer step ranged is = map_well role map step ranged is
+step_is_well (LeSetPhy handle all tx rx options) slot role peer step ranged is = asked_well Phy step tt tt is
 step_is_well (LeParamReply handle min max latency timeout lengths) slot role peer step ranged is =
     one_well (RequestAnswered (Ok (Update max latency timeout))) step (record { by_host = tt; in_range = ranged; map = tt }) is
 step_is_well (LeParamNegative handle reason) slot role peer step ranged is =
-    one_well (RequestAnswered (Err (record { 0 = reason }))) step (record { by_host = tt; in_range = tt; map = tt }) is
+    one_well (RequestAnswered (Err (record { 0 = reason % 256 }))) step (record { by_host = tt; in_range = tt; map = tt }) is
 step_is_well other slot role peer step ranged is = absurd cc
 
 pub accepted_in_range : (view : View) (command : Command) → status_of view command ≡ 0 → AsksInRange command

@@ -54,7 +54,7 @@ pub sent_begins : (setup : EndSetup) (facts : EndFacts) → take 4 (packet_sent 
 unfolding packet_sent
 sent_begins setup facts = refl
 
-good_begins : (max_rx channel access init : ℕ) (octets : List ℕ) → verdict_by max_rx (heard_in channel access init octets) ≡ Good → take 4 octets ≡ access_octets access
+pub good_begins : (max_rx channel access init : ℕ) (octets : List ℕ) → verdict_by max_rx (heard_in channel access init octets) ≡ Good → take 4 octets ≡ access_octets access
 unfolding heard_in
 good_begins max_rx channel access init octets good = by (bytes_eq (take 4 octets) (access_octets access)) refl good
   where
@@ -64,7 +64,7 @@ good_begins max_rx channel access init octets good = by (bytes_eq (take 4 octets
     by true same is = (bytes_eq-Decides (take 4 octets) (access_octets access)).0 same
     by false same is = absurd cc
 
-is_addressed : (setup : EndSetup) (facts : EndFacts) (octets : List ℕ) → verdict_of setup facts octets ≡ Good → take 4 octets ≡ access_octets setup.link.fields.access
+pub is_addressed : (setup : EndSetup) (facts : EndFacts) (octets : List ℕ) → verdict_of setup facts octets ≡ Good → take 4 octets ≡ access_octets setup.link.fields.access
 unfolding verdict_of
 is_addressed setup facts octets good = good_begins setup.link.max_rx facts.event.channel setup.link.fields.access setup.link.fields.crc_init octets good
 
@@ -72,13 +72,13 @@ is_addressed setup facts octets good = good_begins setup.link.max_rx facts.event
 in_32_bits : (cursor travel : ℕ) → access_at cursor travel < 2 ^ 32
 in_32_bits cursor travel = omega arith
 
-access_below : (cursor number access : ℕ) → access_found (nth_access cursor number) ≡ Some access → access < 2 ^ 32
+pub access_below : (cursor number access : ℕ) → access_found (nth_access cursor number) ≡ Some access → access < 2 ^ 32
 access_below cursor number access is =
     let found = found_at (nth_access cursor number) access is in
     let fact = subst (λ may. IfSome may (λ pair. IsNthAccess cursor number pair.0 pair.1)) found.is (each_valid cursor number) in
     subst (λ n. n < 2 ^ 32) (sym fact.address) (in_32_bits cursor (found.after - 1))
 
-same_access : (one other : ℕ) → one < 2 ^ 32 → other < 2 ^ 32 → access_octets one ≡ access_octets other → one ≡ other
+pub same_access : (one other : ℕ) → one < 2 ^ 32 → other < 2 ^ 32 → access_octets one ≡ access_octets other → one ≡ other
 same_access one other below below_too same =
     sym (from_le_bytes-to_le_bytes_4 one below) ∙ ap (from_le_bytes w32) same ∙ from_le_bytes-to_le_bytes_4 other below_too
 
@@ -92,14 +92,14 @@ pub at_peripheral : (role : Role) (station : ℕ) (end : EndSetup) (sent : Conne
 at_peripheral Central station end sent is at = absurd cc
 at_peripheral Peripheral station end sent is at = at.0
 
-not_same : (one other : ℕ) → one ≢ other → (other == one) ≡ false
+pub not_same : (one other : ℕ) → one ≢ other → (other == one) ≡ false
 not_same one other differs = false_from_ne_true (other == one) (λ same. differs (sym (eqb-true other one same)))
 
-neither_less : (m n : ℕ) → (m < n → n < n) → (n < m → m < m) → m ≡ n
+pub neither_less : (m n : ℕ) → (m < n → n < n) → (n < m → m < m) → m ≡ n
 neither_less m n less more = grind (arith, less, more)
 
 -- of two parts of a history, those that are as long are one
-same_front : (before other : List Event) (event next : Event) (after rest : List Event) → before ++ event ∷ after ≡ other ++ next ∷ rest → length before ≡ length other → before ≡ other
+pub same_front : (before other : List Event) (event next : Event) (after rest : List Event) → before ++ event ∷ after ≡ other ++ next ∷ rest → length before ≡ length other → before ≡ other
 same_front [] [] event next after rest same long = refl
 same_front [] (second ∷ other) event next after rest same long = absurd (omega (arith, long))
 same_front (first ∷ before) [] event next after rest same long = absurd (omega (arith, long))
@@ -111,11 +111,11 @@ same_front (first ∷ before) (second ∷ other) event next after rest same long
 -- ---- which end sends, and which one listens
 
 -- the end that listens in a phase, which comes after this number of phases
-abbrev ListensAs : ℕ → Role → Type 0
+abbrev pub ListensAs : ℕ → Role → Type 0
 ListensAs zero role = role ≡ Peripheral
 ListensAs (suc phases) role = role ≡ Central
 
-listens_as : (phases handle : ℕ) (links : Links) (doing : Doing) (link : OpenLink) → IsInPhase phases links doing → link_listened doing ≡ Some handle
+pub listens_as : (phases handle : ℕ) (links : Links) (doing : Doing) (link : OpenLink) → IsInPhase phases links doing → link_listened doing ≡ Some handle
     → link_at handle links ≡ Some link → ListensAs phases link.setup.link.role
 listens_as phases handle links (CentralListens other) link is listens at =
     let same : other ≡ handle = cc in
@@ -126,7 +126,7 @@ listens_as phases handle links (PeripheralListens other) link is listens at =
 listens_as phases handle links (Advertises channel) link is listens at = absurd cc
 listens_as phases handle links other link is listens at = absurd cc
 
-listens_for : (facts : Facts) (handle : ℕ) (doing : Doing) (link : OpenLink) → IsListening facts doing → link_listened doing ≡ Some handle
+pub listens_for : (facts : Facts) (handle : ℕ) (doing : Doing) (link : OpenLink) → IsListening facts doing → link_listened doing ≡ Some handle
     → link_at handle facts.links ≡ Some link → facts.wanted ≡ Listens (facts_in link).event.channel
 listens_for facts handle (CentralListens other) link is listens at =
     let same : other ≡ handle = cc in is ∙ ap (λ n. listens_on (link_at n facts.links)) same ∙ ap listens_on at

@@ -123,6 +123,28 @@ module _ (whole : IsHeardWhole) (c_end p_end : EndSetup) (ends : AreEnds c_end p
       absurd (let none = lasting_took_none c c_lasts in
       let h : true ≡ false = sym parting.took.took ∙ ap (λ (o : Option ErrCode). is_some o) none in absurd cc)
 
+-- ---- where a call stands, and the link on which it listens
+
+pub listens_by : (handle : ℕ) (doing : Doing) → link_listened doing ≡ Some handle → listens_under handle doing ≡ true
+listens_by handle (CentralListens other) is = let same : other ≡ handle = cc in eq-eqb other handle same
+listens_by handle (PeripheralListens other) is = let same : other ≡ handle = cc in eq-eqb other handle same
+listens_by handle (Advertises channel) is = absurd cc
+listens_by handle other is = absurd cc
+
+pub on_link : (handle : ℕ) (doing : Doing) → link_listened doing ≡ Some handle → is_on_link doing ≡ true
+on_link handle (CentralListens other) is = refl
+on_link handle (PeripheralListens other) is = refl
+on_link handle (Advertises channel) is = absurd cc
+on_link handle other is = absurd cc
+
+pub phase_of : (b : Bool) (phases turns : ℕ) (past : List Step) → standing past ≡ Some (if b then at_stage (Within (suc phases)) turns else at_stage (Within phases) turns)
+    → standing past ≡ Some (at_stage (Within (if b then suc phases else phases)) turns)
+phase_of true phases turns past is = is
+phase_of false phases turns past is = is
+
+pub not_new : (X : Type 0) (opened slot turns : ℕ) → opened < slot → slot + 1 ≡ turns → opened + 1 ≡ turns → X
+not_new X opened slot turns before is new = absurd (omega (arith, before, is, new))
+
 -- ---- at a place of a run
 
 module _ (whole : IsHeardWhole) (understood : IsUnderstood) (taken : AreTaken) (given : Given) (six : HaveAddresses given) (distinct : AreDistinct given.stations)
@@ -226,26 +248,6 @@ module _ (whole : IsHeardWhole) (understood : IsUnderstood) (taken : AreTaken) (
   terminated_here = are_terminated (Some (facts_in central.link)) (Some (facts_in peripheral.link)) goes_on_here
 
   -- ---- a packet of the far end
-
-  listens_by : (handle : ℕ) (doing : Doing) → link_listened doing ≡ Some handle → listens_under handle doing ≡ true
-  listens_by handle (CentralListens other) is = let same : other ≡ handle = cc in eq-eqb other handle same
-  listens_by handle (PeripheralListens other) is = let same : other ≡ handle = cc in eq-eqb other handle same
-  listens_by handle (Advertises channel) is = absurd cc
-  listens_by handle other is = absurd cc
-
-  on_link : (handle : ℕ) (doing : Doing) → link_listened doing ≡ Some handle → is_on_link doing ≡ true
-  on_link handle (CentralListens other) is = refl
-  on_link handle (PeripheralListens other) is = refl
-  on_link handle (Advertises channel) is = absurd cc
-  on_link handle other is = absurd cc
-
-  phase_of : (b : Bool) (phases turns : ℕ) (past : List Step) → standing past ≡ Some (if b then at_stage (Within (suc phases)) turns else at_stage (Within phases) turns)
-      → standing past ≡ Some (at_stage (Within (if b then suc phases else phases)) turns)
-  phase_of true phases turns past is = is
-  phase_of false phases turns past is = is
-
-  not_new : (X : Type 0) (opened slot turns : ℕ) → opened < slot → slot + 1 ≡ turns → opened + 1 ≡ turns → X
-  not_new X opened slot turns before is new = absurd (omega (arith, before, is, new))
 
   module _ (octets : List ℕ) (later : List Event) where
     -- the peripheral hears the central

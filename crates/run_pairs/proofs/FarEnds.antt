@@ -1,31 +1,12 @@
 -- What a station of two hears on a link was sent by the other one in the same turn, at the far end of that link.
-use Rattle.std.proofs.Common.{◌≡◌, ◌≢◌, ℕ, zero, suc, ◌+◌, ◌-◌, ◌^◌, ◌<◌, ◌==◌, inl, inr, Bool, true, false, Some, List, [], ◌∷◌, ◌++◌, length, take, refl, sym, ap, subst, ◌∙◌, append_assoc, arith}
-use Rattle.std.specs.Prelude.{IfSome, if◌then◌else◌}
-use Rattle.std.specs.Int.{from_le_bytes, w32}
-use Rattle.std.specs.Str.{bytes_eq}
-use Rattle.std.proofs.lemmas.Bool.{eqb-true, false_from_ne_true}
-use Rattle.std.proofs.lemmas.Nat.{from_le_bytes-to_le_bytes_4}
-use Rattle.std.proofs.lemmas.Slice.Eq.{bytes_eq-Decides}
-use Rattle.ble_base.specs.declared.roles.Role.{Role}
+use Rattle.std.proofs.Common.{◌≡◌, ℕ, zero, suc, ◌+◌, ◌^◌, ◌<◌, ◌==◌, inl, inr, true, false, Some, List, ◌∷◌, ◌++◌, length, take, refl, sym, ap, subst, ◌∙◌, append_assoc, arith}
 use Rattle.ble_base.specs.declared.roles.Role.TheVariants.{Central, Peripheral}
-use Rattle.ble_base.specs.declared.verdicts.Verdict.TheVariants.{Good}
 use Rattle.adv_pdu.specs.declared.pdu.ConnectFields.{ConnectFields}
-use Rattle.air_frame.specs.declared.Heard.TheVariants.{NotOurs, Broken, Whole}
-use Rattle.air_frame.specs.Hearing.{heard_in}
-use Rattle.air_frame.specs.Packet.{access_octets, is_packet, pdu_in}
-use Rattle.link_calls.specs.link_model.Facts.{Facts as EndFacts}
-use Rattle.link_calls.specs.link_model.Packets.{verdict_of}
-use Rattle.link_calls.specs.link_model.Verdicts.{verdict_by}
+use Rattle.air_frame.specs.Packet.{access_octets}
 use Rattle.link_calls.specs.link_model.Setup.{Setup as EndSetup}
 use Rattle.link_calls.specs.link_model.Step.{PacketSent}
-use Rattle.link_calls.specs.open_links.OpenLinks.{Links, OpenLink, facts_in, link_after, link_at}
-use Rattle.scan_init.specs.Access.{IsNthAccess, access_at, nth_access}
-use Rattle.scan_init.proofs.Numbers.{each_valid}
-use Rattle.controller_model.specs.declared.doing.Doing.{Doing}
-use Rattle.controller_model.specs.declared.doing.Doing.TheVariants.{Advertises, CentralListens, PeripheralListens}
-use Rattle.controller_model.specs.Facts.{Facts, Listens}
-use Rattle.controller_model.specs.Heard.{access_found}
-use Rattle.controller_model.specs.Packets.{listens_on}
+use Rattle.link_calls.specs.open_links.OpenLinks.{OpenLink, facts_in, link_after, link_at}
+use Rattle.controller_model.specs.Facts.{Facts}
 use Rattle.controller_model.specs.Step.{PacketHeard}
 use Rattle.controller_model.proofs.DataChannels.{link_channel}
 use Rattle.link_calls.specs.run_model.Feeding.{AreDistinct}
@@ -39,90 +20,14 @@ use Rattle.link_calls.proofs.run_model.Stations.{is_in}
 use Rattle.link_calls.specs.run_laws.Access.{IsConnectSent, connects_sent}
 use Rattle.link_calls.specs.run_laws.Ends.{HasSent, HaveOneConnectInd, IsOpen, OpenEnd, link_listened}
 use Rattle.link_calls.proofs.run_laws.ChSel.{one_channel}
-use Rattle.link_calls.proofs.run_laws.DistinctAccess.{AreApart, found_at, sent_distinct, sent_in_order}
+use Rattle.link_calls.proofs.run_laws.DistinctAccess.{AreApart, sent_distinct, sent_in_order}
 use Rattle.link_calls.proofs.run_laws.EachCall.{IsPhase, call_at}
-use Rattle.link_calls.proofs.run_laws.OwnLinks.{at_central, at_peripheral, sent_begins}
-use Rattle.link_calls.proofs.run_laws.LinkPhases.{HasRole, IsInPhase, SendsAs}
+use Rattle.link_calls.proofs.run_laws.OwnLinks.{ListensAs, access_below, at_central, at_peripheral, is_addressed, listens_as, listens_for, neither_less, not_same, same_access, same_front, sent_begins}
+use Rattle.link_calls.proofs.run_laws.LinkPhases.{SendsAs}
 use Rattle.link_calls.proofs.run_laws.SameEvent.{one_event}
-use Rattle.link_calls.proofs.run_laws.TurnSteps.{IsListening}
 use Rattle.link_calls.proofs.run_laws.TwoStations.{AreTwo, differs_back}
 use Rattle.run_pairs.specs.InTurns.{HasSentNow, HearEachInTurn, HearsInTurn}
 use Rattle.run_pairs.proofs.OnAirNow.{IsLinkOnAirNow, IsOnAirNow, WasSentNow, sent_now}
-
--- ---- the access address of a packet
-
-good_begins : (max_rx channel access init : ℕ) (octets : List ℕ) → verdict_by max_rx (heard_in channel access init octets) ≡ Good → take 4 octets ≡ access_octets access
-unfolding heard_in
-good_begins max_rx channel access init octets good = by (bytes_eq (take 4 octets) (access_octets access)) refl good
-  where
-    by : (same : Bool) → bytes_eq (take 4 octets) (access_octets access) ≡ same
-        → verdict_by max_rx (if same then (if is_packet channel access init octets then Whole (record { items = pdu_in channel octets }) else Broken) else NotOurs) ≡ Good
-        → take 4 octets ≡ access_octets access
-    by true same is = (bytes_eq-Decides (take 4 octets) (access_octets access)).0 same
-    by false same is = absurd cc
-
-is_addressed : (setup : EndSetup) (facts : EndFacts) (octets : List ℕ) → verdict_of setup facts octets ≡ Good → take 4 octets ≡ access_octets setup.link.fields.access
-unfolding verdict_of
-is_addressed setup facts octets good = good_begins setup.link.max_rx facts.event.channel setup.link.fields.access setup.link.fields.crc_init octets good
-
--- each address that a station takes has 32 bits
-in_32_bits : (cursor travel : ℕ) → access_at cursor travel < 2 ^ 32
-in_32_bits cursor travel = omega arith
-
-access_below : (cursor number access : ℕ) → access_found (nth_access cursor number) ≡ Some access → access < 2 ^ 32
-access_below cursor number access is =
-    let found = found_at (nth_access cursor number) access is in
-    let fact = subst (λ may. IfSome may (λ pair. IsNthAccess cursor number pair.0 pair.1)) found.is (each_valid cursor number) in
-    subst (λ n. n < 2 ^ 32) (sym fact.address) (in_32_bits cursor (found.after - 1))
-
-same_access : (one other : ℕ) → one < 2 ^ 32 → other < 2 ^ 32 → access_octets one ≡ access_octets other → one ≡ other
-same_access one other below below_too same =
-    sym (from_le_bytes-to_le_bytes_4 one below) ∙ ap (from_le_bytes w32) same ∙ from_le_bytes-to_le_bytes_4 other below_too
-
--- ---- the sender of a CONNECT_IND
-
-not_same : (one other : ℕ) → one ≢ other → (other == one) ≡ false
-not_same one other differs = false_from_ne_true (other == one) (λ same. differs (sym (eqb-true other one same)))
-
-neither_less : (m n : ℕ) → (m < n → n < n) → (n < m → m < m) → m ≡ n
-neither_less m n less more = grind (arith, less, more)
-
--- of two parts of a history, those that are as long are one
-same_front : (before other : List Event) (event next : Event) (after rest : List Event) → before ++ event ∷ after ≡ other ++ next ∷ rest → length before ≡ length other → before ≡ other
-same_front [] [] event next after rest same long = refl
-same_front [] (second ∷ other) event next after rest same long = absurd (omega (arith, long))
-same_front (first ∷ before) [] event next after rest same long = absurd (omega (arith, long))
-same_front (first ∷ before) (second ∷ other) event next after rest same long =
-    let one : first ≡ second = cc in
-    let more : before ++ event ∷ after ≡ other ++ next ∷ rest = cc in
-    ap (λ (e : Event). e ∷ before) one ∙ ap (λ (xs : List Event). second ∷ xs) (same_front before other event next after rest more (omega (arith, long)))
-
--- ---- which end sends, and which one listens
-
--- the end that listens in a phase, which comes after this number of phases
-abbrev ListensAs : ℕ → Role → Type 0
-ListensAs zero role = role ≡ Peripheral
-ListensAs (suc phases) role = role ≡ Central
-
-listens_as : (phases handle : ℕ) (links : Links) (doing : Doing) (link : OpenLink) → IsInPhase phases links doing → link_listened doing ≡ Some handle
-    → link_at handle links ≡ Some link → ListensAs phases link.setup.link.role
-listens_as phases handle links (CentralListens other) link is listens at =
-    let same : other ≡ handle = cc in
-    subst (λ n. ListensAs n link.setup.link.role) (sym is.0) (subst (HasRole Central) at (subst (λ n. HasRole Central (link_at n links)) same is.1))
-listens_as phases handle links (PeripheralListens other) link is listens at =
-    let same : other ≡ handle = cc in
-    subst (λ n. ListensAs n link.setup.link.role) (sym is.0) (subst (HasRole Peripheral) at (subst (λ n. HasRole Peripheral (link_at n links)) same is.1))
-listens_as phases handle links (Advertises channel) link is listens at = absurd cc
-listens_as phases handle links other link is listens at = absurd cc
-
-listens_for : (facts : Facts) (handle : ℕ) (doing : Doing) (link : OpenLink) → IsListening facts doing → link_listened doing ≡ Some handle
-    → link_at handle facts.links ≡ Some link → facts.wanted ≡ Listens (facts_in link).event.channel
-listens_for facts handle (CentralListens other) link is listens at =
-    let same : other ≡ handle = cc in is ∙ ap (λ n. listens_on (link_at n facts.links)) same ∙ ap listens_on at
-listens_for facts handle (PeripheralListens other) link is listens at =
-    let same : other ≡ handle = cc in is ∙ ap (λ n. listens_on (link_at n facts.links)) same ∙ ap listens_on at
-listens_for facts handle (Advertises channel) link is listens at = absurd cc
-listens_for facts handle other link is listens at = absurd cc
 
 -- ---- at a time of a run
 

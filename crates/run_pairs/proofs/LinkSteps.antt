@@ -10,11 +10,9 @@ use Rattle.controller_model.specs.Step.{Step, HostOctet}
 use Rattle.controller_model.specs.declared.doing.Doing.{Doing}
 use Rattle.controller_model.specs.declared.doing.Doing.TheVariants.{Advertises, CentralListens, PeripheralListens}
 use Rattle.controller_model.specs.Facts.{Setup, Facts}
-use Rattle.controller_model.specs.host_view.View.{View}
-use Rattle.controller_model.specs.host_view.Unbuilt.{status_of}
 use Rattle.controller_model.specs.Heard.{has_room, heard, replies_in, reply_if}
 use Rattle.controller_model.specs.Host.{commands_accepted_after}
-use Rattle.controller_model.specs.link_commands.Commands.{FitsReason, step_on}
+use Rattle.controller_model.specs.link_commands.Commands.{step_on}
 use Rattle.controller_model.specs.Side.{facts_after, facts_of}
 use Rattle.link_runs.specs.link_pairs.Hosts.{MayHost}
 use Rattle.link_runs.specs.Runs.{MayHostAll}
@@ -24,7 +22,6 @@ use Rattle.link_calls.specs.Hosts.{HasHeardHost, GetsData, IsAsked, Unchanged}
 use Rattle.link_calls.specs.Turns.{fixed_if}
 use Rattle.link_calls.specs.Uses.{fixes_under, listens_under, sends_under}
 use Rattle.link_calls.proofs.LinkCalls.{HasBegun}
-use Rattle.link_calls.proofs.HostSteps.{accepted_status}
 use Rattle.link_calls.proofs.UnderHandles.{host_under}
 use Rattle.link_calls.specs.run_model.History.{Event, Called, past_of}
 use Rattle.link_calls.specs.run_model.Run.{Given, facts_at, history_of, run_of, setup_at, step_of}
@@ -73,19 +70,14 @@ AsksMayCome given =
 -- by what is known of all pasts of a controller
 abbrev pub MayAskAfterAll : Type 0
 MayAskAfterAll =
-    (setup : Setup) (past : List Step) (octet handle : ℕ) (link : OpenLink) (command : Command) (step : EndStep) → FitsReason command
+    (setup : Setup) (past : List Step) (octet handle : ℕ) (link : OpenLink) (command : Command) (step : EndStep)
     → link_at handle (facts_of setup past).links ≡ Some link → (facts_in link).control.ends ≡ None
     → commands_accepted_after (facts_of setup past) (HostOctet octet) ≡ command ∷ []
     → step_on handle command (facts_of setup past).turn.begun link.setup.link.role (facts_in link).peer ≡ Some step → MayHost step (facts_in link)
 
-abbrev pub HasFittingReasons : Type 0
-HasFittingReasons = (view : View) (command : Command) → status_of view command ≡ 0 → FitsReason command
-
-pub asks_come : MayAskAfterAll → HasFittingReasons → (given : Given) → AsksMayCome given
-asks_come may fits given before rest station octet handle in_it at link command step found goes accepted asks =
-    let facts = facts_at given station before in
+pub asks_come : MayAskAfterAll → (given : Given) → AsksMayCome given
+asks_come may given before rest station octet handle in_it at link command step =
     may (setup_at given station) (past_of station before) octet handle link command step
-    (fits facts.view command (accepted_status facts octet command accepted)) found goes accepted asks
 
 -- no procedure ended the link with this setup that is under the handle
 abbrev GoesOnUnder : Facts → ℕ → EndSetup → Type 0

@@ -1,6 +1,6 @@
 -- Proof of `laws::each_command_is_one_call`.
 use Rattle.std.proofs.Common.{refl}
-use Rattle.hci_cmd.specs.declared.command.Command.TheVariants.{Disconnect, LeParamNegative, LeParamReply, LeSetDataLength}
+use Rattle.hci_cmd.specs.declared.command.Command.TheVariants.{Disconnect, LeParamNegative, LeParamReply, LeSetDataLength, LeSetPhy}
 use Rattle.link_commands.proofs.OpenLinkCalls.{features_asked, map_asked, one_change, update_asked, version_asked}
 use Rattle.link_commands.proofs.laws.each_command_is_one_call.Goals as goal
 
@@ -18,6 +18,9 @@ returns-clause-length c = λ handle octets time slot links. one_change (LeSetDat
 
 pub returns-clause-update : goal.returns-clause-update
 returns-clause-update c = update_asked
+
+pub returns-clause-phy : goal.returns-clause-phy
+returns-clause-phy c = λ handle all tx rx options slot links. one_change (LeSetPhy handle all tx rx options) slot handle (λ h. refl) links
 
 pub returns-clause-map : goal.returns-clause-map
 returns-clause-map c = map_asked

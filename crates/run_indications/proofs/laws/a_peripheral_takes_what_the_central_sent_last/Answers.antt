@@ -8,6 +8,6 @@ pub returns : goal.returns
 returns c = λ given before rest octets central peripheral room first later handle number llid body indication distinct six is is_too at of_one hear
     is_open is_open_too listens.
     takes_last c.packet_tells_its_pdu.ensures.heard c.a_pdu_is_understood.ensures.says c.connections_are_taken.ensures.taken given six distinct
-    (asks_come c.what_hosts_ask_may_come.ensures.may c.what_hosts_ask_may_come.ensures.no_reply given) before rest octets central peripheral at
+    (asks_come c.what_hosts_ask_may_come.ensures given) before rest octets central peripheral at
     (contains_in given.stations central.station is) (contains_in given.stations peripheral.station is_too) of_one is_open is_open_too hear listens
     room first later handle number llid body indication

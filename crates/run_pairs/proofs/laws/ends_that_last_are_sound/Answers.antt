@@ -10,7 +10,7 @@ use Rattle.run_pairs.proofs.laws.ends_that_last_are_sound.Goals as goal
 pub returns-clause-before_a_turn : goal.returns-clause-before_a_turn
 returns-clause-before_a_turn c = λ given before rest slot radios central peripheral distinct six is is_too at of_one hear is_open is_open_too.
     lasting_sound c.packet_tells_its_pdu.ensures.heard c.a_pdu_is_understood.ensures.says c.connections_are_taken.ensures.taken given six distinct
-    (asks_come c.what_hosts_ask_may_come.ensures.may c.what_hosts_ask_may_come.ensures.no_reply given)
+    (asks_come c.what_hosts_ask_may_come.ensures given)
     before (TurnBegan slot radios
     ∷ rest) at central peripheral (contains_in given.stations central.station is) (contains_in given.stations peripheral.station is_too) of_one is_open is_open_too hear slot
     (stands_before_turn given before rest slot radios distinct at)
@@ -18,7 +18,7 @@ returns-clause-before_a_turn c = λ given before rest slot radios central periph
 pub returns-clause-at_the_end : goal.returns-clause-at_the_end
 returns-clause-at_the_end c = λ given history central peripheral distinct six is is_too goes of_one hear is_open is_open_too.
     lasting_sound c.packet_tells_its_pdu.ensures.heard c.a_pdu_is_understood.ensures.says c.connections_are_taken.ensures.taken given six distinct
-    (asks_come c.what_hosts_ask_may_come.ensures.may c.what_hosts_ask_may_come.ensures.no_reply given)
+    (asks_come c.what_hosts_ask_may_come.ensures given)
     history [] (whole_history
     given history goes) central peripheral (contains_in given.stations central.station is) (contains_in given.stations peripheral.station is_too) of_one is_open is_open_too
     hear
@@ -27,6 +27,6 @@ returns-clause-at_the_end c = λ given history central peripheral distinct six i
 pub returns-clause-agreement : goal.returns-clause-agreement
 returns-clause-agreement c = λ given before rest central peripheral distinct six is is_too at of_one hear is_open is_open_too.
     (sound_here c.packet_tells_its_pdu.ensures.heard c.a_pdu_is_understood.ensures.says c.connections_are_taken.ensures.taken given six distinct
-    (asks_come c.what_hosts_ask_may_come.ensures.may c.what_hosts_ask_may_come.ensures.no_reply given)
+    (asks_come c.what_hosts_ask_may_come.ensures given)
     before rest at central
     peripheral (contains_in given.stations central.station is) (contains_in given.stations peripheral.station is_too) of_one is_open is_open_too hear).agreement

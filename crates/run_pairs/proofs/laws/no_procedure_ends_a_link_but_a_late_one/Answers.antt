@@ -7,13 +7,13 @@ use Rattle.run_pairs.proofs.laws.no_procedure_ends_a_link_but_a_late_one.Goals a
 pub returns-clause-procedures : goal.returns-clause-procedures
 returns-clause-procedures c = λ given before rest central peripheral distinct six is is_too at of_one hear is_open is_open_too.
     goes_on_here c.packet_tells_its_pdu.ensures.heard c.a_pdu_is_understood.ensures.says c.connections_are_taken.ensures.taken given six distinct
-    (asks_come c.what_hosts_ask_may_come.ensures.may c.what_hosts_ask_may_come.ensures.no_reply given)
+    (asks_come c.what_hosts_ask_may_come.ensures given)
     before rest at central
     peripheral (contains_in given.stations central.station is) (contains_in given.stations peripheral.station is_too) of_one is_open is_open_too hear
 
 pub returns-clause-codes : goal.returns-clause-codes
 returns-clause-codes c = λ given before rest central peripheral distinct six is is_too at of_one hear is_open is_open_too.
     terminated_here c.packet_tells_its_pdu.ensures.heard c.a_pdu_is_understood.ensures.says c.connections_are_taken.ensures.taken given six distinct
-    (asks_come c.what_hosts_ask_may_come.ensures.may c.what_hosts_ask_may_come.ensures.no_reply given)
+    (asks_come c.what_hosts_ask_may_come.ensures given)
     before rest at central
     peripheral (contains_in given.stations central.station is) (contains_in given.stations peripheral.station is_too) of_one is_open is_open_too hear
