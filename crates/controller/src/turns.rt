@@ -260,7 +260,9 @@ impl<const L: usize, const T: usize, const R: usize> Controller<L, T, R> {
         self.between = false;
     }
 
-    /// A turn begins in this slot, with the radio on or off. It gives what is done first.
+    /// A turn begins in this slot, with the radio on or off. It gives what is done first. This is
+    /// kept apart from what the controller wants of the radio, so that less is cleared in each turn.
+    #[inline(never)]
     pub(crate) fn begin(&mut self, slot: SlotNo, on: bool, out: &mut Outbox) -> Doing
         requires slot { slot.0 < 2 ^ 32 }
         requires order { MayBegin slot.0 self.old }

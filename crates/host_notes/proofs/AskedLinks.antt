@@ -1,11 +1,12 @@
 -- What a command asks of links, as the calls on them do it.
-use Rattle.std.proofs.Common.{◌≡◌, ℕ, ◌+◌, ◌==◌, false, List, [], ◌∷◌, Option, Some, None, if◌then◌else◌, refl, sym, subst, ◌∙◌}
+use Rattle.std.proofs.Common.{◌≡◌, ℕ, ◌+◌, ◌%◌, ◌<◌, ◌==◌, false, List, [], ◌∷◌, Option, Some, None, if◌then◌else◌, refl, sym, subst, ◌∙◌}
+use Rattle.std.proofs.Math.Nat.{mod-eq_of_lt}
 use Rattle.std.specs.Option.{option_map}
 use Rattle.acl_banks.specs.declared.pieces.Piece.{Piece}
 use Rattle.ble_base.specs.declared.procedure_kinds.Kind.{Kind}
 use Rattle.ble_base.specs.declared.procedure_kinds.Kind.TheVariants.{Features as features_kind, Version as version_kind}
 use Rattle.hci_cmd.specs.declared.command.Command.{Command}
-use Rattle.hci_cmd.specs.declared.command.Command.TheVariants.{Disconnect, LeConnectionUpdate, LeParamNegative, LeParamReply, LeReadRemoteFeatures, LeSetChannels, LeSetDataLength, ReadRemoteVersion}
+use Rattle.hci_cmd.specs.declared.command.Command.TheVariants.{Disconnect, LeConnectionUpdate, LeParamNegative, LeParamReply, LeReadRemoteFeatures, LeSetChannels, LeSetDataLength, LeSetPhy, ReadRemoteVersion}
 use Rattle.link_model.specs.Step.{ProcedureAsked}
 use Rattle.link_model.specs.declared.setup.LinkSetup.{LinkSetup}
 use Rattle.procedures.specs.procedure_values.declared.asks.Ask.{Ask}
@@ -75,20 +76,22 @@ pub others_leave : (command : Command) (slot : ℕ) (links : Links) → ((handle
     → ((handle octets time : ℕ) → command ≡ LeSetDataLength handle octets time → ⊥)
     → ((handle min max latency timeout : ℕ) (lengths : List ℕ) → command ≡ LeConnectionUpdate handle min max latency timeout lengths → ⊥)
     → ((map : ℕ) → command ≡ LeSetChannels map → ⊥)
+    → ((handle all tx rx options : ℕ) → command ≡ LeSetPhy handle all tx rx options → ⊥)
     → ((handle min max latency timeout : ℕ) (lengths : List ℕ) → command ≡ LeParamReply handle min max latency timeout lengths → ⊥)
     → ((handle reason : ℕ) → command ≡ LeParamNegative handle reason → ⊥)
     → links_commanded command slot links ≡ links
-others_leave (Disconnect handle reason) slot links a b c d e f g h = absurd (a handle reason refl)
-others_leave (ReadRemoteVersion handle) slot links a b c d e f g h = absurd (b handle refl)
-others_leave (LeReadRemoteFeatures handle) slot links a b c d e f g h = absurd (c handle refl)
-others_leave (LeSetDataLength handle octets time) slot links a b c d e f g h = absurd (d handle octets time refl)
-others_leave (LeConnectionUpdate handle min max latency timeout lengths) slot links a b c d e f g h =
+others_leave (Disconnect handle reason) slot links a b c d e f p g h = absurd (a handle reason refl)
+others_leave (ReadRemoteVersion handle) slot links a b c d e f p g h = absurd (b handle refl)
+others_leave (LeReadRemoteFeatures handle) slot links a b c d e f p g h = absurd (c handle refl)
+others_leave (LeSetDataLength handle octets time) slot links a b c d e f p g h = absurd (d handle octets time refl)
+others_leave (LeConnectionUpdate handle min max latency timeout lengths) slot links a b c d e f p g h =
     absurd (e handle min max latency timeout lengths refl)
-others_leave (LeSetChannels map) slot links a b c d e f g h = absurd (f map refl)
-others_leave (LeParamReply handle min max latency timeout lengths) slot links a b c d e f g h =
+others_leave (LeSetChannels map) slot links a b c d e f p g h = absurd (f map refl)
+others_leave (LeSetPhy handle all tx rx options) slot links a b c d e f p g h = absurd (p handle all tx rx options refl)
+others_leave (LeParamReply handle min max latency timeout lengths) slot links a b c d e f p g h =
     absurd (g handle min max latency timeout lengths refl)
-others_leave (LeParamNegative handle reason) slot links a b c d e f g h = absurd (h handle reason refl)
-others_leave other slot links a b c d e f g h = about_none other slot 0 links (λ handle. refl)
+others_leave (LeParamNegative handle reason) slot links a b c d e f p g h = absurd (h handle reason refl)
+others_leave other slot links a b c d e f p g h = about_none other slot 0 links (λ handle. refl)
 
 -- ---- the links that are held, by which command it is
 
@@ -98,3 +101,7 @@ module _ (held : HeldLinks) (slot : ℕ) (known : Links) (received : List (ℕ �
   knows_by command one links is same k =
       subst (λ (given : Command). KnowsLinks held (links_commanded given slot known) received) (sym is)
       (subst (λ (of : Links). KnowsLinks held of received) (sym same) k)
+
+-- a reason has one octet
+pub one_octet : (reason : ℕ) → reason < 256 → reason % 256 ≡ reason
+one_octet reason fits = mod-eq_of_lt fits

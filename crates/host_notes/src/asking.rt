@@ -1,6 +1,6 @@
 //! What an accepted command asks of the links, and what is answered at once (Core 5.2, volume 4
 //! part E, sections 7.1 and 7.8).
-ghost use Rattle.std.specs.Prelude.{◌≡◌, ◌<◌, ◌≤◌, ◌^◌, ◌++◌, ℕ, List, Ok};
+ghost use Rattle.std.specs.Prelude.{◌≡◌, ◌<◌, ◌≤◌, ◌^◌, ◌++◌, ◌%◌, ℕ, List, Ok, Err};
 ghost use Rattle.std.specs.Prelude.{if◌then◌else◌};
 ghost use Rattle.arrayvec.specs.ArrayVec.{array_vec_len};
 ghost use Rattle.acl_banks.specs.declared.pieces.Piece.{Piece};
@@ -240,6 +240,22 @@ fn grant<const L: usize, const T: usize, const R: usize>(
     links.answer(handle, Ok(update));
 }
 
+/// The host refuses a request of the peer, for this reason: one octet.
+#[tactic(auto, using(crate::proofs::AskedLinks::one_octet))]
+fn refuse<const L: usize, const T: usize, const R: usize>(
+    links: &mut OpenLinks<L, T, R>,
+    handle: u16,
+    reason: u8,
+)
+    ensures knows { (known : Links) (received : List (ℕ × Piece))
+        → KnowsLinks links.old known received → KnowsLinks links.new
+        (links_answered handle (Err (record { 0 = reason % 256 })) known) received }
+    ensures counts { (links.new.heard_to ≡ links.old.heard_to)
+        × (links.new.unreported ≡ links.old.unreported) }
+{
+    links.answer(handle, Err(ErrCode(reason)));
+}
+
 /// Asks of the links what an accepted command asks; a Disconnect is accepted in this slot (sections
 /// 7.1 and 7.8).
 pub fn ask_links<const L: usize, const T: usize, const R: usize>(
@@ -280,6 +296,7 @@ pub fn ask_links<const L: usize, const T: usize, const R: usize>(
             ..
         } => ask_update(links, *handle, *min, *max, *latency, *timeout),
         Command::LeSetChannels { map } => ask_map(links, *map),
+        Command::LeSetPhy { handle, .. } => links.ask(*handle, Ask::Phy),
         Command::LeParamReply {
             handle,
             max,
@@ -287,7 +304,7 @@ pub fn ask_links<const L: usize, const T: usize, const R: usize>(
             timeout,
             ..
         } => grant(links, *handle, *max, *latency, *timeout),
-        Command::LeParamNegative { handle, reason } => links.answer(*handle, Err(ErrCode(*reason))),
+        Command::LeParamNegative { handle, reason } => refuse(links, *handle, *reason),
         _ => {}
     }
 }

@@ -1,9 +1,11 @@
 //! Packets that links receive, and what the host receives of what their procedures did (Core 5.2,
 //! volume 6 part B, section 5.1, and volume 4 part E, section 7.7).
-ghost use Rattle.std.specs.Prelude.{◌≡◌, ◌≤◌, ◌<◌, ◌+◌, ◌^◌, ◌++◌, ℕ, IfSome, List, length};
-ghost use Rattle.std.specs.Prelude.{nat_lt};
+ghost use Rattle.std.specs.Prelude.{◌≡◌, ◌≤◌, ◌<◌, ◌+◌, ◌^◌, ◌++◌, ℕ, IfSome, List, [], length};
+ghost use Rattle.std.specs.Prelude.{Some, nat_lt, true};
 ghost use Rattle.arrayvec.specs.ArrayVec.{array_vec_len};
 ghost use Rattle.acl_banks.specs.declared.pieces.Piece.{Piece};
+ghost use Rattle.instants.specs.declared.indications.Params.{Params};
+ghost use Rattle.link_model.specs.declared.state.PeerFacts.{PeerFacts};
 ghost use Rattle.link_model.specs.Receiving.{HasPayloadLengths};
 ghost use Rattle.link_model.specs.Step.{PacketReceived};
 ghost use Rattle.open_links.specs.Knowing.{Knows as KnowsLinks};
@@ -24,6 +26,45 @@ use open_links::{LinkStep, OpenLinks, PeerFacts};
 use procedure_events::{ReceptionEvents, events_of_reception};
 use procedures::Effect;
 
+/// Whether a packet brought nothing that the host hears of, as most do.
+fn is_quiet(step: &LinkStep) -> bool
+    ensures { result ≡ true → (handle : ℕ) (params : Params) (peer : PeerFacts)
+        → events_told handle (Some params) (Some peer) (Some step.now) ≡ [] }
+{
+    matches!(
+        step,
+        LinkStep {
+            acked: None,
+            effect: Effect::Nothing,
+            refused: None,
+            done: None,
+            ..
+        }
+    )
+}
+
+/// Sends the host the events for a packet that brought something. Few packets do, so this is kept
+/// out of the code of all.
+#[inline(never)]
+fn tell_step(
+    view: &HostView,
+    handle: u16,
+    params: &Params,
+    peer: &PeerFacts,
+    step: &LinkStep,
+    out: &mut Outbox,
+)
+    requires payloads { HasPayloadLengths step.now.effect }
+    requires room { array_vec_len out.old ≤ 60 }
+    ensures notes { out.new.items ≡ out.old.items ++ notes_of_events view.now
+        (events_told handle (Some params.now) (Some peer.now) (Some step.now)) }
+    ensures few { array_vec_len out.new ≤ array_vec_len out.old + 4 }
+{
+    let (effect, refused, done) = (&step.effect, step.refused, step.done);
+    let events = events_of_reception(handle, params, peer, step.acked, effect, refused, done);
+    tell_events(view, &events, out);
+}
+
 /// Sends the host the events for a packet that the link under a handle received, with the
 /// parameters of the link before it, and what is known of the peer after it.
 fn tell_received(
@@ -43,9 +84,9 @@ fn tell_received(
     let (Some(params), Some(peer), Some(step)) = (params, peer, step) else {
         return;
     };
-    let (effect, refused, done) = (&step.effect, step.refused, step.done);
-    let events = events_of_reception(handle, params, peer, step.acked, effect, refused, done);
-    tell_events(view, &events, out);
+    if !is_quiet(step) {
+        tell_step(view, handle, params, peer, step, out);
+    }
 }
 
 /// Sends the host the events for a packet that was received.

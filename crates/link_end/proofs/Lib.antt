@@ -8,6 +8,7 @@ pub mod Heard
 pub mod Hosted
 pub mod Keeping
 pub mod Lengths
+pub mod NoneNext
 pub mod Received
 pub mod Receptions
 pub mod Sent

@@ -128,10 +128,14 @@ pub(crate) fn limit(control: &ControlEnd) -> u16
     control.lengths().1
 }
 
-/// Whether a control PDU goes next.
+/// Whether a control PDU goes next. None is made where none waits, which is so in most events.
+#[tactic(auto, using(crate::proofs::NoneNext::none_next))]
 pub(crate) fn has_next(control: &ControlEnd) -> bool
     requires entered { 1 ≤ control.now.track.entered }
     ensures { result ≡ is_some (next_ctrl quiet_now control.now) }
 {
+    if control.waiting() == 0 {
+        return false;
+    }
     control.next(QUIET).is_some()
 }

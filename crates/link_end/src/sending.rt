@@ -44,10 +44,22 @@ impl LinkEnd {
         ensures entered { 1 ≤ self.new.control.track.entered }
     {
         if goes {
-            self.fixed = next_pdu(&self.control);
-            send(&mut self.control, slot);
-            self.fixes_control = false;
+            self.leave(slot);
         }
+    }
+
+    /// The control PDU that is fixed leaves the queue. Few packets carry one, so this is kept out of
+    /// the code of all.
+    #[inline(never)]
+    fn leave(&mut self, slot: u64)
+        requires entered { 1 ≤ self.old.control.track.entered }
+        requires fixes { self.old.fixes_control ≡ true }
+        ensures held { self.new ≡ held_gone_if true slot self.old }
+        ensures entered { 1 ≤ self.new.control.track.entered }
+    {
+        self.fixed = next_pdu(&self.control);
+        send(&mut self.control, slot);
+        self.fixes_control = false;
     }
 
     /// The control PDU that is fixed leaves the queue where the last PDU is acknowledged.

@@ -228,7 +228,8 @@ impl<'s> Station<'s> {
     }
 
     /// The controller takes a packet that was heard in a phase, and wants something in the next
-    /// one.
+    /// one. Most phases have no packet, so this is kept out of their code.
+    #[inline(never)]
     fn hear_packet(&mut self, octets: &[u8], wanted: &mut Wish, out: &mut Outbox)
         requires empty { out.old.items ≡ [] }
         ensures took { (setup : Setup) (past : List Step) → Knows setup self.old.held past

@@ -48,7 +48,9 @@ fn feed_both(
     pair.b.feed(Side::B, schedule.feed_b(number), out, log)
 }
 
-/// Both controllers begin the turn, and want something in its first phase.
+/// Both controllers begin the turn, and want something in its first phase. This is kept apart from
+/// the phases, so that less is cleared in each turn.
+#[inline(never)]
 fn begin_both(
     schedule: &Schedule,
     number: u32,

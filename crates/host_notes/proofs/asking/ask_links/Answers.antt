@@ -1,6 +1,6 @@
 -- Proof of `asking::ask_links`.
 use Rattle.std.proofs.Common.{refl, sym, subst}
-use Rattle.hci_cmd.specs.declared.command.Command.TheVariants.{Disconnect, LeParamNegative, LeParamReply, LeReadRemoteFeatures, LeSetChannels, LeSetDataLength, ReadRemoteVersion}
+use Rattle.hci_cmd.specs.declared.command.Command.TheVariants.{Disconnect, LeParamNegative, LeParamReply, LeReadRemoteFeatures, LeSetChannels, LeSetDataLength, LeSetPhy, ReadRemoteVersion}
 use Rattle.open_links.specs.Hosts.{links_asked}
 use Rattle.open_links.specs.Knowing.{Knows as KnowsLinks}
 use Rattle.procedures.specs.procedure_values.declared.asks.Ask.TheVariants.{Length}
@@ -40,6 +40,13 @@ returns-in-LeSetChannels-clause-knows g c = λ known received k.
     knows_by _ c.args.slot.0 known received _ (LeSetChannels map) _ c.in-LeSetChannels.is (map_asked map c.args.slot.0 known)
     (c.ask_map.ensures.knows known received k)
 
+pub returns-in-LeSetPhy-clause-knows : goal.returns-in-LeSetPhy-clause-knows
+returns-in-LeSetPhy-clause-knows g c = λ known received k.
+    let of = c.in-LeSetPhy in
+    let command = LeSetPhy of.handle of.all of.tx of.rx of.options in
+    knows_by _ c.args.slot.0 known received _ command _ of.is (one_change command c.args.slot.0 of.handle (λ h. refl) known)
+    (c.ask-in-LeSetPhy.ensures.knows known received k)
+
 pub returns-in-LeParamReply-clause-knows : goal.returns-in-LeParamReply-clause-knows
 returns-in-LeParamReply-clause-knows g c = λ known received k.
     let of = c.in-LeParamReply in
@@ -52,7 +59,7 @@ returns-in-LeParamNegative-clause-knows g c = λ known received k.
     let of = c.in-LeParamNegative in
     let command = LeParamNegative of.handle of.reason in
     knows_by _ c.args.slot.0 known received _ command _ of.is (one_change command c.args.slot.0 of.handle (λ h. refl) known)
-    (c.answer.ensures.knows known received k)
+    (c.refuse.ensures.knows known received k)
 
 pub returns-in_default : goal.returns-in_default
 returns-in_default g c =
@@ -61,6 +68,6 @@ returns-in_default g c =
       knows = λ known received k.
           subst (λ links. KnowsLinks c.args.links.now links received)
           (sym (others_leave c.args.command.now c.args.slot.0 known no.not-Disconnect no.not-ReadRemoteVersion no.not-LeReadRemoteFeatures
-          no.not-LeSetDataLength no.not-LeConnectionUpdate no.not-LeSetChannels no.not-LeParamReply no.not-LeParamNegative)) k;
+          no.not-LeSetDataLength no.not-LeConnectionUpdate no.not-LeSetChannels no.not-LeSetPhy no.not-LeParamReply no.not-LeParamNegative)) k;
       counts = (refl, refl);
     }
