@@ -14,7 +14,8 @@ use Rattle.host_masks.specs.Masks.{masks_of, withholds_requests}
 use Rattle.journal.specs.declared.entries.Entry.{Entry}
 use Rattle.journal.specs.declared.entries.Entry.TheVariants.{Air, Fed, Turn}
 use Rattle.journal_ends.proofs.host_answers.LineAnswers.{IsQuiet, far_quiet, turn_quiet}
-use Rattle.journal_ends.specs.Seen.{Hears, asked_in_line, heard_in_line}
+use Rattle.journal_ends.specs.host_answers.Answered.{accepted_in}
+use Rattle.journal_ends.specs.Seen.{Hears, heard_in_line}
 use Rattle.journal_ends.specs.journal_acks.Carried.{carried_of}
 use Rattle.journal_ends.specs.journal_acks.Exchange.{exchange_of}
 use Rattle.journal_ends.specs.journal_links.LinkLines.{lines_of, link_named, where_named}
@@ -26,7 +27,7 @@ use Rattle.journal_ends.specs.run_model.Journal.{entries_of, entry_of, journal_o
 use Rattle.journal_ends.specs.run_model.Links.{links_of}
 use Rattle.journal_ends.specs.run_model.Readers.{PairOpening, fed_in, fed_to_side, pair_openings_in, turns_of}
 use Rattle.journal_ends.specs.run_model.Run.{Given, after_call, facts_at, setup_at}
-use Rattle.journal_ends.proofs.SeenEvents.{lines_at, note_hears, unasked_by}
+use Rattle.journal_ends.proofs.SeenEvents.{lines_at, note_hears, unaccepted_by}
 use Rattle.journal_ends.proofs.journal_links.LinkLines.{line_more}
 use Rattle.journal_ends.proofs.run_model.Parts.{journal_event}
 use Rattle.journal_controls.specs.LineSteps.{control_after, control_on, has_next, steps_heard, turn_now, withholds}
@@ -77,9 +78,9 @@ moving_then number side first second third one next = record {
 
 -- an event with one line that begins no turn and is not of a host, nor answers it
 line_moving : (number : ℕ) (side : Side) (history : List Event) (event : Event) (line : Entry) → entries_of (links_of history) event ≡ line ∷ []
-    → heard_in_line side number (journal_of history) line ≡ [] → asked_in_line side number (journal_of history) line ≡ []
+    → heard_in_line side number (journal_of history) line ≡ [] → accepted_in side (journal_of history) line ≡ []
     → pair_openings_in line ≡ [] → fed_in side line ≡ [] → IsMoving number side history (history ++ event ∷ [])
-line_moving number side history event line is deaf unasked begins feeds =
+line_moving number side history event line is deaf unaccepted begins feeds =
     let front = journal_of history in
     let named = where_named side number (link_named line) line in
     let journal = journal_event history event ∙ ap (λ xs. front ++ xs) is in record {
@@ -91,7 +92,7 @@ line_moving number side history event line is deaf unasked begins feeds =
           (flat_map-append (fed_in side) front (line ∷ []) ∙ (λ i. fed_to_side side front ++ (feeds i ++ [])) ∙ append-nil (fed_to_side side front));
       control = λ c none was.
           ap (control_on side number) journal ∙ control_more side number front line ∙ ap (λ before. control_after side number front before line) was
-          ∙ line_moves side number front line c deaf unasked none;
+          ∙ line_moves side number front line c deaf unaccepted none;
     }
 
 note_begins : (other : Side) (link_of : ℕ → ℕ) (last : ℕ) (note : Note) → pair_openings_in (entry_of other link_of last note) ≡ []
@@ -108,7 +109,7 @@ note_moving number side history station note quiet =
     let links = links_of history in
     line_moving number side history (Noted station note) _ refl
     (note_hears number side (side_of station) (journal_of history) (links.link_of station) (links.last_of station) note)
-    (unasked_by side number (journal_of history) _ (quiet (links.link_of station) (links.last_of station)))
+    (unaccepted_by side (journal_of history) _ (quiet (links.link_of station) (links.last_of station)))
     (note_begins (side_of station) (links.link_of station) (links.last_of station) note)
     (note_feeds side (side_of station) (links.link_of station) (links.last_of station) note)
 
@@ -172,7 +173,7 @@ turn_still number side history slot radios =
     let front = journal_of history in
     let line = Turn slot (radio_in 0 radios) (Some (radio_in 1 radios)) in
     ap (control_on side number) (journal_event history (TurnBegan slot radios)) ∙ control_more side number front line
-    ∙ quiet_line side number front (control_on side number front) line refl
+    ∙ quiet_line side number front (control_on side number front) line refl refl
 
 -- by the lines that it adds
 pub call_moves : (given : Given) (side : Side) (number station : ℕ) (step : Call) (history : List Event) (more : List Entry) (c : Control)
@@ -191,7 +192,7 @@ feed_still number side history station octets =
     let front = journal_of history in
     let line = Fed (side_of station) octets in
     ap (control_on side number) (journal_event history (HostFed station octets)) ∙ control_more side number front line
-    ∙ quiet_line side number front (control_on side number front) line refl
+    ∙ quiet_line side number front (control_on side number front) line refl refl
 
 -- ---- a packet is on the air
 
@@ -211,7 +212,7 @@ module _ (number : ℕ) (side : Side) (history : List Event) (station channel : 
       let front = journal_of history in
       let line = air_line station channel octets hearing in
       ap (control_on side number) journal_aired ∙ control_more side number front line
-      ∙ quiet_line side number front (control_on side number front) line (ap (λ xs. xs ++ []) none)
+      ∙ quiet_line side number front (control_on side number front) line (ap (λ xs. xs ++ []) none) refl
 
   -- it is heard
   pub heard_moves : (slot : ℕ) (heard : List ℕ) (c : Control) → heard_in_line side number (journal_of history) (air_line station channel octets hearing) ≡ Hears slot heard ∷ []
@@ -224,6 +225,6 @@ module _ (number : ℕ) (side : Side) (history : List Event) (station channel : 
       let line = air_line station channel octets hearing in
       ap (control_on side number) journal_aired ∙ control_more side number front line
       ∙ ap (λ before. control_after side number front before line) was
-      ∙ heard_line side number front line c slot heard refl (ap (λ xs. xs ++ []) is)
+      ∙ heard_line side number front line c slot heard refl (ap (λ xs. xs ++ []) is) refl
       ∙ ap (λ after. Some (after_all (steps_heard (role_of c.table.progress) slot (exchange_of number front side) (exchange_of number after side) (carried_of number front side) (has_next c)) c))
       (sym journal_aired)

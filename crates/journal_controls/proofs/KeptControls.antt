@@ -13,7 +13,6 @@ use Rattle.host_masks.proofs.LineMasks.{line_masks}
 use Rattle.journal_ends.specs.journal_acks.link_calls.Uses.{listens_under}
 use Rattle.journal_ends.specs.open_links.OpenLinks.{OpenLink, facts_in, link_at}
 use Rattle.journal_ends.specs.run_model.Due.{Each}
-use Rattle.journal_ends.specs.run_model.Feeding.{is_octet}
 use Rattle.journal_ends.specs.run_model.History.{Event, TurnBegan, HostFed, Called, Hearing, Noted, Transmitted, packet_received, turns_begun}
 use Rattle.journal_ends.specs.run_model.Journal.{journal_of, side_of}
 use Rattle.journal_ends.specs.run_model.LinkEnds.{HaveAddresses}
@@ -55,7 +54,7 @@ use Rattle.journal_controls.proofs.ControlledEnds.{AreControlledSo, IsControlled
 use Rattle.journal_controls.proofs.EventMoves.{control_at, feed_still, turn_at, turn_still, withholds_at}
 use Rattle.journal_controls.proofs.FixedEnds.{fixed_in}
 use Rattle.journal_controls.proofs.LinkMoves.{MovesTo, begin_moves, end_moves}
-use Rattle.journal_controls.proofs.PassedControls.{passes_own}
+use Rattle.journal_controls.proofs.PassedControls.{no_octet, passes_own}
 
 -- ---- what is kept
 
@@ -119,10 +118,6 @@ there_and_back : (station : ℕ) → (station ≡ 0) ⊎ (station ≡ 1) → sta
 there_and_back station (inl is) = ap (λ n. station_of (side_of n)) is ∙ sym is
 there_and_back station (inr is) = ap (λ n. station_of (side_of n)) is ∙ sym is
 
-no_octet : (received : Option (List ℕ)) → is_octet (step_of received) ≡ false
-no_octet None = refl
-no_octet (Some octets) = refl
-
 first_sender : (phases : ℕ) (role : Role) → phases ≡ 0 → ((phases ≡ 0) × (role ≡ Central)) ⊎ ((phases ≡ 1) × (role ≡ Peripheral)) → role ≡ Central
 first_sender phases role first (inl central) = central.1
 first_sender phases role first (inr later) = absurd (let same = later.0 in omega (arith, first, same))
@@ -152,9 +147,9 @@ module _ (heard_whole : IsHeardWhole) (understood : IsUnderstood) (taken : AreTa
             let number = number_at station handle history in
             let asks = octet_asks understood taken nth apart given are_two six station octet begun history rest in_it at lined lined_after fed.seen handle link held in
             asked_own given station step history in_it lined lined_after handle link held None refl asks.number asks.base asks.was
-            (call_asks given (side_of station) number station step history asks.is.asked (facts_in asks.base).control asks.lines
+            (call_asks given (side_of station) number station step history asks.is.asked (facts_in asks.base).control asks.lines asks.answers
             (whole_at given history NoneReceived station handle asks.base in_it asks.was (λ on. refl) fed.control)
-            ∙ ap Some (end_asked asks.base asks.is.asked asks.is.is_seen ∙ sym asks.is.control_is)))
+            ∙ ap Some (end_asked asks.base asks.is.asked asks.is.by_host ∙ sym asks.is.control_is)))
             (λ other is_too differs. refl) fed.control;
         each = call_each given station step history fed.each (whole_before given history NoneReceived station step (λ handle held link. refl) refl fed.control);
         seen = seen_fed understood taken nth apart given are_two six station octet begun history rest in_it at lined lined_after fed.seen;

@@ -11,6 +11,7 @@ pub mod Counted
 pub mod FixedEnds
 pub mod TakingLines
 pub mod LinkMoves
+pub mod EarlyAnswers
 pub mod OpenedControls
 pub mod AskedControls
 pub mod ControlledEnds

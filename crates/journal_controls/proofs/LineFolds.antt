@@ -1,22 +1,28 @@
 -- The control part by a journal with one line more.
 use Rattle.std.proofs.Common.{◌≡◌, ℕ, ◌==◌, ◌&&◌, Bool, true, false, Option, Some, None, List, [], ◌∷◌, ◌++◌, map, refl, sym, ap, subst, ◌∙◌, append-nil, append_assoc, if◌then◌else◌}
 use Rattle.std.specs.List.{flat_map}
+use Rattle.std.specs.Prelude.{Result}
 use Rattle.std.specs.Option.{option_map}
+use Rattle.ble_base.specs.declared.error_codes.ErrCode.{ErrCode}
 use Rattle.ble_base.specs.declared.roles.Role.{Role}
 use Rattle.ble_base.specs.declared.roles.Side.{Side}
 use Rattle.ble_base.specs.declared.roles.Side.TheVariants.{A, B}
 use Rattle.journal.specs.declared.entries.Entry.{Entry}
 use Rattle.journal.specs.declared.entries.Entry.TheVariants.{Opened, Shut}
-use Rattle.journal_ends.specs.Seen.{Asks, Hears, Says, asked_in_line, heard_in_line, seen_in_line}
+use Rattle.journal_ends.specs.host_answers.Answered.{accepted_in}
+use Rattle.journal_ends.specs.Answering.{answers_in_line}
+use Rattle.journal_ends.specs.Seen.{Asks, Hears, Says, Seen, asked_in_line, heard_in_line, seen_in_line}
 use Rattle.journal_ends.specs.journal_acks.Carried.{carried_of}
 use Rattle.journal_ends.specs.journal_acks.Exchange.{exchange_of}
 use Rattle.journal_ends.specs.journal_links.Begun.{LinkBegun, link_numbered}
 use Rattle.journal_ends.specs.journal_links.LinkLines.{link_named, where_named}
 use Rattle.journal_ends.specs.journal_packets.Belonging.{is_side}
 use Rattle.journal_ends.specs.link_model.Step.{Step}
-use Rattle.journal_ends.specs.link_model.control_model.Control.{Control, after_all}
+use Rattle.journal_ends.specs.link_model.control_model.Control.{Answers, Control, after_all}
 use Rattle.journal_ends.specs.link_model.procedure_stages.Kinds.{role_of}
+use Rattle.journal_ends.specs.link_model.procedure_values.declared.asks.Ask.{Ask}
 use Rattle.journal_ends.specs.run_model.Readers.{of_side}
+use Rattle.journal_ends.proofs.SeenEvents.{unanswered_in, unasked_in}
 use Rattle.journal_ends.proofs.journal_acks.TwoStations.{same_number}
 use Rattle.journal_controls.specs.SaidLines.{NoneOpens, is_opening, moved_by}
 use Rattle.journal_controls.specs.LineSteps.{control_after, control_begun, control_from, control_moved, control_on, has_next, steps_asking, steps_heard, steps_said, steps_seen, turn_now, withholds}
@@ -58,14 +64,22 @@ same_moved : (before : Option Control) (move : Control → Control) → ((c : Co
 same_moved None move same = refl
 same_moved (Some c) move same = ap Some (same c)
 
--- a line in which the end says and hears nothing
+-- what is seen of the end in a line, and what its host answers in it
+lines_move : (side : Side) (number : ℕ) (front : List Entry) (line : Entry) (c : Control) (seen : List Seen) (answers : List (Result Ask ErrCode))
+    → seen_in_line side number front line ≡ seen → answers_in_line side number front line ≡ answers
+    → control_moved side number front line c ≡ after_all (map Answers answers ++ flat_map (steps_seen side number front line c) seen) c
+lines_move side number front line c seen answers is replies =
+    λ i. after_all (map Answers (replies i) ++ flat_map (steps_seen side number front line c) (is i)) c
+
+-- a line in which the end says and hears nothing, and in which its host asks and answers nothing
 pub quiet_line : (side : Side) (number : ℕ) (front : List Entry) (before : Option Control) (line : Entry) → seen_in_line side number front line ≡ []
-    → control_after side number front before line ≡ before
-quiet_line side number front before (Opened other link handle role) none =
+    → answers_in_line side number front line ≡ [] → control_after side number front before line ≡ before
+quiet_line side number front before (Opened other link handle role) none unanswered =
     opening_apart side other (link == number) (Opened other link handle role) (control_begun side (link_numbered number front)) before none
-quiet_line side number front before (Shut other link reason) none = opening_apart side other (link == number) (Shut other link reason) None before none
-quiet_line side number front before line none =
-    same_moved before (control_moved side number front line) (λ c. ap (λ seen. after_all (flat_map (steps_seen side number front line c) seen) c) none)
+quiet_line side number front before (Shut other link reason) none unanswered =
+    opening_apart side other (link == number) (Shut other link reason) None before none
+quiet_line side number front before line none unanswered =
+    same_moved before (control_moved side number front line) (λ c. lines_move side number front line c [] [] none unanswered)
 
 -- ---- lines that an end says
 
@@ -76,10 +90,11 @@ moved_both withheld slot (line ∷ lines) more c = moved_both withheld slot line
 
 -- a line of its own
 said_line : (side : Side) (number : ℕ) (front : List Entry) (line : Entry) (c : Control) → is_opening line ≡ false → seen_in_line side number front line ≡ Says line ∷ []
+    → answers_in_line side number front line ≡ []
     → control_after side number front (Some c) line ≡ Some (moved_by (withholds side front) (turn_now front) (line ∷ []) c)
-said_line side number front line c opens is =
+said_line side number front line c opens is unanswered =
     moves side number front (Some c) line opens
-    ∙ ap (λ seen. Some (after_all (flat_map (steps_seen side number front line c) seen) c)) is
+    ∙ ap Some (lines_move side number front line c (Says line ∷ []) [] is unanswered)
     ∙ ap (λ steps. Some (after_all steps c)) (append-nil (steps_said (withholds side front) (turn_now front) c line))
 
 -- the line is of this side and of this link, or it is not
@@ -99,28 +114,36 @@ pub named_by : (side : Side) (number : ℕ) (names : Option (Side × ℕ)) (line
 named_by side number None line = Others refl
 named_by side number (Some named) line = named_if side named.0 (named.1 == number) line
 
--- a line in which the end hears nothing and is asked nothing
+-- a line in which the end hears nothing, and which accepts no command of its host
 pub line_moves : (side : Side) (number : ℕ) (front : List Entry) (line : Entry) (c : Control) → heard_in_line side number front line ≡ []
-    → asked_in_line side number front line ≡ [] → let named = where_named side number (link_named line) line in NoneOpens named
+    → accepted_in side front line ≡ [] → let named = where_named side number (link_named line) line in NoneOpens named
     → control_after side number front (Some c) line ≡ Some (moved_by (withholds side front) (turn_now front) named c)
-line_moves side number front line c deaf unasked opens = by (named_by side number (link_named line) line)
+line_moves side number front line c deaf unaccepted opens = by (named_by side number (link_named line) line)
   where
+    unasked : asked_in_line side number front line ≡ []
+    unasked = unasked_in side number front line unaccepted
+
+    unanswered : answers_in_line side number front line ≡ []
+    unanswered = unanswered_in side number front line unaccepted
+
     by : IsNamed line (where_named side number (link_named line) line)
         → control_after side number front (Some c) line ≡ Some (moved_by (withholds side front) (turn_now front) (where_named side number (link_named line) line) c)
     by (Own is) =
-        said_line side number front line c (subst NoneOpens is opens).0 (λ i. unasked i ++ (deaf i ++ map Says (is i))) ∙ ap (λ lines. Some (moved_by (withholds side front) (turn_now front) lines c)) (sym is)
+        said_line side number front line c (subst NoneOpens is opens).0 (λ i. unasked i ++ (deaf i ++ map Says (is i))) unanswered
+        ∙ ap (λ lines. Some (moved_by (withholds side front) (turn_now front) lines c)) (sym is)
     by (Others none) =
-        quiet_line side number front (Some c) line (λ i. unasked i ++ (deaf i ++ map Says (none i))) ∙ ap (λ lines. Some (moved_by (withholds side front) (turn_now front) lines c)) (sym none)
+        quiet_line side number front (Some c) line (λ i. unasked i ++ (deaf i ++ map Says (none i))) unanswered
+        ∙ ap (λ lines. Some (moved_by (withholds side front) (turn_now front) lines c)) (sym none)
 
 -- ---- a good packet that the end hears
 
 pub heard_line : (side : Side) (number : ℕ) (front : List Entry) (line : Entry) (c : Control) (slot : ℕ) (octets : List ℕ) → is_opening line ≡ false
-    → seen_in_line side number front line ≡ Hears slot octets ∷ []
+    → seen_in_line side number front line ≡ Hears slot octets ∷ [] → answers_in_line side number front line ≡ []
     → control_after side number front (Some c) line
     ≡ Some (after_all (steps_heard (role_of c.table.progress) slot (exchange_of number front side) (exchange_of number (front ++ line ∷ []) side) (carried_of number front side) (has_next c)) c)
-heard_line side number front line c slot octets opens is =
+heard_line side number front line c slot octets opens is unanswered =
     moves side number front (Some c) line opens
-    ∙ ap (λ seen. Some (after_all (flat_map (steps_seen side number front line c) seen) c)) is
+    ∙ ap Some (lines_move side number front line c (Hears slot octets ∷ []) [] is unanswered)
     ∙ ap (λ steps. Some (after_all steps c))
     (append-nil (steps_heard (role_of c.table.progress) slot (exchange_of number front side) (exchange_of number (front ++ line ∷ []) side) (carried_of number front side) (has_next c)))
 
@@ -140,11 +163,25 @@ opening_unasked side number front (Shut other link reason) step asked =
 opening_unasked side number front line step asked = refl
 
 pub asked_line : (side : Side) (number : ℕ) (front : List Entry) (line : Entry) (c : Control) (step : Step) → seen_in_line side number front line ≡ Asks step ∷ []
-    → control_after side number front (Some c) line ≡ Some (after_all (steps_asking c step) c)
-asked_line side number front line c step is =
+    → answers_in_line side number front line ≡ [] → control_after side number front (Some c) line ≡ Some (after_all (steps_asking c step) c)
+asked_line side number front line c step is unanswered =
     moves side number front (Some c) line (opening_unasked side number front line step is)
-    ∙ ap (λ seen. Some (after_all (flat_map (steps_seen side number front line c) seen) c)) is
+    ∙ ap Some (lines_move side number front line c (Asks step ∷ []) [] is unanswered)
     ∙ ap (λ steps. Some (after_all steps c)) (append-nil (steps_asking c step))
+
+-- ---- what its host answers the peer
+
+opening_unanswered : (side : Side) (number : ℕ) (front : List Entry) (line : Entry) (answer : Result Ask ErrCode) → answers_in_line side number front line ≡ answer ∷ []
+    → is_opening line ≡ false
+opening_unanswered side number front (Opened other link handle role) answer is = absurd cc
+opening_unanswered side number front (Shut other link reason) answer is = absurd cc
+opening_unanswered side number front line answer is = refl
+
+pub answered_line : (side : Side) (number : ℕ) (front : List Entry) (line : Entry) (c : Control) (answer : Result Ask ErrCode) → seen_in_line side number front line ≡ []
+    → answers_in_line side number front line ≡ answer ∷ [] → control_after side number front (Some c) line ≡ Some (after_all (Answers answer ∷ []) c)
+answered_line side number front line c answer none is =
+    moves side number front (Some c) line (opening_unanswered side number front line answer is)
+    ∙ ap Some (lines_move side number front line c [] (answer ∷ []) none is)
 
 -- ---- the line that opens the link
 

@@ -12,6 +12,7 @@ use Rattle.ble_base.specs.declared.roles.Side.{Side}
 use Rattle.journal_ends.specs.controller_model.Links.{note_opened}
 use Rattle.journal.specs.declared.entries.Entry.{Entry}
 use Rattle.journal.specs.declared.entries.Entry.TheVariants.{Air, Opened}
+use Rattle.journal_ends.specs.Answering.{answers_from, answers_in_line}
 use Rattle.journal_ends.specs.Seen.{Asks, Hears, Says, Seen, asked_in_line, heard_in_line, heard_where, seen_from, seen_in_line, seen_on}
 use Rattle.journal_ends.specs.journal_links.Begun.{LinkBegun, link_numbered, links_begun, with_number}
 use Rattle.journal_ends.specs.journal_links.Changes.{role_by}
@@ -49,26 +50,28 @@ use Rattle.journal_ends.proofs.run_model.OfStations.{OfStations, run_of_stations
 use Rattle.journal_ends.proofs.run_model.Places.{each_at}
 use Rattle.journal_ends.proofs.run_model.Stations.{is_in}
 use Rattle.journal_controls.specs.LineSteps.{control_after, control_begun, control_from, control_on}
-use Rattle.journal_controls.proofs.EventMoves.{control_at}
+use Rattle.journal_controls.proofs.EarlyAnswers.{none_answered}
+use Rattle.journal_controls.proofs.EventMoves.{control_at, turn_at}
 use Rattle.journal_controls.proofs.LineFolds.{IsNamed, Others, Own, named_by, opened_line, quiet_line}
 
 -- ---- lines of which one says that the link is opened, and in which the end says and hears nothing else
 
-pub record AreNone (one other : List Seen) : Type 0 where
+pub record AreNone {A : Type 0} (one other : List A) : Type 0 where
   pub first : one ≡ []
   pub second : other ≡ []
 
-pub none_of : (one other : List Seen) → one ++ other ≡ [] → AreNone one other
+pub none_of : {A : Type 0} (one other : List A) → one ++ other ≡ [] → AreNone one other
 none_of [] other is = record { first = refl; second = is }
 none_of (seen ∷ one) other is = absurd cc
 
 pub quiet_lines : (side : Side) (number : ℕ) (front : List Entry) (before : Option Control) (lines : List Entry) → seen_from side number front lines ≡ []
-    → control_from side number front before lines ≡ before
-quiet_lines side number front before [] none = refl
-quiet_lines side number front before (line ∷ lines) none =
+    → answers_from side number front lines ≡ [] → control_from side number front before lines ≡ before
+quiet_lines side number front before [] none unanswered = refl
+quiet_lines side number front before (line ∷ lines) none unanswered =
     let both = none_of (seen_in_line side number front line) (seen_from side number (front ++ line ∷ []) lines) none in
-    quiet_lines side number (front ++ line ∷ []) (control_after side number front before line) lines both.second
-    ∙ quiet_line side number front before line both.first
+    let answers = none_of (answers_in_line side number front line) (answers_from side number (front ++ line ∷ []) lines) unanswered in
+    quiet_lines side number (front ++ line ∷ []) (control_after side number front before line) lines both.second answers.second
+    ∙ quiet_line side number front before line both.first answers.first
 
 -- what is heard in a line
 data IsHeardSo (seen : List Seen) : Type 0 where
@@ -109,11 +112,15 @@ record IsOpenedIn (side : Side) (number handle : ℕ) (role : Role) (front : Lis
   begins : (link : LinkBegun) → link_numbered number (front ++ first) ≡ Some link → control_from side number front before lines ≡ control_begun side (Some link)
 
 opened_in : (side : Side) (number handle : ℕ) (role : Role) (front : List Entry) (before : Option Control) (lines : List Entry)
-    → seen_from side number front lines ≡ Says (Opened side number handle role) ∷ [] → IsOpenedIn side number handle role front before lines
-opened_in side number handle role front before [] said = absurd cc
-opened_in side number handle role front before (line ∷ lines) said =
-    by (seen_in_line side number front line) refl (opened_in side number handle role (front ++ line ∷ []) (control_after side number front before line) lines)
+    → seen_from side number front lines ≡ Says (Opened side number handle role) ∷ [] → answers_from side number front lines ≡ []
+    → IsOpenedIn side number handle role front before lines
+opened_in side number handle role front before [] said unanswered = absurd cc
+opened_in side number handle role front before (line ∷ lines) said unanswered =
+    by (seen_in_line side number front line) refl (λ later. opened_in side number handle role (front ++ line ∷ []) (control_after side number front before line) lines later answers.second)
   where
+    answers : AreNone (answers_in_line side number front line) (answers_from side number (front ++ line ∷ []) lines)
+    answers = none_of (answers_in_line side number front line) (answers_from side number (front ++ line ∷ []) lines) unanswered
+
     by : (seen : List Seen) → seen_in_line side number front line ≡ seen
         → (seen_from side number (front ++ line ∷ []) lines ≡ Says (Opened side number handle role) ∷ []
         → IsOpenedIn side number handle role (front ++ line ∷ []) (control_after side number front before line) lines)
@@ -138,7 +145,7 @@ opened_in side number handle role front before (line ∷ lines) said =
           rest = lines;
           is_at = ap (λ l. l ∷ lines) same;
           begins = λ link is_link.
-              quiet_lines side number (front ++ line ∷ []) (control_after side number front before line) lines both.second
+              quiet_lines side number (front ++ line ∷ []) (control_after side number front before line) lines both.second answers.second
               ∙ ap (control_after side number front before) same
               ∙ opened_line side number handle role front before link (ap (link_numbered number) (sym (append-nil front)) ∙ is_link);
         }
@@ -256,15 +263,17 @@ module _ (understood : IsUnderstood) (taken : AreTaken) (given : Given) (are_two
   -- an end to which nothing else happened
   pub opened_control : (history rest : List Event) (number station : ℕ) (link : OpenLink) → history_of (run_of given) ≡ history ++ rest → Each IsOfBoth [] history
       → is_in station given.stations ≡ true → HasNumber history number station link.setup → HasRanges link
+      → turn_at history ≡ link.setup.opened
       → seen_at number (side_of station) history ≡ Says (line_of (side_of station) number (note_opened link.setup.link)) ∷ []
       → control_at number (side_of station) history ≡ Some (first_facts link.setup).control
   unfolding seen_on control_on
-  opened_control history rest number station link at two in_it has ranges said =
+  opened_control history rest number station link at two in_it has ranges turn said =
       let side = side_of station in
       let setup = link.setup in
-      let opening = opening_of history rest number side setup at two (opened_in side number setup.link.handle setup.link.role [] None (journal_of history) said) in
-      let opened = opening.opened in
       let of = link_is history number station setup two has (of_two_stations given are_two station in_it) in
+      let unanswered = none_answered side number of.link [] (journal_of history) of.is_link (of.slot ∙ sym turn) in
+      let opening = opening_of history rest number side setup at two (opened_in side number setup.link.handle setup.link.role [] None (journal_of history) said unanswered) in
+      let opened = opening.opened in
       let line = Opened side number setup.link.handle setup.link.role in
       let both : Some opening.link ≡ Some of.link =
       sym (number_stays number opened.first (line ∷ opened.rest) opening.link opening.early) ∙ ap (link_numbered number) (sym opened.is_at) ∙ of.is_link in

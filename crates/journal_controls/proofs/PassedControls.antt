@@ -1,5 +1,5 @@
 -- A phase passes at a station: what its control parts are then by the journal.
-use Rattle.std.proofs.Common.{◌≡◌, ℕ, ◌⊎◌, inl, inr, true, Option, Some, None, List, [], ◌∷◌, sym, ap, subst, ◌∙◌}
+use Rattle.std.proofs.Common.{◌≡◌, ℕ, ◌⊎◌, inl, inr, true, false, Option, Some, None, List, [], ◌∷◌, refl, sym, ap, subst, ◌∙◌}
 use Rattle.std.specs.Prelude.{All}
 use Rattle.journal_ends.proofs.controller_model.Always.{IsInTurn}
 use Rattle.journal_ends.specs.controller_model.Facts.{Facts}
@@ -14,6 +14,7 @@ use Rattle.journal_ends.specs.journal_links.LinkLines.{line_of}
 use Rattle.journal_ends.specs.link_model.End.{facts_of}
 use Rattle.journal_ends.specs.link_model.Facts.{first_facts}
 use Rattle.journal_ends.specs.open_links.OpenLinks.{OpenLink, facts_in, link_at}
+use Rattle.journal_ends.specs.run_model.Feeding.{is_octet}
 use Rattle.journal_ends.specs.run_model.History.{Event, packet_received, turns_begun}
 use Rattle.journal_ends.specs.run_model.Journal.{side_of}
 use Rattle.journal_ends.specs.run_model.LinkEnds.{HaveAddresses}
@@ -36,10 +37,14 @@ use Rattle.journal_ends.proofs.run_model.Stations.{is_in}
 use Rattle.journal_ends.proofs.run_model.Walk.{Place}
 use Rattle.journal_controls.specs.Hearing.{control_if}
 use Rattle.journal_controls.proofs.ControlledEnds.{AreControlledSo, IsControlledAt, control_taking, from_whole, moved_own, whole}
-use Rattle.journal_controls.proofs.EventMoves.{turn_at, withholds_at}
+use Rattle.journal_controls.proofs.EventMoves.{call_moving, turn_answers, turn_at, withholds_at}
 use Rattle.journal_controls.proofs.FixedEnds.{sends_replying}
 use Rattle.journal_controls.proofs.LinkMoves.{MovesTo, same_moves, taken_moves}
 use Rattle.journal_controls.proofs.OpenedControls.{opened_control}
+
+pub no_octet : (received : Option (List ℕ)) → is_octet (step_of received) ≡ false
+no_octet None = refl
+no_octet (Some octets) = refl
 
 -- an end to which nothing happened yet
 first_said : (number station : ℕ) (link : OpenLink) → link.past ≡ []
@@ -78,8 +83,14 @@ module _ (understood : IsUnderstood) (taken : AreTaken) (given : Given) (are_two
   none_next : packet_received station next ≡ None
   none_next = received_by given station station (step_of received) history true (same_station station)
 
-  fresh : (handle : ℕ) (link : OpenLink) → link_at handle (facts_at given station next).links ≡ Some link → link.past ≡ [] → IsNow handle link
-  fresh handle link at none =
+  turn_stays : turn_at next ≡ facts.turn.slot
+  turn_stays =
+      (call_moving given (number_at station 0 history) (side_of station) station (step_of received) history
+      (turn_answers given (side_of station) station (step_of received) history (no_octet received))).turns ∙ slot_is
+
+  fresh : (handle : ℕ) (link : OpenLink) → link_at handle (facts_at given station next).links ≡ Some link → link.past ≡ [] → link.setup.opened ≡ facts.turn.slot
+      → IsNow handle link
+  fresh handle link at none opened =
       let number = number_at station handle next in
       let turn = (facts_at given station next).turn in
       let front = front_at given place next known.front in
@@ -87,12 +98,12 @@ module _ (understood : IsUnderstood) (taken : AreTaken) (given : Given) (are_two
       ∙ first_said number station link none in
       from_whole (packet_received station next) handle turn link number (side_of station) next (λ on. none_next)
       (opened_control understood taken given are_two six next front.rest number station link front.at known.asked.sent in_it (known.numbered.numbered station handle link at)
-      (ranges_in given next front.rest station handle link (are_distinct given are_two) in_it front.at at) said
+      (ranges_in given next front.rest station handle link (are_distinct given are_two) in_it front.at at) (turn_stays ∙ sym opened) said
       ∙ ap Some (first_control_is link none))
 
   passed : (handle : ℕ) (link : OpenLink) → link_at handle (facts_at given station next).links ≡ Some link → number_at station handle next ≡ number_at station handle history
       → HasPassed facts (has_room (setup_at given station) facts) received handle (facts_after (setup_at given station) facts (step_of received)).turn.doing link → IsNow handle link
-  passed handle link at number (IsNew end made opened off) = fresh handle link at (ap (λ (l : OpenLink). l.past) made)
+  passed handle link at number (IsNew end made opened off) = fresh handle link at (ap (λ (l : OpenLink). l.past) made) (ap (λ (l : OpenLink). l.setup.opened) made ∙ opened)
   passed handle link at number (Stays was none nothing listened) =
       let own = number_at station handle history in
       moved_own given station (step_of received) history in_it lined lined_after handle link at (packet_received station next) none_next number link was (phase_turn received) (facts_in link).control
@@ -120,4 +131,6 @@ module _ (understood : IsUnderstood) (taken : AreTaken) (given : Given) (are_two
       by (inl quiet) =
           passed handle link at (number_called given station (step_of received) history handle quiet)
           (passes_under (setup_at given station) facts received handle link phased.uses.in_turn.listens (held_at given station (step_of received) history in_it lined lined_after handle link at))
-      by (inr new) = fresh handle link at (new link (held_at given station (step_of received) history in_it lined lined_after handle link at)).past
+      by (inr new) =
+          let now = new link (held_at given station (step_of received) history in_it lined lined_after handle link at) in
+          fresh handle link at now.past now.opened

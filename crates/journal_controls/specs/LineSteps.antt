@@ -1,6 +1,6 @@
 -- The control part of an end of a link, from the lines of a journal alone (Core 5.2, volume 6 part B, sections 4.5.9,
 -- 5.1 and 5.5). No link is encrypted yet, so each step is in phase Clear.
-use Rattle.std.specs.Prelude.{ℕ, ◌+◌, ◌-◌, ◌==◌, ◌&&◌, nat_lt, not, Bool, true, false, List, [], ◌∷◌, ◌++◌, length, Option, Some, None, is_some, if◌then◌else◌}
+use Rattle.std.specs.Prelude.{ℕ, ◌+◌, ◌-◌, ◌==◌, ◌&&◌, nat_lt, not, Bool, true, false, List, [], ◌∷◌, ◌++◌, length, map, Option, Some, None, is_some, if◌then◌else◌}
 use Rattle.std.specs.List.{flat_map}
 use Rattle.std.specs.Option.{option_map}
 use Rattle.ble_base.specs.declared.channel_map.ChannelMap.{ChannelMap}
@@ -11,6 +11,7 @@ use Rattle.journal_ends.specs.controller_model.Heard.{most_received}
 use Rattle.host_masks.specs.Masks.{masks_of, withholds_requests}
 use Rattle.journal.specs.declared.entries.Entry.{Entry}
 use Rattle.journal.specs.declared.entries.Entry.TheVariants.{Enter, Opened, Sent, Shut, Took}
+use Rattle.journal_ends.specs.Answering.{answers_in_line}
 use Rattle.journal_ends.specs.Seen.{Asks as IsAsked, Hears, Says, Seen, seen_in_line}
 use Rattle.journal_ends.specs.journal_acks.Carried.{carried_of}
 use Rattle.journal_ends.specs.journal_acks.Exchange.{Exchanged, exchange_of}
@@ -24,7 +25,7 @@ use Rattle.journal_ends.specs.link_model.Controls.{is_procedure_pdu, read_of}
 use Rattle.journal_ends.specs.link_model.Data.{is_control}
 use Rattle.journal_ends.specs.link_model.Hosts.{map_queued, map_waiting, map_wanted, or_else}
 use Rattle.journal_ends.specs.link_model.Setup.{first_params}
-use Rattle.journal_ends.specs.link_model.Step.{Step, Disconnected, ProcedureAsked}
+use Rattle.journal_ends.specs.link_model.Step.{Step, Disconnected, ProcedureAsked, RequestAnswered}
 use Rattle.journal_ends.specs.link_model.control_end.Answers.{next_ctrl, taken_of}
 use Rattle.journal_ends.specs.link_model.control_end.Held.{held_of}
 use Rattle.journal_ends.specs.link_model.control_model.Control.{Control, Step as ControlStep, Answers, Asks, Disconnects, Enters, SeesAcknowledged, Sends, Takes, after_all, first_control}
@@ -48,9 +49,10 @@ abbrev pub is_coming : Ask → Control → Bool
 is_coming (Map map) control = map == map_coming control
 is_coming ask control = false
 
--- the steps of what a host asks of an end with this control part
+-- the steps of what a host asks of an end with this control part, and of what it answers the peer
 abbrev pub steps_asking : Control → Step → List ControlStep
 steps_asking control (ProcedureAsked ask) = step_if (not (is_coming ask control)) (Asks ask)
+steps_asking control (RequestAnswered answer) = Answers answer ∷ []
 steps_asking control (Disconnected reason slot) = Disconnects reason ∷ []
 steps_asking control step = []
 
@@ -127,9 +129,11 @@ steps_seen side number front line control (Hears slot octets) =
     (exchange_of number (front ++ line ∷ []) side) (carried_of number front side) (has_next control)
 steps_seen side number front line control (IsAsked step) = steps_asking control step
 
+-- and of what its host answers a request of the peer in that line
 abbrev pub steps_in_line : Side → ℕ → List Entry → Entry → Control → List ControlStep
 steps_in_line side number front line control =
-    flat_map (steps_seen side number front line control) (seen_in_line side number front line)
+    map Answers (answers_in_line side number front line)
+    ++ flat_map (steps_seen side number front line control) (seen_in_line side number front line)
 
 -- ---- line by line
 

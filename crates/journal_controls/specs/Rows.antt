@@ -4,11 +4,13 @@ use Rattle.ble_base.specs.declared.roles.Role.{Role}
 use Rattle.ble_base.specs.declared.roles.Role.TheVariants.{Central}
 use Rattle.ble_base.specs.declared.roles.Side.TheVariants.{A, B}
 use Rattle.journal.specs.declared.entries.Entry.{Entry}
-use Rattle.journal.specs.declared.entries.Entry.TheVariants.{Sent, Took}
+use Rattle.journal.specs.declared.entries.Entry.TheVariants.{Fed, Sent, Took, Up}
+use Rattle.host_masks.specs.Rows.{masking_octets}
 use Rattle.journal_ends.specs.journal_acks.Rows.{second_slot}
 use Rattle.journal_ends.specs.link_model.Acknowledgement.{Pdu}
 use Rattle.journal_ends.specs.link_model.control_model.Control.{Asks, Control, after, first_control}
 use Rattle.journal_ends.specs.link_model.procedure_values.declared.asks.Ask.TheVariants.{Version}
+use Rattle.journal_ends.specs.run_model.Rows.{answer, reset_answer}
 
 -- an end of the link in one_connection_journal, as it begins: an interval of 24 slots, no latency, a timeout of 720 ms
 -- and all channels; event 0 is in turn 2
@@ -41,6 +43,11 @@ param_pdu = record {
 -- the central takes it in turn 3
 abbrev pub param_taken : List Entry
 param_taken = second_slot ++ Took B 1 1 param_pdu.llid param_pdu.body ∷ []
+
+-- before it its host lets the event of such a request through
+abbrev pub param_told : List Entry
+param_told =
+    Fed B masking_octets ∷ Up B reset_answer ∷ Up B (answer 0x01 0x0C) ∷ Up B (answer 0x01 0x20) ∷ param_taken
 
 -- the control part of the central, of which the host has asked for an exchange of versions
 abbrev pub version_wanted : Control

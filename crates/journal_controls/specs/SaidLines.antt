@@ -22,7 +22,7 @@ moved_by withheld slot [] control = control
 moved_by withheld slot (line ∷ lines) control =
     moved_by withheld slot lines (after_all (steps_said withheld slot control line) control)
 
--- the control part after what a host asks of it, if anything
+-- the control part after what a host asks of it or answers the peer, if anything
 abbrev pub after_asking : Option Step → Control → Control
 after_asking None control = control
 after_asking (Some step) control = after_all (steps_asking control step) control

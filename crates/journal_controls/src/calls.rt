@@ -6,6 +6,7 @@ ghost use Rattle.ble_base.specs.declared.roles.Side.{Side};
 ghost use Rattle.journal_ends.specs.controller_model.Step.{Step as Call};
 ghost use Rattle.journal.specs.declared.entries.Entry.{Entry};
 ghost use Rattle.journal_ends.specs.host_answers.Calls.{call_lines};
+ghost use Rattle.journal_ends.specs.Answering.{answers_from, answers_if};
 ghost use Rattle.journal_ends.specs.Seen.{asked_if, seen_from};
 ghost use Rattle.journal_ends.specs.journal_links.LinkLines.{line_of, lines_of};
 ghost use Rattle.journal_ends.specs.link_model.End.{facts_of, notes_from};
@@ -24,8 +25,8 @@ ghost use Rattle.journal_controls.specs.SaidLines.{NoneOpens, after_asking, move
 /// A call of a turn on a controller, after any history, moves the control part of an end by the
 /// lines that it adds for that end, in order, where none of them opens the link or shuts it. A
 /// request that is withheld from the host is refused as it is taken. A call in the lines of which
-/// nothing else is seen of an end than what its host asks moves the control part by that (Core 5.2,
-/// volume 6 part B, sections 5.1 and 5.1.7).
+/// nothing else is seen of an end than what its host asks, or answers the peer, moves the control
+/// part by that (Core 5.2, volume 6 part B, sections 5.1 and 5.1.7).
 pub fn a_call_moves_the_control_part_by_its_lines()
     ensures turn { (given : Given) (side : Side) (number station : ℕ) (call : Call)
         (history : List Event) (more : List Entry) (control : Control) → is_octet call ≡ false
@@ -38,7 +39,9 @@ pub fn a_call_moves_the_control_part_by_its_lines()
     ensures asked { (given : Given) (side : Side) (number station : ℕ) (call : Call)
         (history : List Event) (asked : Option Step) (control : Control)
         → seen_from side number (journal_of history) (call_lines given station call history)
-        ≡ asked_if asked → control_on side number (journal_of history) ≡ Some control
+        ≡ asked_if asked
+        → answers_from side number (journal_of history) (call_lines given station call history)
+        ≡ answers_if asked → control_on side number (journal_of history) ≡ Some control
         → control_on side number (journal_of (after_call given station call history))
         ≡ Some (after_asking asked control) }
 {}

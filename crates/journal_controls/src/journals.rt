@@ -4,12 +4,14 @@ ghost use Rattle.ble_base.specs.declared.roles.Role.{Role};
 ghost use Rattle.ble_base.specs.declared.roles.Side.{Side};
 ghost use Rattle.journal.specs.declared.entries.Entry.{Entry};
 ghost use Rattle.journal.specs.declared.entries.Entry.TheVariants.{Opened};
+ghost use Rattle.journal_ends.specs.Answering.{answers_in_line};
 ghost use Rattle.journal_ends.specs.Seen.{seen_in_line};
 ghost use Rattle.journal_ends.specs.journal_links.Begun.{LinkBegun, link_numbered};
 ghost use Rattle.journal_controls.specs.LineSteps.{control_begun, control_on};
 
-/// The control part of an end begins with the line that says that its link is opened there, and a
-/// line in which the end says and hears nothing leaves it as it is.
+/// The control part of an end begins with the line that says that its link is opened there. A line
+/// in which the end says and hears nothing, and its host asks nothing of it and answers nothing to
+/// the peer, leaves it as it is.
 pub fn only_what_an_end_says_and_hears_moves_its_control_part()
     ensures begins { (side : Side) (number handle : ℕ) (role : Role) (journal : List Entry)
         (link : LinkBegun) → link_numbered number journal ≡ Some link
@@ -17,5 +19,6 @@ pub fn only_what_an_end_says_and_hears_moves_its_control_part()
         ≡ control_begun side (Some link) }
     ensures stays { (side : Side) (number : ℕ) (journal : List Entry) (line : Entry)
         → seen_in_line side number journal line ≡ []
+        → answers_in_line side number journal line ≡ []
         → control_on side number (journal ++ line ∷ []) ≡ control_on side number journal }
 {}

@@ -1,5 +1,5 @@
 //! Worked examples, which the definitions compute.
-ghost use Rattle.std.specs.Prelude.{◌≡◌, ◌++◌, ◌∷◌, [], None, Some, false, true};
+ghost use Rattle.std.specs.Prelude.{◌≡◌, ◌++◌, ◌∷◌, [], Err, None, Ok, Some, false, true};
 ghost use Rattle.std.specs.Option.{option_map};
 ghost use Rattle.ble_base.specs.ErrorCodes.{connection_timeout};
 ghost use Rattle.ble_base.specs.declared.procedure_kinds.Kind.{Kind};
@@ -11,18 +11,18 @@ ghost use Rattle.journal_ends.specs.journal_acks.Rows.{data_acknowledged};
 ghost use Rattle.journal_ends.specs.journal_acks.link_calls.Phases.{refusal};
 ghost use Rattle.journal_ends.specs.link_model.Controls.{read_of};
 ghost use Rattle.journal_ends.specs.Rows.{asked_of_central, ended_by_central};
-ghost use Rattle.journal_ends.specs.Rows.{refused_to_central};
+ghost use Rattle.journal_ends.specs.Rows.{refused_to_central, replied, replied_negatively};
 ghost use Rattle.journal_ends.specs.link_model.control_model.Control.{Answers, Asks, Control};
 ghost use Rattle.journal_ends.specs.link_model.control_model.Control.{Disconnects};
 ghost use Rattle.journal_ends.specs.link_model.control_model.Control.{Enters, Sends, Takes};
 ghost use Rattle.journal_ends.specs.link_model.control_model.Control.{after_all};
 ghost use Rattle.journal_ends.specs.link_model.procedure_stages.InProgress.{is_host_asked};
-ghost use Rattle.journal_ends.specs.link_model.procedure_values.declared.asks.Ask.TheVariants.{Version};
-ghost use Rattle.journal_ends.specs.run_model.Rows.{one_connection_journal, one_event_journal};
+ghost use Rattle.journal_ends.specs.link_model.procedure_values.declared.asks.Ask.TheVariants.{Update, Version};
+ghost use Rattle.journal_ends.specs.run_model.Rows.{one_connection_journal, one_event_journal, turn_entry};
 ghost use Rattle.journal_controls.specs.LineSteps.{control_on};
 ghost use Rattle.journal_controls.specs.LinesDue.{applied_due, due_saying, lines_due};
 ghost use Rattle.journal_controls.specs.Rows.{first_on, version_pdu, version_sent, version_taken};
-ghost use Rattle.journal_controls.specs.Rows.{param_pdu, param_taken, version_wanted};
+ghost use Rattle.journal_controls.specs.Rows.{param_pdu, param_taken, param_told, version_wanted};
 
 /// As a link is opened, each end has the first control part of its role; and then that part enters
 /// an event with the end. An empty PDU and a PDU of data do not move it. A side has none on another
@@ -63,7 +63,8 @@ pub fn worked_versions()
 {}
 
 /// A central takes a request for other parameters. By the masks of a start it refuses it at once; where
-/// its host lets the event of it through, the request waits for the answer of the host.
+/// its host lets the event of it through, the request waits for the answer of the host. The host lets
+/// the parameters pass in the next turn, or refuses them.
 pub fn worked_requests()
     ensures refused { control_on B 1 param_taken
         ≡ Some (after_all (Enters 2 true ∷ Takes (read_of param_pdu) 3 true ∷ Answers refusal ∷ [])
@@ -73,6 +74,12 @@ pub fn worked_requests()
         (first_on Central)) }
     ensures asked { option_map (λ (control : Control). is_host_asked control.table.progress)
         (control_on B 1 (Fed B masking_octets ∷ param_taken)) ≡ Some true }
+    ensures passed { control_on B 1 (param_told ++ turn_entry 4 ∷ replied)
+        ≡ Some (after_all (Enters 2 true ∷ Takes (read_of param_pdu) 3 true
+        ∷ Answers (Ok (Update 24 0 72)) ∷ []) (first_on Central)) }
+    ensures negative { control_on B 1 (param_told ++ turn_entry 4 ∷ replied_negatively)
+        ≡ Some (after_all (Enters 2 true ∷ Takes (read_of param_pdu) 3 true
+        ∷ Answers (Err (record { 0 = 0x3B })) ∷ []) (first_on Central)) }
     ensures answered { option_map (λ (control : Control). is_host_asked control.table.progress)
         (control_on B 1 param_taken) ≡ Some false }
 {}

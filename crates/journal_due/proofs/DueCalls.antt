@@ -67,7 +67,7 @@ module _ (side : Side) (link_of : ℕ → ℕ) (last : ℕ) where
   -- ---- links end
 
   shut_own : (handle code : ℕ) → IsOwnLine side (link_of handle) (line (note_shut handle code))
-  shut_own handle code = record { named = refl; deaf = λ other front. refl; unasked = λ other front. refl; own = refl; no_turn = refl }
+  shut_own handle code = record { named = refl; deaf = λ other front. refl; unaccepted = λ front. refl; own = refl; no_turn = refl }
 
   -- links that end leave the control part of another one
   ends_keep : (view : View) (reason : OpenLink → Option ℕ) (number first : ℕ) (links : Links) (front : List Entry)

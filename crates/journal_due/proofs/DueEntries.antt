@@ -66,7 +66,7 @@ told_both side front lines more told rest =
 
 module _ (side : Side) (number : ℕ) where
   enter_own : (event channel : ℕ) → IsOwnLine side number (Enter side number event channel)
-  enter_own event channel = record { named = refl; deaf = λ other front. refl; unasked = λ other front. refl; own = refl; no_turn = refl }
+  enter_own event channel = record { named = refl; deaf = λ other front. refl; unaccepted = λ front. refl; own = refl; no_turn = refl }
 
   -- the line of an event, and those that are due then
   enter_told : (front : List Entry) (c : Control) (event channel : ℕ) → control_on side number front ≡ Some c → ((other : ℕ) → lines_due side other front ≡ [])
@@ -109,7 +109,7 @@ module _ (side : Side) (number : ℕ) where
   event_told front c handle event channel (Some indication) is rests some =
       let line = Applied side number indication event in
       let next = front ++ line ∷ [] in
-      let own : IsOwnLine side number line = record { named = refl; deaf = λ other front. refl; unasked = λ other front. refl; own = refl; no_turn = refl } in
+      let own : IsOwnLine side number line = record { named = refl; deaf = λ other front. refl; unaccepted = λ front. refl; own = refl; no_turn = refl } in
       let still = still_if side number line front c own refl refl is in
       let turn = turn_stays front line refl in
       let entry = entry_of (turn_now front) true (held_of c) in

@@ -35,7 +35,7 @@ use Rattle.journal_due.proofs.DueSteps.{AreProcedureLines, IsOwnLine, after_own,
 
 module _ (side : Side) (number : ℕ) where
   took_own : (count llid : ℕ) (body : List ℕ) → IsOwnLine side number (Took side number count llid body)
-  took_own count llid body = record { named = refl; deaf = λ other front. refl; unasked = λ other front. refl; own = refl; no_turn = refl }
+  took_own count llid body = record { named = refl; deaf = λ other front. refl; unaccepted = λ front. refl; own = refl; no_turn = refl }
 
   -- ---- the handle of a note is not in its line
 

@@ -10,7 +10,8 @@ use Rattle.ble_base.specs.declared.roles.Side.{Side}
 use Rattle.ble_base.specs.declared.roles.Side.TheVariants.{A, B}
 use Rattle.journal.specs.declared.entries.Entry.{Entry}
 use Rattle.journal.specs.declared.entries.Entry.TheVariants.{Began, Done, Refused}
-use Rattle.journal_controls.specs.journal_ends.Seen.{Says, asked_in_line, heard_in_line, seen_in_line}
+use Rattle.journal_controls.specs.host_answers.Answered.{accepted_in}
+use Rattle.journal_controls.specs.journal_ends.Seen.{Says, heard_in_line, seen_in_line}
 use Rattle.journal_controls.specs.journal_links.LinkLines.{line_of, link_named, where_named}
 use Rattle.journal_controls.specs.link_model.Entering.{began_notes, done_notes}
 use Rattle.journal_controls.specs.link_model.Receiving.{given_notes, refused_notes}
@@ -20,6 +21,7 @@ use Rattle.journal_controls.specs.run_model.Readers.{of_side, pair_openings_in, 
 use Rattle.journal_controls.specs.LineSteps.{control_after, control_on, steps_seen, turn_now}
 use Rattle.journal_controls.specs.LinesDue.{due_saying, lines_due}
 use Rattle.journal_controls.proofs.LineFolds.{control_more, quiet_line}
+use Rattle.journal_controls.proofs.journal_ends.SeenEvents.{unanswered_in, unasked_in}
 use Rattle.journal_controls.proofs.journal_acks.TwoStations.{same_number}
 use Rattle.journal_due.specs.EachLine.{AreDueLines, IsDueOn}
 use Rattle.journal_due.specs.ProcedureLines.{RestsAt, applied_by, applied_in, line_if, first_of, procedure_line, side_of_line}
@@ -30,7 +32,7 @@ use Rattle.journal_due.proofs.DueLines.{own_applied, quiet_due, said_due}
 pub record IsOwnLine (side : Side) (number : ℕ) (line : Entry) : Type 0 where
   pub named : link_named line ≡ Some (side, number)
   pub deaf : (other : ℕ) (front : List Entry) → heard_in_line side other front line ≡ []
-  pub unasked : (other : ℕ) (front : List Entry) → asked_in_line side other front line ≡ []
+  pub unaccepted : (front : List Entry) → accepted_in side front line ≡ []
   pub own : side_of_line line ≡ Some side
   pub no_turn : pair_openings_in line ≡ []
 
@@ -50,16 +52,18 @@ module _ (side : Side) (number : ℕ) where
 
   pub seen_own : (front : List Entry) (line : Entry) → IsOwnLine side number line → seen_in_line side number front line ≡ Says line ∷ []
   seen_own front line own =
-      (λ i. own.unasked number front i ++ (own.deaf number front i ++ map Says (where_named side number (own.named i) line))) ∙ ap (map Says) (named_own side line)
+      (λ i. unasked_in side number front line (own.unaccepted front) i ++ (own.deaf number front i ++ map Says (where_named side number (own.named i) line))) ∙ ap (map Says) (named_own side line)
 
   pub seen_apart : (other : ℕ) (front : List Entry) (line : Entry) → IsOwnLine side number line → (number == other) ≡ false → seen_in_line side other front line ≡ []
   seen_apart other front line own apart =
-      (λ i. own.unasked other front i ++ (own.deaf other front i ++ map Says (where_named side other (own.named i) line))) ∙ ap (map Says) (named_apart side (number == other) line apart)
+      (λ i. unasked_in side other front line (own.unaccepted front) i ++ (own.deaf other front i ++ map Says (where_named side other (own.named i) line))) ∙ ap (map Says) (named_apart side (number == other) line apart)
 
   pub control_apart : (other : ℕ) (front : List Entry) (line : Entry) → IsOwnLine side number line → (number == other) ≡ false
       → control_on side other (front ++ line ∷ []) ≡ control_on side other front
   control_apart other front line own apart =
-      control_more side other front line ∙ quiet_line side other front (control_on side other front) line (seen_apart other front line own apart)
+      control_more side other front line
+      ∙ quiet_line side other front (control_on side other front) line (seen_apart other front line own apart)
+      (unanswered_in side other front line (own.unaccepted front))
 
   -- lines that are due are those of one link
   pub after_own : (front due : List Entry) (line : Entry) → IsOwnLine side number line → ((other : ℕ) → (number == other) ≡ false → lines_due side other front ≡ [])
@@ -122,7 +126,7 @@ still_if side number line front c own moved none is =
 
 module _ (side : Side) (number : ℕ) where
   began_line : (kind : Kind) → IsProcedureLine side number (Began side number kind)
-  began_line kind = let own : IsOwnLine side number (Began side number kind) = record { named = refl; deaf = λ other front. refl; unasked = λ other front. refl; own = refl; no_turn = refl } in record {
+  began_line kind = let own : IsOwnLine side number (Began side number kind) = record { named = refl; deaf = λ other front. refl; unaccepted = λ front. refl; own = refl; no_turn = refl } in record {
     line_is = own;
     is = λ other. refl;
     drops = λ slot control due. refl;
@@ -132,7 +136,7 @@ module _ (side : Side) (number : ℕ) where
   }
 
   done_line : (kind : Kind) → IsProcedureLine side number (Done side number kind)
-  done_line kind = let own : IsOwnLine side number (Done side number kind) = record { named = refl; deaf = λ other front. refl; unasked = λ other front. refl; own = refl; no_turn = refl } in record {
+  done_line kind = let own : IsOwnLine side number (Done side number kind) = record { named = refl; deaf = λ other front. refl; unaccepted = λ front. refl; own = refl; no_turn = refl } in record {
     line_is = own;
     is = λ other. refl;
     drops = λ slot control due. refl;
@@ -142,7 +146,7 @@ module _ (side : Side) (number : ℕ) where
   }
 
   refused_line : (kind : Kind) (code : ErrCode) → IsProcedureLine side number (Refused side number kind code)
-  refused_line kind code = let own : IsOwnLine side number (Refused side number kind code) = record { named = refl; deaf = λ other front. refl; unasked = λ other front. refl; own = refl; no_turn = refl } in record {
+  refused_line kind code = let own : IsOwnLine side number (Refused side number kind code) = record { named = refl; deaf = λ other front. refl; unaccepted = λ front. refl; own = refl; no_turn = refl } in record {
     line_is = own;
     is = λ other. refl;
     drops = λ slot control due. refl;

@@ -22,8 +22,8 @@ use Rattle.journal_controls.proofs.controller_model.EndNotes.{entered_each}
 use Rattle.journal_controls.proofs.controller_model.NoAnswers.{IsNoAnswer}
 use Rattle.journal_controls.proofs.controller_model.ProcedureEvents.{AreOfProcedures, IsOfProcedure, entering_events}
 use Rattle.journal_controls.proofs.host_answers.AnswerStatuses.{reads_statuses}
-use Rattle.journal_controls.specs.host_answers.Answered.{answer_statuses}
-use Rattle.journal_controls.proofs.journal_ends.SeenEvents.{unasked_by}
+use Rattle.journal_controls.specs.host_answers.Answered.{accepted_in, answer_statuses}
+use Rattle.journal_controls.proofs.journal_ends.SeenEvents.{unaccepted_by, unanswered_in, unasked_in}
 use Rattle.journal_controls.specs.journal_ends.Seen.{asked_in_line, seen_in_line}
 use Rattle.journal_controls.specs.run_model.Readers.{of_side}
 use Rattle.journal_controls.specs.journal_links.LinkLines.{line_of}
@@ -98,14 +98,17 @@ module _ (side : Side) (link_of : ℕ → ℕ) (last : ℕ) where
   events_told view events front rests = ups_told (filter (λ event. passes view (mask_bit_of event)) events) front rests
 
   -- an event that is no answer tells of nothing that a host asks
-  event_silent : (front : List Entry) (number : ℕ) (event : Event) → IsNoAnswer event → seen_in_line side number front (line (Up (record { items = written event }))) ≡ []
-  event_silent front number event is =
-      append-nil (asked_in_line side number front (line (Up (record { items = written event }))))
-      ∙ unasked_by side number front (line (Up (record { items = written event }))) (by side)
+  event_accepts : (front : List Entry) (event : Event) → IsNoAnswer event → accepted_in side front (line (Up (record { items = written event }))) ≡ []
+  event_accepts front event is = unaccepted_by side front (line (Up (record { items = written event }))) (by side)
     where
       by : (side : Side) → answer_statuses (of_side side side (written event ∷ [])) ≡ []
       by A = ap (λ xs. xs ++ []) (reads_statuses.event event is)
       by B = ap (λ xs. xs ++ []) (reads_statuses.event event is)
+
+  event_silent : (front : List Entry) (number : ℕ) (event : Event) → IsNoAnswer event → seen_in_line side number front (line (Up (record { items = written event }))) ≡ []
+  event_silent front number event is =
+      append-nil (asked_in_line side number front (line (Up (record { items = written event }))))
+      ∙ unasked_in side number front (line (Up (record { items = written event }))) (event_accepts front event is)
 
   passed_no_answers : (view : View) (events : List Event) → AllByRecursion IsNoAnswer events → AllByRecursion IsNoAnswer (filter (λ event. passes view (mask_bit_of event)) events)
   passed_no_answers view [] are = tt
@@ -127,7 +130,9 @@ module _ (side : Side) (link_of : ℕ → ℕ) (last : ℕ) where
           let up = line (Up (record { items = written event })) in
           ap (control_on side number) (sym (append_assoc front (up ∷ []) _))
           ∙ by events (front ++ up ∷ []) are.1
-          ∙ control_more side number front up ∙ quiet_line side number front (control_on side number front) up (event_silent front number event are.0)
+          ∙ control_more side number front up
+          ∙ quiet_line side number front (control_on side number front) up (event_silent front number event are.0)
+          (unanswered_in side number front up (event_accepts front event are.0))
 
   -- ---- an event of one link
 
@@ -167,10 +172,10 @@ module _ (side : Side) (link_of : ℕ → ℕ) (last : ℕ) where
             }));
         are_own = mapped_own (link_of handle) (notes_after link.setup (facts_in link) (EventEntered slot))
             (entered_each (λ note. IsOwnLine side (link_of handle) (line note)) link.setup slot (facts_in link) (record {
-              applied = λ number. record { named = ap (λ n. Some (side, n)) named; deaf = λ other front. refl; unasked = λ other front. refl; own = refl; no_turn = refl };
-              enter = record { named = ap (λ n. Some (side, n)) named; deaf = λ other front. refl; unasked = λ other front. refl; own = refl; no_turn = refl };
-              done = λ kind. record { named = ap (λ n. Some (side, n)) named; deaf = λ other front. refl; unasked = λ other front. refl; own = refl; no_turn = refl };
-              began = λ kind. record { named = ap (λ n. Some (side, n)) named; deaf = λ other front. refl; unasked = λ other front. refl; own = refl; no_turn = refl };
+              applied = λ number. record { named = ap (λ n. Some (side, n)) named; deaf = λ other front. refl; unaccepted = λ front. refl; own = refl; no_turn = refl };
+              enter = record { named = ap (λ n. Some (side, n)) named; deaf = λ other front. refl; unaccepted = λ front. refl; own = refl; no_turn = refl };
+              done = λ kind. record { named = ap (λ n. Some (side, n)) named; deaf = λ other front. refl; unaccepted = λ front. refl; own = refl; no_turn = refl };
+              began = λ kind. record { named = ap (λ n. Some (side, n)) named; deaf = λ other front. refl; unaccepted = λ front. refl; own = refl; no_turn = refl };
             }));
       }
 

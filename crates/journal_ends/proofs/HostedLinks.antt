@@ -1,7 +1,7 @@
 -- The link under a handle, after an octet of the host: what it was asked by the command that the octet completes.
-use Rattle.std.proofs.Common.{◌≡◌, ℕ, ◌+◌, ◌==◌, ◌&&◌, Bool, true, false, Option, Some, None, List, [], ◌∷◌, ◌++◌, cond, if◌then◌else◌, refl, sym, ap, subst, ◌∙◌, append-nil, eqb-true, arith}
-use Rattle.std.specs.Prelude.{flat_map, is_none, is_some, ⊤}
-use Rattle.ble_base.specs.ErrorCodes.{command_disallowed, success}
+use Rattle.std.proofs.Common.{◌≡◌, ℕ, ◌+◌, ◌==◌, ◌&&◌, Bool, true, false, Option, Some, None, List, [], ◌∷◌, ◌++◌, cond, if◌then◌else◌, refl, sym, ap, subst, ◌∙◌, append-nil, eqb-true}
+use Rattle.std.specs.Prelude.{flat_map, is_none, is_some, Result, ⊤}
+use Rattle.ble_base.specs.declared.error_codes.ErrCode.{ErrCode}
 use Rattle.ble_base.specs.declared.roles.Role.{Role}
 use Rattle.ble_base.specs.declared.roles.Role.TheVariants.{Central, Peripheral}
 use Rattle.ble_base.specs.declared.roles.Side.{Side}
@@ -9,14 +9,12 @@ use Rattle.h4_frames.specs.declared.packet.HostPacket.TheVariants.{Command as Ho
 use Rattle.h4_frames.specs.declared.packet.Fed.{Fed}
 use Rattle.h4_frames.specs.declared.packet.Fed.TheVariants.{More, Packet, LostSync}
 use Rattle.hci_cmd.specs.declared.command.Command.{Command}
-use Rattle.hci_cmd.specs.declared.command.Command.TheVariants.{Disconnect, HostCompleted, LeConnectionUpdate, LeParamNegative, LeParamReply, LeReadRemoteFeatures, LeSetChannels, LeSetDataLength, ReadRemoteVersion, Reset}
+use Rattle.hci_cmd.specs.declared.command.Command.TheVariants.{Disconnect, HostCompleted, LeConnectionUpdate, LeParamNegative, LeParamReply, LeReadRemoteFeatures, LeSetChannels, LeSetDataLength, LeSetPhy, ReadRemoteVersion, Reset}
 use Rattle.hci_cmd.specs.declared.command.CmdRead.{CmdRead}
 use Rattle.hci_cmd.specs.declared.command.CmdRead.TheVariants.{Known, UnknownOpcode, BadLength}
 use Rattle.hci_cmd.specs.Command.{command_of}
 use Rattle.host_view.specs.OnLinks.{asks_links}
-use Rattle.host_view.specs.Refusals.{first_refusal}
-use Rattle.host_view.specs.Status.{rows_of}
-use Rattle.host_view.specs.Unbuilt.{or_unbuilt, status_of}
+use Rattle.host_view.specs.Unbuilt.{status_of}
 use Rattle.host_view.specs.View.{View}
 use Rattle.journal_acks.specs.controller_model.Commands.{facts_asking, facts_commanded, facts_known, links_after}
 use Rattle.journal_acks.specs.controller_model.Data.{facts_offered, offer_of}
@@ -26,17 +24,17 @@ use Rattle.journal_acks.specs.controller_model.Side.{facts_after, facts_fed, res
 use Rattle.journal_acks.specs.controller_model.Step.{HostOctet}
 use Rattle.journal_acks.specs.controller_model.link_commands.Commands.{ask_unless, host_step_of, is_about, map_by, step_if_about, step_on}
 use Rattle.journal_acks.specs.controller_model.link_commands.LinksCommanded.{link_after_if, links_commanded, links_commanded_from, place_commanded}
-use Rattle.journal_acks.proofs.controller_model.Accepted.{table_accepts}
 use Rattle.host_answers.specs.Calls.{answered_after, answered_commands}
 use Rattle.journal_acks.specs.link_model.End.{facts_after as end_after, notes_from}
 use Rattle.journal_acks.specs.link_model.Facts.{Facts as EndFacts}
 use Rattle.journal_acks.specs.link_model.Hosts.{asked_unless, is_to_come}
 use Rattle.journal_acks.specs.link_model.Setup.{Setup as EndSetup}
-use Rattle.journal_acks.specs.link_model.Step.{Step, DataGiven, Disconnected, ProcedureAsked}
-use Rattle.journal_acks.specs.link_model.control_model.Control.{Control, Step as ControlStep, Asks as AsksFor, Disconnects, after as control_after, moved, table_if}
+use Rattle.journal_acks.specs.link_model.Step.{Step, DataGiven, Disconnected, ProcedureAsked, RequestAnswered}
+use Rattle.journal_acks.specs.link_model.control_model.Control.{Control, Step as ControlStep, Answers, Asks as AsksFor, Disconnects, after as control_after, moved, table_if}
 use Rattle.journal_acks.specs.link_model.declared.state.PeerFacts.{PeerFacts}
 use Rattle.journal_acks.specs.link_model.procedure_stages.Closing.{is_open}
-use Rattle.journal_acks.specs.link_model.procedures.Going.{terminate_step}
+use Rattle.journal_acks.specs.link_model.procedure_stages.InProgress.{is_host_asked}
+use Rattle.journal_acks.specs.link_model.procedures.Going.{host_answer_step, is_answer, terminate_step}
 use Rattle.journal_acks.specs.link_model.procedures.Table.{TableFacts}
 use Rattle.journal_acks.specs.link_model.procedure_values.declared.asks.Ask.{Ask}
 use Rattle.journal_acks.specs.link_model.procedure_values.declared.asks.Ask.TheVariants.{Features, Version}
@@ -46,25 +44,34 @@ use Rattle.journal_acks.specs.open_links.declared.offers.Offer.TheVariants.{NoLi
 use Rattle.journal_acks.specs.link_calls.Turns.{change_if}
 use Rattle.journal_acks.proofs.link_calls.UnderHandles.{WasOpen, change_under, map_under}
 use Rattle.journal_acks.proofs.link_model.Pasts.{grows}
+use Rattle.journal_ends.specs.Answering.{answers_if, answers_in_step}
 use Rattle.journal_ends.specs.Seen.{Seen, asked_if, asked_in_step, seen_in_steps}
 
 grows_by : (link : OpenLink) (step : Step) → facts_in (link_after step link) ≡ end_after link.setup (facts_in link) step
 grows_by link step = grows link.setup link.past step
 
--- what a command asks of an end, in this slot
+-- the step that a command asks of an end, in this slot
+abbrev pub step_of : ℕ → ℕ → OpenLink → Command → Option Step
+step_of handle slot link command = step_on handle command slot link.setup.link.role (facts_in link).peer
+
+-- what is seen of that as asked
 abbrev pub asked_of : ℕ → ℕ → OpenLink → Command → List Seen
-asked_of handle slot link command =
-    asked_if (step_on handle command slot link.setup.link.role (facts_in link).peer)
+asked_of handle slot link command = asked_if (step_of handle slot link command)
 
--- a step that is seen as asked
-abbrev pub IsSeenStep : Step → Type 0
-IsSeenStep (ProcedureAsked ask) = ⊤
-IsSeenStep (Disconnected reason slot) = ⊤
-IsSeenStep step = ⊥
+-- what the host answers by it
+abbrev pub answers_of : ℕ → ℕ → OpenLink → Command → List (Result Ask ErrCode)
+answers_of handle slot link command = answers_if (step_of handle slot link command)
 
-abbrev pub IfSeenStep : Option Step → Type 0
-IfSeenStep None = ⊤
-IfSeenStep (Some step) = IsSeenStep step
+-- a step that a host asks
+abbrev pub IsHostStep : Step → Type 0
+IsHostStep (ProcedureAsked ask) = ⊤
+IsHostStep (RequestAnswered answer) = ⊤
+IsHostStep (Disconnected reason slot) = ⊤
+IsHostStep step = ⊥
+
+abbrev pub IfHostStep : Option Step → Type 0
+IfHostStep None = ⊤
+IfHostStep (Some step) = IsHostStep step
 
 -- the control part of an end after what it is asked
 abbrev pub control_asked : OpenLink → Option Step → Control
@@ -78,8 +85,9 @@ pub record IsAsked (handle slot : ℕ) (commands : List Command) (base after : O
   pub past_is : after.past ≡ base.past ++ steps
   pub notes : notes_from base.setup (facts_in base) steps ≡ []
   pub asked : Option Step
-  pub is_seen : IfSeenStep asked
+  pub by_host : IfHostStep asked
   pub commands_ask : flat_map (asked_of handle slot base) commands ≡ asked_if asked
+  pub commands_answer : flat_map (answers_of handle slot base) commands ≡ answers_if asked
   pub asks : (side : Side) (number : ℕ) → seen_in_steps side number base.setup (facts_in base) steps ≡ asked_if asked
   pub control_is : (facts_in after).control ≡ control_asked base asked
 
@@ -88,8 +96,22 @@ pub record HasAsked (links : Links) (handle slot : ℕ) (commands : List Command
   pub was : link_at handle links ≡ Some base
   pub is : IsAsked handle slot commands base after
 
+-- these commands ask nothing of an end
+record AskNothing (handle slot : ℕ) (commands : List Command) (link : OpenLink) : Type 0 where
+  ask : flat_map (asked_of handle slot link) commands ≡ []
+  answer : flat_map (answers_of handle slot link) commands ≡ []
+
+no_commands : (handle slot : ℕ) (link : OpenLink) → AskNothing handle slot [] link
+no_commands handle slot link = record { ask = refl; answer = refl }
+
+none_of : (handle slot : ℕ) (command : Command) (link : OpenLink) → step_of handle slot link command ≡ None → AskNothing handle slot (command ∷ []) link
+none_of handle slot command link none = record {
+  ask = ap (λ step. asked_if step ++ []) none;
+  answer = ap (λ step. answers_if step ++ []) none;
+}
+
 same_asked : (links : Links) (handle slot : ℕ) (commands : List Command) (after : OpenLink)
-    → ((link : OpenLink) → flat_map (asked_of handle slot link) commands ≡ []) → link_at handle links ≡ Some after
+    → ((link : OpenLink) → AskNothing handle slot commands link) → link_at handle links ≡ Some after
     → HasAsked links handle slot commands after
 same_asked links handle slot commands after none at = record {
   base = after;
@@ -100,8 +122,9 @@ same_asked links handle slot commands after none at = record {
     past_is = sym (append-nil after.past);
     notes = refl;
     asked = None;
-    is_seen = tt;
-    commands_ask = none after;
+    by_host = tt;
+    commands_ask = (none after).ask;
+    commands_answer = (none after).answer;
     asks = λ side number. refl;
     control_is = refl;
   };
@@ -109,16 +132,18 @@ same_asked links handle slot commands after none at = record {
 
 -- ---- the steps of hosts
 
-host_seen : (side : Side) (number : ℕ) (setup : EndSetup) (facts : EndFacts) (step : Step) → IsSeenStep step
+host_seen : (side : Side) (number : ℕ) (setup : EndSetup) (facts : EndFacts) (step : Step) → IsHostStep step
     → seen_in_steps side number setup facts (step ∷ []) ≡ asked_in_step step
-host_seen side number setup facts (ProcedureAsked ask) seen = refl
-host_seen side number setup facts (Disconnected reason slot) seen = refl
-host_seen side number setup facts other seen = absurd seen
+host_seen side number setup facts (ProcedureAsked ask) by_host = refl
+host_seen side number setup facts (RequestAnswered answer) by_host = refl
+host_seen side number setup facts (Disconnected reason slot) by_host = refl
+host_seen side number setup facts other by_host = absurd by_host
 
-host_notes : (setup : EndSetup) (facts : EndFacts) (step : Step) → IsSeenStep step → notes_from setup facts (step ∷ []) ≡ []
-host_notes setup facts (ProcedureAsked ask) seen = refl
-host_notes setup facts (Disconnected reason slot) seen = refl
-host_notes setup facts other seen = absurd seen
+host_notes : (setup : EndSetup) (facts : EndFacts) (step : Step) → IsHostStep step → notes_from setup facts (step ∷ []) ≡ []
+host_notes setup facts (ProcedureAsked ask) by_host = refl
+host_notes setup facts (RequestAnswered answer) by_host = refl
+host_notes setup facts (Disconnected reason slot) by_host = refl
+host_notes setup facts other by_host = absurd by_host
 
 ends_moved : (step : ControlStep) (control : Control) → ((c : Control) → (moved step c).ends ≡ c.ends) → (control_after step control).ends ≡ control.ends
 ends_moved step control keeps = by (is_none control.ends)
@@ -131,51 +156,38 @@ table_ends : (may : Bool) (table : TableFacts) (c : Control) → (table_if may t
 table_ends true table c = refl
 table_ends false table c = refl
 
-host_ends : (setup : EndSetup) (facts : EndFacts) (step : Step) → IsSeenStep step → (end_after setup facts step).control.ends ≡ facts.control.ends
-host_ends setup facts (ProcedureAsked ask) seen = by (is_to_come ask facts)
+host_ends : (setup : EndSetup) (facts : EndFacts) (step : Step) → IsHostStep step → (end_after setup facts step).control.ends ≡ facts.control.ends
+host_ends setup facts (ProcedureAsked ask) by_host = by (is_to_come ask facts)
   where
     by : (known : Bool) → (asked_unless known ask facts).control.ends ≡ facts.control.ends
     by true = refl
     by false = ends_moved (AsksFor ask) facts.control (λ c. refl)
-host_ends setup facts (Disconnected reason slot) seen =
+host_ends setup facts (RequestAnswered answer) by_host =
+    ends_moved (Answers answer) facts.control (λ c. table_ends (is_host_asked c.table.progress && is_answer answer) (host_answer_step c.table answer) c)
+host_ends setup facts (Disconnected reason slot) by_host =
     ends_moved (Disconnects reason) facts.control (λ c. table_ends (is_open c.table.closing) (terminate_step c.table reason) c)
-host_ends setup facts other seen = absurd seen
+host_ends setup facts other by_host = absurd by_host
 
 -- an end goes on after what it is asked
-pub asked_goes_on : (base : OpenLink) (asked : Option Step) → IfSeenStep asked → (control_asked base asked).ends ≡ (facts_in base).control.ends
-asked_goes_on base None seen = refl
-asked_goes_on base (Some step) seen = host_ends base.setup (facts_in base) step seen
+pub asked_goes_on : (base : OpenLink) (asked : Option Step) → IfHostStep asked → (control_asked base asked).ends ≡ (facts_in base).control.ends
+asked_goes_on base None by_host = refl
+asked_goes_on base (Some step) by_host = host_ends base.setup (facts_in base) step by_host
 
 -- ---- which commands ask
 
--- a host does not answer a request
-disallowed : (table : ℕ) → or_unbuilt table command_disallowed ≡ 0 → ⊥
-disallowed table is =
-    let h : command_disallowed ≡ 0 = subst (λ (code : ℕ). or_unbuilt code command_disallowed ≡ 0) (table_accepts table command_disallowed is) is in
-    absurd (omega (arith, h))
-
-unless_known : (known : Bool) (ask : Ask) → IfSeenStep (ask_unless known ask)
+unless_known : (known : Bool) (ask : Ask) → IfHostStep (ask_unless known ask)
 unless_known true ask = tt
 unless_known false ask = tt
 
-map_by_host : (role : Role) (map : ℕ) → IfSeenStep (map_by role map)
+map_by_host : (role : Role) (map : ℕ) → IfHostStep (map_by role map)
 map_by_host Central map = tt
 map_by_host Peripheral map = tt
 
-step_of_host : (view : View) (command : Command) (slot : ℕ) (role : Role) (peer : PeerFacts) → status_of view command ≡ 0
-    → IfSeenStep (host_step_of command slot role peer)
-unfolding status_of
-step_of_host view (Disconnect handle reason) slot role peer accepted = tt
-step_of_host view (ReadRemoteVersion handle) slot role peer accepted = unless_known (is_some peer.version) Version
-step_of_host view (LeReadRemoteFeatures handle) slot role peer accepted = unless_known (is_some peer.features) Features
-step_of_host view (LeSetDataLength handle most time) slot role peer accepted = tt
-step_of_host view (LeConnectionUpdate handle min max latency timeout lengths) slot role peer accepted = tt
-step_of_host view (LeSetChannels map) slot role peer accepted = map_by_host role map
-step_of_host view (LeParamReply handle min max latency timeout lengths) slot role peer accepted =
-    absurd (disallowed (first_refusal (rows_of view (LeParamReply handle min max latency timeout lengths))) accepted)
-step_of_host view (LeParamNegative handle reason) slot role peer accepted =
-    absurd (disallowed (first_refusal (rows_of view (LeParamNegative handle reason))) accepted)
-step_of_host view other slot role peer accepted = tt
+step_of_host : (command : Command) (slot : ℕ) (role : Role) (peer : PeerFacts) → IfHostStep (host_step_of command slot role peer)
+step_of_host (ReadRemoteVersion handle) slot role peer = unless_known (is_some peer.version) Version
+step_of_host (LeReadRemoteFeatures handle) slot role peer = unless_known (is_some peer.features) Features
+step_of_host (LeSetChannels map) slot role peer = map_by_host role map
+step_of_host other slot role peer = tt
 
 one_answered : (view : View) (command : Command) → asks_links view command ≡ true → answered_commands (command ∷ []) ≡ command ∷ []
 one_answered view (HostCompleted counts) asks = absurd cc
@@ -183,16 +195,18 @@ one_answered view other asks = refl
 
 -- a command that asks no link asks none of them
 none_asks : (view : View) (command : Command) (handle slot : ℕ) (link : OpenLink) → asks_links view command ≡ false
-    → flat_map (asked_of handle slot link) (answered_commands (command ∷ [])) ≡ []
+    → AskNothing handle slot (answered_commands (command ∷ [])) link
 none_asks view (Disconnect given reason) handle slot link none = absurd cc
 none_asks view (ReadRemoteVersion given) handle slot link none = absurd cc
 none_asks view (LeReadRemoteFeatures given) handle slot link none = absurd cc
 none_asks view (LeSetDataLength given most time) handle slot link none = absurd cc
 none_asks view (LeSetChannels map) handle slot link none = absurd cc
+none_asks view (LeSetPhy given all tx rx options) handle slot link none = absurd cc
 none_asks view (LeConnectionUpdate given min max latency timeout lengths) handle slot link none = absurd cc
 none_asks view (LeParamReply given min max latency timeout lengths) handle slot link none = absurd cc
 none_asks view (LeParamNegative given reason) handle slot link none = absurd cc
-none_asks view other handle slot link none = refl
+none_asks view (HostCompleted counts) handle slot link none = no_commands handle slot link
+none_asks view other handle slot link none = none_of handle slot other link refl
 
 none_left : (handle : ℕ) (links : Links) (after : OpenLink) → link_at handle (without_links links) ≡ Some after → link_at handle links ≡ Some after
 none_left handle links after at = absurd (let h : None ≡ Some after = sym (map_under (λ place. None) refl 0 handle links) ∙ at in absurd cc)
@@ -222,21 +236,20 @@ asked_from command slot first handle (place ∷ links) = by (first == handle) re
     by true is rest = ap (λ (h : ℕ). place_commanded (is_about h command) command slot place) (eqb-true first handle is)
     by false is rest = rest
 
-module _ (view : View) (command : Command) (slot handle : ℕ) (links : Links) (after : OpenLink) (accepted : status_of view command ≡ 0) where
-  none_of : (about : Bool) (link : OpenLink) → is_about handle command ≡ about
-      → step_if_about about (host_step_of command slot link.setup.link.role (facts_in link).peer) ≡ None
-      → flat_map (asked_of handle slot link) (command ∷ []) ≡ []
-  none_of about link is none =
-      ap (λ b. asked_if (step_if_about b (host_step_of command slot link.setup.link.role (facts_in link).peer)) ++ []) is
-      ∙ ap (λ step. asked_if step ++ []) none
+module _ (command : Command) (slot handle : ℕ) (links : Links) (after : OpenLink) where
+  abbrev step_for : OpenLink → Option Step
+  step_for link = host_step_of command slot link.setup.link.role (facts_in link).peer
+
+  step_is : (about : Bool) (link : OpenLink) → is_about handle command ≡ about → step_of handle slot link command ≡ step_if_about about (step_for link)
+  step_is about link is = ap (λ b. step_if_about b (step_for link)) is
 
   step_by_host : (link : OpenLink) (step : Option Step) → is_about handle command ≡ true → link_at handle links ≡ Some link
-      → host_step_of command slot link.setup.link.role (facts_in link).peer ≡ step → IfSeenStep step → Some (link_after_if step link) ≡ Some after
+      → step_for link ≡ step → IfHostStep step → Some (link_after_if step link) ≡ Some after
       → HasAsked links handle slot (command ∷ []) after
-  step_by_host link None about was is seen same =
-      same_one link (none_of true link about is) was cc
+  step_by_host link None about was is by_host same =
+      same_one link (none_of handle slot command link (step_is true link about ∙ is)) was cc
     where
-      same_one : (link : OpenLink) → flat_map (asked_of handle slot link) (command ∷ []) ≡ [] → link_at handle links ≡ Some link → link ≡ after
+      same_one : (link : OpenLink) → AskNothing handle slot (command ∷ []) link → link_at handle links ≡ Some link → link ≡ after
           → HasAsked links handle slot (command ∷ []) after
       same_one link none was same = record {
         base = link;
@@ -247,38 +260,39 @@ module _ (view : View) (command : Command) (slot handle : ℕ) (links : Links) (
           past_is = ap (λ (l : OpenLink). l.past) (sym same) ∙ sym (append-nil link.past);
           notes = refl;
           asked = None;
-          is_seen = tt;
-          commands_ask = none;
+          by_host = tt;
+          commands_ask = none.ask;
+          commands_answer = none.answer;
           asks = λ side number. refl;
           control_is = ap (λ (l : OpenLink). (facts_in l).control) (sym same);
         };
       }
-  step_by_host link (Some step) about was is seen same =
-      let now : link_after step link ≡ after = cc in record {
+  step_by_host link (Some step) about was is by_host same =
+      let now : link_after step link ≡ after = cc in
+      let one : step_of handle slot link command ≡ Some step = step_is true link about ∙ is in record {
         base = link;
         was = was;
         is = record {
           setup_is = ap (λ (l : OpenLink). l.setup) (sym now);
           steps = step ∷ [];
           past_is = ap (λ (l : OpenLink). l.past) (sym now);
-          notes = host_notes link.setup (facts_in link) step seen;
+          notes = host_notes link.setup (facts_in link) step by_host;
           asked = Some step;
-          is_seen = seen;
-          commands_ask =
-              ap (λ b. asked_if (step_if_about b (host_step_of command slot link.setup.link.role (facts_in link).peer)) ++ []) about
-              ∙ ap (λ one. asked_if one ++ []) is ∙ append-nil (asked_in_step step);
-          asks = λ side number. host_seen side number link.setup (facts_in link) step seen;
+          by_host = by_host;
+          commands_ask = ap (λ asked. asked_if asked ++ []) one ∙ append-nil (asked_in_step step);
+          commands_answer = ap (λ asked. answers_if asked ++ []) one ∙ append-nil (answers_in_step step);
+          asks = λ side number. host_seen side number link.setup (facts_in link) step by_host;
           control_is = ap (λ (l : OpenLink). (facts_in l).control) (sym now) ∙ ap (λ (f : EndFacts). f.control) (grows_by link step);
         };
       }
 
   place_asked : (about : Bool) (place : Option OpenLink) → is_about handle command ≡ about → link_at handle links ≡ place
       → place_commanded about command slot place ≡ Some after → HasAsked links handle slot (command ∷ []) after
-  place_asked false place about was at = same_asked links handle slot (command ∷ []) after (λ link. none_of false link about refl) (was ∙ at)
+  place_asked false place about was at =
+      same_asked links handle slot (command ∷ []) after (λ link. none_of handle slot command link (step_is false link about)) (was ∙ at)
   place_asked true None about was at = absurd cc
   place_asked true (Some link) about was at =
-      step_by_host link (host_step_of command slot link.setup.link.role (facts_in link).peer) about was refl
-      (step_of_host view command slot link.setup.link.role (facts_in link).peer accepted) at
+      step_by_host link (step_for link) about was refl (step_of_host command slot link.setup.link.role (facts_in link).peer) at
 
   command_asked : link_at handle (links_commanded command slot links) ≡ Some after → HasAsked links handle slot (command ∷ []) after
   command_asked at = place_asked (is_about handle command) (link_at handle links) refl refl (sym (asked_from command slot 0 handle links) ∙ at)
@@ -292,26 +306,25 @@ module _ (setup : Setup) (facts : Facts) (handle : ℕ) (after : OpenLink) where
   known_asked : (command : Command) (took asks : Bool) → (status_of facts.view command == 0) ≡ took → asks_links facts.view command ≡ asks
       → link_at handle (facts_asking (took && asks) facts command (facts_known took setup facts command)).links ≡ Some after
       → Asked (cond took (command ∷ []) [])
-  known_asked command false asks took is at = same_asked facts.links handle facts.turn.begun [] after (λ link. refl) at
+  known_asked command false asks took is at = same_asked facts.links handle facts.turn.begun [] after (no_commands handle facts.turn.begun) at
   known_asked command true false took is at =
       same_asked facts.links handle facts.turn.begun (answered_commands (command ∷ [])) after
       (λ link. none_asks facts.view command handle facts.turn.begun link is) (command_leaves command handle facts.links after at)
   known_asked command true true took is at =
-      let accepted = eqb-true (status_of facts.view command) 0 took in
       subst (λ commands. HasAsked facts.links handle facts.turn.begun commands after) (sym (one_answered facts.view command is))
-      (command_asked facts.view command facts.turn.begun handle facts.links after accepted at)
+      (command_asked command facts.turn.begun handle facts.links after at)
 
   read_asked : (read : CmdRead) → link_at handle (facts_commanded setup facts read).links ≡ Some after → Asked (commands_accepted_by facts read)
   read_asked (Known command) at = known_asked command (status_of facts.view command == 0) (asks_links facts.view command) refl refl at
-  read_asked UnknownOpcode at = same_asked facts.links handle facts.turn.begun [] after (λ link. refl) at
-  read_asked BadLength at = same_asked facts.links handle facts.turn.begun [] after (λ link. refl) at
+  read_asked UnknownOpcode at = same_asked facts.links handle facts.turn.begun [] after (no_commands handle facts.turn.begun) at
+  read_asked BadLength at = same_asked facts.links handle facts.turn.begun [] after (no_commands handle facts.turn.begun) at
 
   given_asked : (gives : Bool) (start : Bool) (body : List ℕ) → WasOpen (change_if gives (link_after (DataGiven start body))) (link_at handle facts.links) after
       → Asked []
   given_asked gives start body was = by gives was.is
     where
       by : (gives : Bool) → after ≡ change_if gives (link_after (DataGiven start body)) was.link → Asked []
-      by false same = same_asked facts.links handle facts.turn.begun [] after (λ link. refl) (was.was ∙ ap Some (sym same))
+      by false same = same_asked facts.links handle facts.turn.begun [] after (no_commands handle facts.turn.begun) (was.was ∙ ap Some (sym same))
       by true same = record {
         base = was.link;
         was = was.was;
@@ -321,8 +334,9 @@ module _ (setup : Setup) (facts : Facts) (handle : ℕ) (after : OpenLink) where
           past_is = ap (λ (l : OpenLink). l.past) same;
           notes = refl;
           asked = None;
-          is_seen = tt;
+          by_host = tt;
           commands_ask = refl;
+          commands_answer = refl;
           asks = λ side number. refl;
           control_is = ap (λ (l : OpenLink). (facts_in l).control) same
               ∙ ap (λ (f : EndFacts). f.control) (grows_by was.link (DataGiven start body));
@@ -332,15 +346,15 @@ module _ (setup : Setup) (facts : Facts) (handle : ℕ) (after : OpenLink) where
   offered_asked : (offer : Offer) (other : ℕ) (start : Bool) (body : List ℕ) → link_at handle (facts_offered offer other start body facts).links ≡ Some after → Asked []
   offered_asked Kept other start body at =
       given_asked (other == handle) start body (change_under other handle (link_after (DataGiven start body)) facts.links after at)
-  offered_asked NoLink other start body at = same_asked facts.links handle facts.turn.begun [] after (λ link. refl) at
-  offered_asked Empty other start body at = same_asked facts.links handle facts.turn.begun [] after (λ link. refl) at
-  offered_asked Overflow other start body at = same_asked facts.links handle facts.turn.begun [] after (λ link. refl) at
+  offered_asked NoLink other start body at = same_asked facts.links handle facts.turn.begun [] after (no_commands handle facts.turn.begun) at
+  offered_asked Empty other start body at = same_asked facts.links handle facts.turn.begun [] after (no_commands handle facts.turn.begun) at
+  offered_asked Overflow other start body at = same_asked facts.links handle facts.turn.begun [] after (no_commands handle facts.turn.begun) at
 
   fed_asked : (fed : Fed) → link_at handle (facts_fed setup facts fed).links ≡ Some after → Asked (commands_accepted_in facts fed)
   fed_asked (Packet (HostCommand opcode body)) at = read_asked (command_of opcode body.items) at
   fed_asked (Packet (Acl other start count body)) at = offered_asked (offer_of setup facts other count) other start body.items at
-  fed_asked LostSync at = same_asked facts.links handle facts.turn.begun [] after (λ link. refl) at
-  fed_asked More at = same_asked facts.links handle facts.turn.begun [] after (λ link. refl) at
+  fed_asked LostSync at = same_asked facts.links handle facts.turn.begun [] after (no_commands handle facts.turn.begun) at
+  fed_asked More at = same_asked facts.links handle facts.turn.begun [] after (no_commands handle facts.turn.begun) at
 
   pub octet_asked : (octet : ℕ) → link_at handle (facts_after setup facts (HostOctet octet)).links ≡ Some after
       → HasAsked facts.links handle facts.turn.begun (answered_after facts (HostOctet octet)) after

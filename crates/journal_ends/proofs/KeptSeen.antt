@@ -58,9 +58,10 @@ use Rattle.journal_acks.proofs.HeardLines.{AreUnheard, IsUnheard, advertised_hea
 use Rattle.journal_acks.specs.link_calls.Uses.{listens_under}
 use Rattle.journal_acks.proofs.Standing.{PhasedBy, listens_wanted, phased_at, sending_on_link}
 use Rattle.journal_acks.proofs.TwoStations.{IsOfTwo, hearing_of, one_hearing, other_is, own_differs, own_received}
+use Rattle.journal_ends.specs.Answering.{answers_from, answers_if}
 use Rattle.journal_ends.specs.Seen.{asked_if, heard_next, heard_where, seen_from}
 use Rattle.journal_ends.proofs.EndsKnown.{AreLined, begun_at, known_kept, lined_at, lined_before}
-use Rattle.journal_ends.proofs.AskedCalls.{IsKnownEnd, asked_lines, asked_seen}
+use Rattle.journal_ends.proofs.AskedCalls.{IsKnownEnd, answered_lines, asked_lines, asked_seen}
 use Rattle.journal_ends.proofs.GrownLinks.{begun_grown, ended_grown}
 use Rattle.journal_ends.proofs.HostedLinks.{IsAsked, octet_asked}
 use Rattle.journal_ends.proofs.StandingLinks.{older_at}
@@ -274,6 +275,8 @@ module _ (understood : IsUnderstood) (taken : AreTaken) (nth : AreNth) (apart : 
       pub is : IsAsked handle here.turn.begun (answered_after here (HostOctet octet)) base link
       pub lines : seen_from (side_of station) (number_at station handle history) (journal_of history) (call_lines given station (HostOctet octet) history)
           ≡ asked_if is.asked
+      pub answers : answers_from (side_of station) (number_at station handle history) (journal_of history) (call_lines given station (HostOctet octet) history)
+          ≡ answers_if is.asked
       pub seen : seen_at (number_at station handle history) (side_of station) next
           ≡ seen_in_link (number_at station handle history) (side_of station) link
 
@@ -294,6 +297,7 @@ module _ (understood : IsUnderstood) (taken : AreTaken) (nth : AreNth) (apart : 
           number = same;
           is = asked.is;
           lines = asked_lines own side history here.turn.begun handle asked.base known given station octet link now accepted asked.is;
+          answers = answered_lines own side history here.turn.begun handle asked.base known given station octet link now accepted asked.is;
           seen = asked_seen own side history here.turn.begun handle asked.base known given station octet link now accepted asked.is
               (whole_at given history NoneReceived station handle asked.base in_it asked.was refl fed.seen);
         }

@@ -1,5 +1,5 @@
 -- The handle and the role of an end, and what it knows of its peer, by its lines.
-use Rattle.std.proofs.Common.{◌≡◌, ℕ, ◌&&◌, not, Bool, true, false, Option, Some, None, List, [], ◌∷◌, ◌++◌, map, if◌then◌else◌, refl, sym, ap, subst, ◌∙◌}
+use Rattle.std.proofs.Common.{◌≡◌, ℕ, ◌&&◌, not, Bool, true, false, Option, Some, None, List, [], ◌∷◌, ◌++◌, map, if◌then◌else◌, refl, sym, ap, ◌∙◌}
 use Rattle.std.specs.Prelude.{fold, is_none}
 use Rattle.std.specs.List.{AllByRecursion}
 use Rattle.std.proofs.lemmas.List.{map-append}
@@ -8,11 +8,8 @@ use Rattle.ble_base.specs.declared.error_codes.ErrCode.{ErrCode}
 use Rattle.ble_base.specs.declared.notes.Note.{Note}
 use Rattle.ble_base.specs.declared.procedure_kinds.Kind.{Kind}
 use Rattle.ble_base.specs.declared.roles.Role.{Role}
-use Rattle.ble_base.specs.declared.roles.Role.TheVariants.{Central, Peripheral}
 use Rattle.ble_base.specs.declared.roles.Side.{Side}
 use Rattle.data_pdu.specs.Header.{header_in}
-use Rattle.data_pdu.specs.declared.header.DataHeader.{DataHeader}
-use Rattle.journal_acks.specs.controller_model.Links.{note_opened}
 use Rattle.journal_acks.specs.controller_model.Since.{notes_opened_on}
 use Rattle.journal_acks.proofs.controller_model.EndNotes.{entered_each, received_each, sent_each}
 use Rattle.journal.specs.declared.entries.Entry.{Entry}
@@ -26,18 +23,18 @@ use Rattle.journal_acks.specs.link_model.Facts.{Facts, first_facts}
 use Rattle.journal_acks.specs.link_model.Fixing.{fixed_anew}
 use Rattle.journal_acks.specs.link_model.Hosts.{asked_unless, is_to_come}
 use Rattle.journal_acks.specs.link_model.Packets.{good_pdu}
-use Rattle.journal_acks.specs.link_model.Receiving.{accepted_if, accepts, acked_kind, acknowledged_if, acks_control, answers_with_control, control_taken, facts_before_taking, facts_received, given_if, given_notes, has_acknowledged, heard_in_slot, peer_from, peer_from_if, procedures_take_if, received_notes, refused_notes, taken_if, taken_notes, took_notes_if}
-use Rattle.journal_acks.specs.link_model.Sending.{control_gone_if, facts_sent, fixed_sent, takes_leave}
+use Rattle.journal_acks.specs.link_model.Receiving.{accepted_if, accepts, acked_kind, acknowledged_if, acks_control, answers_with_control, facts_before_taking, facts_received, given_if, given_notes, has_acknowledged, heard_in_slot, peer_from, peer_from_if, procedures_take_if, received_notes, refused_notes, took_notes_if}
+use Rattle.journal_acks.specs.link_model.Sending.{control_gone_if, takes_leave}
 use Rattle.journal_acks.specs.link_model.Setup.{Setup}
 use Rattle.journal_acks.specs.link_model.Step.{Step, DataGiven, ProcedureAsked, RequestAnswered, Disconnected, EventEntered, PduFixed, PacketSent, PacketReceived, DataReported}
 use Rattle.journal_acks.specs.link_model.Verdicts.{pdu_of}
 use Rattle.journal_acks.specs.link_model.control_end.declared.answers.Taken.{Taken}
-use Rattle.journal_acks.specs.link_model.control_model.Control.{Control, Step as ControlStep, after, after_all, moved}
+use Rattle.journal_acks.specs.link_model.control_model.Control.{Control, Step as ControlStep, after_all, moved}
 use Rattle.journal_acks.specs.link_model.ControlSteps.{control_steps_in}
 use Rattle.journal_acks.specs.link_model.procedure_values.declared.asks.Ask.{Ask}
 use Rattle.journal_acks.specs.link_model.declared.state.PeerFacts.{PeerFacts}
 use Rattle.journal_acks.proofs.link_model.ControlSteps.{one_step}
-use Rattle.journal_ends.specs.Asked.{opened_after, opened_by, peer_after, peer_by, peer_taking}
+use Rattle.journal_ends.specs.Asked.{opened_after, opened_by, peer_after, peer_by}
 
 module _ (side : Side) (number : ℕ) where
   abbrev lines : List Note → List Entry

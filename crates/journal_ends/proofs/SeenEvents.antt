@@ -27,8 +27,9 @@ use Rattle.journal_acks.specs.Exchange.{is_number}
 use Rattle.journal_acks.specs.Shut.{is_of_link}
 use Rattle.journal_acks.proofs.journal_links.LinkLines.{line_more}
 use Rattle.journal_acks.proofs.run_model.Parts.{journal_event}
-use Rattle.host_answers.specs.Answered.{accepted_with, next_command}
+use Rattle.host_answers.specs.Answered.{accepted_in, accepted_with, next_command}
 use Rattle.host_answers.proofs.LineAnswers.{IsQuiet, statuses_in}
+use Rattle.journal_ends.specs.Answering.{answers_if, answers_in_line}
 use Rattle.journal_ends.specs.Asked.{step_asked}
 use Rattle.journal_ends.specs.Seen.{Says, Seen, asked_if, asked_in_line, heard_in_line, heard_where, notes_said, seen_in_steps, seen_of, seen_on}
 use Rattle.journal_ends.proofs.PastSeen.{notes_more, seen_grows}
@@ -80,9 +81,18 @@ pub note_hears : (number : ℕ) (side other : Side) (front : List Entry) (link_o
 note_hears number side other front link_of last (Up packet) = refl
 note_hears number side other front link_of last note = refl
 
+pub unaccepted_by : (side : Side) (front : List Entry) (line : Entry) → statuses_in side line ≡ [] → accepted_in side front line ≡ []
+unaccepted_by side front line none = ap (flat_map (accepted_with (next_command side front))) none
+
+-- where no command is accepted nothing is asked, and nothing is answered to the peer
+pub unasked_in : (side : Side) (number : ℕ) (front : List Entry) (line : Entry) → accepted_in side front line ≡ [] → asked_in_line side number front line ≡ []
+unasked_in side number front line none = ap (flat_map (λ command. asked_if (step_asked side number front command))) none
+
+pub unanswered_in : (side : Side) (number : ℕ) (front : List Entry) (line : Entry) → accepted_in side front line ≡ [] → answers_in_line side number front line ≡ []
+unanswered_in side number front line none = ap (flat_map (λ command. answers_if (step_asked side number front command))) none
+
 pub unasked_by : (side : Side) (number : ℕ) (front : List Entry) (line : Entry) → statuses_in side line ≡ [] → asked_in_line side number front line ≡ []
-unasked_by side number front line none =
-    ap (λ statuses. flat_map (λ command. asked_if (step_asked side number front command)) (flat_map (accepted_with (next_command side front)) statuses)) none
+unasked_by side number front line none = unasked_in side number front line (unaccepted_by side front line none)
 
 note_says : (number : ℕ) (side : Side) (history : List Event) (station : ℕ) (note : Note) → IsQuiet side station note
     → IsSaying number side history (history ++ Noted station note ∷ [])

@@ -1,15 +1,14 @@
 -- Before the calls of a turn, each open link is one of an earlier turn, and no procedure ended it.
-use Rattle.std.proofs.Common.{◌≡◌, ℕ, suc, ◌+◌, ◌-◌, ◌<◌, Bool, true, false, Option, Some, None, List, [], ◌∷◌, ◌++◌, replicate, if◌then◌else◌, refl, sym, ap, subst, ◌∙◌, arith}
+use Rattle.std.proofs.Common.{◌≡◌, ℕ, ◌+◌, ◌<◌, Bool, true, false, Option, Some, None, List, replicate, if◌then◌else◌, refl, sym, ap, subst, ◌∙◌, arith}
 use Rattle.std.specs.Option.{option_map}
 use Rattle.ble_base.specs.declared.error_codes.ErrCode.{ErrCode}
 use Rattle.journal_acks.specs.controller_model.Facts.{Setup, Facts, first_facts}
 use Rattle.journal_acks.specs.controller_model.Heard.{has_room}
 use Rattle.journal_acks.specs.controller_model.Side.{facts_after, facts_of}
-use Rattle.journal_acks.specs.controller_model.Step.{Step as Call, HostOctet, TurnBegins, TurnEnds}
+use Rattle.journal_acks.specs.controller_model.Step.{Step as Call}
 use Rattle.journal_acks.specs.link_calls.Phases.{HasPassed, IsNew, Stays, Takes}
 use Rattle.journal_acks.specs.link_calls.Uses.{sends_under}
-use Rattle.journal_acks.specs.link_model.Facts.{Facts as EndFacts}
-use Rattle.journal_acks.specs.link_model.Times.{ended_by_procedures, ending_of}
+use Rattle.journal_acks.specs.link_model.Times.{ended_by_procedures}
 use Rattle.journal_acks.specs.link_model.control_model.Control.{Control}
 use Rattle.journal_acks.specs.link_model.declared.state.Leaving.{Leaving}
 use Rattle.journal_acks.specs.open_links.OpenLinks.{OpenLink, facts_in, link_at}
@@ -19,7 +18,7 @@ use Rattle.journal_acks.proofs.link_calls.LinkCalls.{phase_under}
 use Rattle.journal_acks.proofs.link_calls.UnderHandles.{ended_under}
 use Rattle.journal_acks.proofs.run_laws.OpenSteps.{none_open, open_has}
 use Rattle.journal_acks.proofs.run_laws.Entering.{IsInTurn, turn_first, turn_kept}
-use Rattle.journal_acks.proofs.run_laws.TurnPlaces.{Between, IsTurned, Stage, Standing, Within, at_stage, standing, turned}
+use Rattle.journal_acks.proofs.run_laws.TurnPlaces.{Between, IsTurned, Stage, Within, at_stage, standing, turned}
 use Rattle.journal_ends.proofs.GrownLinks.{begun_grown, ended_grown, taken_grown}
 use Rattle.journal_ends.proofs.HostedLinks.{asked_goes_on, octet_asked}
 
@@ -71,7 +70,7 @@ older_kept setup = let kept = turn_kept setup in record {
         same_opened begun asked.base link asked.is.setup_is (are.older handle asked.base asked.was);
     goes_on = λ handle link at.
         let asked = octet_asked setup facts handle link octet at in
-        ap (λ (c : Control). c.ends) asked.is.control_is ∙ asked_goes_on asked.base asked.is.asked asked.is.is_seen ∙ are.goes_on handle asked.base asked.was;
+        ap (λ (c : Control). c.ends) asked.is.control_is ∙ asked_goes_on asked.base asked.is.asked asked.is.by_host ∙ are.goes_on handle asked.base asked.was;
   };
   begins = λ begun on facts are. record {
     in_turn = kept.begins begun on facts are.in_turn;

@@ -1,6 +1,6 @@
 -- What the host of a side asks of the end of a link by a command, from the lines of a journal (Core 5.2, volume 4 part E,
 -- sections 7.1 and 7.8).
-use Rattle.std.specs.Prelude.{ℕ, ◌-◌, nat_lt, Bool, true, false, List, fold, length, Option, Some, None, if◌then◌else◌}
+use Rattle.std.specs.Prelude.{ℕ, ◌-◌, nat_lt, Bool, false, List, fold, length, Option, Some, None, if◌then◌else◌}
 use Rattle.ble_base.specs.declared.roles.Role.{Role}
 use Rattle.ble_base.specs.declared.roles.Side.{Side}
 use Rattle.hci_cmd.specs.declared.command.Command.{Command}

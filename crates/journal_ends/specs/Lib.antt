@@ -1,5 +1,6 @@
 -- The definitions of this crate.
 pub mod Asked
+pub mod Answering
 pub mod Seen
 pub mod Rows
 -- what the crates above use of those below

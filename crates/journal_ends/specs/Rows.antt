@@ -28,6 +28,26 @@ ended_by_central =
     asked_of_central ++ Fed B (0x01 ∷ 0x06 ∷ 0x04 ∷ 0x03 ∷ 0x00 ∷ 0x00 ∷ 0x13 ∷ [])
     ∷ Up B (0x04 ∷ 0x0F ∷ 0x04 ∷ 0x00 ∷ 0x01 ∷ 0x06 ∷ 0x04 ∷ []) ∷ []
 
+-- LE Remote Connection Parameter Request Reply, 2020, of handle 0, for an interval of 30 ms, no latency and a timeout of
+-- 720 ms; and its Negative Reply, 2021, with reason 3B
+abbrev pub reply_command : Entry
+reply_command =
+    Fed B (0x01 ∷ 0x20 ∷ 0x20 ∷ 0x0E ∷ 0x00 ∷ 0x00 ∷ 0x18 ∷ 0x00 ∷ 0x18 ∷ 0x00 ∷ 0x00 ∷ 0x00 ∷ 0x48 ∷ 0x00
+    ∷ 0x00 ∷ 0x00 ∷ 0x00 ∷ 0x00 ∷ [])
+
+abbrev pub negative_command : Entry
+negative_command = Fed B (0x01 ∷ 0x21 ∷ 0x20 ∷ 0x03 ∷ 0x00 ∷ 0x00 ∷ 0x3B ∷ [])
+
+-- the Command Complete of one of them, by the low octet of its opcode
+abbrev pub reply_answer : ℕ → ℕ → Entry
+reply_answer low status = Up B (0x04 ∷ 0x0E ∷ 0x06 ∷ 0x01 ∷ low ∷ 0x20 ∷ status ∷ 0x00 ∷ 0x00 ∷ [])
+
+abbrev pub replied : List Entry
+replied = reply_command ∷ reply_answer 0x20 0x00 ∷ []
+
+abbrev pub replied_negatively : List Entry
+replied_negatively = negative_command ∷ reply_answer 0x21 0x00 ∷ []
+
 -- LL_VERSION_IND was taken before
 abbrev pub version_body : List ℕ
 version_body = 0x0C ∷ 0x0B ∷ 0xFF ∷ 0xFF ∷ 0x01 ∷ 0x00 ∷ []

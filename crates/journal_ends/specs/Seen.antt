@@ -40,8 +40,8 @@ abbrev pub heard_where : Bool → ℕ → List ℕ → List Seen
 heard_where true slot octets = Hears slot octets ∷ []
 heard_where false slot octets = []
 
--- a host asks for a procedure, or ends the link. A host answers no request of the peer yet: where that is withheld from
--- the host it is refused at once (our choice)
+-- a host asks for a procedure, or ends the link. An answer to a request of the peer is not among what is seen: the past of
+-- an end has one also where the request is withheld from the host and refused at once, which no line says (our choice)
 abbrev pub asked_in_step : Step → List Seen
 asked_in_step (ProcedureAsked ask) = Asks (ProcedureAsked ask) ∷ []
 asked_in_step (Disconnected reason slot) = Asks (Disconnected reason slot) ∷ []

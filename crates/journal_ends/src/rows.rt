@@ -1,5 +1,5 @@
 //! Worked examples, which the definitions compute.
-ghost use Rattle.std.specs.Prelude.{◌≡◌, ◌∷◌, [], Some};
+ghost use Rattle.std.specs.Prelude.{◌≡◌, ◌++◌, ◌∷◌, [], Err, Ok, Some};
 ghost use Rattle.ble_base.specs.declared.roles.Role.TheVariants.{Central, Peripheral};
 ghost use Rattle.ble_base.specs.declared.roles.Side.TheVariants.{A, B};
 ghost use Rattle.journal.specs.declared.entries.Entry.TheVariants.{Enter, Opened, Sent, Took};
@@ -7,9 +7,11 @@ ghost use Rattle.journal_acks.specs.run_model.Rows.{first_reply};
 ghost use Rattle.journal_acks.specs.Rows.{data_acknowledged, data_packet, data_pdu, more_packet};
 ghost use Rattle.journal_acks.specs.Rows.{reply_packet};
 ghost use Rattle.journal_acks.specs.link_model.Step.{Disconnected, ProcedureAsked};
-ghost use Rattle.journal_acks.specs.link_model.procedure_values.declared.asks.Ask.TheVariants.{Version};
+ghost use Rattle.journal_acks.specs.link_model.procedure_values.declared.asks.Ask.TheVariants.{Update, Version};
 ghost use Rattle.journal_ends.specs.Rows.{asked_of_central, ended_by_central, refused_to_central};
-ghost use Rattle.journal_ends.specs.Rows.{asked_again, version_body};
+ghost use Rattle.journal_ends.specs.Answering.{answers_from};
+ghost use Rattle.journal_ends.specs.Rows.{asked_again, next_turn, replied, replied_negatively};
+ghost use Rattle.journal_ends.specs.Rows.{reply_answer, reply_command, version_body};
 ghost use Rattle.journal_ends.specs.Seen.{Asks, Hears, Says, last_slot, seen_on};
 
 /// The central sends a PDU of data in the second slot of an event, and the peripheral takes it.
@@ -42,4 +44,20 @@ pub fn worked_asks()
         ∷ Asks (Disconnected (record { 0 = 0x13 }) 1) ∷ [] }
     ensures known { seen_on B 1 asked_again
         ≡ Says (Opened B 1 0 Central) ∷ Says (Took B 1 1 3 version_body) ∷ [] }
+{}
+
+/// The host of the central answers a request of the peripheral in turn 1: it lets the parameters
+/// pass, or refuses them. It does so at the line of the Command Complete with status 00, and not where
+/// the command is refused, nor at the other end, nor on another link. Such an answer is not among
+/// what is seen of the end, and another command is none.
+pub fn worked_answers()
+    ensures passes { answers_from B 1 next_turn replied ≡ Ok (Update 24 0 72) ∷ [] }
+    ensures refuses { answers_from B 1 next_turn replied_negatively
+        ≡ Err (record { 0 = 0x3B }) ∷ [] }
+    ensures refused { answers_from B 1 next_turn (reply_command ∷ reply_answer 0x20 0x0C ∷ [])
+        ≡ [] }
+    ensures peripheral { answers_from A 1 next_turn replied ≡ [] }
+    ensures other_link { answers_from B 2 next_turn replied ≡ [] }
+    ensures unseen { seen_on B 1 (next_turn ++ replied) ≡ Says (Opened B 1 0 Central) ∷ [] }
+    ensures other { answers_from B 1 [] asked_of_central ≡ [] }
 {}

@@ -4,6 +4,7 @@ use Rattle.ble_base.specs.declared.roles.Side.{Side}
 use Rattle.journal.specs.declared.entries.Entry.{Entry}
 use Rattle.journal.specs.declared.entries.Entry.TheVariants.{Turn}
 use Rattle.journal_controls.specs.LineSteps.{control_on}
+use Rattle.journal_controls.specs.journal_ends.Answering.{answers_in_line}
 use Rattle.journal_controls.specs.journal_ends.Seen.{seen_in_line}
 use Rattle.journal_controls.specs.link_model.control_model.Control.{Control}
 use Rattle.journal_controls.proofs.LineFolds.{control_more, quiet_line}
@@ -14,8 +15,9 @@ module _ (side : Side) (number : ℕ) where
   abbrev now : List Entry → Option Control
   now journal = control_on side number journal
 
-  quiet_now : (journal : List Entry) (line : Entry) → seen_in_line side number journal line ≡ [] → now (journal ++ line ∷ []) ≡ now journal
-  quiet_now journal line none = control_more side number journal line ∙ quiet_line side number journal (now journal) line none
+  quiet_now : (journal : List Entry) (line : Entry) → seen_in_line side number journal line ≡ [] → answers_in_line side number journal line ≡ []
+      → now (journal ++ line ∷ []) ≡ now journal
+  quiet_now journal line none unanswered = control_more side number journal line ∙ quiet_line side number journal (now journal) line none unanswered
 
   -- ---- a turn begins
 
@@ -38,10 +40,10 @@ module _ (side : Side) (number : ℕ) where
     unheard_begins = ap is_some going_none
 
     pub fixing_begins : control_fixing side number begun ≡ now journal
-    fixing_begins = ap (λ kept. kept_or kept (now begun)) fixing_none ∙ quiet_now journal (Turn slot a_on b_on) refl
+    fixing_begins = ap (λ kept. kept_or kept (now begun)) fixing_none ∙ quiet_now journal (Turn slot a_on b_on) refl refl
 
     pub going_begins : control_going side number begun ≡ now journal
-    going_begins = ap (λ kept. kept_or kept (now begun)) going_none ∙ quiet_now journal (Turn slot a_on b_on) refl
+    going_begins = ap (λ kept. kept_or kept (now begun)) going_none ∙ quiet_now journal (Turn slot a_on b_on) refl refl
 
   -- ---- nothing is kept yet
 
@@ -99,22 +101,24 @@ module _ (side : Side) (number : ℕ) where
         → control_going side number more ≡ control_answering side number journal line
     going_answers none is = ap (λ kept. kept_or kept (now more)) (going_first none is)
 
-    -- it says and hears nothing
+    -- it says and hears nothing, and its host asks and answers nothing
     quiet_fixing : (fixed from : Bool) → is_fixed side number journal ≡ fixed → is_fixed_from side number line ≡ from → seen_in_line side number journal line ≡ []
-        → control_fixing side number more ≡ control_fixing side number journal
-    quiet_fixing false false is from none =
-        fixing_now more (fixed_is ∙ (λ i. is i || from i)) ∙ quiet_now journal line none ∙ sym (fixing_now journal is)
-    quiet_fixing true from is comes none = fixing_stays (ap (λ b. b || is_fixed_from side number line) is)
-    quiet_fixing false true is comes none = fixing_stays (λ i. is i || comes i)
+        → answers_in_line side number journal line ≡ [] → control_fixing side number more ≡ control_fixing side number journal
+    quiet_fixing false false is from none unanswered =
+        fixing_now more (fixed_is ∙ (λ i. is i || from i)) ∙ quiet_now journal line none unanswered ∙ sym (fixing_now journal is)
+    quiet_fixing true from is comes none unanswered = fixing_stays (ap (λ b. b || is_fixed_from side number line) is)
+    quiet_fixing false true is comes none unanswered = fixing_stays (λ i. is i || comes i)
 
-    pub fixing_quiet : seen_in_line side number journal line ≡ [] → control_fixing side number more ≡ control_fixing side number journal
-    fixing_quiet none = quiet_fixing (is_fixed side number journal) (is_fixed_from side number line) refl refl none
+    pub fixing_quiet : seen_in_line side number journal line ≡ [] → answers_in_line side number journal line ≡ []
+        → control_fixing side number more ≡ control_fixing side number journal
+    fixing_quiet none unanswered = quiet_fixing (is_fixed side number journal) (is_fixed_from side number line) refl refl none unanswered
 
     quiet_going : (heard : Bool) → has_heard side number journal ≡ heard → is_heard_at side number journal line ≡ false → seen_in_line side number journal line ≡ []
-        → control_going side number more ≡ control_going side number journal
-    quiet_going true is unheard none = going_stays is
-    quiet_going false is unheard none =
-        going_now more (heard_is ∙ (λ i. is i || unheard i)) ∙ quiet_now journal line none ∙ sym (going_now journal is)
+        → answers_in_line side number journal line ≡ [] → control_going side number more ≡ control_going side number journal
+    quiet_going true is unheard none unanswered = going_stays is
+    quiet_going false is unheard none unanswered =
+        going_now more (heard_is ∙ (λ i. is i || unheard i)) ∙ quiet_now journal line none unanswered ∙ sym (going_now journal is)
 
-    pub going_quiet : is_heard_at side number journal line ≡ false → seen_in_line side number journal line ≡ [] → control_going side number more ≡ control_going side number journal
-    going_quiet unheard none = quiet_going (has_heard side number journal) refl unheard none
+    pub going_quiet : is_heard_at side number journal line ≡ false → seen_in_line side number journal line ≡ [] → answers_in_line side number journal line ≡ []
+        → control_going side number more ≡ control_going side number journal
+    going_quiet unheard none unanswered = quiet_going (has_heard side number journal) refl unheard none unanswered

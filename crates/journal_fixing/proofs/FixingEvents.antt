@@ -75,12 +75,12 @@ module _ (side : Side) (number : ℕ) (history : List Event) where
     pub feed_fixing : control_fixing side number (journal_of fed) ≡ control_fixing side number before
     feed_fixing =
         ap (control_fixing side number) (journal_event history (HostFed station octets))
-        ∙ fixing_quiet side number before (Fed (side_of station) octets) refl refl
+        ∙ fixing_quiet side number before (Fed (side_of station) octets) refl refl refl
 
     pub feed_going : control_going side number (journal_of fed) ≡ control_going side number before
     feed_going =
         ap (control_going side number) (journal_event history (HostFed station octets))
-        ∙ going_quiet side number before (Fed (side_of station) octets) refl refl refl
+        ∙ going_quiet side number before (Fed (side_of station) octets) refl refl refl refl
 
     pub feed_unheard : has_heard side number before ≡ false → has_heard side number (journal_of fed) ≡ false
     feed_unheard none =
@@ -109,7 +109,7 @@ module _ (side : Side) (number : ℕ) (history : List Event) where
     pub packet_unheard : heard_in_line side number before line ≡ [] → control_going side number (journal_of aired) ≡ control_going side number before
     packet_unheard none =
         ap (control_going side number) journal_aired
-        ∙ going_quiet side number before line refl (ap is_some_seen none) (ap (λ xs. xs ++ []) none)
+        ∙ going_quiet side number before line refl (ap is_some_seen none) (ap (λ xs. xs ++ []) none) refl
 
     pub packet_heard : (slot : ℕ) (heard : List ℕ) (control : Control) → has_heard side number before ≡ false
         → heard_in_line side number before line ≡ Hears slot heard ∷ [] → control_on side number before ≡ Some control

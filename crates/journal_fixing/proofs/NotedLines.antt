@@ -17,7 +17,7 @@ use Rattle.journal_controls.specs.link_model.control_model.Control.{Control}
 use Rattle.journal_controls.specs.run_model.Order.{AreNotes, side_of_note}
 use Rattle.journal_controls.specs.run_model.Readers.{PairOpening, fed_in, fed_to_side, of_side, pair_openings_in, turns_of}
 use Rattle.journal_controls.proofs.LineFolds.{control_more, line_moves, moved_both}
-use Rattle.journal_controls.proofs.journal_ends.SeenEvents.{unasked_by}
+use Rattle.journal_controls.proofs.journal_ends.SeenEvents.{unaccepted_by, unanswered_in, unasked_by}
 use Rattle.journal_fixing.specs.OnLines.{before_sending, begins_turn, control_fixing, control_going, has_heard, is_fixed, is_fixed_from, is_heard_at, is_sending, is_some_seen}
 use Rattle.journal_fixing.proofs.ControlKept.{fixed_is, fixing_now, fixing_quiet, fixing_stays, going_stays, heard_is}
 
@@ -105,6 +105,7 @@ module _ (own side : Side) (number : ℕ) where
       ap (control_fixing side number) (sym (append_assoc journal (line ∷ []) lines))
       ∙ notes_still (journal ++ line ∷ []) lines are.1 silent.1 parts.1
       ∙ fixing_quiet side number journal line goes (λ i. unasked_by side number journal line silent.0 i ++ (note_deaf line own side number journal are.0 i ++ map Says (parts.0 i)))
+      (unanswered_in side number journal line (unaccepted_by side journal line silent.0))
 
   -- notes are no packets
   pub notes_unheard : (journal lines : List Entry) → AreNotes own lines → has_heard side number journal ≡ false → has_heard side number (journal ++ lines) ≡ false
@@ -209,7 +210,7 @@ module _ (own side : Side) (number : ℕ) where
           let unfixed : (is_fixed side number journal || is_fixed_from side number line) ≡ false = λ i. none i || from i in
           let moves : control_on side number next ≡ Some (moved_by held slot named control) =
           control_more side number journal line ∙ ap (λ before. control_after side number journal before line) was
-          ∙ line_moves side number journal line control (note_deaf line own side number journal are.0) (unasked_by side number journal line silent.0) (first_none named rest opens) in
+          ∙ line_moves side number journal line control (note_deaf line own side number journal are.0) (unaccepted_by side journal line silent.0) (first_none named rest opens) in
           ap (control_fixing side number) (sym (append_assoc journal (line ∷ []) lines))
           ∙ later (moved_by held slot named control) (fixed_is side number journal line goes ∙ unfixed) moves
           ∙ (λ i. Some (moved_by (withholds_stay own side journal line are.0 i) (turn_stays journal line goes i) (before_sending rest) (moved_by held slot named control)))

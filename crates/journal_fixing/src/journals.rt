@@ -5,6 +5,7 @@ ghost use Rattle.ble_base.specs.declared.roles.Side.{Side};
 ghost use Rattle.journal.specs.declared.entries.Entry.{Entry};
 ghost use Rattle.journal.specs.declared.entries.Entry.TheVariants.{Turn};
 ghost use Rattle.journal_controls.specs.LineSteps.{control_on};
+ghost use Rattle.journal_controls.specs.journal_ends.Answering.{answers_in_line};
 ghost use Rattle.journal_controls.specs.journal_ends.Seen.{seen_in_line};
 ghost use Rattle.journal_fixing.specs.OnLines.{begins_turn, control_answering, control_fixing};
 ghost use Rattle.journal_fixing.specs.OnLines.{control_going, has_heard, is_fixed, is_fixed_from};
@@ -33,6 +34,7 @@ pub fn the_control_part_is_kept_as_a_pdu_is_fixed()
         → control_fixing side number (journal ++ line ∷ []) ≡ control_fixing side number journal }
     ensures quiet { (side : Side) (number : ℕ) (journal : List Entry) (line : Entry)
         → begins_turn line ≡ false → seen_in_line side number journal line ≡ []
+        → answers_in_line side number journal line ≡ []
         → control_fixing side number (journal ++ line ∷ []) ≡ control_fixing side number journal }
 {}
 
@@ -65,5 +67,6 @@ pub fn the_control_part_is_kept_as_a_packet_is_heard()
     ensures quiet { (side : Side) (number : ℕ) (journal : List Entry) (line : Entry)
         → begins_turn line ≡ false → is_heard_at side number journal line ≡ false
         → seen_in_line side number journal line ≡ []
+        → answers_in_line side number journal line ≡ []
         → control_going side number (journal ++ line ∷ []) ≡ control_going side number journal }
 {}

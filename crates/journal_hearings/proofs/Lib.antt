@@ -3,8 +3,6 @@ mod AirDoings
 mod OnePhase
 pub mod RequestsHeard
 mod ConnectLines
-mod CommandCodes
-mod AnswerStatuses
 mod SettingsHeld
 mod SettingsRead
 mod LinkedAddresses

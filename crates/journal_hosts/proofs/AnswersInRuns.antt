@@ -24,7 +24,7 @@ use Rattle.run_model.specs.History.{past_of}
 use Rattle.run_model.specs.Readers.{station_of}
 use Rattle.run_model.specs.Run.{Given, setup_at}
 use Rattle.journal_hosts.specs.Answered.{IsAnsweredBy}
-use Rattle.journal_hosts.proofs.Opcodes.{completed_by_opcode}
+use Rattle.host_answers.proofs.Completed.{completed_by_opcode}
 
 -- ---- a command as two octets hold its opcode
 

@@ -1,5 +1,5 @@
 -- While a controller hears no packet in a turn, no piece of data waits for its host, and each complete packet is reported.
-use Rattle.std.proofs.Common.{◌≡◌, ℕ, ◌+◌, ◌≤◌, Bool, true, false, Option, Some, None, List, [], ◌∷◌, ◌++◌, map, refl, ap, ◌∙◌}
+use Rattle.std.proofs.Common.{◌≡◌, ℕ, ◌+◌, Bool, true, false, Option, Some, None, List, [], ◌∷◌, ◌++◌, map, refl, ap, ◌∙◌}
 use Rattle.acl_banks.specs.declared.pieces.Piece.{Piece}
 use Rattle.journal_data.specs.link_model.Data.{Data, data_sent_if}
 use Rattle.journal_data.specs.link_model.End.{facts_of as end_of}

@@ -21,7 +21,7 @@ use Rattle.journal_data.specs.controller_model.Facts.{Setup, Facts}
 use Rattle.journal_data.specs.controller_model.Host.{commands_accepted_after}
 use Rattle.journal_data.specs.controller_model.Shutting.{IsShut, overdue, leaving, reset}
 use Rattle.journal_data.specs.controller_model.Side.{facts_of, notes_after, notes_of}
-use Rattle.journal_data.specs.controller_model.Step.{Step, TurnBegins, PacketHeard, NothingHeard, TurnEnds}
+use Rattle.journal_data.specs.controller_model.Step.{Step, PacketHeard, NothingHeard}
 use Rattle.journal_data.proofs.controller_model.OpenPlaces.{mapped_opens}
 use Rattle.journal_data.proofs.controller_model.Pasts.{facts_more, notes_more}
 use Rattle.journal_data.proofs.controller_model.Shuts.{shuts_with_reason}

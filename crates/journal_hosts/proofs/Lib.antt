@@ -1,5 +1,4 @@
 -- The lemmas of this crate.
-pub mod Opcodes
 pub mod AnswersInRuns
 pub mod Calm
 pub mod CreditNotes

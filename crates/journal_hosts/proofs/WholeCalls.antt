@@ -3,7 +3,7 @@ use Rattle.std.proofs.Common.{◌≡◌, ℕ, ◌⊎◌, inl, inr, true, false, 
 use Rattle.ble_base.specs.declared.notes.Note.{Note}
 use Rattle.journal_data.specs.controller_model.Side.{notes_after}
 use Rattle.journal_data.specs.controller_model.Step.{Step}
-use Rattle.run_model.specs.History.{Event, HostFed, Called, Noted, Transmitted}
+use Rattle.run_model.specs.History.{Event, Called, Noted}
 use Rattle.run_model.specs.Run.{Given, facts_at, history_of, run_of, setup_at}
 use Rattle.run_model.proofs.Walk.{IsStepped, is_outside, run_stepped}
 

@@ -16,7 +16,8 @@ use Rattle.journal_controls.specs.LineSteps.{control_after, control_on, is_more_
 use Rattle.journal_controls.specs.SaidLines.{NoneOpens, moved_by}
 use Rattle.journal_controls.specs.journal_acks.Carried.{carried_of}
 use Rattle.journal_controls.specs.journal_acks.Exchange.{exchange_of}
-use Rattle.journal_controls.specs.journal_ends.Seen.{Hears, Says, asked_in_line, heard_in_line}
+use Rattle.journal_controls.specs.host_answers.Answered.{accepted_in}
+use Rattle.journal_controls.specs.journal_ends.Seen.{Hears, Says, heard_in_line}
 use Rattle.journal_controls.specs.journal_links.LinkLines.{link_named, lines_of, where_named}
 use Rattle.journal_controls.specs.link_model.Receiving.{leaving_acked_if}
 use Rattle.journal_controls.specs.link_model.Sending.{leaving_sent}
@@ -29,7 +30,7 @@ use Rattle.journal_controls.specs.run_model.Readers.{PairOpening, fed_in, fed_to
 use Rattle.journal_controls.specs.run_model.Run.{Given, after_call, facts_at, setup_at}
 use Rattle.journal_controls.proofs.EventMoves.{AnswersNone, air_line, aired, control_at, turn_at, withholds_at}
 use Rattle.journal_controls.proofs.LineFolds.{control_more, line_moves as line_controls, moved_both}
-use Rattle.journal_controls.proofs.journal_ends.SeenEvents.{lines_at, note_hears, unasked_by}
+use Rattle.journal_controls.proofs.journal_ends.SeenEvents.{lines_at, note_hears, unaccepted_by, unasked_in}
 use Rattle.journal_controls.proofs.journal_links.LinkLines.{line_more}
 use Rattle.journal_controls.proofs.run_model.Parts.{journal_event}
 use Rattle.journal_leaving.specs.Leaving.{acks_terminate, is_own_packet, leaving_after, leaving_on}
@@ -96,11 +97,12 @@ moving_then number side first second third one next = record {
 
 -- an event with one line that begins no turn, is no packet, and is not of a host, nor answers it
 line_moving : (number : ℕ) (side : Side) (history : List Event) (event : Event) (line : Entry) → entries_of (links_of history) event ≡ line ∷ []
-    → heard_in_line side number (journal_of history) line ≡ [] → asked_in_line side number (journal_of history) line ≡ []
+    → heard_in_line side number (journal_of history) line ≡ [] → accepted_in side (journal_of history) line ≡ []
     → is_own_packet side number (journal_of history) line ≡ false → pair_openings_in line ≡ [] → fed_in side line ≡ []
     → IsMoving number side history (history ++ event ∷ [])
-line_moving number side history event line is deaf unasked own begins feeds =
+line_moving number side history event line is deaf unaccepted own begins feeds =
     let front = journal_of history in
+    let unasked = unasked_in side number front line unaccepted in
     let named = where_named side number (link_named line) line in
     let journal = journal_event history event ∙ ap (λ xs. front ++ xs) is in record {
       more = named;
@@ -111,7 +113,7 @@ line_moving number side history event line is deaf unasked own begins feeds =
           (flat_map-append (fed_in side) front (line ∷ []) ∙ (λ i. fed_to_side side front ++ (feeds i ++ [])) ∙ append-nil (fed_to_side side front));
       control = λ c none was.
           ap (control_on side number) journal ∙ control_more side number front line ∙ ap (λ before. control_after side number front before line) was
-          ∙ line_controls side number front line c deaf unasked none;
+          ∙ line_controls side number front line c deaf unaccepted none;
       leaving = λ c l none control was.
           ap (leaving_on side number) journal ∙ leaving_more side number front line ∙ ap (λ before. leaving_after side number front before line) was
           ∙ line_moves side number front line c l deaf unasked own none control;
@@ -139,7 +141,7 @@ note_moving number side history station note quiet =
     let front = journal_of history in
     line_moving number side history (Noted station note) _ refl
     (note_hears number side (side_of station) front (links.link_of station) (links.last_of station) note)
-    (unasked_by side number front _ (quiet (links.link_of station) (links.last_of station)))
+    (unaccepted_by side front _ (quiet (links.link_of station) (links.last_of station)))
     (note_sends number side (side_of station) front (links.link_of station) (links.last_of station) note)
     (note_begins (side_of station) (links.link_of station) (links.last_of station) note)
     (note_feeds side (side_of station) (links.link_of station) (links.last_of station) note)

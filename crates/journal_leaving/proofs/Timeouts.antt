@@ -1,6 +1,6 @@
 -- The supervision timeout of an end is never 0: that of its CONNECT_IND is not, nor is that of an indication that is read
 -- (Core 5.2, volume 6 part B, sections 2.3.3.1 and 2.4.2.1).
-use Rattle.std.proofs.Common.{◌≡◌, ℕ, zero, suc, ◌+◌, ◌≤◌, ◌==◌, nat_le, Bool, true, false, Option, Some, None, List, [], ◌∷◌, ◌++◌, fold, map, refl, sym, ap, subst, arith, if◌then◌else◌}
+use Rattle.std.proofs.Common.{◌≡◌, ℕ, zero, suc, ◌≤◌, ◌==◌, nat_le, Bool, true, false, Option, Some, None, List, [], ◌∷◌, ◌++◌, fold, map, refl, sym, ap, subst, arith, if◌then◌else◌}
 use Rattle.std.specs.Prelude.{IfSome, filter, ⊤}
 use Rattle.std.specs.List.{AllByRecursion}
 use Rattle.ble_base.specs.declared.notes.Note.{Note}

@@ -9,5 +9,6 @@ pub returns : goal.returns
 returns c = record {
   begins = λ side number handle role journal link is.
       control_more side number journal (Opened side number handle role) ∙ opened_line side number handle role journal (control_on side number journal) link is;
-  stays = λ side number journal line none. control_more side number journal line ∙ quiet_line side number journal (control_on side number journal) line none;
+  stays = λ side number journal line none unanswered.
+      control_more side number journal line ∙ quiet_line side number journal (control_on side number journal) line none unanswered;
 }

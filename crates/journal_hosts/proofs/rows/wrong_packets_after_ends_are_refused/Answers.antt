@@ -1,5 +1,5 @@
 -- Proof of `rows::wrong_packets_after_ends_are_refused`.
-use Rattle.std.proofs.Common.{◌≡◌, ℕ, ◌%◌, true, false, List, [], ◌∷◌, ◌++◌, refl, sym, ap, ◌∙◌, arith}
+use Rattle.std.proofs.Common.{◌≡◌, ℕ, ◌%◌, true, false, List, [], ◌∷◌, ◌++◌, refl, ap, arith}
 use Rattle.std.specs.Prelude.{drop, slice_index}
 use Rattle.ble_base.specs.declared.ErrCode.{ErrCode}
 use Rattle.ble_base.specs.declared.roles.Side.TheVariants.{B}
