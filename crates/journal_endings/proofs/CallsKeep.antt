@@ -1,0 +1,281 @@
+-- The open links of a controller, call by call: no procedure of an end ended the link but for an Instant that has passed, and
+-- the reasons that the end sends and takes are those that hosts may give.
+use Rattle.std.proofs.Common.{◌≡◌, ◌⊎◌, inl, inr, ℕ, Bool, true, false, not, List, Option, Some, None, is_none, is_some, refl, sym, ap, subst, ◌∙◌, if◌then◌else◌}
+use Rattle.std.specs.Prelude.{IfSome, nat_lt, ⊤}
+use Rattle.ble_base.specs.ErrorCodes.{command_disallowed, instant_passed, invalid_hci_parameters, success, unknown_connection_identifier}
+use Rattle.ble_base.specs.declared.error_codes.ErrCode.{ErrCode}
+use Rattle.ble_base.specs.declared.roles.Role.{Role}
+use Rattle.ble_base.specs.declared.roles.Role.TheVariants.{Central, Peripheral}
+use Rattle.ble_base.specs.declared.verdicts.Verdict.TheVariants.{Broken as BrokenPacket, Good}
+use Rattle.air_frame.specs.declared.Heard.{Heard}
+use Rattle.air_frame.specs.declared.Heard.TheVariants.{Broken, NotOurs, Whole}
+use Rattle.controller_model.specs.Facts.{Facts, Setup}
+use Rattle.controller_model.specs.Heard.{has_room}
+use Rattle.controller_model.specs.Side.{facts_after}
+use Rattle.controller_model.specs.Step.{HostOctet, NothingHeard, PacketHeard, Step, TurnBegins, TurnEnds}
+use Rattle.controller_model.specs.declared.doing.Doing.{Doing}
+use Rattle.controller_model.proofs.Asked.{IsAskedStep}
+use Rattle.controller_model.proofs.Accepted.{not_not, table_accepts}
+use Rattle.hci_cmd.specs.declared.command.Command.{Command}
+use Rattle.hci_cmd.specs.declared.command.Command.TheVariants.{Disconnect, LeReadRemoteFeatures, LeSetChannels, ReadRemoteVersion}
+use Rattle.host_view.specs.Links.{link_has, link_in}
+use Rattle.host_view.specs.Status.{is_reason}
+use Rattle.host_view.specs.Unbuilt.{status_of}
+use Rattle.host_view.specs.View.{View}
+use Rattle.link_calls.specs.Hosts.{GetsData, HasHeardHost, IsAsked, Unchanged}
+use Rattle.link_calls.specs.Phases.{HasPassed, IsNew, Stays, Takes, link_receiving, refusal, refused_if, refuses_at}
+use Rattle.link_calls.specs.Turns.{fixed_if, sent_if}
+use Rattle.link_calls.specs.Uses.{listens_under, sends_under}
+use Rattle.link_calls.specs.link_model.End.{facts_of as end_facts_of}
+use Rattle.link_calls.specs.link_model.Facts.{Facts as EndFacts}
+use Rattle.link_calls.specs.link_model.Packets.{good_pdu, heard_of, verdict_of}
+use Rattle.link_calls.specs.link_model.Receiving.{facts_received}
+use Rattle.link_calls.specs.link_model.Setup.{Setup as EndSetup}
+use Rattle.link_calls.specs.link_model.Step.{DataGiven, DataReported, Disconnected, EventEntered, PacketReceived, PacketSent, PduFixed, ProcedureAsked, RequestAnswered, Step as EndStep}
+use Rattle.link_calls.specs.link_model.procedure_values.declared.asks.Ask.{Ask}
+use Rattle.link_calls.specs.link_model.procedure_values.declared.asks.Ask.TheVariants.{Features, Version}
+use Rattle.link_calls.specs.link_model.Verdicts.{good_in, has_room_for, pdu_by, pdu_of, verdict_by}
+use Rattle.link_calls.specs.link_model.declared.state.PeerFacts.{PeerFacts}
+use Rattle.link_calls.specs.open_links.Data.{complete_in, link_reported}
+use Rattle.link_calls.specs.open_links.OpenLinks.{Links, OpenLink, facts_in, link_after, link_at, new_link}
+use Rattle.link_calls.specs.open_links.Turns.{enters_in, link_entered}
+use Rattle.controller_model.specs.link_commands.Commands.{ask_unless, host_step_of, is_about, map_by, step_if_about}
+use Rattle.link_calls.specs.run_model.Run.{step_of}
+use Rattle.link_calls.proofs.HostSteps.{accepted_status, asked_is_well}
+use Rattle.link_calls.proofs.LinkCalls.{HasBegun, begins_under, phase_under}
+use Rattle.link_calls.proofs.UnderHandles.{ended_under, host_under}
+use Rattle.link_calls.proofs.open_links.Unmoved.{entered_setup}
+use Rattle.link_calls.proofs.run_laws.Agreed.{step_facts}
+use Rattle.run_pairs.proofs.OneSide.{taken_setup}
+use Rattle.journal_endings.proofs.EndReasons.{CarriesReason, GivesReasons, MayStep, first_gives, step_gives}
+use Rattle.journal_endings.proofs.EndingProcedures.{is_receiving, same_ends}
+use Rattle.journal_endings.proofs.HostReasons.{IsReason}
+
+-- ---- an end
+
+-- no procedure ended the link, or one did with 28
+abbrev pub EndsLate : Option ErrCode → Type 0
+EndsLate ends = IfSome ends (λ code. code.0 ≡ instant_passed)
+
+pub record KeepsRules (facts : EndFacts) : Type 0 where
+  pub reasons : GivesReasons facts
+  pub late : EndsLate facts.control.ends
+
+abbrev pub IsKept : OpenLink → Type 0
+IsKept link = KeepsRules (facts_in link)
+
+-- its steps, but for what it receives
+kept_after : (link : OpenLink) (step : EndStep) → is_receiving step ≡ false → MayStep link.setup (facts_in link) step → IsKept link
+    → IsKept (link_after step link)
+kept_after link step off may kept =
+    subst KeepsRules (sym (step_facts link step)) (record {
+      reasons = step_gives link.setup (facts_in link) step may kept.reasons;
+      late = subst EndsLate (sym (same_ends link.setup (facts_in link) step off)) kept.late;
+    })
+
+kept_same : (one other : OpenLink) → other.setup ≡ one.setup → other.past ≡ one.past → IsKept one → IsKept other
+kept_same one other setup past kept = subst KeepsRules (λ i. end_facts_of (sym setup i) (sym past i)) kept
+
+kept_new : (end : EndSetup) → IsKept (new_link end)
+unfolding end_facts_of
+kept_new end = record { reasons = first_gives end; late = tt }
+
+kept_if : (does : Bool) (link : OpenLink) (step : EndStep) → is_receiving step ≡ false → MayStep link.setup (facts_in link) step → IsKept link
+    → IsKept (if does then link_after step link else link)
+kept_if true link step off may kept = kept_after link step off may kept
+kept_if false link step off may kept = kept
+
+fixed_kept : (fixes : Bool) (link : OpenLink) → IsKept link → IsKept (fixed_if fixes link)
+fixed_kept true link kept = kept_after link PduFixed refl tt kept
+fixed_kept false link kept = kept
+
+sent_kept : (sends : Bool) (slot : ℕ) (link : OpenLink) → IsKept link → IsKept (sent_if sends slot link)
+sent_kept true slot link kept = kept_after link (PacketSent slot) refl tt kept
+sent_kept false slot link kept = kept
+
+-- ---- what its host asks
+
+-- a Disconnect has such a reason
+abbrev AsksReason : EndStep → Type 0
+AsksReason (Disconnected reason slot) = IsReason reason
+AsksReason step = ⊤
+
+asks_by : (may : Option EndStep) (step : EndStep) → IfSome may AsksReason → may ≡ Some step → AsksReason step
+asks_by may step asks is = subst (λ (one : Option EndStep). IfSome one AsksReason) is asks
+
+unless_asks : (known : Bool) (ask : Ask) → IfSome (ask_unless known ask) AsksReason
+unless_asks true ask = tt
+unless_asks false ask = tt
+
+map_asks : (role : Role) (map : ℕ) → IfSome (map_by role map) AsksReason
+map_asks Central map = tt
+map_asks Peripheral map = tt
+
+-- of three conditions for which a command is refused none holds
+third_passes : (first second third : Bool)
+    → (if first then unknown_connection_identifier else (if second then command_disallowed else (if third then invalid_hci_parameters else success))) ≡ success
+    → third ≡ false
+third_passes true second third is = absurd (cc)
+third_passes false true third is = absurd (cc)
+third_passes false false true is = absurd (cc)
+third_passes false false false is = refl
+
+reason_given : (view : View) (handle reason : ℕ) → status_of view (Disconnect handle reason) ≡ 0 → is_reason reason ≡ true
+unfolding status_of
+reason_given view handle reason accepted =
+    let link = link_in view.links handle in
+    not_not (is_reason reason)
+    (third_passes (is_none link) (link_has link (λ l. l.disconnecting)) (not (is_reason reason)) (table_accepts _ _ accepted))
+
+step_asks : (view : View) (command : Command) (slot : ℕ) (role : Role) (peer : PeerFacts) (step : EndStep) → status_of view command ≡ 0
+    → host_step_of command slot role peer ≡ Some step → AsksReason step
+step_asks view (Disconnect handle reason) slot role peer step ok is = asks_by _ step (reason_given view handle reason ok) is
+step_asks view (ReadRemoteVersion handle) slot role peer step ok is = asks_by _ step (unless_asks (is_some peer.version) Version) is
+step_asks view (LeReadRemoteFeatures handle) slot role peer step ok is = asks_by _ step (unless_asks (is_some peer.features) Features) is
+step_asks view (LeSetChannels map) slot role peer step ok is = asks_by _ step (map_asks role map) is
+step_asks view other slot role peer step ok is = asks_by _ step tt is
+
+about_asks : (view : View) (command : Command) (slot : ℕ) (role : Role) (peer : PeerFacts) (step : EndStep) → status_of view command ≡ 0 → (about : Bool)
+    → step_if_about about (host_step_of command slot role peer) ≡ Some step → AsksReason step
+about_asks view command slot role peer step ok true is = step_asks view command slot role peer step ok is
+about_asks view command slot role peer step ok false is = absurd (cc)
+
+-- the steps of a host receive nothing
+record IsHosts (setup : EndSetup) (facts : EndFacts) (step : EndStep) : Type 0 where
+  off : is_receiving step ≡ false
+  may : MayStep setup facts step
+
+host_step : (setup : EndSetup) (facts : EndFacts) (step : EndStep) → IsAskedStep step → AsksReason step → IsHosts setup facts step
+host_step setup facts (ProcedureAsked ask) by_host asks = record { off = refl; may = tt }
+host_step setup facts (RequestAnswered answer) by_host asks = record { off = refl; may = tt }
+host_step setup facts (Disconnected reason slot) by_host asks = record { off = refl; may = asks }
+host_step setup facts (DataGiven start body) by_host asks = absurd by_host
+host_step setup facts step by_host asks = absurd by_host
+
+-- ---- one call
+
+abbrev pub AreKept : Links → Type 0
+AreKept links = (handle : ℕ) (link : OpenLink) → link_at handle links ≡ Some link → IsKept link
+
+heard_host : (facts : Facts) (octet handle : ℕ) (after : OpenLink) → AreKept facts.links → HasHeardHost facts octet handle after → IsKept after
+heard_host facts octet handle after kept (Unchanged was) = kept handle after was
+heard_host facts octet handle after kept (GetsData link start body was is) =
+    subst IsKept (sym is) (kept_after link (DataGiven start body) refl tt (kept handle link was))
+heard_host facts octet handle after kept (IsAsked link command step was accepted asks is) =
+    let role = link.setup.link.role in
+    let peer = (facts_in link).peer in
+    let well = asked_is_well facts octet handle command role peer step accepted asks in
+    let reason = about_asks facts.view command facts.turn.begun role peer step (accepted_status facts octet command accepted) (is_about handle command) asks in
+    let hosts = host_step link.setup (facts_in link) step well.by_host reason in
+    subst IsKept (sym is) (kept_after link step hosts.off hosts.may (kept handle link was))
+
+begun_kept : (facts : Facts) (slot : ℕ) (on : Bool) (handle : ℕ) (doing : Doing) (after : OpenLink) → AreKept facts.links
+    → HasBegun facts slot on handle doing after → IsKept after
+begun_kept facts slot on handle doing after kept has =
+    let entered = kept_if (enters_in slot has.link) has.link (EventEntered slot) refl tt (kept handle has.link has.was) in
+    let same = kept_same (link_entered slot has.link) has.entered (has.setup_is ∙ sym (entered_setup slot has.link)) has.past_is entered in
+    subst IsKept (sym has.is) (sent_kept (sends_under handle doing) slot has.base (subst IsKept (sym has.base_is) (fixed_kept has.fixes has.entered same)))
+
+-- a packet is good, or nothing is received of it
+good_or_none : (setup : EndSetup) (facts : EndFacts) (octets : List ℕ) → (verdict_of setup facts octets ≡ Good) ⊎ (good_pdu setup facts octets ≡ None)
+unfolding good_pdu verdict_of
+good_or_none setup facts octets = of (heard_of setup facts octets)
+  where
+    at : (fits : Bool) (pdu : List ℕ) → ((if fits then Good else BrokenPacket) ≡ Good) ⊎ (pdu_by fits pdu ≡ None)
+    at true pdu = inl refl
+    at false pdu = inr refl
+
+    of : (heard : Heard) → (verdict_by setup.link.max_rx heard ≡ Good) ⊎ (good_in setup.link.max_rx heard ≡ None)
+    of NotOurs = inr refl
+    of Broken = inr refl
+    of (Whole pdu) = at (has_room_for setup.link.max_rx pdu.items) pdu.items
+
+-- what is known of a good packet that a link receives: the PDU in it, and how the end is after the call
+pub record IsSound (facts : Facts) (octets : List ℕ) (link after : OpenLink) : Type 0 where
+  pub carries : IfSome (good_pdu link.setup (facts_in link) octets) (λ pdu. CarriesReason (pdu_of pdu))
+  pub late : EndsLate (facts_in after).control.ends
+
+refused_kept : (refuses : Bool) (link : OpenLink) → IsKept link → IsKept (refused_if refuses link)
+refused_kept true link kept = kept_after link (RequestAnswered refusal) refl tt kept
+refused_kept false link kept = kept
+
+-- the reasons alone, of a link that receives
+abbrev Reasons : OpenLink → Type 0
+Reasons link = GivesReasons (facts_in link)
+
+reasons_after : (link : OpenLink) (step : EndStep) → MayStep link.setup (facts_in link) step → Reasons link → Reasons (link_after step link)
+reasons_after link step may reasons = subst GivesReasons (sym (step_facts link step)) (step_gives link.setup (facts_in link) step may reasons)
+
+reasons_refused : (refuses : Bool) (link : OpenLink) → Reasons link → Reasons (refused_if refuses link)
+reasons_refused true link reasons = reasons_after link (RequestAnswered refusal) tt reasons
+reasons_refused false link reasons = reasons
+
+reasons_sent : (sends : Bool) (slot : ℕ) (link : OpenLink) → Reasons link → Reasons (sent_if sends slot link)
+reasons_sent true slot link reasons = reasons_after link (PacketSent slot) tt reasons
+reasons_sent false slot link reasons = reasons
+
+module _ (facts : Facts) (room : Bool) (octets : List ℕ) (handle : ℕ) (sends : Bool) (link after : OpenLink)
+    (is : after ≡ sent_if sends facts.turn.slot (link_receiving handle room octets facts link)) (kept : IsKept link) where
+  abbrev heard_step : EndStep
+  heard_step = PacketReceived facts.turn.slot octets room
+
+  -- nothing is received
+  unheard_kept : good_pdu link.setup (facts_in link) octets ≡ None → IsKept after
+  unheard_kept none =
+      let same : facts_in (link_after heard_step link) ≡ facts_in link =
+      step_facts link heard_step ∙ ap (λ (pdu : Option (List ℕ)). facts_received link.setup.link.role facts.turn.slot room pdu (facts_in link)) none in
+      subst IsKept (sym is)
+      (sent_kept sends facts.turn.slot (link_receiving handle room octets facts link)
+      (refused_kept (refuses_at handle room octets facts) (link_after heard_step link) (subst KeepsRules (sym same) kept)))
+
+  heard_kept : IsSound facts octets link after → IsKept after
+  heard_kept sound = record {
+    reasons = subst Reasons (sym is)
+        (reasons_sent sends facts.turn.slot (link_receiving handle room octets facts link)
+        (reasons_refused (refuses_at handle room octets facts) (link_after heard_step link) (reasons_after link heard_step sound.carries kept.reasons)));
+    late = sound.late;
+  }
+
+  by_verdict : (verdict_of link.setup (facts_in link) octets ≡ Good → IsSound facts octets link after)
+      → (verdict_of link.setup (facts_in link) octets ≡ Good) ⊎ (good_pdu link.setup (facts_in link) octets ≡ None) → IsKept after
+  by_verdict sound (inl good) = heard_kept (sound good)
+  by_verdict sound (inr none) = unheard_kept none
+
+  pub taken_kept : (verdict_of link.setup (facts_in link) octets ≡ Good → IsSound facts octets link after) → IsKept after
+  taken_kept sound = by_verdict sound (good_or_none link.setup (facts_in link) octets)
+
+-- each good packet that a call brings is sound
+abbrev pub HearsSoundly : Setup → Facts → Option (List ℕ) → Type 0
+HearsSoundly setup facts received =
+    (handle : ℕ) (octets : List ℕ) (link after : OpenLink) → received ≡ Some octets → link_at handle facts.links ≡ Some link
+    → listens_under handle facts.turn.doing ≡ true → link_at handle (facts_after setup facts (step_of received)).links ≡ Some after
+    → after.setup ≡ link.setup → verdict_of link.setup (facts_in link) octets ≡ Good → IsSound facts octets link after
+
+passed_kept : (setup : Setup) (facts : Facts) (received : Option (List ℕ)) (handle : ℕ) (after : OpenLink) → HearsSoundly setup facts received
+    → link_at handle (facts_after setup facts (step_of received)).links ≡ Some after → AreKept facts.links
+    → HasPassed facts (has_room setup facts) received handle (facts_after setup facts (step_of received)).turn.doing after → IsKept after
+passed_kept setup facts received handle after sound is kept (IsNew end made opened off) = subst IsKept (sym made) (kept_new end)
+passed_kept setup facts received handle after sound is kept (Stays was none nothing listened) = kept handle after was
+passed_kept setup facts received handle after sound is kept (Takes link octets was got on same) =
+    let sends = sends_under handle (facts_after setup facts (step_of received)).turn.doing in
+    let setups = ap (λ (l : OpenLink). l.setup) same ∙ taken_setup sends handle (has_room setup facts) octets facts link in
+    taken_kept facts (has_room setup facts) octets handle sends link after same (kept handle link was) (sound handle octets link after got was on is setups)
+
+pub reported_kept : (link : OpenLink) → IsKept link → IsKept (link_reported link)
+reported_kept link kept = kept_if (nat_lt 0 (complete_in link)) link DataReported refl tt kept
+
+abbrev pub HearsIn : Setup → Facts → Step → Type 0
+HearsIn setup facts (PacketHeard octets) = HearsSoundly setup facts (Some octets)
+HearsIn setup facts step = ⊤
+
+pub call_kept : (setup : Setup) (facts : Facts) (step : Step) → HearsIn setup facts step → AreKept facts.links → AreKept (facts_after setup facts step).links
+call_kept setup facts (HostOctet octet) hears kept = λ handle link is. heard_host facts octet handle link kept (host_under setup facts octet handle link is)
+call_kept setup facts (TurnBegins slot on) hears kept = λ handle link is.
+    begun_kept facts slot on handle (facts_after setup facts (TurnBegins slot on)).turn.doing link kept (begins_under setup facts slot on handle link is)
+call_kept setup facts (PacketHeard octets) hears kept = λ handle link is.
+    passed_kept setup facts (Some octets) handle link hears is kept (phase_under setup facts (Some octets) handle link is)
+call_kept setup facts NothingHeard hears kept = λ handle link is.
+    passed_kept setup facts None handle link (λ one octets before after got. absurd (cc)) is kept (phase_under setup facts None handle link is)
+call_kept setup facts TurnEnds hears kept = λ handle link is.
+    let ended = ended_under setup facts handle link is in
+    subst IsKept (sym ended.is) (reported_kept ended.link (kept handle ended.link ended.was))

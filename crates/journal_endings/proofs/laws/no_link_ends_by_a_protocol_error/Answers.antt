@@ -1,0 +1,20 @@
+-- The proof of the law `no_link_ends_by_a_protocol_error`.
+use Rattle.std.proofs.Common.{◌≡◌, [], ◌∷◌, refl}
+use Rattle.journal_indications.specs.journal_data.run_model.Journal.{journal_of}
+use Rattle.journal_indications.specs.journal_data.run_model.LinkEnds.{HaveAddresses}
+use Rattle.journal_indications.specs.journal_data.run_model.Pair.{given_of}
+use Rattle.journal_indications.specs.journal_data.run_model.Run.{Given, history_of, run_of}
+use Rattle.journal_indications.proofs.journal_data.run_model.LinkEnds.{pair_addresses}
+use Rattle.journal_endings.specs.Endings.{NoneEndsByProtocolError}
+use Rattle.journal_endings.proofs.NoneEnds.{none_ends}
+use Rattle.journal_endings.proofs.laws.no_link_ends_by_a_protocol_error.Goals as goal
+
+pub returns : goal.returns
+returns c =
+    let of_two : (given : Given) → given.stations ≡ 0 ∷ 1 ∷ [] → HaveAddresses given → NoneEndsByProtocolError (journal_of (history_of (run_of given))) =
+    λ given are six. none_ends c.packet_tells_its_pdu.ensures.heard c.a_pdu_is_understood.ensures.says c.connections_are_taken.ensures.taken
+    c.searches_give_each_valid_address.ensures.valid c.searches_give_each_valid_address.ensures.distinct given are six
+    (c.no_procedure_ends_a_link_but_a_late_one.ensures.procedures given) in record {
+      two_stations = of_two;
+      pair = λ a b script six six_too. of_two (given_of a b script) refl (pair_addresses a b script six six_too);
+    }
