@@ -21,55 +21,55 @@ use Rattle.exclusive_stages.specs.declared.pdus.Exclusive.TheVariants.{Map, Phy,
 use Rattle.journal.specs.declared.entries.Entry.{Entry}
 use Rattle.procedure_stages.specs.Collisions.{are_incompatible, is_exclusive}
 use Rattle.procedure_stages.specs.Opcodes.{opcode_of_kind}
-use Rattle.controller_model.specs.Facts.{Facts}
-use Rattle.controller_model.specs.Heard.{has_room}
-use Rattle.controller_model.specs.Since.{notes_opened_on}
-use Rattle.controller_model.specs.Step.{PacketHeard, Step}
-use Rattle.controller_model.proofs.Handles.{own_handles}
-use Rattle.controller_model.proofs.UnderNotes.{AreOn, end_on}
-use Rattle.link_calls.proofs.run_laws.TwoStations.{are_two}
-use Rattle.journal_indications.specs.journal_data.journal_links.Begun.{LinkBegun, link_numbered}
-use Rattle.journal_indications.specs.journal_data.journal_links.Changes.{role_by}
-use Rattle.journal_indications.specs.journal_data.journal_links.LinkLines.{line_of, lines_of}
-use Rattle.journal_indications.specs.journal_data.journal_links.Opened.{central_side}
-use Rattle.journal_indications.specs.journal_data.link_model.End.{notes_after as end_notes, notes_of as end_notes_of}
-use Rattle.journal_indications.specs.journal_data.link_model.Setup.{Setup as EndSetup}
-use Rattle.journal_indications.specs.journal_data.link_model.Step.{PacketReceived}
-use Rattle.journal_indications.specs.journal_data.open_links.OpenLinks.{OpenLink, facts_in, link_at}
-use Rattle.journal_indications.specs.journal_data.run_laws.Ends.{AreEnds, IsOpen, OpenEnd, link_listened}
-use Rattle.journal_indications.specs.journal_data.run_model.Feeding.{AreDistinct}
-use Rattle.journal_indications.specs.journal_data.run_model.History.{Called, Event, past_of}
-use Rattle.journal_indications.specs.journal_data.run_model.Journal.{journal_of, side_of}
-use Rattle.journal_indications.specs.journal_data.run_model.LinkEnds.{HaveAddresses}
-use Rattle.journal_indications.specs.journal_data.run_model.NoteLines.{IsLineInCall, LinkLine, took_line}
-use Rattle.journal_indications.specs.journal_data.run_model.Numbers.{AreNumbered}
-use Rattle.journal_indications.specs.journal_data.run_model.Run.{Given, facts_at, history_of, run_of, setup_at}
-use Rattle.journal_indications.proofs.journal_data.KeptData.{other_in}
-use Rattle.journal_indications.proofs.journal_data.Mine.{HasFarEnd}
-use Rattle.journal_indications.proofs.journal_data.journal_acks.Exchanging.{number_at}
-use Rattle.journal_indications.proofs.journal_data.journal_acks.TwoStations.{IsOfTwo, other_of}
-use Rattle.journal_indications.proofs.journal_data.journal_links.ChangesAt.{role_is}
-use Rattle.journal_indications.proofs.journal_data.journal_links.OfTwo.{are_distinct, of_two_stations}
-use Rattle.journal_indications.proofs.journal_data.journal_packets.AccessOrder.{AreNth}
-use Rattle.journal_indications.proofs.journal_data.link_model.Hearing.{IsHeardWhole}
-use Rattle.journal_indications.proofs.journal_data.link_model.Pasts.{notes_grow}
-use Rattle.journal_indications.proofs.journal_data.open_links.Handles.{handle_is}
-use Rattle.journal_indications.proofs.journal_data.run_laws.DistinctAccess.{AreApart}
-use Rattle.journal_indications.proofs.journal_data.run_model.LinkEnds.{AreTaken, IsUnderstood}
-use Rattle.journal_indications.proofs.journal_data.run_model.Numbers.{numbered_at}
-use Rattle.journal_indications.proofs.journal_data.run_model.Stations.{is_in}
-use Rattle.journal_indications.proofs.InTime.{role_of_end}
-use Rattle.journal_indications.proofs.LineEnds.{IsEndOfLine, end_of_line, in_it}
-use Rattle.journal_indications.proofs.NumberedEnds.{IsNumberedEnd, front_of_two, numbered_end}
-use Rattle.journal_indications.proofs.OneNumber.{one_connect}
-use Rattle.journal_indications.proofs.PairedEnds.{far_end, own_end}
-use Rattle.journal_indications.proofs.Receptions.{IsReception, listened}
+use Rattle.journal_endings.specs.controller_model.Facts.{Facts}
+use Rattle.journal_endings.specs.controller_model.Heard.{has_room}
+use Rattle.journal_endings.specs.controller_model.Since.{notes_opened_on}
+use Rattle.journal_endings.specs.controller_model.Step.{PacketHeard, Step}
+use Rattle.journal_endings.proofs.controller_model.Handles.{own_handles}
+use Rattle.journal_endings.proofs.controller_model.UnderNotes.{AreOn, end_on}
+use Rattle.journal_endings.proofs.link_calls.run_laws.TwoStations.{are_two}
+use Rattle.journal_endings.specs.journal_indications.journal_data.journal_links.Begun.{LinkBegun, link_numbered}
+use Rattle.journal_endings.specs.journal_indications.journal_data.journal_links.Changes.{role_by}
+use Rattle.journal_endings.specs.journal_indications.journal_data.journal_links.LinkLines.{line_of, lines_of}
+use Rattle.journal_endings.specs.journal_indications.journal_data.journal_links.Opened.{central_side}
+use Rattle.journal_endings.specs.journal_indications.journal_data.link_model.End.{notes_after as end_notes, notes_of as end_notes_of}
+use Rattle.journal_endings.specs.journal_indications.journal_data.link_model.Setup.{Setup as EndSetup}
+use Rattle.journal_endings.specs.journal_indications.journal_data.link_model.Step.{PacketReceived}
+use Rattle.journal_endings.specs.journal_indications.journal_data.open_links.OpenLinks.{OpenLink, facts_in, link_at}
+use Rattle.journal_endings.specs.journal_indications.journal_data.run_laws.Ends.{AreEnds, IsOpen, OpenEnd, link_listened}
+use Rattle.journal_endings.specs.journal_indications.journal_data.run_model.Feeding.{AreDistinct}
+use Rattle.journal_endings.specs.journal_indications.journal_data.run_model.History.{Called, Event, past_of}
+use Rattle.journal_endings.specs.journal_indications.journal_data.run_model.Journal.{journal_of, side_of}
+use Rattle.journal_endings.specs.journal_indications.journal_data.run_model.LinkEnds.{HaveAddresses}
+use Rattle.journal_endings.specs.journal_indications.journal_data.run_model.NoteLines.{IsLineInCall, LinkLine, took_line}
+use Rattle.journal_endings.specs.journal_indications.journal_data.run_model.Numbers.{AreNumbered}
+use Rattle.journal_endings.specs.journal_indications.journal_data.run_model.Run.{Given, facts_at, history_of, run_of, setup_at}
+use Rattle.journal_endings.proofs.journal_indications.journal_data.KeptData.{other_in}
+use Rattle.journal_endings.proofs.journal_indications.journal_data.Mine.{HasFarEnd}
+use Rattle.journal_endings.proofs.journal_indications.journal_data.journal_acks.Exchanging.{number_at}
+use Rattle.journal_endings.proofs.journal_indications.journal_data.journal_acks.TwoStations.{IsOfTwo, other_of}
+use Rattle.journal_endings.proofs.journal_indications.journal_data.journal_links.ChangesAt.{role_is}
+use Rattle.journal_endings.proofs.journal_indications.journal_data.journal_links.OfTwo.{are_distinct, of_two_stations}
+use Rattle.journal_endings.proofs.journal_indications.journal_data.journal_packets.AccessOrder.{AreNth}
+use Rattle.journal_endings.proofs.journal_indications.journal_data.link_model.Hearing.{IsHeardWhole}
+use Rattle.journal_endings.proofs.journal_indications.journal_data.link_model.Pasts.{notes_grow}
+use Rattle.journal_endings.proofs.journal_indications.journal_data.open_links.Handles.{handle_is}
+use Rattle.journal_endings.proofs.journal_indications.journal_data.run_laws.DistinctAccess.{AreApart}
+use Rattle.journal_endings.proofs.journal_indications.journal_data.run_model.LinkEnds.{AreTaken, IsUnderstood}
+use Rattle.journal_endings.proofs.journal_indications.journal_data.run_model.Numbers.{numbered_at}
+use Rattle.journal_endings.proofs.journal_indications.journal_data.run_model.Stations.{is_in}
+use Rattle.journal_endings.proofs.journal_indications.InTime.{role_of_end}
+use Rattle.journal_endings.proofs.journal_indications.LineEnds.{IsEndOfLine, end_of_line, in_it}
+use Rattle.journal_endings.proofs.journal_indications.NumberedEnds.{IsNumberedEnd, front_of_two, numbered_end}
+use Rattle.journal_endings.proofs.journal_indications.OneNumber.{one_connect}
+use Rattle.journal_endings.proofs.journal_indications.PairedEnds.{far_end, own_end}
+use Rattle.journal_endings.proofs.journal_indications.Receptions.{IsReception, listened}
 use Rattle.link_procedures.specs.Running.{runs_after as note_runs, runs_at}
 use Rattle.link_procedures.proofs.Steps.{past_goes}
-use Rattle.link_runs.specs.link_pairs.Hearing.{received}
+use Rattle.journal_endings.specs.link_runs.link_pairs.Hearing.{received}
 use Rattle.run_collisions.specs.Prevailing.{Prevails, TakesColliding, first_of, seen}
 use Rattle.run_collisions.proofs.OfPairs.{good_taken, hear_before, sent_to_central}
-use Rattle.run_pairs.specs.InTurns.{HasSentNow, HearEachInTurn}
+use Rattle.journal_endings.specs.run_pairs.InTurns.{HasSentNow, HearEachInTurn}
 use Rattle.journal_collisions.specs.Collisions.{Collides, control_in, first_opcode, kind_begun, runs_after}
 use Rattle.journal_collisions.proofs.EndLines.{end_lines, first_on, rest_on, under_all}
 use Rattle.journal_collisions.proofs.RefusedLines.{is_of_two}

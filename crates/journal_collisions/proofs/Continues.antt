@@ -1,20 +1,20 @@
 -- A link that is open at a controller goes on under its handle, call by call, until it is shut.
 use Rattle.std.proofs.Common.{◌≡◌, ℕ, suc, ◌+◌, ◌<◌, ◌≤◌, ◌==◌, Bool, true, false, Option, Some, None, List, [], ◌∷◌, ◌++◌, refl, sym, ap, subst, ◌∙◌, append-nil, append_assoc, arith, if◌then◌else◌}
 use Rattle.std.proofs.lemmas.List.Sums.{fold-append}
-use Rattle.controller_model.specs.Facts.{Facts, Setup}
-use Rattle.controller_model.specs.Heard.{has_room}
-use Rattle.controller_model.specs.Side.{facts_after, facts_of}
-use Rattle.controller_model.specs.Step.{Step, HostOctet, TurnBegins, PacketHeard, NothingHeard, TurnEnds}
-use Rattle.link_calls.specs.Phases.{HasPassed, IsNew, Stays, Takes}
-use Rattle.link_calls.specs.Uses.{listens_under, sends_under}
-use Rattle.link_calls.proofs.LinkCalls.{phase_under}
-use Rattle.link_calls.proofs.UnderHandles.{WasAlike, end_under, octet_under}
-use Rattle.journal_indications.specs.journal_data.link_model.Step.{Step as EndStep, PacketReceived}
-use Rattle.journal_indications.specs.journal_data.open_links.OpenLinks.{Links, OpenLink, link_at}
-use Rattle.journal_indications.specs.journal_data.run_model.Run.{step_of}
-use Rattle.journal_indications.proofs.journal_data.run_laws.Entering.{IsInTurn, turn_first, turn_kept}
-use Rattle.journal_indications.proofs.journal_data.run_laws.TurnPlaces.{Between, Stage, Standing, Within, at_stage, before_stands, standing, turned}
-use Rattle.run_pairs.proofs.CallPlaces.{more_of}
+use Rattle.journal_endings.specs.controller_model.Facts.{Facts, Setup}
+use Rattle.journal_endings.specs.controller_model.Heard.{has_room}
+use Rattle.journal_endings.specs.controller_model.Side.{facts_after, facts_of}
+use Rattle.journal_endings.specs.controller_model.Step.{Step, HostOctet, TurnBegins, PacketHeard, NothingHeard, TurnEnds}
+use Rattle.journal_endings.specs.link_calls.Phases.{HasPassed, IsNew, Stays, Takes}
+use Rattle.journal_endings.specs.link_calls.Uses.{listens_under, sends_under}
+use Rattle.journal_endings.proofs.link_calls.LinkCalls.{phase_under}
+use Rattle.journal_endings.proofs.link_calls.UnderHandles.{WasAlike, end_under, octet_under}
+use Rattle.journal_endings.specs.journal_indications.journal_data.link_model.Step.{Step as EndStep, PacketReceived}
+use Rattle.journal_endings.specs.journal_indications.journal_data.open_links.OpenLinks.{Links, OpenLink, link_at}
+use Rattle.journal_endings.specs.journal_indications.journal_data.run_model.Run.{step_of}
+use Rattle.journal_endings.proofs.journal_indications.journal_data.run_laws.Entering.{IsInTurn, turn_first, turn_kept}
+use Rattle.journal_endings.proofs.journal_indications.journal_data.run_laws.TurnPlaces.{Between, Stage, Standing, Within, at_stage, before_stands, standing, turned}
+use Rattle.journal_endings.proofs.run_pairs.CallPlaces.{more_of}
 use Rattle.journal_ends.proofs.GrownLinks.{begun_grown, taken_grown}
 
 -- the link under a handle was open there before, and more happened to its end since

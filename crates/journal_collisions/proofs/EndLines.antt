@@ -8,20 +8,20 @@ use Rattle.ble_base.specs.declared.notes.Note.{Note}
 use Rattle.ble_base.specs.declared.notes.Note.TheVariants.{Applied, Began, Done, Enter, Opened, Refused, Sent, Shut, Took, Up}
 use Rattle.ble_base.specs.declared.roles.Side.{Side}
 use Rattle.journal.specs.declared.entries.Entry.{Entry}
-use Rattle.controller_model.specs.Since.{is_under, note_under, notes_opened_on, notes_under, opens_under as opening_under}
-use Rattle.controller_model.proofs.UnderNotes.{AreOn, IsOn, open_noted}
-use Rattle.link_calls.proofs.CallNotes.{is_sending}
-use Rattle.journal_indications.specs.journal_data.journal_links.LinkLines.{line_of, lines_of}
-use Rattle.journal_indications.specs.journal_data.open_links.OpenLinks.{OpenLink, link_at}
-use Rattle.journal_indications.specs.journal_data.run_model.History.{past_of, noted_by}
-use Rattle.journal_indications.specs.journal_data.run_model.Journal.{side_of}
-use Rattle.journal_indications.specs.journal_data.run_model.LinkEnds.{HaveAddresses}
-use Rattle.journal_indications.specs.journal_data.run_model.Links.{links_of}
-use Rattle.journal_indications.specs.journal_data.run_model.NoteLines.{IsLineInCall, LinkLine}
-use Rattle.journal_indications.specs.journal_data.run_model.Run.{Given, facts_at, setup_at}
-use Rattle.journal_indications.proofs.journal_data.run_model.LinkEnds.{AreTaken, IsUnderstood}
-use Rattle.journal_indications.proofs.journal_data.run_model.NoteLines.{to_line}
-use Rattle.journal_indications.proofs.LineEnds.{base_noted, lines}
+use Rattle.journal_endings.specs.controller_model.Since.{is_under, note_under, notes_opened_on, notes_under, opens_under as opening_under}
+use Rattle.journal_endings.proofs.controller_model.UnderNotes.{AreOn, IsOn, open_noted}
+use Rattle.journal_endings.proofs.link_calls.CallNotes.{is_sending}
+use Rattle.journal_endings.specs.journal_indications.journal_data.journal_links.LinkLines.{line_of, lines_of}
+use Rattle.journal_endings.specs.journal_indications.journal_data.open_links.OpenLinks.{OpenLink, link_at}
+use Rattle.journal_endings.specs.journal_indications.journal_data.run_model.History.{past_of, noted_by}
+use Rattle.journal_endings.specs.journal_indications.journal_data.run_model.Journal.{side_of}
+use Rattle.journal_endings.specs.journal_indications.journal_data.run_model.LinkEnds.{HaveAddresses}
+use Rattle.journal_endings.specs.journal_indications.journal_data.run_model.Links.{links_of}
+use Rattle.journal_endings.specs.journal_indications.journal_data.run_model.NoteLines.{IsLineInCall, LinkLine}
+use Rattle.journal_endings.specs.journal_indications.journal_data.run_model.Run.{Given, facts_at, setup_at}
+use Rattle.journal_endings.proofs.journal_indications.journal_data.run_model.LinkEnds.{AreTaken, IsUnderstood}
+use Rattle.journal_endings.proofs.journal_indications.journal_data.run_model.NoteLines.{to_line}
+use Rattle.journal_endings.proofs.journal_indications.LineEnds.{base_noted, lines}
 use Rattle.journal_collisions.specs.Collisions.{any_line, is_sent}
 
 -- ---- the lines of an end

@@ -7,28 +7,28 @@ use Rattle.ble_base.specs.declared.roles.Role.TheVariants.{Central}
 use Rattle.data_pdu.specs.declared.ctrl.CtrlRead.{CtrlRead}
 use Rattle.instants.specs.declared.indications.Indication.{Indication}
 use Rattle.instants.specs.Track.{event_of, next_number}
-use Rattle.link_runs.specs.link_pairs.control_model.Control.{Answers, Asks, Control, Disconnects, Enters, SeesAcknowledged, Sends, Step as ControlStep, Takes, after, after_all, following, goes_out, indicated_by, is_to_come, table_if, taken, went}
-use Rattle.link_runs.specs.link_pairs.procedure_stages.Closing.{is_disconnecting, is_open}
-use Rattle.link_runs.specs.link_pairs.procedure_stages.Queue.{QueueFacts, waiting_in, next_after_rejections, next_by, next_disconnect, with_reply}
-use Rattle.link_runs.specs.link_pairs.procedure_stages.Steps.{closing_after}
-use Rattle.link_runs.specs.link_pairs.procedure_stages.InProgress.{is_host_asked}
-use Rattle.link_runs.specs.link_pairs.procedure_stages.declared.closing.Closing.{Closing}
-use Rattle.link_runs.specs.link_pairs.procedure_stages.declared.closing.Closing.TheVariants.{Closed, Disconnecting, Open}
-use Rattle.link_runs.specs.link_pairs.procedure_stages.declared.steps.Effect.{Effect}
-use Rattle.link_runs.specs.link_pairs.procedure_stages.declared.steps.Effect.TheVariants.{PeerEnds}
-use Rattle.link_runs.specs.link_pairs.procedure_values.declared.asks.Ask.{Ask}
-use Rattle.link_runs.specs.link_pairs.procedure_values.declared.asks.Ask.TheVariants.{Length, Update}
-use Rattle.link_runs.specs.link_pairs.procedure_values.declared.drafts.Draft.{Draft}
-use Rattle.link_runs.specs.link_pairs.procedure_values.declared.drafts.Outgoing.{Outgoing}
-use Rattle.link_runs.specs.link_pairs.procedure_values.declared.drafts.Rejection.{Rejection as TheRejection}
-use Rattle.link_runs.specs.link_pairs.procedures.Beginning.{ask_at, ask_step, begin_at, first_draft, place_to_begin, with_first_draft}
-use Rattle.link_runs.specs.link_pairs.procedures.Going.{entered_step, host_answer_step, is_answer, terminate_step}
-use Rattle.link_runs.specs.link_pairs.procedures.Sending.{acked_step}
-use Rattle.link_runs.specs.link_pairs.procedures.Table.{TableFacts}
-use Rattle.link_runs.specs.link_pairs.procedures.Taking.{facts_with, outcome_of}
+use Rattle.journal_endings.specs.link_runs.link_pairs.control_model.Control.{Answers, Asks, Control, Disconnects, Enters, SeesAcknowledged, Sends, Step as ControlStep, Takes, after, after_all, following, goes_out, indicated_by, is_to_come, table_if, taken, went}
+use Rattle.journal_endings.specs.link_runs.link_pairs.procedure_stages.Closing.{is_disconnecting, is_open}
+use Rattle.journal_endings.specs.link_runs.link_pairs.procedure_stages.Queue.{QueueFacts, waiting_in, next_after_rejections, next_by, next_disconnect, with_reply}
+use Rattle.journal_endings.specs.link_runs.link_pairs.procedure_stages.Steps.{closing_after}
+use Rattle.journal_endings.specs.link_runs.link_pairs.procedure_stages.InProgress.{is_host_asked}
+use Rattle.journal_endings.specs.link_runs.link_pairs.procedure_stages.declared.closing.Closing.{Closing}
+use Rattle.journal_endings.specs.link_runs.link_pairs.procedure_stages.declared.closing.Closing.TheVariants.{Closed, Disconnecting, Open}
+use Rattle.journal_endings.specs.link_runs.link_pairs.procedure_stages.declared.steps.Effect.{Effect}
+use Rattle.journal_endings.specs.link_runs.link_pairs.procedure_stages.declared.steps.Effect.TheVariants.{PeerEnds}
+use Rattle.journal_endings.specs.link_runs.link_pairs.procedure_values.declared.asks.Ask.{Ask}
+use Rattle.journal_endings.specs.link_runs.link_pairs.procedure_values.declared.asks.Ask.TheVariants.{Length, Update}
+use Rattle.journal_endings.specs.link_runs.link_pairs.procedure_values.declared.drafts.Draft.{Draft}
+use Rattle.journal_endings.specs.link_runs.link_pairs.procedure_values.declared.drafts.Outgoing.{Outgoing}
+use Rattle.journal_endings.specs.link_runs.link_pairs.procedure_values.declared.drafts.Rejection.{Rejection as TheRejection}
+use Rattle.journal_endings.specs.link_runs.link_pairs.procedures.Beginning.{ask_at, ask_step, begin_at, first_draft, place_to_begin, with_first_draft}
+use Rattle.journal_endings.specs.link_runs.link_pairs.procedures.Going.{entered_step, host_answer_step, is_answer, terminate_step}
+use Rattle.journal_endings.specs.link_runs.link_pairs.procedures.Sending.{acked_step}
+use Rattle.journal_endings.specs.link_runs.link_pairs.procedures.Table.{TableFacts}
+use Rattle.journal_endings.specs.link_runs.link_pairs.procedures.Taking.{facts_with, outcome_of}
 use Rattle.procedure_values.specs.Drafts.{is_out}
-use Rattle.link_runs.specs.link_pairs.procedure_stages.declared.reply.Reply.{Reply}
-use Rattle.link_runs.specs.link_pairs.procedure_stages.declared.reply.Reply.TheVariants.{Answer, Nothing as no_reply, Reject}
+use Rattle.journal_endings.specs.link_runs.link_pairs.procedure_stages.declared.reply.Reply.{Reply}
+use Rattle.journal_endings.specs.link_runs.link_pairs.procedure_stages.declared.reply.Reply.TheVariants.{Answer, Nothing as no_reply, Reject}
 use Rattle.std.specs.List.{AllByRecursion, list_any}
 use Rattle.std.proofs.lemmas.Bool.{and_parts, or_parts}
 use Rattle.std.proofs.lemmas.List.Folds.{list_any-append}
@@ -38,34 +38,34 @@ use Rattle.data_pdu.specs.declared.ctrl.Ctrl.{Ctrl}
 use Rattle.data_pdu.specs.declared.ctrl.Ctrl.TheVariants.{TerminateInd}
 use Rattle.wire_fields.specs.Field.{little_endian}
 use Rattle.procedure_values.specs.Drafts.{ctrl_of_outgoing}
-use Rattle.link_calls.proofs.CallNotes.{is_sending}
-use Rattle.journal_indications.specs.journal_data.link_model.Acknowledgement.{empty_pdu, is_acked}
-use Rattle.journal_indications.specs.journal_data.link_model.ControlSteps.{control_steps_in, step_if, steps_received}
-use Rattle.journal_indications.specs.journal_data.link_model.Controls.{goes_on, is_procedure_pdu, is_quiet_now, next_control, pdu_fixed, pdu_of_control, read_of}
-use Rattle.journal_indications.specs.journal_data.link_model.Receiving.{accepts, acks_control, facts_before_taking, has_acknowledged}
-use Rattle.journal_indications.specs.journal_data.link_model.Verdicts.{pdu_of}
+use Rattle.journal_endings.proofs.link_calls.CallNotes.{is_sending}
+use Rattle.journal_endings.specs.journal_indications.journal_data.link_model.Acknowledgement.{empty_pdu, is_acked}
+use Rattle.journal_endings.specs.journal_indications.journal_data.link_model.ControlSteps.{control_steps_in, step_if, steps_received}
+use Rattle.journal_endings.specs.journal_indications.journal_data.link_model.Controls.{goes_on, is_procedure_pdu, is_quiet_now, next_control, pdu_fixed, pdu_of_control, read_of}
+use Rattle.journal_endings.specs.journal_indications.journal_data.link_model.Receiving.{accepts, acks_control, facts_before_taking, has_acknowledged}
+use Rattle.journal_endings.specs.journal_indications.journal_data.link_model.Verdicts.{pdu_of}
 use Rattle.data_pdu.specs.Header.{header_in}
-use Rattle.journal_indications.specs.journal_data.link_model.Fixing.{data_cut, data_fixed_by, data_goes, facts_fixed, fixed_anew}
+use Rattle.journal_endings.specs.journal_indications.journal_data.link_model.Fixing.{data_cut, data_fixed_by, data_goes, facts_fixed, fixed_anew}
 use Rattle.arrayvec.specs.ArrayVec.{ArrayVec}
 use Rattle.data_pdu.specs.Layouts.{IsCtrl}
 use Rattle.data_pdu.specs.Reading.{ctrl_of}
 use Rattle.data_pdu.specs.declared.ctrl.CtrlRead.TheVariants.{Known}
 use Rattle.data_pdu.proofs.Rows.{written_is_known}
-use Rattle.link_runs.specs.link_pairs.procedure_stages.Kinds.{role_of}
-use Rattle.journal_indications.specs.journal_data.link_model.Data.{is_control, is_empty, numbered}
-use Rattle.journal_indications.specs.journal_data.link_model.End.{facts_after, notes_after, notes_from}
-use Rattle.journal_indications.specs.journal_data.link_model.Facts.{Facts}
-use Rattle.journal_indications.specs.journal_data.link_model.Hosts.{is_to_come as asks_to_come}
-use Rattle.journal_indications.specs.journal_data.link_model.Packets.{good_pdu}
-use Rattle.journal_indications.specs.journal_data.link_model.Sending.{sent_notes, sent_notes_if, takes_leave}
-use Rattle.journal_indications.specs.journal_data.link_model.Setup.{Setup}
-use Rattle.journal_indications.specs.journal_data.link_model.Step.{DataGiven, DataReported, Disconnected, EventEntered, PacketReceived, PacketSent, PduFixed, ProcedureAsked, RequestAnswered, Step}
-use Rattle.journal_indications.proofs.journal_data.link_model.ControlSteps.{one_step}
+use Rattle.journal_endings.specs.link_runs.link_pairs.procedure_stages.Kinds.{role_of}
+use Rattle.journal_endings.specs.journal_indications.journal_data.link_model.Data.{is_control, is_empty, numbered}
+use Rattle.journal_endings.specs.journal_indications.journal_data.link_model.End.{facts_after, notes_after, notes_from}
+use Rattle.journal_endings.specs.journal_indications.journal_data.link_model.Facts.{Facts}
+use Rattle.journal_endings.specs.journal_indications.journal_data.link_model.Hosts.{is_to_come as asks_to_come}
+use Rattle.journal_endings.specs.journal_indications.journal_data.link_model.Packets.{good_pdu}
+use Rattle.journal_endings.specs.journal_indications.journal_data.link_model.Sending.{sent_notes, sent_notes_if, takes_leave}
+use Rattle.journal_endings.specs.journal_indications.journal_data.link_model.Setup.{Setup}
+use Rattle.journal_endings.specs.journal_indications.journal_data.link_model.Step.{DataGiven, DataReported, Disconnected, EventEntered, PacketReceived, PacketSent, PduFixed, ProcedureAsked, RequestAnswered, Step}
+use Rattle.journal_endings.proofs.journal_indications.journal_data.link_model.ControlSteps.{one_step}
 use Rattle.run_collisions.specs.Prevailing.{next_outgoing}
 use Rattle.run_collisions.specs.Waiting.{facts_from, sends_control}
 use Rattle.journal_collisions.proofs.Waits.{ends_go}
-use Rattle.link_runs.proofs.link_pairs.TakingNothing.{draft_left, rejection_left}
-use Rattle.link_calls.proofs.control_model.Calls.{any_step, either_way, took_by}
+use Rattle.journal_endings.proofs.link_runs.link_pairs.TakingNothing.{draft_left, rejection_left}
+use Rattle.journal_endings.proofs.link_calls.control_model.Calls.{any_step, either_way, took_by}
 
 -- ---- a table with this Disconnect of the host
 

@@ -10,3 +10,8 @@ pub mod EndLines
 pub mod CollidingLines
 pub mod Endings
 pub mod RejectedNext
+pub mod Openings
+pub mod SendingNotes
+pub mod Unrefused
+pub mod Indicated
+pub mod Worked

@@ -1,14 +1,14 @@
 -- The call of a line comes after that of an earlier line, or is the same.
 use Rattle.std.proofs.Common.{◌≡◌, ℕ, ◌⊎◌, inl, inr, List, [], ◌∷◌, ◌++◌, length, length-append, map, refl, sym, ap, ◌∙◌, append_assoc, arith}
 use Rattle.ble_base.specs.declared.notes.Note.{Note}
-use Rattle.controller_model.specs.Step.{Step}
+use Rattle.journal_endings.specs.controller_model.Step.{Step}
 use Rattle.journal.specs.declared.entries.Entry.{Entry}
-use Rattle.journal_indications.specs.journal_data.run_model.History.{Called, Event, Noted}
-use Rattle.journal_indications.specs.journal_data.run_model.Journal.{journal_from, journal_of}
-use Rattle.journal_indications.specs.journal_data.run_model.Links.{links_of}
-use Rattle.journal_indications.specs.journal_data.run_model.NoteLines.{IsLineInCall, LinkLine}
-use Rattle.journal_indications.specs.journal_data.run_model.Run.{Given}
-use Rattle.journal_indications.proofs.journal_data.run_model.Parts.{journal_more}
+use Rattle.journal_endings.specs.journal_indications.journal_data.run_model.History.{Called, Event, Noted}
+use Rattle.journal_endings.specs.journal_indications.journal_data.run_model.Journal.{journal_from, journal_of}
+use Rattle.journal_endings.specs.journal_indications.journal_data.run_model.Links.{links_of}
+use Rattle.journal_endings.specs.journal_indications.journal_data.run_model.NoteLines.{IsLineInCall, LinkLine}
+use Rattle.journal_endings.specs.journal_indications.journal_data.run_model.Run.{Given}
+use Rattle.journal_endings.proofs.journal_indications.journal_data.run_model.Parts.{journal_more}
 use Rattle.journal_collisions.proofs.NextLines.{no_call}
 
 -- ---- the front of two lists

@@ -3,14 +3,14 @@ use Rattle.std.proofs.Common.{◌≡◌, ℕ, List, [], ◌∷◌, ◌++◌, map
 use Rattle.std.proofs.lemmas.List.{append_cancel_left}
 use Rattle.ble_base.specs.declared.notes.Note.{Note}
 use Rattle.journal.specs.declared.entries.Entry.{Entry}
-use Rattle.controller_model.specs.Side.{notes_after}
-use Rattle.controller_model.specs.Step.{Step}
-use Rattle.journal_indications.specs.journal_data.run_model.History.{Called, Event, Noted}
-use Rattle.journal_indications.specs.journal_data.run_model.Journal.{entry_of, journal_from, journal_of, side_of}
-use Rattle.journal_indications.specs.journal_data.run_model.Links.{Links, links_after, links_of}
-use Rattle.journal_indications.specs.journal_data.run_model.NoteLines.{IsLineInCall, LinkLine}
-use Rattle.journal_indications.specs.journal_data.run_model.Run.{Given, facts_at, history_of, run_of, setup_at}
-use Rattle.journal_indications.proofs.journal_data.run_model.Parts.{journal_more}
+use Rattle.journal_endings.specs.controller_model.Side.{notes_after}
+use Rattle.journal_endings.specs.controller_model.Step.{Step}
+use Rattle.journal_endings.specs.journal_indications.journal_data.run_model.History.{Called, Event, Noted}
+use Rattle.journal_endings.specs.journal_indications.journal_data.run_model.Journal.{entry_of, journal_from, journal_of, side_of}
+use Rattle.journal_endings.specs.journal_indications.journal_data.run_model.Links.{Links, links_after, links_of}
+use Rattle.journal_endings.specs.journal_indications.journal_data.run_model.NoteLines.{IsLineInCall, LinkLine}
+use Rattle.journal_endings.specs.journal_indications.journal_data.run_model.Run.{Given, facts_at, history_of, run_of, setup_at}
+use Rattle.journal_endings.proofs.journal_indications.journal_data.run_model.Parts.{journal_more}
 use Rattle.journal_hosts.proofs.WholeCalls.{IsInWhole, noted_in_whole}
 
 -- ---- the call of a note is the last one before it

@@ -24,55 +24,55 @@ use Rattle.journal.specs.declared.entries.Entry.{Entry}
 use Rattle.journal.specs.declared.entries.Entry.TheVariants.{Refused, Sent, Took}
 use Rattle.procedure_stages.specs.Collisions.{collision_code}
 use Rattle.procedure_stages.specs.Opcodes.{opcode_of_kind}
-use Rattle.controller_model.specs.declared.doing.Doing.{Doing}
-use Rattle.controller_model.specs.declared.doing.Doing.TheVariants.{Advertises, CentralListens, PeripheralListens}
-use Rattle.controller_model.specs.Events.{notes_of_events}
-use Rattle.controller_model.specs.Facts.{Facts, Setup}
-use Rattle.controller_model.specs.Heard.{events_received, has_room, heard, link_heard, link_received, notes_taken, replies_in, reply_if}
-use Rattle.controller_model.specs.Outcome.{notes_passed}
-use Rattle.controller_model.specs.Packets.{notes_doing}
-use Rattle.controller_model.specs.Side.{notes_after}
-use Rattle.controller_model.specs.Step.{PacketHeard}
-use Rattle.controller_model.proofs.Handles.{own_handles}
-use Rattle.link_calls.proofs.run_laws.TwoStations.{are_two}
-use Rattle.journal_indications.specs.journal_data.journal_acks.link_calls.Uses.{listens_under}
-use Rattle.journal_indications.specs.journal_data.journal_links.Begun.{LinkBegun, link_numbered}
-use Rattle.journal_indications.specs.journal_data.journal_links.Changes.{role_by, role_on}
-use Rattle.journal_indications.specs.journal_data.journal_links.LinkLines.{lines_of, link_named, where_named}
-use Rattle.journal_indications.specs.journal_data.link_model.End.{notes_after as end_notes}
-use Rattle.journal_indications.specs.journal_data.link_model.Step.{PacketReceived}
-use Rattle.journal_indications.specs.journal_data.open_links.OpenLinks.{OpenLink, facts_in, link_at}
-use Rattle.journal_indications.specs.journal_data.run_laws.Ends.{AreEnds, IsOpen, OpenEnd, link_listened}
-use Rattle.journal_indications.specs.journal_data.run_model.Feeding.{AreDistinct}
-use Rattle.journal_indications.specs.journal_data.run_model.History.{Called, Event, Noted, past_of}
-use Rattle.journal_indications.specs.journal_data.run_model.Journal.{journal_from, journal_of}
-use Rattle.journal_indications.specs.journal_data.run_model.LinkEnds.{HaveAddresses}
-use Rattle.journal_indications.specs.journal_data.run_model.Links.{links_of}
-use Rattle.journal_indications.specs.journal_data.run_model.NoteLines.{IsLineInCall, LinkLine, took_line}
-use Rattle.journal_indications.specs.journal_data.run_model.Run.{Given, facts_at, history_of, run_of, setup_at}
-use Rattle.journal_indications.proofs.journal_data.KeptData.{other_in}
-use Rattle.journal_indications.proofs.journal_data.Mine.{HasFarEnd}
-use Rattle.journal_indications.proofs.journal_data.journal_acks.TwoStations.{IsOfTwo, other_of}
-use Rattle.journal_indications.proofs.journal_data.journal_links.LinkLines.{lines_append, named_here}
-use Rattle.journal_indications.proofs.journal_data.journal_links.LinksBegun.{number_stays}
-use Rattle.journal_indications.proofs.journal_data.journal_links.OfTwo.{are_distinct, of_two_stations}
-use Rattle.journal_indications.proofs.journal_data.journal_packets.AccessOrder.{AreNth}
-use Rattle.journal_indications.proofs.journal_data.link_model.Hearing.{IsHeardWhole}
-use Rattle.journal_indications.proofs.journal_data.open_links.Handles.{handle_is}
-use Rattle.journal_indications.proofs.journal_data.run_laws.DistinctAccess.{AreApart}
-use Rattle.journal_indications.proofs.journal_data.run_model.LinkEnds.{AreTaken, IsUnderstood}
-use Rattle.journal_indications.proofs.journal_data.run_model.NoteLines.{line_in_call}
-use Rattle.journal_indications.proofs.journal_data.run_model.Stations.{is_in}
-use Rattle.journal_indications.proofs.FarEnds.{far_before}
-use Rattle.journal_indications.proofs.InTime.{role_of_end}
-use Rattle.journal_indications.proofs.LineEnds.{IsEndOfLine, end_of_line, in_it}
-use Rattle.journal_indications.proofs.PairedEnds.{are_ends, far_end, own_end}
-use Rattle.journal_indications.proofs.Receptions.{IsReception, listened, reception_of}
+use Rattle.journal_endings.specs.controller_model.declared.doing.Doing.{Doing}
+use Rattle.journal_endings.specs.controller_model.declared.doing.Doing.TheVariants.{Advertises, CentralListens, PeripheralListens}
+use Rattle.journal_endings.specs.controller_model.Events.{notes_of_events}
+use Rattle.journal_endings.specs.controller_model.Facts.{Facts, Setup}
+use Rattle.journal_endings.specs.controller_model.Heard.{events_received, has_room, heard, link_heard, link_received, notes_taken, replies_in, reply_if}
+use Rattle.journal_endings.specs.controller_model.Outcome.{notes_passed}
+use Rattle.journal_endings.specs.controller_model.Packets.{notes_doing}
+use Rattle.journal_endings.specs.controller_model.Side.{notes_after}
+use Rattle.journal_endings.specs.controller_model.Step.{PacketHeard}
+use Rattle.journal_endings.proofs.controller_model.Handles.{own_handles}
+use Rattle.journal_endings.proofs.link_calls.run_laws.TwoStations.{are_two}
+use Rattle.journal_endings.specs.journal_indications.journal_data.journal_acks.link_calls.Uses.{listens_under}
+use Rattle.journal_endings.specs.journal_indications.journal_data.journal_links.Begun.{LinkBegun, link_numbered}
+use Rattle.journal_endings.specs.journal_indications.journal_data.journal_links.Changes.{role_by, role_on}
+use Rattle.journal_endings.specs.journal_indications.journal_data.journal_links.LinkLines.{lines_of, link_named, where_named}
+use Rattle.journal_endings.specs.journal_indications.journal_data.link_model.End.{notes_after as end_notes}
+use Rattle.journal_endings.specs.journal_indications.journal_data.link_model.Step.{PacketReceived}
+use Rattle.journal_endings.specs.journal_indications.journal_data.open_links.OpenLinks.{OpenLink, facts_in, link_at}
+use Rattle.journal_endings.specs.journal_indications.journal_data.run_laws.Ends.{AreEnds, IsOpen, OpenEnd, link_listened}
+use Rattle.journal_endings.specs.journal_indications.journal_data.run_model.Feeding.{AreDistinct}
+use Rattle.journal_endings.specs.journal_indications.journal_data.run_model.History.{Called, Event, Noted, past_of}
+use Rattle.journal_endings.specs.journal_indications.journal_data.run_model.Journal.{journal_from, journal_of}
+use Rattle.journal_endings.specs.journal_indications.journal_data.run_model.LinkEnds.{HaveAddresses}
+use Rattle.journal_endings.specs.journal_indications.journal_data.run_model.Links.{links_of}
+use Rattle.journal_endings.specs.journal_indications.journal_data.run_model.NoteLines.{IsLineInCall, LinkLine, took_line}
+use Rattle.journal_endings.specs.journal_indications.journal_data.run_model.Run.{Given, facts_at, history_of, run_of, setup_at}
+use Rattle.journal_endings.proofs.journal_indications.journal_data.KeptData.{other_in}
+use Rattle.journal_endings.proofs.journal_indications.journal_data.Mine.{HasFarEnd}
+use Rattle.journal_endings.proofs.journal_indications.journal_data.journal_acks.TwoStations.{IsOfTwo, other_of}
+use Rattle.journal_endings.proofs.journal_indications.journal_data.journal_links.LinkLines.{lines_append, named_here}
+use Rattle.journal_endings.proofs.journal_indications.journal_data.journal_links.LinksBegun.{number_stays}
+use Rattle.journal_endings.proofs.journal_indications.journal_data.journal_links.OfTwo.{are_distinct, of_two_stations}
+use Rattle.journal_endings.proofs.journal_indications.journal_data.journal_packets.AccessOrder.{AreNth}
+use Rattle.journal_endings.proofs.journal_indications.journal_data.link_model.Hearing.{IsHeardWhole}
+use Rattle.journal_endings.proofs.journal_indications.journal_data.open_links.Handles.{handle_is}
+use Rattle.journal_endings.proofs.journal_indications.journal_data.run_laws.DistinctAccess.{AreApart}
+use Rattle.journal_endings.proofs.journal_indications.journal_data.run_model.LinkEnds.{AreTaken, IsUnderstood}
+use Rattle.journal_endings.proofs.journal_indications.journal_data.run_model.NoteLines.{line_in_call}
+use Rattle.journal_endings.proofs.journal_indications.journal_data.run_model.Stations.{is_in}
+use Rattle.journal_endings.proofs.journal_indications.FarEnds.{far_before}
+use Rattle.journal_endings.proofs.journal_indications.InTime.{role_of_end}
+use Rattle.journal_endings.proofs.journal_indications.LineEnds.{IsEndOfLine, end_of_line, in_it}
+use Rattle.journal_endings.proofs.journal_indications.PairedEnds.{are_ends, far_end, own_end}
+use Rattle.journal_endings.proofs.journal_indications.Receptions.{IsReception, listened, reception_of}
 use Rattle.run_collisions.specs.Prevailing.{seen}
 use Rattle.run_collisions.specs.Refused.{IsRefused, TakesRejection}
 use Rattle.run_collisions.proofs.OfPairs.{good_taken, hear_before, sent_to_peripheral}
-use Rattle.run_pairs.specs.InTurns.{HasSentNow, HearEachInTurn}
-use Rattle.link_runs.specs.link_pairs.Hearing.{received}
+use Rattle.journal_endings.specs.run_pairs.InTurns.{HasSentNow, HearEachInTurn}
+use Rattle.journal_endings.specs.link_runs.link_pairs.Hearing.{received}
 use Rattle.journal_collisions.specs.Collisions.{AllAreRefused, IsRejection, control_in, first_of, first_opcode, kind_begun}
 use Rattle.journal_collisions.proofs.NextLines.{next_line, whole}
 

@@ -1,19 +1,26 @@
 -- What a central that prevails sends next on the link is the rejection, or LL_TERMINATE_IND where it is to end the link.
-use Rattle.std.proofs.Common.{◌≡◌, ℕ, ◌+◌, ◌%◌, ◌≤◌, ◌<◌, ◌⊎◌, inl, inr, Bool, true, false, Option, Some, None, is_none, List, [], ◌∷◌, ◌++◌, fold, refl, sym, ap, subst, ◌∙◌, append-nil, append_assoc, arith, if◌then◌else◌}
+use Rattle.std.proofs.Common.{◌≡◌, ℕ, ◌+◌, ◌%◌, ◌≤◌, ◌<◌, ◌⊎◌, inl, inr, Bool, true, false, Option, Some, None, is_none, List, [], ◌∷◌, ◌++◌, fold, map, refl, sym, ap, subst, ◌∙◌, append-nil, append_assoc, arith, if◌then◌else◌}
 use Rattle.std.specs.List.{list_any}
+use Rattle.std.proofs.lemmas.Bool.{or_parts}
 use Rattle.std.proofs.lemmas.Grind.{flat_map-append}
+use Rattle.std.proofs.lemmas.List.{append_cancel_left, map-append}
+use Rattle.std.proofs.lemmas.List.Folds.{list_any-append}
 use Rattle.ble_base.specs.ErrorCodes.{different_transaction_collision, ll_procedure_collision}
 use Rattle.ble_base.specs.declared.error_codes.ErrCode.{ErrCode}
+use Rattle.ble_base.specs.declared.notes.Note.{Note}
 use Rattle.ble_base.specs.declared.notes.Note.TheVariants.{Sent as SentNote, Took as TookNote}
 use Rattle.ble_base.specs.declared.procedure_kinds.Kind.{Kind}
 use Rattle.ble_base.specs.declared.roles.Role.{Role}
 use Rattle.ble_base.specs.declared.roles.Role.TheVariants.{Central}
 use Rattle.ble_base.specs.declared.roles.Side.TheVariants.{A, B}
+use Rattle.collision_steps.specs.CentralPart.{central_of}
 use Rattle.data_pdu.specs.Layouts.{IsCtrl, written}
+use Rattle.data_pdu.specs.Reading.{ctrl_of}
 use Rattle.data_pdu.specs.declared.ctrl.CtrlRead.TheVariants.{Known}
 use Rattle.data_pdu.specs.declared.ctrl.Ctrl.TheVariants.{RejectExtInd}
 use Rattle.data_pdu.proofs.Rows.{written_is_known}
-use Rattle.exclusive_stages.specs.Kinds.{kind_of}
+use Rattle.exclusive_stages.specs.Kinds.{central_kind, kind_of}
+use Rattle.exclusive_stages.specs.Pdus.{is_kind as is_exclusive_kind}
 use Rattle.exclusive_stages.specs.declared.pdus.Exclusive.{Exclusive}
 use Rattle.exclusive_stages.specs.declared.pdus.Exclusive.TheVariants.{Map, Phy, Request, Update}
 use Rattle.journal.specs.declared.entries.Entry.{Entry}
@@ -24,79 +31,92 @@ use Rattle.procedure_stages.specs.Opcodes.{opcode_of_kind}
 use Rattle.procedure_values.specs.Asks.{is_same_kind}
 use Rattle.procedure_values.specs.declared.drafts.Outgoing.TheVariants.{Rejection}
 use Rattle.procedure_values.specs.declared.drafts.Rejection.{Rejection as TheRejection}
-use Rattle.controller_model.specs.Facts.{Facts, Setup}
-use Rattle.controller_model.specs.Heard.{has_room}
-use Rattle.controller_model.specs.Since.{note_under, notes_opened_on}
-use Rattle.controller_model.specs.Side.{facts_of}
-use Rattle.controller_model.specs.Step.{PacketHeard, Step, TurnBegins}
-use Rattle.link_calls.proofs.CallNotes.{is_sending}
-use Rattle.journal_indications.specs.journal_data.journal_links.Begun.{LinkBegun}
-use Rattle.journal_indications.specs.journal_data.journal_links.LinkLines.{lines_of}
-use Rattle.journal_indications.specs.journal_data.link_model.Data.{is_control}
-use Rattle.journal_indications.specs.journal_data.link_model.End.{facts_after as end_facts_after, facts_of as end_facts_of, notes_after as end_notes, notes_from, notes_of as end_notes_of}
-use Rattle.journal_indications.specs.journal_data.link_model.Facts.{Facts as EndFacts, first_facts}
-use Rattle.journal_indications.specs.journal_data.link_model.Fixing.{facts_fixed}
-use Rattle.journal_indications.specs.journal_data.link_model.Entering.{facts_entered_if}
-use Rattle.journal_indications.specs.journal_data.link_model.Controls.{goes_on}
-use Rattle.journal_indications.specs.journal_data.link_model.Sending.{sent_notes}
-use Rattle.journal_indications.specs.journal_data.link_model.Setup.{Setup as EndSetup}
-use Rattle.journal_indications.specs.journal_data.link_model.Step.{Step as EndStep, EventEntered, PacketReceived, PduFixed}
-use Rattle.journal_indications.specs.journal_data.open_links.OpenLinks.{OpenLink, facts_in, link_at}
-use Rattle.journal_indications.specs.journal_data.open_links.Turns.{entered_if, enters_in, link_entered}
-use Rattle.journal_indications.specs.journal_data.run_model.Feeding.{AreDistinct}
-use Rattle.journal_indications.specs.journal_data.run_model.History.{Called, Event, one_if, past_of, steps_in, turns_begun}
-use Rattle.journal_indications.specs.journal_data.run_model.Journal.{journal_of, side_of}
-use Rattle.journal_indications.specs.journal_data.run_model.LinkEnds.{HaveAddresses}
-use Rattle.journal_indications.specs.journal_data.run_model.NoteLines.{IsLineInCall, LinkLine, sent_line, took_line}
-use Rattle.journal_indications.specs.journal_data.run_model.Numbers.{HasNumber}
-use Rattle.journal_indications.specs.journal_data.run_model.Run.{Given, facts_at, history_of, run_of, setup_at}
-use Rattle.journal_indications.proofs.journal_data.Mine.{HasFarEnd}
-use Rattle.journal_indications.proofs.journal_data.journal_acks.DataCalls.{listens_on_link}
-use Rattle.journal_indications.proofs.journal_data.journal_acks.Exchanging.{number_at}
-use Rattle.journal_indications.proofs.journal_data.journal_acks.TwoStations.{IsOfTwo}
-use Rattle.journal_indications.proofs.journal_data.journal_links.ChangesAt.{none_opened}
-use Rattle.journal_indications.proofs.journal_data.journal_links.LinkLines.{lines_append}
-use Rattle.journal_indications.proofs.journal_data.journal_links.LinksBegun.{number_stays}
-use Rattle.journal_indications.proofs.journal_data.journal_links.OfTwo.{are_distinct, of_two_stations}
-use Rattle.journal_indications.proofs.journal_data.journal_packets.AccessOrder.{AreNth}
-use Rattle.journal_indications.proofs.journal_data.link_model.Hearing.{IsHeardWhole}
-use Rattle.journal_indications.proofs.journal_data.link_model.Pasts.{grows}
-use Rattle.journal_indications.proofs.journal_data.run_laws.DistinctAccess.{AreApart}
-use Rattle.journal_indications.proofs.journal_data.run_laws.InAgreement.{OpenedBefore}
-use Rattle.journal_indications.proofs.journal_data.run_laws.OpenSteps.{open_has}
-use Rattle.journal_indications.proofs.journal_data.run_laws.OpenedOnce.{opened_once}
-use Rattle.journal_indications.proofs.journal_data.run_laws.TurnPlaces.{Between, Within, at_stage, standing, turned}
-use Rattle.journal_indications.proofs.journal_data.run_model.Calls.{same_station}
-use Rattle.journal_indications.proofs.journal_data.run_model.LinkEnds.{AreTaken, IsUnderstood}
-use Rattle.journal_indications.proofs.journal_data.run_model.Linked.{numbered_more}
-use Rattle.journal_indications.proofs.journal_data.run_model.Numbers.{numbered_at}
-use Rattle.journal_indications.proofs.journal_data.run_model.Stations.{is_in}
-use Rattle.link_runs.specs.link_pairs.control_model.Control.{Control, Enters, moved, table_if}
-use Rattle.link_runs.specs.link_pairs.procedures.Sending.{acked_step}
+use Rattle.journal_endings.specs.controller_model.Facts.{Facts, Setup}
+use Rattle.journal_endings.specs.controller_model.Heard.{has_room}
+use Rattle.journal_endings.specs.controller_model.Links.{note_opened}
+use Rattle.journal_endings.specs.controller_model.Since.{note_under, notes_opened_on}
+use Rattle.journal_endings.specs.controller_model.Side.{facts_of}
+use Rattle.journal_endings.specs.controller_model.Step.{PacketHeard, Step, TurnBegins}
+use Rattle.journal_endings.proofs.link_calls.CallNotes.{is_sending}
+use Rattle.journal_endings.specs.journal_indications.journal_data.journal_links.Begun.{LinkBegun}
+use Rattle.journal_endings.specs.journal_indications.journal_data.journal_links.LinkLines.{line_of, lines_of}
+use Rattle.journal_endings.specs.journal_indications.journal_data.link_model.Data.{is_control}
+use Rattle.journal_endings.specs.journal_indications.journal_data.link_model.End.{facts_after as end_facts_after, facts_of as end_facts_of, notes_after as end_notes, notes_from, notes_of as end_notes_of}
+use Rattle.journal_endings.specs.journal_indications.journal_data.link_model.Facts.{Facts as EndFacts, first_facts}
+use Rattle.journal_endings.specs.journal_indications.journal_data.link_model.Fixing.{facts_fixed}
+use Rattle.journal_endings.specs.journal_indications.journal_data.link_model.Entering.{facts_entered_if}
+use Rattle.journal_endings.specs.journal_indications.journal_data.link_model.Controls.{goes_on}
+use Rattle.journal_endings.specs.journal_indications.journal_data.link_model.Sending.{sent_notes}
+use Rattle.journal_endings.specs.journal_indications.journal_data.link_model.Setup.{Setup as EndSetup}
+use Rattle.journal_endings.specs.journal_indications.journal_data.link_model.Step.{Step as EndStep, EventEntered, PacketReceived, PduFixed}
+use Rattle.journal_endings.specs.journal_indications.journal_data.open_links.OpenLinks.{OpenLink, facts_in, link_at}
+use Rattle.journal_endings.specs.journal_indications.journal_data.open_links.Turns.{entered_if, enters_in, link_entered}
+use Rattle.journal_endings.specs.journal_indications.journal_data.run_model.Feeding.{AreDistinct}
+use Rattle.journal_endings.specs.journal_indications.journal_data.run_model.History.{Called, Event, one_if, past_of, steps_in, turns_begun}
+use Rattle.journal_endings.specs.journal_indications.journal_data.run_model.Journal.{journal_of, side_of}
+use Rattle.journal_endings.specs.journal_indications.journal_data.run_model.LinkEnds.{HaveAddresses}
+use Rattle.journal_endings.specs.journal_indications.journal_data.run_model.NoteLines.{IsLineInCall, LinkLine, sent_line, took_line}
+use Rattle.journal_endings.specs.journal_indications.journal_data.run_model.Numbers.{HasNumber}
+use Rattle.journal_endings.specs.journal_indications.journal_data.run_model.Run.{Given, facts_at, history_of, run_of, setup_at}
+use Rattle.journal_endings.proofs.journal_indications.journal_data.Mine.{HasFarEnd}
+use Rattle.journal_endings.proofs.journal_indications.journal_data.journal_acks.DataCalls.{listens_on_link}
+use Rattle.journal_endings.proofs.journal_indications.journal_data.journal_acks.Exchanging.{number_at}
+use Rattle.journal_endings.proofs.journal_indications.journal_data.journal_acks.TwoStations.{IsOfTwo}
+use Rattle.journal_endings.proofs.journal_indications.journal_data.journal_links.ChangesAt.{none_opened}
+use Rattle.journal_endings.proofs.journal_indications.journal_data.journal_links.LinkLines.{lines_append}
+use Rattle.journal_endings.proofs.journal_indications.journal_data.journal_links.LinksBegun.{number_stays}
+use Rattle.journal_endings.proofs.journal_indications.journal_data.journal_links.OfTwo.{are_distinct, of_two_stations}
+use Rattle.journal_endings.proofs.journal_indications.journal_data.journal_packets.AccessOrder.{AreNth}
+use Rattle.journal_endings.proofs.journal_indications.journal_data.link_model.Hearing.{IsHeardWhole}
+use Rattle.journal_endings.proofs.journal_indications.journal_data.link_model.ControlSteps.{keeps_role}
+use Rattle.journal_endings.proofs.journal_indications.journal_data.link_model.Pasts.{grows}
+use Rattle.journal_endings.proofs.journal_indications.journal_data.run_laws.DistinctAccess.{AreApart}
+use Rattle.journal_endings.proofs.journal_indications.journal_data.run_laws.InAgreement.{OpenedBefore}
+use Rattle.journal_endings.proofs.journal_indications.journal_data.run_laws.OpenSteps.{open_has}
+use Rattle.journal_endings.proofs.journal_indications.journal_data.run_laws.OpenedOnce.{opened_once}
+use Rattle.journal_endings.proofs.journal_indications.journal_data.run_laws.TurnPlaces.{Between, Within, at_stage, standing, turned}
+use Rattle.journal_endings.proofs.journal_indications.journal_data.run_model.Calls.{same_station}
+use Rattle.journal_endings.proofs.journal_indications.journal_data.run_model.LinkEnds.{AreTaken, IsUnderstood}
+use Rattle.journal_endings.proofs.journal_indications.journal_data.run_model.Linked.{numbered_more}
+use Rattle.journal_endings.proofs.journal_indications.journal_data.run_model.Numbers.{numbered_at}
+use Rattle.journal_endings.proofs.journal_indications.journal_data.run_model.Stations.{is_in}
+use Rattle.link_answers.specs.Owing.{Owes, indicates, is_opening}
+use Rattle.link_answers.proofs.OwingEnds.{steps_owe}
+use Rattle.link_answers.proofs.PlainQueues.{past_plain}
+use Rattle.link_answers.proofs.SentIndications.{sent_runs}
+use Rattle.link_procedures.specs.Running.{runs_at}
+use Rattle.link_procedures.proofs.Seen.{at_central}
+use Rattle.link_procedures.proofs.Steps.{past_goes}
+use Rattle.journal_endings.specs.link_runs.link_pairs.control_model.Control.{Control, Enters, moved, table_if}
+use Rattle.journal_endings.specs.link_runs.link_pairs.procedure_stages.Kinds.{role_of}
+use Rattle.journal_endings.specs.link_runs.link_pairs.procedures.Sending.{acked_step}
 use Rattle.procedure_values.specs.Drafts.{is_out}
 use Rattle.data_pdu.specs.Header.{header_in}
-use Rattle.journal_indications.specs.journal_data.link_model.Packets.{good_pdu}
-use Rattle.journal_indications.specs.journal_data.link_model.Receiving.{acks_control, control_acked_if, facts_before_taking, has_acknowledged}
+use Rattle.journal_endings.specs.journal_indications.journal_data.link_model.Packets.{good_pdu}
+use Rattle.journal_endings.specs.journal_indications.journal_data.link_model.Receiving.{acks_control, control_acked_if, facts_before_taking, has_acknowledged}
 use Rattle.journal_ends.proofs.StandingLinks.{older_at}
-use Rattle.journal_indications.proofs.InTime.{role_of_end}
-use Rattle.journal_indications.proofs.LineEnds.{IsEndOfLine, end_of_line, in_it, none as none_open}
-use Rattle.journal_indications.proofs.OneNumber.{one_connect}
-use Rattle.journal_indications.proofs.FarEnds.{far_before}
-use Rattle.journal_indications.proofs.Receptions.{IsReception, reception_of}
-use Rattle.journal_indications.proofs.journal_data.run_model.NoteLines.{line_in_call}
+use Rattle.journal_endings.proofs.journal_indications.InTime.{role_of_end}
+use Rattle.journal_endings.proofs.journal_indications.LineEnds.{IsEndOfLine, end_of_line, in_it, none as none_open}
+use Rattle.journal_endings.proofs.journal_indications.OneNumber.{one_connect}
+use Rattle.journal_endings.proofs.journal_indications.FarEnds.{far_before}
+use Rattle.journal_endings.proofs.journal_indications.Receptions.{IsReception, reception_of}
+use Rattle.journal_endings.proofs.journal_indications.journal_data.run_model.NoteLines.{line_in_call}
 use Rattle.journal_collisions.proofs.Endings.{EndsWith, end_step, ending_still, ends_now, nothing_still, sent_ending, sent_nothing, terminate_read}
-use Rattle.link_runs.specs.link_pairs.Hearing.{received}
+use Rattle.journal_endings.specs.link_runs.link_pairs.Hearing.{received}
 use Rattle.run_collisions.specs.Prevailing.{next_outgoing, seen_by}
 use Rattle.run_collisions.specs.Waiting.{facts_from}
 use Rattle.run_collisions.proofs.Waiting.{waits}
-use Rattle.run_pairs.proofs.CallPlaces.{StandsAtBegin, StandsInPhase, stands_called}
-use Rattle.run_pairs.proofs.OneSide.{StationAt, station_first, station_kept}
-use Rattle.journal_collisions.specs.Collisions.{AllAreRejectedNext, Collides, IsRejection, IsTermination, SendsNothing, control_in, first_opcode}
+use Rattle.journal_endings.proofs.run_pairs.CallPlaces.{StandsAtBegin, StandsInPhase, stands_called}
+use Rattle.journal_endings.proofs.run_pairs.OneSide.{StationAt, station_first, station_kept}
+use Rattle.journal_collisions.specs.Collisions.{AllAreRejectedNext, Collides, IsRejection, IsTermination, SendsNothing, control_in, first_opcode, runs_after, runs_on}
 use Rattle.journal_collisions.proofs.CollidingLines.{PrevailInRuns, at, begun, central_by, excludes, lines_are, on, prevails, role}
 use Rattle.journal_collisions.proofs.Continues.{IsSince, since_received}
 use Rattle.journal_collisions.proofs.EndLines.{end_lines, lines_sent, none_said, none_sent, sendings, sendings_grow, sendings_more, sents, sents_more}
 use Rattle.journal_collisions.proofs.LineOrder.{AreInOrder, InLaterCall, InOneCall, in_order}
+use Rattle.journal_collisions.proofs.Openings.{facts_joined, folded, is_opening_line, lines_open, same_exclusive}
 use Rattle.journal_collisions.proofs.RefusedLines.{line_here}
+use Rattle.journal_collisions.proofs.RunsNoted.{lines_run}
+use Rattle.journal_collisions.proofs.SendingNotes.{said}
 use Rattle.journal_collisions.proofs.SentCalls.{AsAnswer, AtBegin, IsSentAtBegin, IsSentIn, sent_in}
 use Rattle.journal_collisions.proofs.Waits.{IsSentNow, facts_more, none_fixed, sent_next, waits_still}
 
@@ -240,8 +260,7 @@ module _ (whole_heard : IsHeardWhole) (understood : IsUnderstood) (taken : AreTa
     (record { items = body }))
     (far : HasFarEnd given call.station call.base call.handle) (p q : Kind) (collides : Collides front link number llid body p q)
     (next_count next_llid : ℕ) (next : List ℕ)
-    (next_call : IsLineInCall given (front ++ Took link.central number count llid body ∷ between) (sent_line link.central number next_count next_llid next))
-    (none : SendsNothing link.central number between) where
+    (next_call : IsLineInCall given (front ++ Took link.central number count llid body ∷ between) (sent_line link.central number next_count next_llid next)) where
   abbrev took : Entry
   took = Took link.central number count llid body
 
@@ -304,7 +323,8 @@ module _ (whole_heard : IsHeardWhole) (understood : IsUnderstood) (taken : AreTa
         (of_two_stations given are_pair call.station is_on)
         (next_call.side_is ∙ sym call.side_is)
 
-    module _ (begins : IsSentAtBegin next_call.step next_call.handle next_count next_llid next later) where
+    module _ (begins : IsSentAtBegin (setup_at given next_call.station) (facts_at given next_call.station next_call.base) next_call.later
+        next_call.step next_call.handle next_count next_llid next later) where
       called_later : history_of (run_of given) ≡ next_call.base ++ Called next_call.station (TurnBegins begins.slot begins.on) ∷ next_call.after
       called_later = next_call.called ∙ ap (λ s. next_call.base ++ Called next_call.station s ∷ next_call.after) begins.step_is
 
@@ -443,8 +463,8 @@ module _ (whole_heard : IsHeardWhole) (understood : IsUnderstood) (taken : AreTa
             (none_opened next_call.handle next_call.earlier
             (none_open understood taken given are_pair six after next_line next_call later later_open)))
 
-        unsent : list_any is_sending (notes_from end_setup now since.steps) ≡ false
-        unsent =
+        unsent : SendsNothing link.central number between → list_any is_sending (notes_from end_setup now since.steps) ≡ false
+        unsent none =
             none_sent (notes_from end_setup now since.steps)
             (no_more known (sendings call.earlier) (sendings heard.rest) (sendings (notes_from end_setup now since.steps)) most
             (sents (lines_of link.central number front)) (sents (lines_of link.central number after)) (sents (lines_of link.central number between))
@@ -471,9 +491,9 @@ module _ (whole_heard : IsHeardWhole) (understood : IsUnderstood) (taken : AreTa
             ∙ ap facts_fixed entered_is
 
         -- so what it sends is the rejection
-        module _ (x : TheRejection) (waiting : next_outgoing now ≡ Rejection x) where
+        module _ (none : SendsNothing link.central number between) (x : TheRejection) (waiting : next_outgoing now ≡ Rejection x) where
           waiting_later : next_outgoing (facts_in later) ≡ Rejection x
-          waiting_later = ap next_outgoing facts_later ∙ waits_still x end_setup is_central since.steps now waiting goes unsent
+          waiting_later = ap next_outgoing facts_later ∙ waits_still x end_setup is_central since.steps now waiting goes (unsent none)
 
           pub sent_now : IsSentNow x later.setup later_central next_llid next
           sent_now =
@@ -496,55 +516,174 @@ module _ (whole_heard : IsHeardWhole) (understood : IsUnderstood) (taken : AreTa
         notes_now : sent_notes later.setup (facts_fixed last) ≡ SentNote next_call.handle next_count next_llid (record { items = next }) ∷ []
         notes_now = sym (λ i. sent_notes (begins.setup_is i) (base_facts i)) ∙ begins.notes
 
-        pub ended_now : (d : Option ErrCode) → EndsWith d now.control.table → IsTermination next_llid next
-        ended_now (Some code) ends =
+        pub ended_now : SendsNothing link.central number between → (d : Option ErrCode) → EndsWith d now.control.table → IsTermination next_llid next
+        ended_now none (Some code) ends =
             let later_ends = subst (λ (f : EndFacts). EndsWith (Some code) f.control.table) (sym facts_later)
-            (ending_still code end_setup is_central since.steps now ends goes unsent) in
+            (ending_still code end_setup is_central since.steps now ends goes (unsent none)) in
             let sent = sent_ending code later.setup later_central last none_now (last_ends (Some code) enters later_ends) (last_goes enters)
             next_call.handle next_count next_llid next notes_now in
             record { code = code.0 % 256; is = (λ i. control_in (sent.0 i) (sent.1 i)) ∙ ap Some (terminate_read code.0) }
-        ended_now None ends =
+        ended_now none None ends =
             let later_ends = subst (λ (f : EndFacts). EndsWith None f.control.table) (sym facts_later)
             (nothing_still end_setup is_central since.steps now ends) in
             sent_nothing later.setup later_central _ last none_now (last_ends None enters later_ends) next_call.handle next_count next_llid next notes_now
 
+        -- ---- which indication it may send
+
+        lines_later : lines_of link.central number after
+            ≡ map (line_of link.central number) (notes_opened_on later.setup (link_entered begins.slot later).past)
+        lines_later =
+            end_lines understood taken given are_pair six after next_line next_call later later_open
+            ∙ ap (map (line_of link.central number))
+            (said (setup_at given next_call.station) (past_of next_call.station next_call.base) next_call.step next_call.handle next_count next_llid next
+            next_call.earlier next_call.later later later_open next_call.notes_are begins)
+
+        abbrev more_steps : List EndStep
+        more_steps = since.steps ++ entered_steps (enters_in begins.slot later) begins.slot
+
+        abbrev told : Note
+        told = TookNote call.handle count llid (record { items = body })
+
+        past_entered : (link_entered begins.slot later).past ≡ heard.link.past ++ step ∷ more_steps
+        past_entered =
+            entered_past enters begins.slot later ∙ ap (λ (xs : List EndStep). xs ++ entered_steps enters begins.slot) since.past_is
+            ∙ append_assoc heard.link.past (step ∷ since.steps) (entered_steps enters begins.slot)
+
+        notes_all : notes_opened_on later.setup (link_entered begins.slot later).past
+            ≡ (notes_opened_on end_setup heard.link.past ++ call.earlier) ++ told ∷ (heard.rest ++ notes_from end_setup now more_steps)
+        notes_all =
+            (λ i. notes_opened_on (since.setup_is i) (past_entered i))
+            ∙ ap (λ (xs : List Note). note_opened end_setup.link ∷ xs) (notes_more end_setup heard.link.past (step ∷ more_steps))
+            ∙ ap (λ (xs : List Note). notes_opened_on end_setup heard.link.past ++ (xs ++ notes_from end_setup now more_steps)) heard.notes_are
+            ∙ ap (λ (xs : List Note). notes_opened_on end_setup heard.link.past ++ xs)
+            (append_assoc call.earlier (told ∷ heard.rest) (notes_from end_setup now more_steps))
+            ∙ sym (append_assoc (notes_opened_on end_setup heard.link.past) call.earlier (told ∷ (heard.rest ++ notes_from end_setup now more_steps)))
+
+        lines_parted : lines_of link.central number after ≡ lines_of link.central number front ++ took ∷ lines_of link.central number between
+        lines_parted =
+            lines_append link.central number front (took ∷ between)
+            ∙ ap (λ xs. lines_of link.central number front ++ xs) (line_here link.central number took between refl)
+
+        between_said : map (line_of link.central number) (heard.rest ++ notes_from end_setup now more_steps) ≡ lines_of link.central number between
+        between_said =
+            let line_is = line_of link.central number in
+            let known = notes_opened_on end_setup heard.link.past ++ call.earlier in
+            let notes = heard.rest ++ notes_from end_setup now more_steps in
+            let first = lines_are whole_heard understood taken nth apart given are_pair six prevail front link number count llid body call heard far p q collides in
+            let both : map line_is known ++ took ∷ map line_is notes ≡ map line_is known ++ took ∷ lines_of link.central number between =
+            sym (map-append line_is known (told ∷ notes)) ∙ ap (map line_is) (sym notes_all) ∙ sym lines_later ∙ lines_parted
+            ∙ ap (λ xs. xs ++ took ∷ lines_of link.central number between) first in
+            let rests : took ∷ map line_is notes ≡ took ∷ lines_of link.central number between = append_cancel_left (map line_is known) _ _ both in
+            cc
+
+        module _ (kind : Exclusive) (unopened : list_any (is_opening_line kind) (lines_of link.central number between) ≡ false) where
+          none_opened_since : list_any (is_opening kind) (notes_from end_setup now more_steps) ≡ false
+          none_opened_since =
+              (or_parts (list_any (is_opening kind) heard.rest) (list_any (is_opening kind) (notes_from end_setup now more_steps))
+              (sym (list_any-append (is_opening kind) heard.rest (notes_from end_setup now more_steps))
+              ∙ lines_open link.central number kind (heard.rest ++ notes_from end_setup now more_steps)
+              ∙ ap (list_any (is_opening_line kind)) between_said ∙ unopened)).1
+
+          now_is : now ≡ end_facts_of end_setup (heard.link.past ++ step ∷ [])
+          now_is = sym (grows end_setup heard.link.past step)
+
+          last_is : last ≡ fold (end_facts_after end_setup) now more_steps
+          last_is =
+              (λ i. facts_from (since.setup_is i) (facts_later i) (entered_steps enters begins.slot))
+              ∙ sym (facts_joined end_setup now since.steps (entered_steps enters begins.slot)) ∙ folded end_setup now more_steps
+
+          owes_last : Owes kind (central_of last.control.table)
+          owes_last =
+              let all = prevails whole_heard understood taken nth apart given are_pair six prevail front link number count llid body call heard far p q collides in
+              subst (λ (f : EndFacts). Owes kind (central_of f.control.table)) (sym last_is)
+              (steps_owe end_setup now more_steps kind is_central
+              (ap (λ (f : EndFacts). role_of f.control.table.progress) now_is ∙ keeps_role end_setup (heard.link.past ++ step ∷ []) ∙ is_central)
+              (all.owes kind) none_opened_since)
+
+          runs_last : next_llid ≡ 3 → indicates (ctrl_of next) ≡ Some kind → central_kind (central_of last.control.table).own ≡ Some kind
+          runs_last three is =
+              let past = (link_entered begins.slot later).past in
+              ap (λ (f : EndFacts). central_kind (central_of f.control.table).own) (sym entered_is)
+              ∙ sent_runs later.setup (end_facts_of later.setup past) (keeps_role later.setup past ∙ later_central) (past_plain later.setup past)
+              (none_fixed later.setup later_central past) kind
+              (subst (λ (f : EndFacts). Owes kind (central_of f.control.table)) (sym entered_is) owes_last)
+              next_call.handle next_count next_llid next (ap (λ (f : EndFacts). sent_notes later.setup (facts_fixed f)) entered_is ∙ notes_now) three is
+
+          pub own_runs : next_llid ≡ 3 → indicates (ctrl_of next) ≡ Some kind → runs_on (kind_of kind) link.central number after ≡ true
+          own_runs three is =
+              let past = (link_entered begins.slot later).past in
+              ap (fold (runs_after (kind_of kind)) false) lines_later
+              ∙ lines_run link.central number (kind_of kind) false (notes_opened_on later.setup past)
+              ∙ past_goes later.setup past (kind_of kind)
+              ∙ ap (λ (f : EndFacts). runs_at (kind_of kind) f) entered_is
+              ∙ at_central last.control.table last.control.table.progress kind
+              (ap (λ (f : EndFacts). role_of f.control.table.progress) (sym entered_is) ∙ keeps_role later.setup past ∙ later_central)
+              ∙ ap (λ (may : Option Exclusive). is_exclusive_kind may kind) (runs_last three is) ∙ same_exclusive kind
+
     -- ---- both
 
-    by_closing : (begins : IsSentAtBegin next_call.step next_call.handle next_count next_llid next later) (mid : List Event)
+    by_closing : SendsNothing link.central number between → (begins : IsSentAtBegin (setup_at given next_call.station) (facts_at given next_call.station next_call.base) next_call.later
+        next_call.step next_call.handle next_count next_llid next later) (mid : List Event)
         → next_call.base ≡ call.base ++ Called call.station call.step ∷ mid → (opened : Bool) → is_open (facts_in heard.link).control.table.closing ≡ opened
         → IsRejection p q next_llid next ⊎ IsTermination next_llid next
-    by_closing begins mid base_is true opened =
+    by_closing none begins mid base_is true opened =
         let first = begun whole_heard understood taken nth apart given are_pair six prevail front link number count llid body call heard far p q collides in
         let own = excludes whole_heard understood taken nth apart given are_pair six prevail front link number count llid body call heard far p q collides in
         let all = prevails whole_heard understood taken nth apart given are_pair six prevail front link number count llid body call heard far p q collides in
         let rejects = all.rejected (ap is_open (closing_by heard.link.setup is_central facts.turn.slot (facts_in heard.link)
         (good_pdu heard.link.setup (facts_in heard.link) heard.octets)) ∙ opened) in
         inl (written_now rejects.rejection later.setup later_central own.kind first.kind p q next_llid next own.kind_is first.kind_is first.opcode
-        rejects.opcode rejects.code (sent_now begins mid base_is rejects.rejection rejects.next))
-    by_closing begins mid base_is false closed =
+        rejects.opcode rejects.code (sent_now begins mid base_is none rejects.rejection rejects.next))
+    by_closing none begins mid base_is false closed =
         let all = prevails whole_heard understood taken nth apart given are_pair six prevail front link number count llid body call heard far p q collides in
         let same = closing_by heard.link.setup is_central facts.turn.slot (facts_in heard.link)
         (good_pdu heard.link.setup (facts_in heard.link) heard.octets) in
         let shut = ap is_open same ∙ closed in
-        inr (ended_now begins mid base_is now.control.table.queue.disconnect
+        inr (ended_now begins mid base_is none now.control.table.queue.disconnect
         (ends_now heard.link.setup is_central facts.turn.slot heard.octets room (facts_in heard.link) now.control.table.queue.disconnect
         (ap is_disconnecting (sym same) ∙ all.ending shut) refl (all.closing shut)))
 
-    by_order : (begins : IsSentAtBegin next_call.step next_call.handle next_count next_llid next later)
+    by_order : SendsNothing link.central number between → (begins : IsSentAtBegin (setup_at given next_call.station) (facts_at given next_call.station next_call.base) next_call.later
+        next_call.step next_call.handle next_count next_llid next later)
         → AreInOrder given front after line next_line call next_call → IsRejection p q next_llid next ⊎ IsTermination next_llid next
-    by_order begins (InOneCall base_is same) =
+    by_order none begins (InOneCall base_is same) =
         not_there _ call.station next_call.station call.step heard.octets begins.slot begins.on call.step next_call.step heard.step_is begins.step_is same
-    by_order begins (InLaterCall mid base_is) = by_closing begins mid base_is (is_open (facts_in heard.link).control.table.closing) refl
+    by_order none begins (InLaterCall mid base_is) = by_closing none begins mid base_is (is_open (facts_in heard.link).control.table.closing) refl
 
-  by_sent : IsSentIn (facts_at given next_call.station next_call.base) next_call.step next_call.handle next_count next_llid next
+  by_sent : SendsNothing link.central number between → IsSentIn (setup_at given next_call.station) (facts_at given next_call.station next_call.base) next_call.later next_call.step next_call.handle next_count next_llid next
       → IsRejection p q next_llid next ⊎ IsTermination next_llid next
-  by_sent (AtBegin later later_open sends) =
-      by_order later later_open (sends (later_central later later_open)) (in_order given front between took line next_line call next_call)
-  by_sent (AsAnswer later later_open never) = absurd (never (later_central later later_open))
+  by_sent none (AtBegin later later_open sends) =
+      by_order later later_open none (sends (later_central later later_open)) (in_order given front between took line next_line call next_call)
+  by_sent none (AsAnswer later later_open never) = absurd (never (later_central later later_open))
 
-  pub rejected_or_ending : IsRejection p q next_llid next ⊎ IsTermination next_llid next
-  rejected_or_ending =
-      by_sent (sent_in (setup_at given next_call.station) (past_of next_call.station next_call.base) next_call.earlier next_call.later next_call.handle
+  pub rejected_or_ending : SendsNothing link.central number between → IsRejection p q next_llid next ⊎ IsTermination next_llid next
+  rejected_or_ending none =
+      by_sent none (sent_in (setup_at given next_call.station) (past_of next_call.station next_call.base) next_call.earlier next_call.later next_call.handle
+      next_count next_llid next next_call.step next_call.notes_are)
+
+  -- ---- an indication that it sends
+
+  owned_by : (later : OpenLink) (later_open : link_at next_call.handle (facts_at given next_call.station next_call.base).links ≡ Some later)
+      (begins : IsSentAtBegin (setup_at given next_call.station) (facts_at given next_call.station next_call.base) next_call.later
+      next_call.step next_call.handle next_count next_llid next later) → AreInOrder given front after line next_line call next_call → (kind : Exclusive)
+      → list_any (is_opening_line kind) (lines_of link.central number between) ≡ false → next_llid ≡ 3 → indicates (ctrl_of next) ≡ Some kind
+      → runs_on (kind_of kind) link.central number after ≡ true
+  owned_by later later_open begins (InOneCall base_is same) kind unopened three is =
+      not_there _ call.station next_call.station call.step heard.octets begins.slot begins.on call.step next_call.step heard.step_is begins.step_is same
+  owned_by later later_open begins (InLaterCall mid base_is) kind unopened three is = own_runs later later_open begins mid base_is kind unopened three is
+
+  owned_sent : IsSentIn (setup_at given next_call.station) (facts_at given next_call.station next_call.base) next_call.later next_call.step next_call.handle
+      next_count next_llid next → (kind : Exclusive)
+      → list_any (is_opening_line kind) (lines_of link.central number between) ≡ false → next_llid ≡ 3 → indicates (ctrl_of next) ≡ Some kind
+      → runs_on (kind_of kind) link.central number after ≡ true
+  owned_sent (AtBegin later later_open sends) kind unopened three is =
+      owned_by later later_open (sends (later_central later later_open)) (in_order given front between took line next_line call next_call) kind unopened three is
+  owned_sent (AsAnswer later later_open never) kind unopened three is = absurd (never (later_central later later_open))
+
+  pub owned : (kind : Exclusive) → list_any (is_opening_line kind) (lines_of link.central number between) ≡ false → next_llid ≡ 3
+      → indicates (ctrl_of next) ≡ Some kind → runs_on (kind_of kind) link.central number after ≡ true
+  owned =
+      owned_sent (sent_in (setup_at given next_call.station) (past_of next_call.station next_call.base) next_call.earlier next_call.later next_call.handle
       next_count next_llid next next_call.step next_call.notes_are)
 
 module _ (whole_heard : IsHeardWhole) (understood : IsUnderstood) (taken : AreTaken) (nth : AreNth) (apart : AreApart) (given : Given)

@@ -14,30 +14,30 @@ use Rattle.data_pdu.specs.declared.header.DataHeader.{DataHeader}
 use Rattle.data_pdu.specs.Header.{header_in}
 use Rattle.exclusive_stages.specs.declared.pdus.Exclusive.{Exclusive}
 use Rattle.exclusive_stages.specs.Kinds.{central_kind, kind_of}
-use Rattle.journal_indications.specs.journal_data.journal_links.LinkLines.{line_of}
-use Rattle.journal_indications.specs.journal_data.link_model.Acknowledgement.{Pdu}
-use Rattle.journal_indications.specs.journal_data.link_model.End.{facts_of, notes_after}
-use Rattle.journal_indications.specs.journal_data.link_model.Entering.{done_notes}
-use Rattle.journal_indications.specs.journal_data.link_model.Facts.{Facts}
-use Rattle.journal_indications.specs.journal_data.link_model.Packets.{good_pdu}
-use Rattle.journal_indications.specs.journal_data.link_model.Receiving.{accepts, acked_kind, acks_control, control_acked_if, facts_before_taking, given_if, given_notes, has_acknowledged, notes_hearing, received_notes, refused_notes, took_notes_if}
-use Rattle.journal_indications.specs.journal_data.link_model.Setup.{Setup}
-use Rattle.journal_indications.specs.journal_data.link_model.Step.{Step, PacketReceived}
-use Rattle.journal_indications.specs.journal_data.link_model.Verdicts.{pdu_of}
+use Rattle.journal_endings.specs.journal_indications.journal_data.journal_links.LinkLines.{line_of}
+use Rattle.journal_endings.specs.journal_indications.journal_data.link_model.Acknowledgement.{Pdu}
+use Rattle.journal_endings.specs.journal_indications.journal_data.link_model.End.{facts_of, notes_after}
+use Rattle.journal_endings.specs.journal_indications.journal_data.link_model.Entering.{done_notes}
+use Rattle.journal_endings.specs.journal_indications.journal_data.link_model.Facts.{Facts}
+use Rattle.journal_endings.specs.journal_indications.journal_data.link_model.Packets.{good_pdu}
+use Rattle.journal_endings.specs.journal_indications.journal_data.link_model.Receiving.{accepts, acked_kind, acks_control, control_acked_if, facts_before_taking, given_if, given_notes, has_acknowledged, notes_hearing, received_notes, refused_notes, took_notes_if}
+use Rattle.journal_endings.specs.journal_indications.journal_data.link_model.Setup.{Setup}
+use Rattle.journal_endings.specs.journal_indications.journal_data.link_model.Step.{Step, PacketReceived}
+use Rattle.journal_endings.specs.journal_indications.journal_data.link_model.Verdicts.{pdu_of}
 use Rattle.link_procedures.specs.Running.{runs_at}
 use Rattle.link_procedures.proofs.Steps.{acked_goes}
-use Rattle.journal_indications.specs.journal_data.link_model.Controls.{is_procedure_pdu}
-use Rattle.journal_indications.specs.journal_data.link_model.Data.{is_empty}
+use Rattle.journal_endings.specs.journal_indications.journal_data.link_model.Controls.{is_procedure_pdu}
+use Rattle.journal_endings.specs.journal_indications.journal_data.link_model.Data.{is_empty}
 use Rattle.collision_steps.specs.CentralPart.{central_of}
-use Rattle.journal_indications.specs.journal_data.link_model.ControlSteps.{control_steps_of}
-use Rattle.journal_indications.specs.journal_data.link_model.Setup.{first_anchor, first_params}
-use Rattle.journal_indications.proofs.journal_data.link_model.ControlSteps.{keeps_role, past_goes as control_goes}
-use Rattle.link_calls.proofs.control_model.Moving.{role_after}
+use Rattle.journal_endings.specs.journal_indications.journal_data.link_model.ControlSteps.{control_steps_of}
+use Rattle.journal_endings.specs.journal_indications.journal_data.link_model.Setup.{first_anchor, first_params}
+use Rattle.journal_endings.proofs.journal_indications.journal_data.link_model.ControlSteps.{keeps_role, past_goes as control_goes}
+use Rattle.journal_endings.proofs.link_calls.control_model.Moving.{role_after}
 use Rattle.link_procedures.proofs.Seen.{at_central, same_kind}
-use Rattle.link_runs.specs.link_pairs.control_model.Control.{Control, SeesAcknowledged, Step as ControlStep, after, after_all, first_control}
-use Rattle.link_runs.specs.link_pairs.procedure_stages.Kinds.{is_kind, own_kind, role_of}
+use Rattle.journal_endings.specs.link_runs.link_pairs.control_model.Control.{Control, SeesAcknowledged, Step as ControlStep, after, after_all, first_control}
+use Rattle.journal_endings.specs.link_runs.link_pairs.procedure_stages.Kinds.{is_kind, own_kind, role_of}
 use Rattle.link_procedures.specs.Running.{runs_after as note_runs}
-use Rattle.link_runs.specs.link_pairs.control_end.declared.answers.Taken.{Taken}
+use Rattle.journal_endings.specs.link_runs.link_pairs.control_end.declared.answers.Taken.{Taken}
 use Rattle.journal_collisions.specs.Collisions.{runs_after}
 use Rattle.run_collisions.specs.Prevailing.{seen, seen_by}
 

@@ -5,31 +5,31 @@ use Rattle.std.proofs.lemmas.List.Elements.{All-append, All-head, All-nil, All-t
 use Rattle.ble_base.specs.declared.notes.Note.{Note}
 use Rattle.ble_base.specs.declared.notes.Note.TheVariants.{Sent}
 use Rattle.ble_base.specs.declared.roles.Role.TheVariants.{Central}
-use Rattle.controller_model.specs.Facts.{Facts, Setup}
-use Rattle.controller_model.specs.Heard.{has_room, link_heard, link_received, replies_in, reply_if}
-use Rattle.controller_model.specs.Outcome.{notes_passed}
-use Rattle.controller_model.specs.Packets.{notes_doing, notes_sent}
-use Rattle.controller_model.specs.Radio.{outcome_begun}
-use Rattle.controller_model.specs.Side.{facts_after, facts_of, notes_after}
-use Rattle.controller_model.specs.Step.{Step, HostOctet, TurnBegins, PacketHeard, NothingHeard, TurnEnds}
-use Rattle.controller_model.proofs.Handles.{own_handles}
-use Rattle.link_calls.specs.Phases.{link_receiving}
-use Rattle.link_calls.specs.Turns.{fixed_if}
-use Rattle.link_calls.proofs.CallNotes.{HasNoData, SendsNone, all_more, end_noted, is_sending, no_data, notes_starting, octet_noted, start_noted}
-use Rattle.link_calls.proofs.LinkCalls.{begins_under, receiving_setup, received_noted, taking_sends}
-use Rattle.journal_indications.specs.journal_data.link_model.Controls.{pdu_fixed}
-use Rattle.journal_indications.specs.journal_data.link_model.Acknowledgement.{Pdu}
-use Rattle.journal_indications.specs.journal_data.link_model.Sending.{sent_notes, sent_notes_if}
-use Rattle.journal_indications.specs.journal_data.link_model.Setup.{Setup as EndSetup}
-use Rattle.journal_indications.specs.journal_data.link_model.Step.{PacketSent, PduFixed}
-use Rattle.journal_indications.specs.journal_data.open_links.OpenLinks.{OpenLink, facts_in, link_after, link_at}
-use Rattle.journal_indications.specs.journal_data.open_links.Turns.{link_entered}
-use Rattle.journal_indications.specs.journal_data.run_model.Run.{step_of}
-use Rattle.journal_indications.proofs.journal_data.journal_acks.DataCalls.{on_link_notes, own_begun, received_at, sent_at, unfound}
-use Rattle.journal_indications.proofs.journal_data.journal_acks.PhaseNotes.{IsOnLink, IsPhaseOf, IsPlainPhase, SendsFrom, SendsNothing, SendsOne, phase_of, sends_from}
-use Rattle.journal_indications.proofs.journal_data.open_links.Handles.{handle_is}
-use Rattle.journal_indications.proofs.journal_data.run_laws.LinkPhases.{begins_in}
-use Rattle.run_pairs.proofs.EndCalls.{central_sends, central_silent}
+use Rattle.journal_endings.specs.controller_model.Facts.{Facts, Setup}
+use Rattle.journal_endings.specs.controller_model.Heard.{has_room, link_heard, link_received, replies_in, reply_if}
+use Rattle.journal_endings.specs.controller_model.Outcome.{notes_passed}
+use Rattle.journal_endings.specs.controller_model.Packets.{notes_doing, notes_sent}
+use Rattle.journal_endings.specs.controller_model.Radio.{outcome_begun}
+use Rattle.journal_endings.specs.controller_model.Side.{facts_after, facts_of, notes_after}
+use Rattle.journal_endings.specs.controller_model.Step.{Step, HostOctet, TurnBegins, PacketHeard, NothingHeard, TurnEnds}
+use Rattle.journal_endings.proofs.controller_model.Handles.{own_handles}
+use Rattle.journal_endings.specs.link_calls.Phases.{link_receiving}
+use Rattle.journal_endings.specs.link_calls.Turns.{fixed_if}
+use Rattle.journal_endings.proofs.link_calls.CallNotes.{HasNoData, SendsNone, all_more, end_noted, is_sending, no_data, notes_starting, octet_noted, start_noted}
+use Rattle.journal_endings.proofs.link_calls.LinkCalls.{begins_under, receiving_setup, received_noted, taking_sends}
+use Rattle.journal_endings.specs.journal_indications.journal_data.link_model.Controls.{pdu_fixed}
+use Rattle.journal_endings.specs.journal_indications.journal_data.link_model.Acknowledgement.{Pdu}
+use Rattle.journal_endings.specs.journal_indications.journal_data.link_model.Sending.{sent_notes, sent_notes_if}
+use Rattle.journal_endings.specs.journal_indications.journal_data.link_model.Setup.{Setup as EndSetup}
+use Rattle.journal_endings.specs.journal_indications.journal_data.link_model.Step.{PacketSent, PduFixed}
+use Rattle.journal_endings.specs.journal_indications.journal_data.open_links.OpenLinks.{OpenLink, facts_in, link_after, link_at}
+use Rattle.journal_endings.specs.journal_indications.journal_data.open_links.Turns.{link_entered}
+use Rattle.journal_endings.specs.journal_indications.journal_data.run_model.Run.{step_of}
+use Rattle.journal_endings.proofs.journal_indications.journal_data.journal_acks.DataCalls.{on_link_notes, own_begun, received_at, sent_at, unfound}
+use Rattle.journal_endings.proofs.journal_indications.journal_data.journal_acks.PhaseNotes.{IsOnLink, IsPhaseOf, IsPlainPhase, SendsFrom, SendsNothing, SendsOne, phase_of, sends_from}
+use Rattle.journal_endings.proofs.journal_indications.journal_data.open_links.Handles.{handle_is}
+use Rattle.journal_endings.proofs.journal_indications.journal_data.run_laws.LinkPhases.{begins_in}
+use Rattle.journal_endings.proofs.run_pairs.EndCalls.{central_sends, central_silent}
 
 -- ---- lists of notes
 
@@ -64,6 +64,17 @@ last_is (first ∷ start) last [] later note none short sends is =
 last_is (first ∷ start) last (other ∷ earlier) later note none short sends is =
     let rest : start ++ last ≡ earlier ++ note ∷ later = cc in last_is start last earlier later note (All-tail SendsNone first start none) short sends rest
 
+-- nothing is noted after it
+last_alone : (start earlier later : List Note) (note : Note) → All SendsNone start → is_sending note ≡ true
+    → start ++ note ∷ [] ≡ earlier ++ note ∷ later → later ≡ []
+last_alone [] [] later note none sends is = let rest : [] ≡ later = cc in sym rest
+last_alone [] (first ∷ earlier) later note none sends is = let rest : [] ≡ earlier ++ note ∷ later = cc in no_notes earlier later note _ rest
+last_alone (first ∷ start) [] later note none sends is =
+    let same : first ≡ note = cc in
+    absurd (let h : true ≡ false = sym sends ∙ ap is_sending (sym same) ∙ All-head SendsNone first start none in absurd cc)
+last_alone (first ∷ start) (other ∷ earlier) later note none sends is =
+    let rest : start ++ note ∷ [] ≡ earlier ++ note ∷ later = cc in last_alone start earlier later note (All-tail SendsNone first start none) sends rest
+
 unsent_none : (notes earlier later : List Note) (note : Note) (X : Type 0) → All SendsNone notes → is_sending note ≡ true → notes ≡ earlier ++ note ∷ later → X
 unsent_none notes earlier later note X none sends is =
     absurd (let h : true ≡ false = sym sends ∙ in_middle SendsNone earlier later note (subst (All SendsNone) is none) in absurd cc)
@@ -78,7 +89,7 @@ sent_short false handle number pdu = IsNone refl
 -- ---- the call
 
 -- the link under the handle enters its event where that is due, fixes its PDU, and notes that it sends this one
-pub record IsSentAtBegin (step : Step) (handle count llid : ℕ) (body : List ℕ) (link : OpenLink) : Type 0 where
+pub record IsSentAtBegin (setup : Setup) (facts : Facts) (later : List Note) (step : Step) (handle count llid : ℕ) (body : List ℕ) (link : OpenLink) : Type 0 where
   pub slot : ℕ
   pub on : Bool
   pub step_is : step ≡ TurnBegins slot on
@@ -86,6 +97,10 @@ pub record IsSentAtBegin (step : Step) (handle count llid : ℕ) (body : List �
   pub setup_is : base.setup ≡ link.setup
   pub past_is : base.past ≡ (link_entered slot link).past ++ PduFixed ∷ []
   pub notes : sent_notes base.setup (facts_in base) ≡ Sent handle count llid (record { items = body }) ∷ []
+  -- it is the last note of the call, after which the link is open
+  pub last : later ≡ []
+  pub sent_slot : ℕ
+  pub then_open : link_at handle (facts_after setup facts step).links ≡ Some (link_after (PacketSent sent_slot) base)
 
 own_note : (own number other counted llid : ℕ) (pdu : Pdu) (body : List ℕ) (noted : Bool)
     → sent_notes_if noted own number pdu ≡ Sent other counted llid (record { items = body }) ∷ [] → own ≡ other
@@ -106,11 +121,12 @@ fixed_setup false one entered is = ap (λ (l : OpenLink). l.setup) is
 
 -- a call that notes a PDU of a link as sent: the link was open before, and it is a turn that begins or, of a peripheral,
 -- its answer
-pub data IsSentIn (facts : Facts) (step : Step) (handle count llid : ℕ) (body : List ℕ) : Type 0 where
+pub data IsSentIn (setup : Setup) (facts : Facts) (later : List Note) (step : Step) (handle count llid : ℕ) (body : List ℕ) : Type 0 where
   AtBegin : (link : OpenLink) → link_at handle facts.links ≡ Some link
-      → (link.setup.link.role ≡ Central → IsSentAtBegin step handle count llid body link) → IsSentIn facts step handle count llid body
+      → (link.setup.link.role ≡ Central → IsSentAtBegin setup facts later step handle count llid body link)
+      → IsSentIn setup facts later step handle count llid body
   AsAnswer : (link : OpenLink) → link_at handle facts.links ≡ Some link → (link.setup.link.role ≡ Central → ⊥)
-      → IsSentIn facts step handle count llid body
+      → IsSentIn setup facts later step handle count llid body
 
 module _ (setup : Setup) (past : List Step) (earlier later : List Note) (handle count llid : ℕ) (body : List ℕ) where
   abbrev facts : Facts
@@ -120,7 +136,7 @@ module _ (setup : Setup) (past : List Step) (earlier later : List Note) (handle 
   note = Sent handle count llid (record { items = body })
 
   abbrev Is : Step → Type 0
-  Is step = IsSentIn facts step handle count llid body
+  Is step = IsSentIn setup facts later step handle count llid body
 
   begun_sent : (slot : ℕ) (on : Bool) → notes_after setup facts (TurnBegins slot on) ≡ earlier ++ note ∷ later
       → SendsFrom (outcome_begun slot on facts).next (outcome_begun slot on facts).facts → Is (TurnBegins slot on)
@@ -154,6 +170,14 @@ module _ (setup : Setup) (past : List Step) (earlier later : List Note) (handle 
             (begins_in setup slot on facts) (ap (λ (e : EndSetup). e.link.role) base_setup ∙ role) ∙ sends) begun.base_is
             ∙ ap (λ xs. xs ++ PduFixed ∷ []) begun.past_is;
         notes = last;
+        last =
+            last_alone (notes_starting slot facts) earlier later note
+            (no_data_sent (notes_starting slot facts) (start_noted HasNoData no_data slot facts)) refl
+            (ap (λ xs. notes_starting slot facts ++ xs) (sym last) ∙ ap (λ xs. notes_starting slot facts ++ xs) (sym noted) ∙ is);
+        sent_slot = outcome.facts.turn.slot;
+        then_open =
+            let opened : link_at other then_on.links ≡ Some after = sent_at outcome.facts.turn.slot other outcome.next outcome.facts.links base sends found in
+            ap (λ n. link_at n then_on.links) (sym same) ∙ opened;
       })
 
   -- octets are received on a link

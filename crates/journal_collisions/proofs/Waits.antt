@@ -17,29 +17,29 @@ use Rattle.data_pdu.specs.declared.header.DataHeader.{DataHeader}
 use Rattle.data_pdu.specs.Header.{header_in}
 use Rattle.data_pdu.specs.Layouts.{written}
 use Rattle.instants.specs.Track.{event_of}
-use Rattle.link_calls.proofs.CallNotes.{is_sending}
-use Rattle.link_runs.specs.link_pairs.control_model.Control.{Control, Step as ControlStep, after, after_all}
-use Rattle.link_runs.specs.link_pairs.procedure_stages.Queue.{waiting_in}
-use Rattle.link_runs.specs.link_pairs.procedure_values.Drafts.{ctrl_of_outgoing}
-use Rattle.link_runs.specs.link_pairs.procedure_values.declared.asks.Ask.{Ask}
-use Rattle.link_runs.specs.link_pairs.procedure_values.declared.drafts.Outgoing.TheVariants.{Rejection}
-use Rattle.link_runs.specs.link_pairs.procedure_values.declared.drafts.Rejection.{Rejection as TheRejection}
-use Rattle.journal_indications.specs.journal_data.link_model.Acknowledgement.{Pdu, is_acked}
-use Rattle.journal_indications.specs.journal_data.link_model.ControlSteps.{control_steps_in}
-use Rattle.journal_indications.specs.journal_data.link_model.Controls.{goes_on, is_procedure_pdu, next_control, pdu_fixed}
-use Rattle.journal_indications.specs.journal_data.link_model.Data.{Data, data_acked_if, data_given, data_sent_if, is_control, is_data, is_empty, numbered, pdu_with, llid_of}
-use Rattle.journal_indications.specs.journal_data.link_model.End.{facts_after, facts_of, notes_after, notes_from}
-use Rattle.journal_indications.specs.journal_data.link_model.Entering.{facts_entered_if}
-use Rattle.journal_indications.specs.journal_data.link_model.Facts.{Facts, first_facts}
-use Rattle.journal_indications.specs.journal_data.link_model.Fixing.{data_cut, data_fixed_by, data_goes, facts_fixed, fixed_anew}
-use Rattle.journal_indications.specs.journal_data.link_model.Hosts.{asked_unless, is_to_come}
-use Rattle.journal_indications.specs.journal_data.link_model.Packets.{good_pdu}
-use Rattle.journal_indications.specs.journal_data.link_model.Receiving.{accepted_if, accepts, facts_before_taking, facts_hearing, facts_received, has_acknowledged, procedures_take_if}
-use Rattle.journal_indications.specs.journal_data.link_model.Sending.{control_gone_if, sent_notes, sent_notes_if, takes_leave}
-use Rattle.journal_indications.specs.journal_data.link_model.Setup.{Setup}
-use Rattle.journal_indications.specs.journal_data.link_model.Step.{Step, DataGiven, DataReported, Disconnected, EventEntered, PacketReceived, PacketSent, PduFixed, ProcedureAsked, RequestAnswered}
-use Rattle.journal_indications.specs.journal_data.link_model.Verdicts.{pdu_of}
-use Rattle.journal_indications.proofs.journal_data.link_model.ControlSteps.{one_step}
+use Rattle.journal_endings.proofs.link_calls.CallNotes.{is_sending}
+use Rattle.journal_endings.specs.link_runs.link_pairs.control_model.Control.{Control, Step as ControlStep, after, after_all}
+use Rattle.journal_endings.specs.link_runs.link_pairs.procedure_stages.Queue.{waiting_in}
+use Rattle.journal_endings.specs.link_runs.link_pairs.procedure_values.Drafts.{ctrl_of_outgoing}
+use Rattle.journal_endings.specs.link_runs.link_pairs.procedure_values.declared.asks.Ask.{Ask}
+use Rattle.journal_endings.specs.link_runs.link_pairs.procedure_values.declared.drafts.Outgoing.TheVariants.{Rejection}
+use Rattle.journal_endings.specs.link_runs.link_pairs.procedure_values.declared.drafts.Rejection.{Rejection as TheRejection}
+use Rattle.journal_endings.specs.journal_indications.journal_data.link_model.Acknowledgement.{Pdu, is_acked}
+use Rattle.journal_endings.specs.journal_indications.journal_data.link_model.ControlSteps.{control_steps_in}
+use Rattle.journal_endings.specs.journal_indications.journal_data.link_model.Controls.{goes_on, is_procedure_pdu, next_control, pdu_fixed}
+use Rattle.journal_endings.specs.journal_indications.journal_data.link_model.Data.{Data, data_acked_if, data_given, data_sent_if, is_control, is_data, is_empty, numbered, pdu_with, llid_of}
+use Rattle.journal_endings.specs.journal_indications.journal_data.link_model.End.{facts_after, facts_of, notes_after, notes_from}
+use Rattle.journal_endings.specs.journal_indications.journal_data.link_model.Entering.{facts_entered_if}
+use Rattle.journal_endings.specs.journal_indications.journal_data.link_model.Facts.{Facts, first_facts}
+use Rattle.journal_endings.specs.journal_indications.journal_data.link_model.Fixing.{data_cut, data_fixed_by, data_goes, facts_fixed, fixed_anew}
+use Rattle.journal_endings.specs.journal_indications.journal_data.link_model.Hosts.{asked_unless, is_to_come}
+use Rattle.journal_endings.specs.journal_indications.journal_data.link_model.Packets.{good_pdu}
+use Rattle.journal_endings.specs.journal_indications.journal_data.link_model.Receiving.{accepted_if, accepts, facts_before_taking, facts_hearing, facts_received, has_acknowledged, procedures_take_if}
+use Rattle.journal_endings.specs.journal_indications.journal_data.link_model.Sending.{control_gone_if, sent_notes, sent_notes_if, takes_leave}
+use Rattle.journal_endings.specs.journal_indications.journal_data.link_model.Setup.{Setup}
+use Rattle.journal_endings.specs.journal_indications.journal_data.link_model.Step.{Step, DataGiven, DataReported, Disconnected, EventEntered, PacketReceived, PacketSent, PduFixed, ProcedureAsked, RequestAnswered}
+use Rattle.journal_endings.specs.journal_indications.journal_data.link_model.Verdicts.{pdu_of}
+use Rattle.journal_endings.proofs.journal_indications.journal_data.link_model.ControlSteps.{one_step}
 use Rattle.link_indications.proofs.Controls.{goes_before}
 use Rattle.run_collisions.specs.Prevailing.{next_outgoing}
 use Rattle.run_collisions.specs.Waiting.{facts_from, sends_control, sends_no_control}

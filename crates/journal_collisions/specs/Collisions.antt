@@ -11,8 +11,8 @@ use Rattle.data_pdu.specs.declared.ctrl.CtrlRead.TheVariants.{Known}
 use Rattle.data_pdu.specs.declared.ctrl.Ctrl.TheVariants.{ConnectionParamReq, PhyReq, RejectExtInd, TerminateInd}
 use Rattle.journal.specs.declared.entries.Entry.{Entry}
 use Rattle.journal.specs.declared.entries.Entry.TheVariants.{Began, Done, Refused, Sent, Took}
-use Rattle.journal_indications.specs.journal_data.journal_links.Begun.{LinkBegun, link_numbered}
-use Rattle.journal_indications.specs.journal_data.journal_links.LinkLines.{lines_of}
+use Rattle.journal_endings.specs.journal_indications.journal_data.journal_links.Begun.{LinkBegun, link_numbered}
+use Rattle.journal_endings.specs.journal_indications.journal_data.journal_links.LinkLines.{lines_of}
 use Rattle.procedure_stages.specs.Collisions.{are_incompatible, collision_code}
 use Rattle.procedure_stages.specs.Opcodes.{connection_param_req_opcode, phy_req_opcode}
 use Rattle.procedure_values.specs.Asks.{is_same_kind}

@@ -5,7 +5,7 @@ use Rattle.ble_base.specs.declared.procedure_kinds.Kind.TheVariants.{Map, Reques
 use Rattle.ble_base.specs.declared.roles.Side.TheVariants.{A, B}
 use Rattle.journal.specs.declared.entries.Entry.{Entry}
 use Rattle.journal.specs.declared.entries.Entry.TheVariants.{Began, Done, Refused, Sent, Took}
-use Rattle.journal_indications.specs.journal_data.run_model.Rows.{one_connection_journal}
+use Rattle.journal_endings.specs.journal_indications.journal_data.run_model.Rows.{one_connection_journal}
 
 -- LL_CONNECTION_PARAM_REQ of the peripheral: an interval of 32 slots, no latency, a timeout of 720 ms, and no offsets
 abbrev pub request_octets : List ℕ
@@ -49,3 +49,19 @@ refused_otherwise = rejection_taken ++ Refused A 1 Request (record { 0 = 0x23 })
 -- it is done
 abbrev pub done_all_the_same : List Entry
 done_all_the_same = rejection_taken ++ Done A 1 Request ∷ []
+
+-- ---- an indication that comes of the request, or of no procedure
+
+-- LL_CONNECTION_UPDATE_IND of the central: a window of 1 slot at 0, an interval of 32 slots, no latency, a timeout of 720
+-- ms, from event 6 on
+abbrev pub update_octets : List ℕ
+update_octets =
+    0x00 ∷ 0x01 ∷ 0x00 ∷ 0x00 ∷ 0x20 ∷ 0x00 ∷ 0x00 ∷ 0x00 ∷ 0x48 ∷ 0x00 ∷ 0x06 ∷ 0x00 ∷ []
+
+-- the central grants the request that it rejected
+abbrev pub granted_all_the_same : List Entry
+granted_all_the_same = sent_next (rejection 0x0F 0x2A) ++ Sent B 1 2 3 update_octets ∷ []
+
+-- its map is done, and comes once more
+abbrev pub map_once_more : List Entry
+map_once_more = sent_next (rejection 0x0F 0x2A) ++ Done B 1 Map ∷ Sent B 1 2 3 map_octets ∷ []

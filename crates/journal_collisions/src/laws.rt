@@ -3,10 +3,11 @@
 ghost use Rattle.std.specs.Prelude.{◌≡◌, ◌∷◌, [], ℕ, List, length};
 ghost use Rattle.radio_replay.specs.Script.{Script};
 ghost use Rattle.journal_collisions.specs.Collisions.{AllAreRefused, AllAreRejectedNext};
-ghost use Rattle.journal_indications.specs.journal_data.run_model.Journal.{journal_of};
-ghost use Rattle.journal_indications.specs.journal_data.run_model.LinkEnds.{HaveAddresses};
-ghost use Rattle.journal_indications.specs.journal_data.run_model.Pair.{given_of};
-ghost use Rattle.journal_indications.specs.journal_data.run_model.Run.{Given, history_of, run_of};
+ghost use Rattle.journal_collisions.specs.Outcomes.{NoneIsIndicated};
+ghost use Rattle.journal_endings.specs.journal_indications.journal_data.run_model.Journal.{journal_of};
+ghost use Rattle.journal_endings.specs.journal_indications.journal_data.run_model.LinkEnds.{HaveAddresses};
+ghost use Rattle.journal_endings.specs.journal_indications.journal_data.run_model.Pair.{given_of};
+ghost use Rattle.journal_endings.specs.journal_indications.journal_data.run_model.Run.{Given, history_of, run_of};
 
 /// In the journal of a run of two stations, with any number of links each, whole or ended by
 /// damage: where a central takes the first PDU of a procedure of the peripheral while its own
@@ -21,7 +22,7 @@ pub fn colliding_procedures_are_rejected_next()
         → length script.a.public ≡ 6 → length script.b.public ≡ 6
         → AllAreRejectedNext (journal_of (history_of (run_of (given_of a b script)))) }
 {
-    controller_model::a_pdu_is_understood();
+    journal_endings::a_pdu_is_understood();
     advertise::laws::connections_are_taken();
     scan_init::laws::searches_give_each_valid_address();
     air_frame::laws::packet_tells_its_pdu();
@@ -39,9 +40,29 @@ pub fn rejected_procedures_are_refused()
         → length script.a.public ≡ 6 → length script.b.public ≡ 6
         → AllAreRefused (journal_of (history_of (run_of (given_of a b script)))) }
 {
-    controller_model::a_pdu_is_understood();
+    journal_endings::a_pdu_is_understood();
     advertise::laws::connections_are_taken();
     scan_init::laws::searches_give_each_valid_address();
     air_frame::laws::packet_tells_its_pdu();
     run_collisions::rejected_procedures_are_refused_in_each_run();
+}
+
+/// In the journal of a run of two stations, with any number of links each, whole or ended by
+/// damage: no indication of the central comes of a procedure of the peripheral that collided. Each
+/// that the central sends after it took the first PDU of that is of its own procedure, in progress
+/// by its lines, or answers a first PDU that it took later (Core 5.2, volume 6 part B, sections
+/// 5.1.1, 5.1.2, 5.1.7, 5.1.10 and 5.3).
+pub fn rejected_procedures_are_not_indicated()
+    ensures two_stations { (given : Given) → given.stations ≡ 0 ∷ 1 ∷ [] → HaveAddresses given
+        → NoneIsIndicated (journal_of (history_of (run_of given))) }
+    ensures pair { (a b : List ℕ) (script : Script)
+        → length script.a.public ≡ 6 → length script.b.public ≡ 6
+        → NoneIsIndicated (journal_of (history_of (run_of (given_of a b script)))) }
+{
+    journal_endings::a_pdu_is_understood();
+    advertise::laws::connections_are_taken();
+    scan_init::laws::searches_give_each_valid_address();
+    air_frame::laws::packet_tells_its_pdu();
+    run_collisions::the_central_prevails_in_each_run();
+    run_collisions::control_pdus_do_not_cross_in_each_run();
 }

@@ -1,15 +1,19 @@
 //! Control procedures that collide, by the lines of the journal of each run: the central rejects
-//! that of the peripheral next, and where the peripheral takes the rejection, its procedure is
-//! refused. Definitions and laws; no code.
+//! that of the peripheral next and sends no indication of it, and where the peripheral takes the
+//! rejection, its procedure is refused. Definitions and laws; no code.
 #![tactic(auto)]
 
 mod laws;
 mod rows;
 
-pub use crate::laws::{colliding_procedures_are_rejected_next, rejected_procedures_are_refused};
-pub use crate::rows::{worked_collision, wrong_collisions_are_refused};
+pub use crate::laws::{
+    colliding_procedures_are_rejected_next, rejected_procedures_are_not_indicated,
+    rejected_procedures_are_refused,
+};
+pub use crate::rows::{worked_collision, wrong_collisions_are_refused, wrong_outcomes_are_refused};
 
 // What the crates above call of those below.
-pub use journal_indications::{
+pub use journal_endings::{
     ends_enter_each_event_alike_in_every_journal, ends_follow_their_central_in_every_journal,
+    no_link_ends_by_a_protocol_error,
 };

@@ -4,10 +4,12 @@ ghost use Rattle.ble_base.specs.declared.procedure_kinds.Kind.{Kind};
 ghost use Rattle.ble_base.specs.declared.roles.Side.TheVariants.{A, B};
 ghost use Rattle.journal_collisions.specs.Collisions.{AllAreRefused, AllAreRejectedNext};
 ghost use Rattle.journal_collisions.specs.Collisions.{Collides, IsRejection, runs_on};
-ghost use Rattle.journal_collisions.specs.Rows.{both_begun, done_all_the_same, map_octets};
+ghost use Rattle.journal_collisions.specs.Outcomes.{NoneIsIndicated};
+ghost use Rattle.journal_collisions.specs.Rows.{both_begun, done_all_the_same};
+ghost use Rattle.journal_collisions.specs.Rows.{granted_all_the_same, map_octets, map_once_more};
 ghost use Rattle.journal_collisions.specs.Rows.{refused_otherwise, rejected_second, rejection};
 ghost use Rattle.journal_collisions.specs.Rows.{request_octets, sent_next};
-ghost use Rattle.journal_indications.specs.journal_data.journal_links.Rows.{one_link};
+ghost use Rattle.journal_endings.specs.journal_indications.journal_data.journal_links.Rows.{one_link};
 
 /// A channel map of the central and a request of the peripheral cross on a link. The central takes
 /// the request while its map is in progress: the two collide, and are of two kinds, so the
@@ -30,4 +32,11 @@ pub fn wrong_collisions_are_refused()
     ensures indication { AllAreRejectedNext (sent_next map_octets) → ⊥ }
     ensures refused { AllAreRefused refused_otherwise → ⊥ }
     ensures done { AllAreRefused done_all_the_same → ⊥ }
+{}
+
+/// The central grants the request that it rejected, by LL_CONNECTION_UPDATE_IND; or sends a channel
+/// map once more, with no such procedure in progress.
+pub fn wrong_outcomes_are_refused()
+    ensures update { NoneIsIndicated granted_all_the_same → ⊥ }
+    ensures map { NoneIsIndicated map_once_more → ⊥ }
 {}

@@ -1,5 +1,5 @@
 -- A central that takes the first PDU of a procedure of the peripheral while its own is in progress.
-use Rattle.std.proofs.Common.{◌≡◌, ℕ, ◌+◌, ◌≤◌, ◌&&◌, ◌||◌, not, Bool, true, false, List, [], length, Option, None, Some, is_some, refl, ap, sym, ◌∙◌, subst, if◌then◌else◌}
+use Rattle.std.proofs.Common.{◌≡◌, ℕ, ◌+◌, ◌≤◌, ◌&&◌, ◌||◌, not, Bool, true, false, List, [], ◌∷◌, length, Option, None, Some, is_some, refl, ap, sym, ◌∙◌, subst, if◌then◌else◌}
 use Rattle.std.proofs.lemmas.Bool.{and_from, and_parts, eq-eqb, or_right}
 use Rattle.ack_bit.specs.AckBits.{is_odd}
 use Rattle.ble_base.specs.declared.roles.Role.{Role}
@@ -12,7 +12,8 @@ use Rattle.exclusive_stages.specs.declared.pdus.Exclusive.{Exclusive}
 use Rattle.exclusive_stages.specs.Kinds.{central_kind}
 use Rattle.collision_steps.specs.CentralPart.{central_of}
 use Rattle.joint_collisions.specs.Arrivals.{Collides, collided}
-use Rattle.joint_collisions.specs.Facts.{CentralFacts, Facts as ExclusiveFacts, fits_if, fits_up}
+use Rattle.joint_collisions.specs.Facts.{CentralFacts, Facts as ExclusiveFacts, IsState, fits_if, fits_up}
+use Rattle.joint_collisions.proofs.Runs.{before_of}
 use Rattle.joint_laws.specs.Prevailing.{CentralPrevails}
 use Rattle.joint_laws.specs.joint_controls.Ends.{IsSentOn}
 use Rattle.joint_laws.specs.joint_controls.Joint.{CentralAcked, CentralTakes, Clear, Control as control_item, Joint, JointStep, OnAir, Way, act, after_all, central_takes, is_running, next_out, is_taken, item_on_air, may, may_act, may_all, no_response, taking}
@@ -60,9 +61,15 @@ use Rattle.link_pairs.proofs.Ways.{arrives}
 use Rattle.link_pairs.proofs.TakingPdus.{asks_nothing}
 use Rattle.unencrypted_ends.proofs.Going.{acknowledged_goes}
 use Rattle.unencrypted_ends.proofs.Taking.{takes_goes}
-use Rattle.run_collisions.specs.Prevailing.{Prevails, TakesColliding, seen, seen_by}
+use Rattle.link_answers.specs.Owing.{Owes}
+use Rattle.run_collisions.specs.Prevailing.{Prevails, first_of, seen, seen_by}
+use Rattle.run_collisions.specs.Refused.{is_refusing}
+use Rattle.run_collisions.specs.Taking.{TakesControl}
+use Rattle.run_collisions.proofs.Crossing.{crosses_none, none_on_way, other_free}
 use Rattle.run_collisions.proofs.FirstPdus.{IsFirst, begins_none, is_first, terminates_none}
 use Rattle.run_collisions.proofs.OnWay.{IsOnWay, came, read_known}
+use Rattle.run_collisions.proofs.OwedStates.{owed_alone}
+use Rattle.run_collisions.proofs.RefusalsUp.{none_refused}
 use Rattle.run_collisions.proofs.TakingNotes.{IsTaken, is_noted, taken_at}
 
 -- ---- it sees its last PDU acknowledged, or does not
@@ -80,11 +87,11 @@ seen_plain false knows k = refl
 
 -- ---- the central hears the packet
 
-module _ (whole : IsHeardWhole) (central peripheral : Setup) (slot : ℕ) (c p : Facts) (channel : ℕ) (octets : List ℕ) (room : Bool) (own other : Exclusive)
+module _ (whole : IsHeardWhole) (central peripheral : Setup) (slot : ℕ) (c p : Facts) (channel : ℕ) (octets : List ℕ) (room : Bool)
     (ends : AreEnds central peripheral) (linked : AreLinked central peripheral (slot + 1) true c p) (c_lasts : is_lasting c ≡ true)
     (p_lasts : is_lasting p ≡ true) (past : heard_turns central c ≤ slot) (entered : 1 ≤ c.control.track.entered)
     (packet : IsPacketOf peripheral slot p channel octets) (same : channel ≡ c.event.channel)
-    (colliding : TakesColliding central c slot octets room own other) where
+    (taken : TakesControl central c slot octets room) where
   abbrev l : Link
   l = link_now central peripheral ends (slot + 1) true c p linked c_lasts p_lasts
 
@@ -147,10 +154,10 @@ module _ (whole : IsHeardWhole) (central peripheral : Setup) (slot : ℕ) (c p :
 
   -- what it takes
 
-  took : IsTaken (is_noted central slot room header last c) last 3 colliding.body
+  took : IsTaken (is_noted central slot room header last c) last 3 taken.body
   took =
-      taken_at central slot room header last c colliding.earlier colliding.later central.link.handle colliding.number 3 colliding.body
-      (sym notes_are ∙ colliding.notes)
+      taken_at central slot room header last c taken.earlier taken.later central.link.handle taken.number 3 taken.body
+      (sym notes_are ∙ taken.notes)
 
   accepted_parts : (accepts room header last (facts_before_taking central.link.role slot header c) ≡ true) × (not (is_empty last) ≡ true)
   accepted_parts = and_parts (accepts room header last (facts_before_taking central.link.role slot header c)) (not (is_empty last)) took.taken_now
@@ -170,11 +177,11 @@ module _ (whole : IsHeardWhole) (central peripheral : Setup) (slot : ℕ) (c p :
   procedure = and_from (is_control last) (not (is_empty last)) (eq-eqb last.llid 3 took.llid_is) accepted_parts.1
 
   abbrev ctrl : Ctrl
-  ctrl = colliding.ctrl
+  ctrl = taken.ctrl
 
   read_is : read_of last ≡ Known ctrl
   read_is =
-      (λ i. read_supported (ctrl_of (took.body_is i))) ∙ ap read_supported colliding.is ∙ read_known ctrl (begins_none other ctrl colliding.first)
+      (λ i. read_supported (ctrl_of (took.body_is i))) ∙ ap read_supported taken.is ∙ read_known ctrl taken.plain
 
   says : Says c.acknowledgement p.acknowledgement acks fresh
   says = says_right c.acknowledgement p.acknowledgement s.agreement header read.bits read.out
@@ -260,100 +267,127 @@ module _ (whole : IsHeardWhole) (central peripheral : Setup) (slot : ℕ) (c p :
       (tied run1.steps (first_joint central peripheral)
       (first_tied central.link.max_rx peripheral.link.max_rx (first_params central.link.fields) (first_anchor central))).sent_up)
 
-  begins : IsFirst other way.outgoing
-  begins = is_first other was_sent.event was_sent.latency way.outgoing ctrl was_sent.is fits colliding.first
+  -- no refusal of a procedure that excludes others is among that
+  pub refuses_none : is_refusing taken.ctrl ≡ false
+  refuses_none = none_refused was_sent.event was_sent.latency way.outgoing ctrl was_sent.is fits
 
-  abbrev collides : Collides s1 own other way.outgoing ctrl
-  collides =
-      record {
-        takes = record { slot = slot; sealed = way.sealed; comes = takes_now; on_air = s1_up };
-        pdu = begins.pdu;
-        part = begins.part;
-        first = begins.first;
-        runs = ap (λ (k : Control). central_kind (central_of k.table).own) s1_control ∙ colliding.runs;
-      }
+  -- no control PDU of the central is on its way
+  pub central_taken : is_procedure_pdu c.acknowledgement.last ≡ true → length p.acknowledgement.accepted ≡ length c.acknowledgement.sent
+  central_taken sends =
+      none_on_way l.joint.down c.acknowledgement p.acknowledgement s.agreement s.down
+      (other_free l.joint.up l.joint.down (crosses_none central peripheral ends l reached) way.outgoing ctrl way.sealed way.on_air) sends
 
-  -- then it takes it
+  -- ---- it is the first PDU of a procedure, and the central runs one that excludes it
 
-  abbrev j : Joint
-  j = act (CentralTakes slot) s1
+  module _ (own other : Exclusive) (opens : first_of taken.ctrl ≡ Some other)
+      (runs_own : central_kind (central_of (seen central slot octets c).control.table).own ≡ Some own) where
+    begins : IsFirst other way.outgoing
+    begins = is_first other was_sent.event was_sent.latency way.outgoing ctrl was_sent.is fits opens
 
-  now_is : (link_after step l).joint ≡ j
-  now_is =
-      after_joined first (step_if (takes_item has_room (item_on_air l.joint.up)) (CentralTakes slot)) l.joint
-      ∙ ap (λ (b : Bool). after_all (step_if b (CentralTakes slot)) s1) way.takes_it
-      ∙ after_may (CentralTakes slot) s1 takes_now
+    abbrev collides : Collides s1 own other way.outgoing ctrl
+    collides =
+        record {
+          takes = record { slot = slot; sealed = way.sealed; comes = takes_now; on_air = s1_up };
+          pdu = begins.pdu;
+          part = begins.part;
+          first = begins.first;
+          runs = ap (λ (k : Control). central_kind (central_of k.table).own) s1_control ∙ runs_own;
+        }
 
-  j_control : j.central.control ≡ (received central slot octets room c).control
-  j_control =
-      ap (λ (x : Joint). x.central.control) (sym now_is)
-      ∙ control_heard central peripheral ends slot c p octets room past entered read l reached running s
+    -- then it takes it
 
-  j_is : j ≡ central_takes (OnAir (control_item way.outgoing ctrl) way.sealed) slot s1
-  j_is = ap (λ (w : Way). central_takes w slot s1) s1_up
+    abbrev j : Joint
+    j = act (CentralTakes slot) s1
 
-  j_runs : is_running j ≡ true
-  j_runs =
-      running_from j (ap (λ (x : Joint). x.stopped) j_is ∙ terminates_none other ctrl colliding.first)
-      (ap (λ (k : Control). k.ends) j_control
-      ∙ central_lasts (are_heard whole) central peripheral slot c p channel octets room ends linked c_lasts p_lasts past entered packet same)
-      (ap (λ (x : Joint). x.peripheral.control.ends) j_is ∙ ap (λ (x : Joint). x.peripheral.control.ends) s1_is ∙ (goes_on l.joint running).peripheral)
+    now_is : (link_after step l).joint ≡ j
+    now_is =
+        after_joined first (step_if (takes_item has_room (item_on_air l.joint.up)) (CentralTakes slot)) l.joint
+        ∙ ap (λ (b : Bool). after_all (step_if b (CentralTakes slot)) s1) way.takes_it
+        ∙ after_may (CentralTakes slot) s1 takes_now
 
-  prevails_joint : CentralPrevails s1 own other way.outgoing ctrl collides
-  prevails_joint =
-      subst
-      (λ (x : Joint). (k : Collides x own other way.outgoing ctrl) → is_running x ≡ true → is_running (collided x own other way.outgoing ctrl k) ≡ true
-      → CentralPrevails x own other way.outgoing ctrl k)
-      run1.reaches
-      (λ k runs goes. prevails central.link.max_rx peripheral.link.max_rx (first_params central.link.fields) (first_anchor central) run1.steps own other
-      way.outgoing ctrl k run1.run runs goes)
-      collides s1_runs j_runs
+    j_control : j.central.control ≡ (received central slot octets room c).control
+    j_control =
+        ap (λ (x : Joint). x.central.control) (sym now_is)
+        ∙ control_heard central peripheral ends slot c p octets room past entered read l reached running s
 
-  -- what it holds then
+    j_is : j ≡ central_takes (OnAir (control_item way.outgoing ctrl) way.sealed) slot s1
+    j_is = ap (λ (w : Way). central_takes w slot s1) s1_up
 
-  abbrev now : Facts
-  now = received central slot octets room c
+    j_runs : is_running j ≡ true
+    j_runs =
+        running_from j (ap (λ (x : Joint). x.stopped) j_is ∙ terminates_none other ctrl opens)
+        (ap (λ (k : Control). k.ends) j_control
+        ∙ central_lasts (are_heard whole) central peripheral slot c p channel octets room ends linked c_lasts p_lasts past entered packet same)
+        (ap (λ (x : Joint). x.peripheral.control.ends) j_is ∙ ap (λ (x : Joint). x.peripheral.control.ends) s1_is ∙ (goes_on l.joint running).peripheral)
 
-  lasts_then : seen_facts.control.ends ≡ None
-  lasts_then = ap (λ (x : Phased). x.control.ends) (sym s1_central) ∙ (goes_on s1 s1_runs).central
+    prevails_joint : CentralPrevails s1 own other way.outgoing ctrl collides
+    prevails_joint =
+        subst
+        (λ (x : Joint). (k : Collides x own other way.outgoing ctrl) → is_running x ≡ true → is_running (collided x own other way.outgoing ctrl k) ≡ true
+        → CentralPrevails x own other way.outgoing ctrl k)
+        run1.reaches
+        (λ k runs goes. prevails central.link.max_rx peripheral.link.max_rx (first_params central.link.fields) (first_anchor central) run1.steps own other
+        way.outgoing ctrl k run1.run runs goes)
+        collides s1_runs j_runs
 
-  abbrev knows_then : Bool
-  knows_then = knows || is_version (Known ctrl)
+    run_now : HasRun central peripheral j
+    run_now =
+        subst (HasRun central peripheral) (after_may (CentralTakes slot) s1 takes_now) (run_on central peripheral (CentralTakes slot ∷ []) s1 (tt, tt) run1)
 
-  abbrev took_then : Control
-  took_then = after (Takes (read_supported (Known ctrl)) slot true) seen_facts.control
+    state_now : IsState j
+    state_now =
+        subst IsState run_now.reaches
+        (state_of central.link.max_rx peripheral.link.max_rx (first_params central.link.fields) (first_anchor central) run_now.steps run_now.run
+        (ap (λ (x : Joint). is_running x) run_now.reaches ∙ j_runs))
 
-  central_then : j.central ≡ plain_phased took_then knows_then
-  central_then =
-      ap (λ (x : Joint). x.central) j_is ∙ ap (phased_after (taking (control_item way.outgoing ctrl) slot no_response)) s1_central
-      ∙ takes_goes seen_facts.control knows (Known ctrl) slot no_response (asks_nothing ctrl (begins_none other ctrl colliding.first)) lasts_then
+    -- what it holds then
 
-  central_now : j.central ≡ plain_phased now.control knows_then
-  central_now = central_then ∙ ap (λ (k : Control). plain_phased k knows_then) (ap (λ (x : Phased). x.control) (sym central_then) ∙ j_control)
+    abbrev now : Facts
+    now = received central slot octets room c
 
-  pub prevails_here : Prevails (seen central slot octets c) now own other
-  prevails_here =
-      record {
-        own =
-            ap (λ (x : Phased). (central_of x.control.table).own) (sym central_now) ∙ prevails_joint.own
-            ∙ ap (λ (k : Control). (central_of k.table).own) s1_control;
-        peer = ap (λ (x : Phased). (central_of x.control.table).peer) (sym central_now) ∙ prevails_joint.peer;
-        rejected =
-            λ opened. let next = prevails_joint.rejected [] (ap (λ (k : Control). is_open k.table.closing) s1_control ∙ opened) refl in
-            record {
-              rejection = next.rejection;
-              next = ap next_out (sym central_now) ∙ next.next;
-              opcode = next.opcode;
-              code = next.code;
-            };
-        closing =
-            λ closing. ap next_out (sym central_now)
-            ∙ prevails_joint.closing (ap (λ (k : Control). is_open k.table.closing) s1_control ∙ closing)
-            ∙ ap (λ (x : Phased). next_disconnect x.control.table.queue.disconnect) central_now;
-        ending =
-            λ shut. ap (λ (k : Control). is_disconnecting k.table.closing) (sym s1_control)
-            ∙ (subst (λ (x : Joint). CentralFacts x.central) run1.reaches
-            (state_of central.link.max_rx peripheral.link.max_rx (first_params central.link.fields) (first_anchor central)
-            run1.steps run1.run from_runs).now.central).closing
-            (ap (λ (k : Control). is_open k.table.closing) s1_control ∙ shut);
-      }
+    lasts_then : seen_facts.control.ends ≡ None
+    lasts_then = ap (λ (x : Phased). x.control.ends) (sym s1_central) ∙ (goes_on s1 s1_runs).central
+
+    abbrev knows_then : Bool
+    knows_then = knows || is_version (Known ctrl)
+
+    abbrev took_then : Control
+    took_then = after (Takes (read_supported (Known ctrl)) slot true) seen_facts.control
+
+    central_then : j.central ≡ plain_phased took_then knows_then
+    central_then =
+        ap (λ (x : Joint). x.central) j_is ∙ ap (phased_after (taking (control_item way.outgoing ctrl) slot no_response)) s1_central
+        ∙ takes_goes seen_facts.control knows (Known ctrl) slot no_response (asks_nothing ctrl (begins_none other ctrl opens)) lasts_then
+
+    central_now : j.central ≡ plain_phased now.control knows_then
+    central_now = central_then ∙ ap (λ (k : Control). plain_phased k knows_then) (ap (λ (x : Phased). x.control) (sym central_then) ∙ j_control)
+
+    pub prevails_here : Prevails (seen central slot octets c) now own other
+    prevails_here =
+        record {
+          own =
+              ap (λ (x : Phased). (central_of x.control.table).own) (sym central_now) ∙ prevails_joint.own
+              ∙ ap (λ (k : Control). (central_of k.table).own) s1_control;
+          peer = ap (λ (x : Phased). (central_of x.control.table).peer) (sym central_now) ∙ prevails_joint.peer;
+          owes =
+              λ kind. subst (λ (x : Phased). Owes kind (central_of x.control.table)) central_now
+              (owed_alone kind j (before_of j state_now j_runs) prevails_joint.peer);
+          rejected =
+              λ opened. let next = prevails_joint.rejected [] (ap (λ (k : Control). is_open k.table.closing) s1_control ∙ opened) refl in
+              record {
+                rejection = next.rejection;
+                next = ap next_out (sym central_now) ∙ next.next;
+                opcode = next.opcode;
+                code = next.code;
+              };
+          closing =
+              λ closing. ap next_out (sym central_now)
+              ∙ prevails_joint.closing (ap (λ (k : Control). is_open k.table.closing) s1_control ∙ closing)
+              ∙ ap (λ (x : Phased). next_disconnect x.control.table.queue.disconnect) central_now;
+          ending =
+              λ shut. ap (λ (k : Control). is_disconnecting k.table.closing) (sym s1_control)
+              ∙ (subst (λ (x : Joint). CentralFacts x.central) run1.reaches
+              (state_of central.link.max_rx peripheral.link.max_rx (first_params central.link.fields) (first_anchor central)
+              run1.steps run1.run from_runs).now.central).closing
+              (ap (λ (k : Control). is_open k.table.closing) s1_control ∙ shut);
+        }

@@ -1,18 +1,16 @@
 -- A central of a run that takes the first PDU of a procedure of the peripheral while its own is in progress, and a peripheral
 -- that takes the rejection of its procedure.
-use Rattle.std.proofs.Common.{◌≡◌, inl, inr, ℕ, zero, suc, ◌+◌, ◌<◌, Bool, true, false, Some, List, [], ◌∷◌, ◌++◌, append-nil, refl, sym, ap, subst, ◌∙◌, arith}
+use Rattle.std.proofs.Common.{◌≡◌, inl, inr, ℕ, zero, suc, ◌+◌, Bool, true, false, Some, List, [], ◌∷◌, ◌++◌, append-nil, length, refl, sym, ap, subst, ◌∙◌, arith}
 use Rattle.std.specs.Prelude.{if◌then◌else◌}
 use Rattle.std.specs.List.{filter}
-use Rattle.std.proofs.lemmas.Bool.{eq-eqb}
 use Rattle.ble_base.specs.declared.error_codes.ErrCode.{ErrCode}
 use Rattle.ble_base.specs.declared.notes.Note.{Note}
 use Rattle.ble_base.specs.declared.notes.Note.TheVariants.{Took}
 use Rattle.exclusive_stages.specs.declared.pdus.Exclusive.{Exclusive}
 use Rattle.controller_model.specs.declared.doing.Doing.{Doing}
-use Rattle.controller_model.specs.declared.doing.Doing.TheVariants.{Advertises, CentralListens, PeripheralListens}
 use Rattle.controller_model.specs.Facts.{Facts}
 use Rattle.controller_model.specs.Heard.{has_room}
-use Rattle.controller_model.specs.Step.{Step, PacketHeard}
+use Rattle.controller_model.specs.Step.{PacketHeard}
 use Rattle.link_calls.specs.link_model.Facts.{Facts as EndFacts}
 use Rattle.link_calls.specs.link_model.Numbers.{is_took_note}
 use Rattle.link_calls.specs.link_model.Setup.{Setup as EndSetup}
@@ -22,7 +20,6 @@ use Rattle.link_calls.specs.run_model.History.{Called, Event, past_of}
 use Rattle.link_calls.specs.run_model.LinkEnds.{HaveAddresses}
 use Rattle.link_calls.specs.run_model.Run.{Given, facts_at, history_of, run_of, setup_at}
 use Rattle.link_calls.specs.run_laws.Ends.{AreEnds as AreEndsIn, IsOpen, OpenEnd, link_listened}
-use Rattle.link_calls.specs.Uses.{is_on_link, listens_under}
 use Rattle.link_calls.proofs.link_model.Hearing.{IsHeardWhole}
 use Rattle.link_calls.proofs.run_model.LinkEnds.{AreTaken, IsUnderstood}
 use Rattle.link_calls.proofs.run_model.Stations.{is_in}
@@ -33,21 +30,24 @@ use Rattle.link_calls.proofs.run_laws.SameEvent.{apart_ends}
 use Rattle.link_calls.proofs.run_laws.TurnPlaces.{Within, at_stage, standing, turned}
 use Rattle.link_runs.specs.link_pairs.Ends.{AreEnds}
 use Rattle.link_runs.specs.link_pairs.Hearing.{IsPacketOf, received}
+use Rattle.link_pairs.specs.link_model.Controls.{is_procedure_pdu}
 use Rattle.link_runs.proofs.link_pairs.SenderHears.{hears_the_end}
 use Rattle.run_pairs.specs.InTurns.{HasSentNow, HearEachInTurn}
 use Rattle.run_pairs.specs.Stages.{AreAnsweredEnds, AreBegunEnds, CentralTook, IsLate, IsOver, Lasts, PeripheralTook}
 use Rattle.run_pairs.proofs.BothEnds.{ByStanding, at_standing, kept_to, packet_now}
 use Rattle.run_pairs.proofs.CallPlaces.{StandsInPhase, stands_called}
-use Rattle.run_pairs.proofs.Conclusions.{pair_ends}
+use Rattle.run_pairs.proofs.Conclusions.{listens_by, not_new, on_link, pair_ends, phase_of}
 use Rattle.run_pairs.proofs.EndCalls.{central_takes_in, peripheral_takes_in}
 use Rattle.run_pairs.proofs.LinkSteps.{AsksMayCome}
 use Rattle.run_pairs.proofs.OneSide.{StationAt, station_first, station_kept}
 use Rattle.run_pairs.proofs.PairSteps.{AreBothBegun, InTurn, IsPeripheralDone, NewOr}
 use Rattle.run_collisions.specs.Prevailing.{Prevails, TakesColliding, seen}
-use Rattle.run_collisions.specs.Refused.{IsRefused, TakesRejection}
+use Rattle.run_collisions.specs.Refused.{IsRefused, TakesRejection, is_refusing}
 use Rattle.run_collisions.proofs.AfterCalls.{called_facts, prevails_held}
-use Rattle.run_collisions.proofs.CentralTakes.{prevails_here}
-use Rattle.run_collisions.proofs.PeripheralTakes.{is_refused}
+use Rattle.run_collisions.proofs.CentralTakes.{central_taken, prevails_here, refuses_none}
+use Rattle.run_collisions.proofs.PeripheralTakes.{is_refused, peripheral_taken}
+use Rattle.run_collisions.proofs.Taken.{taken_first, taken_rejection}
+use Rattle.run_collisions.specs.Taking.{TakesControl}
 
 -- ---- the peripheral answered, and the central hears it
 
@@ -69,8 +69,8 @@ module _ (whole : IsHeardWhole) (central peripheral : EndSetup) (ends : AreEnds 
   pub answered_prevails : AreAnsweredEnds central peripheral slot true c p → Prevails (seen central slot octets c)
       (received central slot octets room c) own other
   answered_prevails (Lasts link) =
-      prevails_here whole central peripheral slot c p channel octets room own other ends link.linked link.central_lasts link.peripheral_lasts link.central_past
-      (link.entered refl) packet same colliding
+      prevails_here whole central peripheral slot c p channel octets room ends link.linked link.central_lasts link.peripheral_lasts link.central_past
+      (link.entered refl) packet same (taken_first central c slot octets room own other colliding) own other colliding.first colliding.runs
   answered_prevails (PeripheralTook parting) =
       absurd (none_there colliding.earlier colliding.later central.link.handle colliding.number 3 colliding.body
       (ap (filter is_took_note) (sym colliding.notes)
@@ -78,6 +78,30 @@ module _ (whole : IsHeardWhole) (central peripheral : EndSetup) (ends : AreEnds 
   answered_prevails (CentralTook parting none) = absurd (cc)
   answered_prevails (IsLate link none) = absurd (cc)
   answered_prevails (IsOver link none) = absurd (cc)
+
+module _ (whole : IsHeardWhole) (central peripheral : EndSetup) (ends : AreEnds central peripheral) (slot : ℕ) (c p : EndFacts) (channel : ℕ) (octets : List ℕ)
+    (room : Bool) (packet : IsPacketOf peripheral slot p channel octets) (same : channel ≡ c.event.channel)
+    (taking : TakesControl central c slot octets room) where
+  -- what it takes is no refusal, and its own control PDUs were taken
+  record IsTakenAlone : Type 0 where
+    refuses_none : is_refusing taking.ctrl ≡ false
+    own_taken : is_procedure_pdu c.acknowledgement.last ≡ true → length p.acknowledgement.accepted ≡ length c.acknowledgement.sent
+
+  answered_alone : AreAnsweredEnds central peripheral slot true c p → IsTakenAlone
+  answered_alone (Lasts link) =
+      record {
+        refuses_none = refuses_none whole central peripheral slot c p channel octets room ends link.linked link.central_lasts link.peripheral_lasts
+            link.central_past (link.entered refl) packet same taking;
+        own_taken = central_taken whole central peripheral slot c p channel octets room ends link.linked link.central_lasts link.peripheral_lasts
+            link.central_past (link.entered refl) packet same taking;
+      }
+  answered_alone (PeripheralTook parting) =
+      absurd (none_there taking.earlier taking.later central.link.handle taking.number 3 taking.body
+      (ap (filter is_took_note) (sym taking.notes)
+      ∙ (hears_the_end whole peripheral central (sym ends.one_link.fields) ends.central_max.to p c parting slot channel octets packet same room).takes_none))
+  answered_alone (CentralTook parting none) = absurd (cc)
+  answered_alone (IsLate link none) = absurd (cc)
+  answered_alone (IsOver link none) = absurd (cc)
 
 -- ---- the central sent, and the peripheral hears it
 
@@ -87,36 +111,27 @@ module _ (whole : IsHeardWhole) (central peripheral : EndSetup) (ends : AreEnds 
   pub begun_refuses : AreBegunEnds central peripheral slot true true c p
       → IsRefused peripheral (seen peripheral slot octets p) (received peripheral slot octets room p) taking.later q code
   begun_refuses (inl link) =
-      is_refused whole central peripheral slot c p channel octets room q code ends link.begun link.central_lasts link.peripheral_lasts packet same
-      link.supervised
-      taking
+      is_refused whole central peripheral slot c p channel octets room ends link.begun link.central_lasts link.peripheral_lasts packet same link.supervised
+      (taken_rejection peripheral p slot octets room q code taking) q code refl
   begun_refuses (inr parting) =
       absurd (none_there taking.earlier taking.later peripheral.link.handle taking.number 3 taking.body
       (ap (filter is_took_note) (sym taking.notes)
       ∙ (hears_the_end whole central peripheral ends.one_link.fields ends.peripheral_max.to c p parting slot channel octets packet same room).takes_none))
 
+module _ (whole : IsHeardWhole) (central peripheral : EndSetup) (ends : AreEnds central peripheral) (slot : ℕ) (c p : EndFacts) (channel : ℕ) (octets : List ℕ)
+    (room : Bool) (packet : IsPacketOf central slot c channel octets) (same : channel ≡ p.event.channel)
+    (taking : TakesControl peripheral p slot octets room) where
+  begun_taken : AreBegunEnds central peripheral slot true true c p
+      → is_procedure_pdu p.acknowledgement.last ≡ true → length c.acknowledgement.accepted ≡ length p.acknowledgement.sent
+  begun_taken (inl link) =
+      peripheral_taken whole central peripheral slot c p channel octets room ends link.begun link.central_lasts link.peripheral_lasts packet same
+      link.supervised taking
+  begun_taken (inr parting) =
+      absurd (none_there taking.earlier taking.later peripheral.link.handle taking.number 3 taking.body
+      (ap (filter is_took_note) (sym taking.notes)
+      ∙ (hears_the_end whole central peripheral ends.one_link.fields ends.peripheral_max.to c p parting slot channel octets packet same room).takes_none))
+
 -- ---- in a run
-
-listens_by : (handle : ℕ) (doing : Doing) → link_listened doing ≡ Some handle → listens_under handle doing ≡ true
-listens_by handle (CentralListens other) is = let same : other ≡ handle = cc in eq-eqb other handle same
-listens_by handle (PeripheralListens other) is = let same : other ≡ handle = cc in eq-eqb other handle same
-listens_by handle (Advertises channel) is = absurd cc
-listens_by handle other is = absurd cc
-
-on_link : (handle : ℕ) (doing : Doing) → link_listened doing ≡ Some handle → is_on_link doing ≡ true
-on_link handle (CentralListens other) is = refl
-on_link handle (PeripheralListens other) is = refl
-on_link handle (Advertises channel) is = absurd cc
-on_link handle other is = absurd cc
-
-phase_of : (b : Bool) (phases turns : ℕ) (past : List Step) → standing past ≡ Some
-    (if b then at_stage (Within (suc phases)) turns else at_stage (Within phases) turns)
-    → standing past ≡ Some (at_stage (Within (if b then suc phases else phases)) turns)
-phase_of true phases turns past is = is
-phase_of false phases turns past is = is
-
-not_new : (X : Type 0) (opened slot turns : ℕ) → opened < slot → slot + 1 ≡ turns → opened + 1 ≡ turns → X
-not_new X opened slot turns before is new = absurd (omega (arith, before, is, new))
 
 module _ (whole : IsHeardWhole) (understood : IsUnderstood) (taken : AreTaken) (given : Given) (six : HaveAddresses given)
     (distinct : AreDistinct given.stations)
@@ -196,6 +211,24 @@ module _ (whole : IsHeardWhole) (understood : IsUnderstood) (taken : AreTaken) (
       let p = facts_in peripheral.link in
       answered_prevails whole c_here p_here ends slot c p packet.channel octets room packet.packet packet.same own other colliding
       (subst (λ b. AreAnsweredEnds c_here p_here slot b c p) (done.sends packet.front packet.last) done.answered_so)
+
+  alone_in_run : (room : Bool) (taking : TakesControl c_here (facts_in central.link) slot octets room)
+      → let packet = packet_now given before call central peripheral (facts_in central.link) octets peripheral.link distinct in_too at is_open_too refl sent in
+      IsTakenAlone whole c_here p_here ends slot (facts_in central.link) (facts_in peripheral.link) packet.channel octets room packet.packet packet.same taking
+  alone_in_run room taking =
+      let packet = packet_now given before call central peripheral (facts_in central.link) octets peripheral.link distinct in_too at is_open_too refl sent in
+      let c = facts_in central.link in
+      let p = facts_in peripheral.link in
+      answered_alone whole c_here p_here ends slot c p packet.channel octets room packet.packet packet.same taking
+      (subst (λ b. AreAnsweredEnds c_here p_here slot b c p) (done.sends packet.front packet.last) done.answered_so)
+
+  pub refuses_none_in_run : (room : Bool) (taking : TakesControl c_here (facts_in central.link) slot octets room) → is_refusing taking.ctrl ≡ false
+  refuses_none_in_run room taking = (alone_in_run room taking).refuses_none
+
+  pub central_taken_in_run : (room : Bool) (taking : TakesControl c_here (facts_in central.link) slot octets room)
+      → is_procedure_pdu (facts_in central.link).acknowledgement.last ≡ true
+      → length (facts_in peripheral.link).acknowledgement.accepted ≡ length (facts_in central.link).acknowledgement.sent
+  central_taken_in_run room taking = (alone_in_run room taking).own_taken
 
   pub prevails_after : (next : OpenLink) (own other : Exclusive)
       → IsOpen given (before ++ Called central.station (PacketHeard octets) ∷ []) (record central { link = next }) → next.setup ≡ c_here
@@ -294,6 +327,18 @@ module _ (whole : IsHeardWhole) (understood : IsUnderstood) (taken : AreTaken) (
       let c = facts_in central.link in
       let p = facts_in peripheral.link in
       begun_refuses whole c_there p_there ends_there slot_there c p packet.channel octets room packet.packet packet.same q code taking
+      (subst (λ b. AreBegunEnds c_there p_there slot_there b true c p) (both.sends packet.front packet.last)
+      (subst (λ b. AreBegunEnds c_there p_there slot_there both.transmits b c p) (both.hears (listens_by peripheral.handle facts_p.turn.doing listens))
+      both.begun))
+
+  pub peripheral_taken_in_run : (room : Bool) (taking : TakesControl p_there (facts_in peripheral.link) slot_there octets room)
+      → is_procedure_pdu (facts_in peripheral.link).acknowledgement.last ≡ true
+      → length (facts_in central.link).acknowledgement.accepted ≡ length (facts_in peripheral.link).acknowledgement.sent
+  peripheral_taken_in_run room taking =
+      let packet = packet_now given before call_there peripheral central (facts_in peripheral.link) octets central.link distinct in_it at is_open refl sent in
+      let c = facts_in central.link in
+      let p = facts_in peripheral.link in
+      begun_taken whole c_there p_there ends_there slot_there c p packet.channel octets room packet.packet packet.same taking
       (subst (λ b. AreBegunEnds c_there p_there slot_there b true c p) (both.sends packet.front packet.last)
       (subst (λ b. AreBegunEnds c_there p_there slot_there both.transmits b c p) (both.hears (listens_by peripheral.handle facts_p.turn.doing listens))
       both.begun))

@@ -12,3 +12,8 @@ pub mod PeripheralTakes
 pub mod AfterCalls
 pub mod InRuns
 pub mod OfPairs
+pub mod Crossing
+pub mod RefusalsUp
+pub mod OwedPlaces
+pub mod OwedStates
+pub mod Taken

@@ -75,18 +75,19 @@ use Rattle.link_pairs.proofs.SeenAcknowledged.{cleared, control_seen}
 use Rattle.link_pairs.proofs.Sounding.{link_now, reached_now, runs}
 use Rattle.link_pairs.proofs.Ways.{arrives}
 use Rattle.run_collisions.specs.Prevailing.{seen, seen_by}
-use Rattle.run_collisions.specs.Refused.{IsRefused, TakesRejection}
-use Rattle.run_collisions.proofs.OnWay.{IsOnWay, came}
+use Rattle.run_collisions.specs.Refused.{IsRefused}
+use Rattle.run_collisions.specs.Taking.{TakesControl}
+use Rattle.run_collisions.proofs.Crossing.{crosses_none_back, none_on_way, other_free}
+use Rattle.run_collisions.proofs.OnWay.{IsOnWay, came, read_known}
 use Rattle.run_collisions.proofs.Refusing.{Refuses, control_after, given, phy_refused, refused_after, rejection_read, request_refused}
 use Rattle.run_collisions.proofs.RejectionsOut.{IsRejection, found, is_rejection}
 use Rattle.run_collisions.proofs.TakingNotes.{IsTaken, is_noted, taken_at}
 
-module _ (whole : IsHeardWhole) (central peripheral : Setup) (slot : ℕ) (c p : Facts) (channel : ℕ) (octets : List ℕ) (room : Bool) (q : Exclusive)
-    (code : ErrCode)
+module _ (whole : IsHeardWhole) (central peripheral : Setup) (slot : ℕ) (c p : Facts) (channel : ℕ) (octets : List ℕ) (room : Bool)
     (ends : AreEnds central peripheral) (begun : HaveBegun central peripheral slot true true c p) (c_lasts : is_lasting c ≡ true)
     (p_lasts : is_lasting p ≡ true)
     (packet : IsPacketOf central slot c channel octets) (same : channel ≡ p.event.channel) (supervised : slot + 1 ≤ heard_turns peripheral p + 32768)
-    (taking : TakesRejection peripheral p slot octets room q code) where
+    (taking : TakesControl peripheral p slot octets room) where
   abbrev l : Link
   l = link_now central peripheral ends (slot + 1) false c p begun.linked c_lasts p_lasts
 
@@ -187,10 +188,10 @@ module _ (whole : IsHeardWhole) (central peripheral : Setup) (slot : ℕ) (c p :
   procedure = and_from (is_control last) (not (is_empty last)) (eq-eqb last.llid 3 took.llid_is) accepted_parts.1
 
   abbrev ctrl : Ctrl
-  ctrl = RejectExtInd (opcode_of_kind q) code.0
+  ctrl = taking.ctrl
 
   read_is : read_of last ≡ Known ctrl
-  read_is = (λ i. read_supported (ctrl_of (took.body_is i))) ∙ ap read_supported taking.is
+  read_is = (λ i. read_supported (ctrl_of (took.body_is i))) ∙ ap read_supported taking.is ∙ read_known ctrl taking.plain
 
   -- ---- the joint run
 
@@ -308,87 +309,96 @@ module _ (whole : IsHeardWhole) (central peripheral : Setup) (slot : ℕ) (c p :
       (tied run2.steps (first_joint central peripheral)
       (first_tied central.link.max_rx peripheral.link.max_rx (first_params central.link.fields) (first_anchor central))).sent_down)
 
-  out : IsRejection way.outgoing (opcode_of_kind q)
-  out = is_rejection (opcode_of_kind q) code.0 was_sent.event was_sent.latency way.outgoing was_sent.is fits
+  -- no control PDU of the peripheral is on its way
+  pub peripheral_taken : is_procedure_pdu p.acknowledgement.last ≡ true → length c.acknowledgement.accepted ≡ length p.acknowledgement.sent
+  peripheral_taken sends =
+      none_on_way l.joint.up p.acknowledgement c.acknowledgement (turned c.acknowledgement p.acknowledgement s.agreement) s.up
+      (other_free l.joint.down l.joint.up (crosses_none_back central peripheral ends l reached) way.outgoing ctrl way.sealed way.on_air) sends
 
-  abbrev rejection : TheRejection
-  rejection = out.rejection
+  -- ---- it is the rejection of a procedure
 
-  may_take : PeripheralMayTake s2 (Rejection rejection) ctrl
-  may_take =
-      record {
-        slot = slot;
-        response = no_response;
-        sealed = way.sealed;
-        comes = takes_now;
-        on_air = s2_down ∙ ap (λ (o : Outgoing). OnAir (control_item o ctrl) way.sealed) out.is;
-      }
+  module _ (q : Exclusive) (code : ErrCode) (rejects : taking.ctrl ≡ RejectExtInd (opcode_of_kind q) code.0) where
+    out : IsRejection way.outgoing (opcode_of_kind q)
+    out = is_rejection (opcode_of_kind q) code.0 was_sent.event was_sent.latency way.outgoing (was_sent.is ∙ ap (λ (x : Ctrl). Some x) rejects) fits
 
-  before : Before s2
-  before = before_of s2 state s2_runs
+    abbrev rejection : TheRejection
+    rejection = out.rejection
 
-  -- ---- so its procedure is in progress, and is refused
+    may_take : PeripheralMayTake s2 (Rejection rejection) ctrl
+    may_take =
+        record {
+          slot = slot;
+          response = no_response;
+          sealed = way.sealed;
+          comes = takes_now;
+          on_air = s2_down ∙ ap (λ (o : Outgoing). OnAir (control_item o ctrl) way.sealed) out.is;
+        }
 
-  refuses : Refuses now.control.table q code slot
-  refuses =
-      found rejection (λ (kind : Exclusive). Refuses now.control.table kind code slot)
-      (λ part. request_refused code slot now.control.table
-      (subst (λ (k : Control). is_requesting (peripheral_of k.table).own ≡ true) s2_control
-      (request_reads s2 before ctrl rejection (reason_part rejection.code) may_take part)))
-      (λ part. phy_refused code slot now.control.table
-      (subst (λ (k : Control). is_phy_sent (peripheral_of k.table).own ≡ true) s2_control
-      (phy_reads s2 before ctrl rejection (reason_part rejection.code) may_take part)))
-      q out.opcode_is (ap (λ (o : Outgoing). fits_down o) (sym out.is) ∙ fits)
+    before : Before s2
+    before = before_of s2 state s2_runs
 
-  lasts : now.control.ends ≡ None
-  lasts = ap (λ (k : Control). k.ends) (sym s2_control) ∙ (goes_on s2 s2_runs).peripheral
+    -- ---- so its procedure is in progress, and is refused
 
-  -- ---- what it notes, and what it holds then
+    refuses : Refuses now.control.table q code slot
+    refuses =
+        found rejection (λ (kind : Exclusive). Refuses now.control.table kind code slot)
+        (λ part. request_refused code slot now.control.table
+        (subst (λ (k : Control). is_requesting (peripheral_of k.table).own ≡ true) s2_control
+        (request_reads s2 before ctrl rejection (reason_part rejection.code) may_take part)))
+        (λ part. phy_refused code slot now.control.table
+        (subst (λ (k : Control). is_phy_sent (peripheral_of k.table).own ≡ true) s2_control
+        (phy_reads s2 before ctrl rejection (reason_part rejection.code) may_take part)))
+        q out.opcode_is (ap (λ (o : Outgoing). fits_down o) (sym out.is) ∙ fits)
 
-  abbrev handle : ℕ
-  handle = peripheral.link.handle
+    lasts : now.control.ends ≡ None
+    lasts = ap (λ (k : Control). k.ends) (sym s2_control) ∙ (goes_on s2 s2_runs).peripheral
 
-  abbrev done : Option Kind
-  done = acked_kind (acks_control (has_acknowledged p header) p) p
+    -- ---- what it notes, and what it holds then
 
-  abbrev number : ℕ
-  number = numbered now.acknowledgement.accepted + 1
+    abbrev handle : ℕ
+    handle = peripheral.link.handle
 
-  taken_are : (is_taken_now empty procedure_one : Bool) (read : CtrlRead) → is_taken_now ≡ true → not empty ≡ true → procedure_one ≡ true
-      → read ≡ rejection_read q code
-      → took_notes_if (is_taken_now && not empty) handle last now
-      ++ given_notes handle (if is_taken_now && procedure_one then taken_of read slot true (held_of now.control) else nothing_taken)
-      ≡ Took handle number last.llid (record { items = last.body }) ∷ Refused handle (kind_of q) code ∷ []
-  taken_are is_taken_now empty procedure_one read takes_it some is_one same_read =
-      (λ i. took_notes_if (takes_it i && some i) handle last now
-      ++ given_notes handle (if takes_it i && is_one i then taken_of (same_read i) slot true (held_of now.control) else nothing_taken))
-      ∙ ap (λ (taken : Taken). Took handle number last.llid (record { items = last.body }) ∷ given_notes handle taken)
-      (given q code slot now.control lasts refuses)
+    abbrev done : Option Kind
+    done = acked_kind (acks_control (has_acknowledged p header) p) p
 
-  notes_now : notes_after peripheral p (PacketReceived slot octets room)
-      ≡ done_notes handle done ++ Took handle number last.llid (record { items = last.body }) ∷ Refused handle (kind_of q) code ∷ []
-  notes_now =
-      notes_are
-      ∙ (λ i. done_notes handle done
-      ++ taken_notes handle (accepts room header last (facts_before_taking (ends.is_peripheral i) slot header p)) last slot
-      (facts_before_taking (ends.is_peripheral i) slot header p))
-      ∙ ap (λ (notes : List Note). done_notes handle done ++ notes)
-      (taken_are (accepts room header last now) (is_empty last) (is_procedure_pdu last) (read_of last) accepted_now accepted_parts.1 procedure read_is)
+    abbrev number : ℕ
+    number = numbered now.acknowledgement.accepted + 1
 
-  table_now : (received peripheral slot octets room p).control.table ≡ refuses.table
-  table_now =
-      ap (λ (f : Facts). f.control.table) facts_are
-      ∙ ap (λ (role : Role). (facts_hearing role slot room header last p).control.table) ends.is_peripheral
-      ∙ (λ i. (procedures_take_if (accepted_now i && procedure i) last slot (accepted_if (accepts room header last now) last now)).control.table)
-      ∙ ap (λ (read : CtrlRead). (after (Takes read slot true) now.control).table) read_is
-      ∙ ap (λ (k : Control). k.table) (control_after q code slot now.control lasts refuses)
+    taken_are : (is_taken_now empty procedure_one : Bool) (read : CtrlRead) → is_taken_now ≡ true → not empty ≡ true → procedure_one ≡ true
+        → read ≡ rejection_read q code
+        → took_notes_if (is_taken_now && not empty) handle last now
+        ++ given_notes handle (if is_taken_now && procedure_one then taken_of read slot true (held_of now.control) else nothing_taken)
+        ≡ Took handle number last.llid (record { items = last.body }) ∷ Refused handle (kind_of q) code ∷ []
+    taken_are is_taken_now empty procedure_one read takes_it some is_one same_read =
+        (λ i. took_notes_if (takes_it i && some i) handle last now
+        ++ given_notes handle (if takes_it i && is_one i then taken_of (same_read i) slot true (held_of now.control) else nothing_taken))
+        ∙ ap (λ (taken : Taken). Took handle number last.llid (record { items = last.body }) ∷ given_notes handle taken)
+        (given q code slot now.control lasts refuses)
 
-  pub is_refused : IsRefused peripheral (seen peripheral slot octets p) (received peripheral slot octets room p) taking.later q code
-  is_refused =
-      record {
-        runs = ap (λ (f : Facts). peripheral_kind (peripheral_of f.control.table).own) seen_is ∙ refuses.runs;
-        refused =
-            refused_after handle (kind_of q) code number last.llid last.body taking.later handle taking.number 3 taking.body done taking.earlier
-            (sym notes_now ∙ taking.notes);
-        over = ap (λ (f : TableFacts). (peripheral_of f).own) table_now ∙ refuses.over;
-      }
+    notes_now : notes_after peripheral p (PacketReceived slot octets room)
+        ≡ done_notes handle done ++ Took handle number last.llid (record { items = last.body }) ∷ Refused handle (kind_of q) code ∷ []
+    notes_now =
+        notes_are
+        ∙ (λ i. done_notes handle done
+        ++ taken_notes handle (accepts room header last (facts_before_taking (ends.is_peripheral i) slot header p)) last slot
+        (facts_before_taking (ends.is_peripheral i) slot header p))
+        ∙ ap (λ (notes : List Note). done_notes handle done ++ notes)
+        (taken_are (accepts room header last now) (is_empty last) (is_procedure_pdu last) (read_of last) accepted_now accepted_parts.1 procedure (read_is ∙ ap (λ (x : Ctrl). Known x) rejects))
+
+    table_now : (received peripheral slot octets room p).control.table ≡ refuses.table
+    table_now =
+        ap (λ (f : Facts). f.control.table) facts_are
+        ∙ ap (λ (role : Role). (facts_hearing role slot room header last p).control.table) ends.is_peripheral
+        ∙ (λ i. (procedures_take_if (accepted_now i && procedure i) last slot (accepted_if (accepts room header last now) last now)).control.table)
+        ∙ ap (λ (read : CtrlRead). (after (Takes read slot true) now.control).table) (read_is ∙ ap (λ (x : Ctrl). Known x) rejects)
+        ∙ ap (λ (k : Control). k.table) (control_after q code slot now.control lasts refuses)
+
+    pub is_refused : IsRefused peripheral (seen peripheral slot octets p) (received peripheral slot octets room p) taking.later q code
+    is_refused =
+        record {
+          runs = ap (λ (f : Facts). peripheral_kind (peripheral_of f.control.table).own) seen_is ∙ refuses.runs;
+          refused =
+              refused_after handle (kind_of q) code number last.llid last.body taking.later handle taking.number 3 taking.body done taking.earlier
+              (sym notes_now ∙ taking.notes);
+          over = ap (λ (f : TableFacts). (peripheral_of f).own) table_now ∙ refuses.over;
+        }

@@ -22,6 +22,7 @@ use Rattle.link_pairs.specs.procedure_values.declared.drafts.Outgoing.{Outgoing}
 use Rattle.link_pairs.specs.procedure_values.declared.drafts.Outgoing.TheVariants.{Rejection}
 use Rattle.link_pairs.specs.procedure_values.declared.drafts.Rejection.{Rejection as TheRejection}
 use Rattle.collision_steps.specs.CentralPart.{central_of}
+use Rattle.link_answers.specs.Owing.{Owes}
 use Rattle.link_pairs.specs.link_model.Controls.{is_quiet_now}
 use Rattle.link_pairs.specs.link_model.End.{notes_after}
 use Rattle.link_pairs.specs.link_model.Facts.{Facts}
@@ -84,6 +85,8 @@ pub record Prevails (before now : Facts) (p q : Exclusive) : Type 0 where
   pub own : (central_of now.control.table).own ≡ (central_of before.control.table).own
   -- nothing of the peripheral's is left there
   pub peer : (central_of now.control.table).peer ≡ Absent
+  -- and no indication waits that answers the peripheral
+  pub owes : (kind : Exclusive) → Owes kind (central_of now.control.table)
   pub rejected : is_open before.control.table.closing ≡ true → RejectsNext now p q
   -- a central that is to end the link rejects nothing any more: LL_TERMINATE_IND comes next, or nothing (section 5.1.6)
   pub closing :

@@ -1,15 +1,17 @@
 -- A peripheral that takes the rejection of its procedure (Core 5.2, volume 6 part B, sections 2.4.2.18 and 5.3).
-use Rattle.std.specs.Prelude.{◌≡◌, ℕ, Bool, List, [], ◌∷◌, ◌++◌, Some}
+use Rattle.std.specs.Prelude.{◌≡◌, ◌==◌, ℕ, Bool, true, false, not, List, [], ◌∷◌, ◌++◌, Some}
 use Rattle.ble_base.specs.declared.error_codes.ErrCode.{ErrCode}
 use Rattle.ble_base.specs.declared.notes.Note.{Note}
 use Rattle.ble_base.specs.declared.notes.Note.TheVariants.{Refused, Took}
-use Rattle.data_pdu.specs.declared.ctrl.Ctrl.TheVariants.{RejectExtInd}
+use Rattle.data_pdu.specs.declared.ctrl.Ctrl.{Ctrl}
+use Rattle.data_pdu.specs.declared.ctrl.Ctrl.TheVariants.{RejectExtInd, RejectInd, UnknownRsp}
 use Rattle.data_pdu.specs.declared.ctrl.CtrlRead.TheVariants.{Known}
 use Rattle.data_pdu.specs.Reading.{ctrl_of}
 use Rattle.exclusive_stages.specs.declared.pdus.Exclusive.{Exclusive}
 use Rattle.exclusive_stages.specs.declared.stages.PeripheralStage.TheVariants.{Idle}
 use Rattle.exclusive_stages.specs.Kinds.{kind_of, peripheral_kind}
-use Rattle.link_pairs.specs.procedure_stages.Opcodes.{opcode_of_kind}
+use Rattle.link_pairs.specs.procedure_stages.Opcodes.{enc_req_opcode, opcode_of_kind}
+use Rattle.joint_collisions.specs.Facts.{is_first_down}
 use Rattle.collision_steps.specs.PeripheralPart.{peripheral_of}
 use Rattle.link_pairs.specs.link_model.End.{notes_after}
 use Rattle.link_pairs.specs.link_model.Facts.{Facts}
@@ -40,3 +42,11 @@ pub record IsRefused (setup : Setup) (before now : Facts) (later : List Note) (q
     pub refused : later ≡ Refused setup.link.handle (kind_of q) code ∷ []
     -- none of its own procedures that exclude others is in progress
     pub over : (peripheral_of now.control.table).own ≡ Idle
+
+-- a control PDU that refuses a procedure of a central that excludes others; a rejection of a start of encryption does
+-- not (sections 2.4.2.8, 2.4.2.14 and 2.4.2.18)
+abbrev pub is_refusing : Ctrl → Bool
+is_refusing (UnknownRsp opcode) = is_first_down opcode
+is_refusing (RejectInd code) = true
+is_refusing (RejectExtInd opcode code) = not (enc_req_opcode == opcode)
+is_refusing ctrl = false

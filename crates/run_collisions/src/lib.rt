@@ -12,7 +12,7 @@ pub use crate::links::{
 };
 pub use crate::rows::{an_update_and_a_phy_update_collide, two_phy_updates_collide};
 pub use crate::runs::{
-    rejected_procedures_are_refused_in_a_run_of_a_pair,
+    control_pdus_do_not_cross_in_each_run, rejected_procedures_are_refused_in_a_run_of_a_pair,
     rejected_procedures_are_refused_in_each_run, the_central_prevails_in_a_run_of_a_pair,
     the_central_prevails_in_each_run,
 };

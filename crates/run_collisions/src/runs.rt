@@ -1,10 +1,11 @@
 //! Two procedures that collide on a link of a run. The bodies only call the laws that they rest on:
 //! the contracts are the laws.
-ghost use Rattle.std.specs.Prelude.{◌≡◌, ◌++◌, ◌∷◌, [], ℕ, Bool, List, Some, length};
+ghost use Rattle.std.specs.Prelude.{◌≡◌, ◌++◌, ◌∷◌, [], ℕ, Bool, true, false, List, Some, length};
 ghost use Rattle.std.specs.List.{Contains};
 ghost use Rattle.ble_base.specs.declared.error_codes.ErrCode.{ErrCode};
 ghost use Rattle.exclusive_stages.specs.declared.pdus.Exclusive.{Exclusive};
 ghost use Rattle.link_pairs.specs.Hearing.{received};
+ghost use Rattle.link_pairs.specs.link_model.Controls.{is_procedure_pdu};
 ghost use Rattle.link_calls.specs.open_links.OpenLinks.{OpenLink, facts_in};
 ghost use Rattle.controller_model.specs.Heard.{has_room};
 ghost use Rattle.controller_model.specs.Step.{PacketHeard};
@@ -17,7 +18,8 @@ ghost use Rattle.link_calls.specs.run_model.Run.{Given, facts_at, history_of, ru
 ghost use Rattle.link_calls.specs.run_laws.Ends.{AreEnds, IsOpen, OpenEnd, link_listened};
 ghost use Rattle.run_pairs.specs.InTurns.{HasSentNow, HearEachInTurn};
 ghost use Rattle.run_collisions.specs.Prevailing.{Prevails, TakesColliding, seen};
-ghost use Rattle.run_collisions.specs.Refused.{IsRefused, TakesRejection};
+ghost use Rattle.run_collisions.specs.Refused.{IsRefused, TakesRejection, is_refusing};
+ghost use Rattle.run_collisions.specs.Taking.{TakesControl};
 
 /// In each run of any number of stations, a central that is called with a packet of the far end of
 /// its link, and takes from it the first PDU of a procedure of the peripheral while its own
@@ -165,4 +167,58 @@ pub fn rejected_procedures_are_refused_in_a_run_of_a_pair()
     controller_model::a_pdu_is_understood();
     advertise::laws::connections_are_taken();
     scan_init::laws::searches_give_each_valid_address();
+}
+
+/// In each run of any number of stations, where an end is called with a packet of the far end and
+/// takes a control PDU from it, the far end has taken the last control PDU of this end before: two
+/// control PDUs of a link never cross on the air. What a central takes is no refusal of a procedure
+/// of its own that excludes others (Core 5.2, volume 6 part B, sections 2.4.2 and 4.5.9).
+pub fn control_pdus_do_not_cross_in_each_run()
+    ensures central { (given : Given) (before rest : List Event) (octets : List ℕ) (room : Bool)
+        (central peripheral : OpenEnd)
+        → AreDistinct given.stations → HaveAddresses given
+        → Contains given.stations central.station → Contains given.stations peripheral.station
+        → history_of (run_of given) ≡ before ++ Called central.station (PacketHeard octets) ∷ rest
+        → AreEnds before central peripheral → HearEachInTurn given before central peripheral
+        → IsOpen given before central → IsOpen given before peripheral
+        → link_listened (facts_at given central.station before).turn.doing ≡ Some central.handle
+        → HasSentNow given before central peripheral (facts_in central.link).event.channel octets
+        → let slot = (facts_at given central.station before).turn.slot in
+        TakesControl central.link.setup (facts_in central.link) slot octets room
+        → is_procedure_pdu (facts_in central.link).acknowledgement.last ≡ true
+        → length (facts_in peripheral.link).acknowledgement.accepted
+        ≡ length (facts_in central.link).acknowledgement.sent }
+    ensures peripheral { (given : Given) (before rest : List Event) (octets : List ℕ)
+        (room : Bool) (central peripheral : OpenEnd)
+        → AreDistinct given.stations → HaveAddresses given
+        → Contains given.stations central.station → Contains given.stations peripheral.station
+        → history_of (run_of given)
+        ≡ before ++ Called peripheral.station (PacketHeard octets) ∷ rest
+        → AreEnds before central peripheral → HearEachInTurn given before central peripheral
+        → IsOpen given before central → IsOpen given before peripheral
+        → link_listened (facts_at given peripheral.station before).turn.doing
+        ≡ Some peripheral.handle
+        → HasSentNow given before peripheral central (facts_in peripheral.link).event.channel octets
+        → let slot = (facts_at given peripheral.station before).turn.slot in
+        TakesControl peripheral.link.setup (facts_in peripheral.link) slot octets room
+        → is_procedure_pdu (facts_in peripheral.link).acknowledgement.last ≡ true
+        → length (facts_in central.link).acknowledgement.accepted
+        ≡ length (facts_in peripheral.link).acknowledgement.sent }
+    ensures refused { (given : Given) (before rest : List Event) (octets : List ℕ) (room : Bool)
+        (central peripheral : OpenEnd)
+        → AreDistinct given.stations → HaveAddresses given
+        → Contains given.stations central.station → Contains given.stations peripheral.station
+        → history_of (run_of given) ≡ before ++ Called central.station (PacketHeard octets) ∷ rest
+        → AreEnds before central peripheral → HearEachInTurn given before central peripheral
+        → IsOpen given before central → IsOpen given before peripheral
+        → link_listened (facts_at given central.station before).turn.doing ≡ Some central.handle
+        → HasSentNow given before central peripheral (facts_in central.link).event.channel octets
+        → let slot = (facts_at given central.station before).turn.slot in
+        (taking : TakesControl central.link.setup (facts_in central.link) slot octets room)
+        → is_refusing taking.ctrl ≡ false }
+{
+    air_frame::laws::packet_tells_its_pdu();
+    controller_model::a_pdu_is_understood();
+    advertise::laws::connections_are_taken();
+    known_ends::what_hosts_ask_may_come();
 }

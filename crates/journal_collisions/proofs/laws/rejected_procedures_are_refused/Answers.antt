@@ -1,10 +1,10 @@
 -- The proof of the law `rejected_procedures_are_refused`.
 use Rattle.std.proofs.Common.{◌≡◌, [], ◌∷◌, refl}
-use Rattle.journal_indications.specs.journal_data.run_model.Journal.{journal_of}
-use Rattle.journal_indications.specs.journal_data.run_model.LinkEnds.{HaveAddresses}
-use Rattle.journal_indications.specs.journal_data.run_model.Pair.{given_of}
-use Rattle.journal_indications.specs.journal_data.run_model.Run.{Given, history_of, run_of}
-use Rattle.journal_indications.proofs.journal_data.run_model.LinkEnds.{pair_addresses}
+use Rattle.journal_endings.specs.journal_indications.journal_data.run_model.Journal.{journal_of}
+use Rattle.journal_endings.specs.journal_indications.journal_data.run_model.LinkEnds.{HaveAddresses}
+use Rattle.journal_endings.specs.journal_indications.journal_data.run_model.Pair.{given_of}
+use Rattle.journal_endings.specs.journal_indications.journal_data.run_model.Run.{Given, history_of, run_of}
+use Rattle.journal_endings.proofs.journal_indications.journal_data.run_model.LinkEnds.{pair_addresses}
 use Rattle.journal_collisions.specs.Collisions.{AllAreRefused}
 use Rattle.journal_collisions.proofs.RefusedLines.{all_refused}
 use Rattle.journal_collisions.proofs.laws.rejected_procedures_are_refused.Goals as goal

@@ -8,8 +8,8 @@ use Rattle.data_pdu.specs.Layouts.{makers}
 use Rattle.data_pdu.specs.Reading.{ctrl_of, length_of}
 use Rattle.frame_bits.specs.Crc.{crc, crc_octets, crc_of_bits, remainder}
 use Rattle.frame_bits.specs.Whitening.{mask_of, next_mask, whitening_bit, whitening_of}
-use Rattle.journal_indications.specs.journal_data.controller_model.Packets.{pdu_heard}
-use Rattle.journal_indications.specs.journal_data.journal_links.Begun.{links_begun}
+use Rattle.journal_endings.specs.journal_indications.journal_data.controller_model.Packets.{pdu_heard}
+use Rattle.journal_endings.specs.journal_indications.journal_data.journal_links.Begun.{links_begun}
 use Rattle.wire_fields.specs.Field.{little_endian}
 use Rattle.journal_collisions.proofs.rows.worked_collision.Goals as goal
 

@@ -3,35 +3,21 @@ use Rattle.std.proofs.Common.{◌≡◌, ◌⊎◌, inl, inr, ℕ, List, [], ◌
 use Rattle.ble_base.specs.ChannelMap.{data_channels, used_channels}
 use Rattle.ble_base.specs.declared.procedure_kinds.Kind.TheVariants.{Map, Request}
 use Rattle.ble_base.specs.declared.roles.Side.TheVariants.{A, B}
-use Rattle.adv_pdu.specs.Header.{kept_bits}
-use Rattle.adv_pdu.specs.Reading.{read_of}
-use Rattle.air_frame.specs.Hearing.{heard_in}
 use Rattle.data_pdu.specs.Layouts.{makers}
 use Rattle.data_pdu.specs.Reading.{ctrl_of, length_of}
 use Rattle.data_pdu.specs.declared.ctrl.Ctrl.{Ctrl}
 use Rattle.data_pdu.specs.declared.ctrl.Ctrl.TheVariants.{ChannelMapInd, RejectExtInd, TerminateInd}
-use Rattle.data_pdu.specs.declared.ctrl.CtrlRead.{CtrlRead}
 use Rattle.data_pdu.specs.declared.ctrl.CtrlRead.TheVariants.{Known}
-use Rattle.frame_bits.specs.Crc.{crc, crc_octets, crc_of_bits, remainder}
-use Rattle.frame_bits.specs.Whitening.{mask_of, next_mask, whitening_bit, whitening_of}
 use Rattle.journal.specs.declared.entries.Entry.{Entry}
 use Rattle.journal.specs.declared.entries.Entry.TheVariants.{Done, Refused, Sent}
-use Rattle.journal_indications.specs.journal_data.controller_model.Packets.{pdu_heard}
-use Rattle.journal_indications.specs.journal_data.journal_links.Begun.{links_begun}
-use Rattle.journal_indications.specs.journal_data.journal_links.Rows.{one_link}
+use Rattle.journal_endings.specs.journal_indications.journal_data.journal_links.Rows.{one_link}
 use Rattle.wire_fields.specs.Field.{little_endian}
-use Rattle.journal_collisions.specs.Collisions.{Collides, IsRejection, IsTermination, control_in}
+use Rattle.journal_collisions.specs.Collisions.{IsRejection, IsTermination, control_in}
 use Rattle.journal_collisions.specs.Rows.{both_begun, map_octets, rejection, request_octets}
+use Rattle.journal_collisions.proofs.Worked.{it_collides}
 use Rattle.journal_collisions.proofs.rows.wrong_collisions_are_refused.Goals as goal
 
--- what collides, and that none of two PDUs that may come is the next one
-abbrev collision : Type 0
-collision = Collides both_begun one_link 1 3 request_octets Map Request
-
-it_collides : collision
-unfolding links_begun pdu_heard heard_in read_of kept_bits crc crc_octets crc_of_bits remainder mask_of next_mask whitening_bit whitening_of little_endian ctrl_of makers length_of data_channels used_channels
-it_collides = record { is_link = refl; first = refl; runs = refl; exclude = refl }
-
+-- none of two PDUs that may come is the next one
 neither : (octets : List ℕ) (ctrl : Ctrl) → control_in 3 octets ≡ Some (Known ctrl) → (Known ctrl ≡ Known (RejectExtInd 0x0F 0x2A) → ⊥) → ((code : ℕ) → Known ctrl ≡ Known (TerminateInd code) → ⊥)
     → IsRejection Map Request 3 octets ⊎ IsTermination 3 octets → ⊥
 unfolding little_endian makers length_of

@@ -1,10 +1,13 @@
 -- The proof of the law `the_central_prevails_as_it_hears`.
 use Rattle.run_collisions.proofs.Acknowledging.{own_seen}
 use Rattle.run_collisions.proofs.CentralTakes.{prevails_here}
+use Rattle.run_collisions.proofs.Taken.{taken_first}
 use Rattle.run_collisions.proofs.links.the_central_prevails_as_it_hears.Goals as goal
 
 pub returns-clause-prevails : goal.returns-clause-prevails
-returns-clause-prevails g = prevails_here g.packet_tells_its_pdu.ensures.heard
+returns-clause-prevails g central peripheral slot c p channel octets room own other ends linked c_lasts p_lasts past entered packet same colliding =
+    prevails_here g.packet_tells_its_pdu.ensures.heard central peripheral slot c p channel octets room ends linked c_lasts p_lasts past entered packet same
+    (taken_first central c slot octets room own other colliding) own other colliding.first colliding.runs
 
 pub returns-clause-stage : goal.returns-clause-stage
 returns-clause-stage g =

@@ -7,6 +7,6 @@ use Rattle.run_collisions.proofs.runs.rejected_procedures_are_refused_in_each_ru
 pub returns : goal.returns
 returns c = λ given before rest octets room central peripheral q code distinct six is is_too at of_one hear is_open is_open_too listens sent.
     refused_in_run c.packet_tells_its_pdu.ensures.heard c.a_pdu_is_understood.ensures.says c.connections_are_taken.ensures.taken given six distinct
-    (asks_come c.what_hosts_ask_may_come.ensures.may c.what_hosts_ask_may_come.ensures.no_reply given) before rest octets central peripheral at
+    (asks_come c.what_hosts_ask_may_come.ensures given) before rest octets central peripheral at
     (contains_in given.stations central.station is) (contains_in given.stations peripheral.station is_too) of_one is_open is_open_too hear listens sent
     room q code

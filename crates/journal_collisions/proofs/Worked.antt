@@ -1,0 +1,21 @@
+-- The worked collision: the definitions compute.
+use Rattle.std.proofs.Common.{refl}
+use Rattle.ble_base.specs.ChannelMap.{data_channels, used_channels}
+use Rattle.ble_base.specs.declared.procedure_kinds.Kind.TheVariants.{Map, Request}
+use Rattle.adv_pdu.specs.Header.{kept_bits}
+use Rattle.adv_pdu.specs.Reading.{read_of}
+use Rattle.air_frame.specs.Hearing.{heard_in}
+use Rattle.data_pdu.specs.Layouts.{makers}
+use Rattle.data_pdu.specs.Reading.{ctrl_of, length_of}
+use Rattle.frame_bits.specs.Crc.{crc, crc_octets, crc_of_bits, remainder}
+use Rattle.frame_bits.specs.Whitening.{mask_of, next_mask, whitening_bit, whitening_of}
+use Rattle.journal_endings.specs.journal_indications.journal_data.controller_model.Packets.{pdu_heard}
+use Rattle.journal_endings.specs.journal_indications.journal_data.journal_links.Begun.{links_begun}
+use Rattle.journal_endings.specs.journal_indications.journal_data.journal_links.Rows.{one_link}
+use Rattle.wire_fields.specs.Field.{little_endian}
+use Rattle.journal_collisions.specs.Collisions.{Collides}
+use Rattle.journal_collisions.specs.Rows.{both_begun, request_octets}
+
+pub it_collides : Collides both_begun one_link 1 3 request_octets Map Request
+unfolding links_begun pdu_heard heard_in read_of kept_bits crc crc_octets crc_of_bits remainder mask_of next_mask whitening_bit whitening_of little_endian ctrl_of makers length_of data_channels used_channels
+it_collides = record { is_link = refl; first = refl; runs = refl; exclude = refl }
