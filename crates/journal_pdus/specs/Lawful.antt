@@ -14,6 +14,8 @@ use Rattle.journal_sending.specs.journal_data.Held.{LinesAreOfOpenLinks}
 use Rattle.journal_sending.specs.journal_due.ProcedureLines.{AllIndicationsAreDue, AllProceduresAreDue, NoneIsDue}
 use Rattle.journal_sending.specs.journal_due.ProcedureLines.{NoneIsLeftOut}
 use Rattle.journal_collisions.specs.Collisions.{AllAreRefused, AllAreRejectedNext}
+use Rattle.journal_collisions.specs.Outcomes.{NoneIsIndicated}
+use Rattle.journal_collisions.specs.journal_endings.Endings.{NoneEndsByProtocolError}
 use Rattle.journal_collisions.specs.journal_agreement.Indications.{AllAreEnteredAlike, AllFollowCentral}
 use Rattle.journal_hearings.specs.Openings.{AllHeardLinksAreOpened, HeardLinksAreOpened, OpenedLinksWereToOpen}
 use Rattle.journal_hearings.specs.Requests.{AllRequestsAreHeard}
@@ -66,6 +68,8 @@ pub record CollisionsAreRefused (journal : List Entry) : Type 0 where
   pub rejected : AllAreRejectedNext journal
   -- a peripheral that takes the rejection says next that its procedure is refused with that error
   pub refused : AllAreRefused journal
+  -- no indication of the central comes of it
+  pub indicated : NoneIsIndicated journal
 
 -- a journal of a run of these streams by this script, up to its end or to some place in a turn
 pub record IsLawful (a b : List ℕ) (script : Script) (journal : List Entry) : Type 0 where
@@ -100,6 +104,8 @@ pub record IsLawful (a b : List ℕ) (script : Script) (journal : List Entry) : 
   pub procedure_lines : ProcedureLinesAreDue journal
   -- of two procedures that collide the peripheral's is rejected, and refused
   pub collisions : CollisionsAreRefused journal
+  -- no link ends for want of room, or by procedures that collide otherwise than the rules let them
+  pub no_protocol_error : NoneEndsByProtocolError journal
   -- an answer on a link that passes is heard, and so are requests and responses on the advertising channels
   pub answered : AllAnswersAreHeard journal
   pub requested : AllRequestsAreHeard journal

@@ -24,9 +24,11 @@ use crate::links::{
 /// more waits; lines name links that are open at their side; each link that is shut has its reason,
 /// none that is to end stays open after that turn (`journal_leaving`), and a Reset leaves none; a
 /// line of a control procedure comes where it is due by the lines before and nowhere else
-/// (`journal_due`), and of two procedures that collide the peripheral's is rejected next and
-/// refused (`journal_collisions`); an answer on a link that passes is heard, and so are requests on
-/// the advertising channels; a side opens a link as its peripheral exactly where it heard the
+/// (`journal_due`); where two procedures collide, the next PDU of the central is the rejection of
+/// the peripheral's or LL_TERMINATE_IND, the peripheral's procedure is refused where that rejection
+/// is taken, and nothing else comes of it (`journal_collisions`); no link ends with 0x07, 0x23 or
+/// 0x2A (`journal_endings`); an answer on a link that passes is heard, and so are requests on the
+/// advertising channels; a side opens a link as its peripheral exactly where it heard the
 /// CONNECT_IND and is to open it (`journal_hearings`); each command is answered once, and complete
 /// packets are reported in their order (`journal_hosts`); and data arrives in order
 /// (`journal_data::data_arrives_in_order_in_every_journal`). The packet at which damage ends a run
@@ -81,6 +83,8 @@ pub fn each_journal_is_lawful()
     journal_collisions::ends_enter_each_event_alike_in_every_journal();
     journal_collisions::colliding_procedures_are_rejected_next();
     journal_collisions::rejected_procedures_are_refused();
+    journal_collisions::rejected_procedures_are_not_indicated();
+    journal_collisions::no_link_ends_by_a_protocol_error();
     journal_sending::each_line_of_a_procedure_is_where_it_is_due();
     journal_sending::each_shut_line_has_its_reason_by_the_lines();
     journal_sending::links_end_in_time_by_the_lines();
