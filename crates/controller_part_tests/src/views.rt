@@ -159,11 +159,21 @@ view status 041d 0000 = 00
 view command 0406 000013 = 00
 view status 041d 0000 = 0c
 view status 0406 000013 = 0c
-# A peripheral does not request other parameters yet.
+# A peripheral requests other parameters, one time after the other, and PHYs. No request of its \
+    peer waits for an answer.
 view new
 view peripheral 0
+view command 2013 0000060006000000480000000000 = 00
 view status 2013 0000060006000000480000000000 = 0c
 view status 2022 00001b004801 = 00
+view status 2032 00000002010000 = 11
+view status 2032 00000001000000 = 12
+view status 2032 00000202010000 = 11
+view status 2032 00000102010000 = 00
+view command 2032 00000001010000 = 00
+view status 2032 00000001010000 = 0c
+view status 2020 0000060006000000480000000000 = 0c
+view status 2021 00003b = 0c
 # The accept list.
 view new
 view command 2011 01010101010101 = 00

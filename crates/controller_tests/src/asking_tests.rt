@@ -87,6 +87,36 @@ a host 012220060000fb00e803 = up 040e06012220000000
 a turns 4 26 =
 a begin 26 = send 20 29417671f75c7c34a95164324cec9145162f enter 0 1 20 began 0 Length sent 0 2 3 \
     14fb0048086f00e803
+start 1d123456
+# LE Set PHY.
+# No other PHY is there, so the central ends it with LL_PHY_UPDATE_IND and no change.
+a host 01010c08ffffffffff1f0020 = up 040e0401010c00
+a host 010d20196000600000000b0000eeffc000180018000000480000000000 = up 040f0400010d20
+a begin 0 = listen 37
+a hear d6be898eadd45ca13d499970ede427 = send 37 \
+    d6be898ea8f05da13d4999707e3111a669b7d1a23098aad09e5233d8a2980824833b038e5c0b4a6dc6c387
+a unheard = idle open 0 central public 0a0000eeffc0 public 0b0000eeffc0 up \
+    043e130100000000000b0000eeffc018000000480000
+a unheard = idle
+a end
+a turns 1 2 =
+a host 010120081f08000000000000 = up 040e0401012000
+a host 0132200700000001010000 = up 040f0400013220
+a host 0132200700000001010000 = up 040f040c013220
+a begin 2 = send 25 2941767140fa52fe50 enter 0 0 25 began 0 Phy
+a unheard = listen 25
+a hear 2941767154facde350 = idle
+a unheard = idle
+a end
+a begin 3 = send 25 294176715ef93cb5e6d396c5 sent 0 1 3 160101
+a unheard = listen 25
+a hear 294176715af93db5e666aa58 = idle took 0 1 3 170101
+a unheard = idle
+a end
+a turns 4 26 =
+a begin 26 = send 20 29417671f75070cfa9196c3d734d enter 0 1 20 sent 0 2 3 1800000000
+a unheard = listen 20
+a hear 29417671f1558f981e = idle done 0 Phy up 043e060c0000000101
 ";
 
 #[test]

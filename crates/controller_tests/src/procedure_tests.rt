@@ -88,6 +88,52 @@ a end
 a turns 3 26 =
 a begin 26 = send 20 29417671f95529951e enter 0 1 20
 start 1d123456
+# The host grants it.
+a host 01010c08ffffffffff1f0020 = up 040e0401010c00
+a host 010d20196000600000000b0000eeffc000180018000000480000000000 = up 040f0400010d20
+a begin 0 = listen 37
+a hear d6be898eadd45ca13d499970ede427 = send 37 \
+    d6be898ea8f05da13d4999707e3111a669b7d1a23098aad09e5233d8a2980824833b038e5c0b4a6dc6c387
+a unheard = idle open 0 central public 0a0000eeffc0 public 0b0000eeffc0 up \
+    043e130100000000000b0000eeffc018000000480000
+a unheard = idle
+a end
+a turns 1 2 =
+a host 010120083f00000000000000 = up 040e0401012000
+a begin 2 = send 25 2941767150fa1ee550 enter 0 0 25
+a unheard = listen 25
+a hear 2941767156e22594e7f40cb62e6e02c9f20e8023d782ea258c95f9a4e8ec8cfb88 = idle took 0 1 3 \
+    0f2000200000004800000000ffffffffffffffffffffffff up 043e0b0600002000200000004800
+a unheard = idle
+a end
+a turns 3 26 =
+a host 0120200e0000200020000000480000000000 = up 040e06012020000000
+a host 0120200e0000200020000000480000000000 = up 040e060120200c0000
+a begin 26 = send 20 29417671fb5968cea9194c5d4c04dae51afe7ab4a0 enter 0 1 20 sent 0 1 3 \
+    000100002000000048000700
+start 1d123456
+# The host refuses it, for the reason 3B.
+a host 01010c08ffffffffff1f0020 = up 040e0401010c00
+a host 010d20196000600000000b0000eeffc000180018000000480000000000 = up 040f0400010d20
+a begin 0 = listen 37
+a hear d6be898eadd45ca13d499970ede427 = send 37 \
+    d6be898ea8f05da13d4999707e3111a669b7d1a23098aad09e5233d8a2980824833b038e5c0b4a6dc6c387
+a unheard = idle open 0 central public 0a0000eeffc0 public 0b0000eeffc0 up \
+    043e130100000000000b0000eeffc018000000480000
+a unheard = idle
+a end
+a turns 1 2 =
+a host 010120083f00000000000000 = up 040e0401012000
+a begin 2 = send 25 2941767150fa1ee550 enter 0 0 25
+a unheard = listen 25
+a hear 2941767156e22594e7f40cb62e6e02c9f20e8023d782ea258c95f9a4e8ec8cfb88 = idle took 0 1 3 \
+    0f2000200000004800000000ffffffffffffffffffffffff up 043e0b0600002000200000004800
+a unheard = idle
+a end
+a turns 3 26 =
+a host 0121200300003b = up 040e06012120000000
+a begin 26 = send 20 29417671fb5679c09236f4df enter 0 1 20 sent 0 1 3 110f3b
+start 1d123456
 # Lengths.
 # LL_LENGTH_REQ of the peer is answered, and the host hears of the lengths. The next event holds \
     the radio for four slots.

@@ -8,6 +8,8 @@ mod answers;
 #[cfg(test)]
 mod calls;
 #[cfg(test)]
+mod colliding;
+#[cfg(test)]
 mod data;
 #[cfg(test)]
 mod lengths;
