@@ -1,5 +1,5 @@
 #!/usr/bin/env bash
-# Measures a link on which its central's host asks for one control procedure after another: instructions and peak memory,
+# Measures a link on which both hosts ask for one control procedure after another: instructions and peak memory,
 # against a link that carries empty PDUs.
 # Needs the toolchain, python3 and valgrind.
 cd "$(dirname "$0")/.." || exit 1
