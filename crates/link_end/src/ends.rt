@@ -1,6 +1,6 @@
 //! One end of a link.
 ghost use Rattle.std.specs.Prelude.{◌≡◌, ◌+◌, ◌<◌, ◌≤◌, ◌^◌, List, [], ◌∷◌, ◌++◌};
-ghost use Rattle.std.specs.Prelude.{None, length, nat_lt, IsTrue};
+ghost use Rattle.std.specs.Prelude.{None, is_some, length, nat_lt, IsTrue};
 ghost use Rattle.std.specs.Option.{option_map};
 ghost use Rattle.std.specs.Result.{ForOk};
 ghost use Rattle.arrayvec.specs.ArrayVec.{array_vec_len};
@@ -258,6 +258,14 @@ impl LinkEnd {
         ensures same { self.new ≡ self.old }
     {
         self.ending()
+    }
+
+    /// Whether there is such a reason.
+    pub fn is_ending(&self) -> bool
+        ensures { (setup : Setup) (past : List Step) → Knows setup self.now past
+            → result ≡ is_some (ending_of (facts_of setup past)) }
+    {
+        self.ending().is_some()
     }
 
     /// Whether it wants the radio for the event entered last. A central wants it for each event, a

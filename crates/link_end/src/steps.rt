@@ -8,8 +8,7 @@ ghost use Rattle.procedures.specs.procedure_stages.InProgress.{is_busy};
 ghost use Rattle.procedures.specs.procedure_stages.Queue.{waiting_in};
 ghost use Rattle.link_model.specs.Data.{is_empty};
 ghost use Rattle.link_model.specs.Lost.{is_recent, reason_due, skips_by};
-ghost use Rattle.link_model.specs.Times.{ended_by_peer, ended_by_procedures, first_of};
-ghost use Rattle.link_model.specs.Times.{termination_due};
+ghost use Rattle.link_model.specs.Times.{ended_by_peer, ended_by_procedures, termination_due};
 ghost use Rattle.link_end.specs.Times.{due_by, ending_by, is_idle_with};
 
 use crate::ends::LinkEnd;
@@ -57,17 +56,6 @@ fn termination(disconnected: Option<u64>, params: &Params, slot: u64) -> Option<
             Some(ErrCode::TERMINATED_BY_LOCAL_HOST)
         }
         _ => None,
-    }
-}
-
-/// The first of two reasons.
-fn first_of(one: Option<ErrCode>, other: Option<ErrCode>) -> Option<ErrCode>
-    ensures { option_map (λ code. code.0) result
-        ≡ first_of (option_map (λ code. code.0) one) (option_map (λ code. code.0) other) }
-{
-    match one {
-        Some(code) => Some(code),
-        None => other,
     }
 }
 
@@ -138,13 +126,13 @@ impl LinkEnd {
         ensures { option_map (λ code. code.0) result ≡ due_by self.now slot }
     {
         let params = self.control.params();
-        first_of(
-            reason(self.opened, &params, self.last_good, slot),
-            first_of(
-                self.control.tick(SlotNo(slot)),
-                termination(self.leaving.disconnected, &params, slot),
-            ),
-        )
+        if let Some(code) = reason(self.opened, &params, self.last_good, slot) {
+            return Some(code);
+        }
+        if let Some(code) = self.control.tick(SlotNo(slot)) {
+            return Some(code);
+        }
+        termination(self.leaving.disconnected, &params, slot)
     }
 
     /// The reason for which it ends at the end of a turn.

@@ -1,6 +1,7 @@
 -- The open links as a turn begins and ends: which end, which enter an event, and which want the radio (Core 5.2,
 -- volume 6 part B, sections 4.5.1, 4.5.2 and 5.1.6).
-use Rattle.std.specs.Prelude.{ℕ, ◌+◌, ◌==◌, ◌&&◌, Bool, false, List, [], ◌∷◌, ◌++◌, map, Option, Some, None, if◌then◌else◌}
+use Rattle.std.specs.Prelude.{ℕ, ◌+◌, ◌==◌, ◌&&◌, Bool, false, List, [], ◌∷◌, ◌++◌, map, Option, Some, None, is_some, if◌then◌else◌}
+use Rattle.std.specs.List.{list_any}
 use Rattle.std.specs.Option.{option_and_then, option_map}
 use Rattle.ble_base.specs.declared.error_codes.ErrCode.{ErrCode}
 use Rattle.ble_base.specs.declared.notes.Note.{Note}
@@ -43,6 +44,10 @@ place_without reason place = option_and_then (λ link. staying_by (reason link) 
 -- the links that stay
 abbrev pub links_without : (OpenLink → Option ℕ) → Links → Links
 links_without reason links = map (place_without reason) links
+
+-- some link has a reason
+abbrev pub some_ends : (OpenLink → Option ℕ) → Links → Bool
+some_ends reason links = list_any (λ place. is_some (reason_at reason place)) links
 
 -- ---- the two reasons
 

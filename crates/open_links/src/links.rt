@@ -24,7 +24,7 @@ ghost use Rattle.open_links.specs.OpenLinks.{with_change, with_link, without_lin
 ghost use Rattle.open_links.specs.OpenLinks.{without_links};
 ghost use Rattle.open_links.specs.Turns.{due_in, ending_in, ends_by, entry_at};
 ghost use Rattle.open_links.specs.Turns.{links_entered, links_without, notes_entering};
-ghost use Rattle.open_links.specs.Turns.{want_entering};
+ghost use Rattle.open_links.specs.Turns.{some_ends, want_entering};
 ghost use Rattle.open_links.specs.Knowing.{HeldLinks, Knows, KnowsPlace};
 ghost use Rattle.open_links.specs.Sound.{AreSound};
 
@@ -33,7 +33,7 @@ use crate::ending::{
     shut_from,
 };
 use crate::entering::enter_from;
-use crate::places::{OpenEnd, count, free_from, is_any_between};
+use crate::places::{OpenEnd, count, free_from, has_any_ending, is_any_between};
 use crate::reporting::{completed_from, offer, report_all};
 use crate::using::{hear_from, link_from, put_from, ready_from, send_from, serve_from};
 use crate::{Completed, LinkEnded, MOST_LINKS, Offer};
@@ -224,6 +224,14 @@ impl<const L: usize, const T: usize, const R: usize> OpenLinks<L, T, R> {
         shut_ended_from(&mut self.places, 0, &mut ended);
         drop_ended(ended.as_slice(), &mut self.tx, &mut self.rx);
         ended
+    }
+
+    /// Whether `shut_ended` would shut a link.
+    pub fn has_ending(&self) -> bool
+        ensures { (links : Links) (received : List (ℕ × Piece))
+            → Knows self.now links received → result ≡ some_ends ending_in links }
+    {
+        has_any_ending(&self.places)
     }
 
     /// Whether a link is open whose own address is `own` and whose peer has `peer`.

@@ -3,6 +3,7 @@ ghost use Rattle.std.specs.Prelude.{◌≡◌, ◌+◌, ◌<◌, ◌≤◌, ◌^
 ghost use Rattle.adv_pdu.specs.Ranges.{IsInRange};
 ghost use Rattle.open_links.specs.OpenLinks.{Links, OpenLink, free_from};
 ghost use Rattle.open_links.specs.OpenLinks.{has_link_between, is_between, new_link};
+ghost use Rattle.open_links.specs.Turns.{ending_in, some_ends};
 ghost use Rattle.open_links.specs.Knowing.{KnowsLink, KnowsPlaces};
 
 use ble_base::{Address, SlotNo};
@@ -82,5 +83,17 @@ pub(crate) fn is_any_between(places: &[Option<OpenEnd>], own: &Address, peer: &A
         None => false,
         Some((Some(link), _)) if link.is_between(own, peer) => true,
         Some((_, rest)) => is_any_between(rest, own, peer),
+    }
+}
+
+/// Whether a link in one of the places ends at the end of a turn.
+pub(crate) fn has_any_ending(places: &[Option<OpenEnd>]) -> bool
+    ensures { (links : Links) → KnowsPlaces places.now links
+        → result ≡ some_ends ending_in links }
+{
+    match places.split_first() {
+        None => false,
+        Some((Some(link), _)) if link.end.is_ending() => true,
+        Some((_, rest)) => has_any_ending(rest),
     }
 }
