@@ -144,6 +144,22 @@ impl<const L: usize, const T: usize, const R: usize> Controller<L, T, R> {
             → out.new.items ≡ out.old.items ++ notes_leaving facts }
         ensures stays { Stays self.old self.new }
     {
+        if self.links.has_ending() {
+            self.leave_some(out);
+        }
+    }
+
+    /// The same where some link is to end. Links end seldom, so this is kept out of the code of all
+    /// turns.
+    #[inline(never)]
+    fn leave_some(&mut self, out: &mut Outbox)
+        requires room { array_vec_len out.old + 2 * L ≤ 64 }
+        ensures at { (has : Setup) (facts : Facts) → IsAt has self.old facts
+            → IsAt has self.new (facts_leaving facts) }
+        ensures notes { (has : Setup) (facts : Facts) → IsAt has self.old facts
+            → out.new.items ≡ out.old.items ++ notes_leaving facts }
+        ensures stays { Stays self.old self.new }
+    {
         let ended = self.take_ended();
         self.end_all(ended.as_slice(), out);
     }

@@ -2,17 +2,16 @@
 use Rattle.std.proofs.Common.{◌∙◌, sym, subst}
 use Rattle.open_links.specs.Turns.{ending_in}
 use Rattle.controller.specs.Held.{Held}
-use Rattle.controller.specs.Order.{Stays}
-use Rattle.controller.proofs.Shutting.{both_stay, ending_is, shut_stays}
+use Rattle.controller.specs.Knowing.{IsAt}
+use Rattle.controller.proofs.Shutting.{none_ends, none_noted}
 use Rattle.controller.proofs.controllers.Controller.leave_links.Goals as goal
 
-pub returns-clause-at : goal.returns-clause-at
-returns-clause-at g c = λ has facts k.
-    ending_is has _ _ _ facts ending_in _ c.take_ended-ended.ensures.rest (c.take_ended-ended.ensures.links facts.links facts.received k.links)
-    (c.as_slice.ensures.value ∙ c.take_ended-ended.ensures.ends facts.links facts.received k.links) c.end_all.ensures.held k
+pub returns-else-has_ending-clause-at : goal.returns-else-has_ending-clause-at
+returns-else-has_ending-clause-at g c = λ has facts k.
+    let inside = subst (λ (held : Held). IsAt has held facts) (sym c.self.view_is) k in
+    none_ends has c.args.self.now facts ending_in (sym (c.has_ending.ensures facts.links facts.received inside.links) ∙ c.if-has_ending.false) k
 
-pub returns-clause-stays : goal.returns-clause-stays
-returns-clause-stays g c =
-    both_stay _ _ _ c.take_ended-ended.ensures.stays
-    (subst (λ (held : Held). Stays c.take_ended-ended.new.self held) (sym c.end_all.ensures.held)
-    (shut_stays c.as_slice.result.now c.take_ended-ended.new.self))
+pub returns-else-has_ending-clause-notes : goal.returns-else-has_ending-clause-notes
+returns-else-has_ending-clause-notes g c = λ has facts k.
+    let inside = subst (λ (held : Held). IsAt has held facts) (sym c.self.view_is) k in
+    none_noted c.args.out.now.items facts ending_in (sym (c.has_ending.ensures facts.links facts.received inside.links) ∙ c.if-has_ending.false)
