@@ -26,7 +26,7 @@ pub(crate) struct End {
     pub(crate) host_is_asked: bool,
     /// The PDUs that wait, and the one that this turn may send.
     front: Option<Pdu>,
-    behind: Option<Pdu>,
+    later: Option<Pdu>,
     fixed: Option<Pdu>,
     has_more: bool,
     /// The Instant that is to come, or 0, and whether it is of the own procedure.
@@ -55,7 +55,7 @@ impl End {
             own_is_acked: false,
             host_is_asked: false,
             front: None,
-            behind: None,
+            later: None,
             fixed: None,
             has_more: false,
             instant: 0,
@@ -102,15 +102,15 @@ impl End {
     pub(crate) fn refuse(&mut self, kind: Kind, code: &'static str) {
         self.host_is_asked = false;
         self.peer = None;
-        self.behind = self.front;
+        self.later = self.front;
         self.front = Some(Pdu::new(kind, Step::Rejection, code));
     }
 
-    /// A PDU waits behind the others.
+    /// A PDU waits after the others.
     fn push(&mut self, pdu: Pdu) {
         match self.front {
             None => self.front = Some(pdu),
-            Some(_) => self.behind = Some(pdu),
+            Some(_) => self.later = Some(pdu),
         }
     }
 
@@ -170,7 +170,7 @@ impl End {
                 self.fixed = None;
             }
         }
-        self.has_more = self.fixed.is_some() && self.behind.is_some();
+        self.has_more = self.fixed.is_some() && self.later.is_some();
     }
 
     /// Whether a PDU of the central waits until the last Instant has passed (our choice).
@@ -198,8 +198,8 @@ impl End {
 
     /// Sends a new PDU with octets.
     fn send_new(&mut self, pdu: Pdu, event: u32, told: &mut String) -> Result<bool, AllocError> {
-        self.front = self.behind;
-        self.behind = None;
+        self.front = self.later;
+        self.later = None;
         self.sent = self.sent.saturating_add(1);
         let pdu = self.dated(pdu, event);
         self.last = Some(pdu);

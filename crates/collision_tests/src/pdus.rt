@@ -76,7 +76,7 @@ impl Pdu {
         self.put_event(told)
     }
 
-    /// Writes the digits of its event, and those behind it.
+    /// Writes the digits of its event, and those after it.
     fn put_event(self, told: &mut String) -> Result<(), AllocError> {
         if self.is_indication() {
             put_event(told, self.event)

@@ -35,6 +35,6 @@ CanDo links (PeripheralListens handle) = ⊤
 CanDo links (PeripheralSends handle) = ⊤
 CanDo links Rests = ⊤
 
--- the same of what is done after something was heard: octets do not reach it on a link any more in this turn
+-- it can do this after something was heard: octets do not reach it on a link any more in this turn
 abbrev pub CanFollow : ℕ → Doing → Type 0
 CanFollow links doing = CanDo links doing × (may_receive doing ≡ false)

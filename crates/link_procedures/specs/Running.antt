@@ -31,7 +31,8 @@ runs_noted kind notes = fold (runs_after kind) false notes
 abbrev pub runs_at : Kind → Facts → Bool
 runs_at kind facts = is_kind (own_kind facts.control.table.progress) kind
 
--- the same of the procedures that exclude each other, as joint runs see the table of a central, and of a peripheral
+-- of the procedures that exclude each other, the one in progress is of this kind, as joint runs see the table of a central,
+-- and of a peripheral
 abbrev pub runs_at_central : Exclusive → Facts → Bool
 runs_at_central kind facts = is_exclusive_kind (central_kind (central_of facts.control.table).own) kind
 
