@@ -217,9 +217,13 @@ impl Side {
         put_ended(told, ended.as_slice())
     }
 
-    /// The links that end as a turn ends.
+    /// The links that end as a turn ends. That some do is known before.
     pub(crate) fn shut_ended(&mut self, told: &mut String) -> Result<(), AllocError> {
+        let some_end = self.links.has_ending();
         let ended = self.links.shut_ended();
+        if some_end == ended.as_slice().is_empty() {
+            told.push_str(" not known")?;
+        }
         put_ended(told, ended.as_slice())
     }
 
