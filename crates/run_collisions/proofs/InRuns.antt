@@ -28,7 +28,7 @@ use Rattle.link_calls.proofs.run_laws.LinkPhases.{in_phase}
 use Rattle.link_calls.proofs.run_laws.OpenSteps.{open_has}
 use Rattle.link_calls.proofs.run_laws.SameEvent.{apart_ends}
 use Rattle.link_calls.proofs.run_laws.TurnPlaces.{Within, at_stage, standing, turned}
-use Rattle.link_runs.specs.link_pairs.Ends.{AreEnds}
+use Rattle.link_runs.specs.link_pairs.Ends.{AreEnds, is_lasting}
 use Rattle.link_runs.specs.link_pairs.Hearing.{IsPacketOf, received}
 use Rattle.link_pairs.specs.link_model.Controls.{is_procedure_pdu}
 use Rattle.link_runs.proofs.link_pairs.SenderHears.{hears_the_end}
@@ -127,6 +127,14 @@ module _ (whole : IsHeardWhole) (central peripheral : EndSetup) (ends : AreEnds 
       peripheral_taken whole central peripheral slot c p channel octets room ends link.begun link.central_lasts link.peripheral_lasts packet same
       link.supervised taking
   begun_taken (inr parting) =
+      absurd (none_there taking.earlier taking.later peripheral.link.handle taking.number 3 taking.body
+      (ap (filter is_took_note) (sym taking.notes)
+      ∙ (hears_the_end whole central peripheral ends.one_link.fields ends.peripheral_max.to c p parting slot channel octets packet same room).takes_none))
+
+  -- the link lasts there
+  begun_lasts : AreBegunEnds central peripheral slot true true c p → is_lasting p ≡ true
+  begun_lasts (inl link) = link.peripheral_lasts
+  begun_lasts (inr parting) =
       absurd (none_there taking.earlier taking.later peripheral.link.handle taking.number 3 taking.body
       (ap (filter is_took_note) (sym taking.notes)
       ∙ (hears_the_end whole central peripheral ends.one_link.fields ends.peripheral_max.to c p parting slot channel octets packet same room).takes_none))
@@ -339,6 +347,17 @@ module _ (whole : IsHeardWhole) (understood : IsUnderstood) (taken : AreTaken) (
       let c = facts_in central.link in
       let p = facts_in peripheral.link in
       begun_taken whole c_there p_there ends_there slot_there c p packet.channel octets room packet.packet packet.same taking
+      (subst (λ b. AreBegunEnds c_there p_there slot_there b true c p) (both.sends packet.front packet.last)
+      (subst (λ b. AreBegunEnds c_there p_there slot_there both.transmits b c p) (both.hears (listens_by peripheral.handle facts_p.turn.doing listens))
+      both.begun))
+
+  pub peripheral_lasts_in_run : (room : Bool) (taking : TakesControl p_there (facts_in peripheral.link) slot_there octets room)
+      → is_lasting (facts_in peripheral.link) ≡ true
+  peripheral_lasts_in_run room taking =
+      let packet = packet_now given before call_there peripheral central (facts_in peripheral.link) octets central.link distinct in_it at is_open refl sent in
+      let c = facts_in central.link in
+      let p = facts_in peripheral.link in
+      begun_lasts whole c_there p_there ends_there slot_there c p packet.channel octets room packet.packet packet.same taking
       (subst (λ b. AreBegunEnds c_there p_there slot_there b true c p) (both.sends packet.front packet.last)
       (subst (λ b. AreBegunEnds c_there p_there slot_there both.transmits b c p) (both.hears (listens_by peripheral.handle facts_p.turn.doing listens))
       both.begun))

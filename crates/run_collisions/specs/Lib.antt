@@ -7,3 +7,4 @@ pub mod Owed
 pub mod Taking
 -- what the crates above use of those below
 pub use Rattle.joint_collisions.specs as joint_collisions
+pub use Rattle.link_pairs.specs as link_pairs

@@ -4,6 +4,7 @@ ghost use Rattle.std.specs.Prelude.{◌≡◌, ◌++◌, ◌∷◌, [], ℕ, Boo
 ghost use Rattle.std.specs.List.{Contains};
 ghost use Rattle.ble_base.specs.declared.error_codes.ErrCode.{ErrCode};
 ghost use Rattle.exclusive_stages.specs.declared.pdus.Exclusive.{Exclusive};
+ghost use Rattle.link_pairs.specs.Ends.{is_lasting};
 ghost use Rattle.link_pairs.specs.Hearing.{received};
 ghost use Rattle.link_pairs.specs.link_model.Controls.{is_procedure_pdu};
 ghost use Rattle.link_calls.specs.open_links.OpenLinks.{OpenLink, facts_in};
@@ -172,7 +173,9 @@ pub fn rejected_procedures_are_refused_in_a_run_of_a_pair()
 /// In each run of any number of stations, where an end is called with a packet of the far end and
 /// takes a control PDU from it, the far end has taken the last control PDU of this end before: two
 /// control PDUs of a link never cross on the air. What a central takes is no refusal of a procedure
-/// of its own that excludes others (Core 5.2, volume 6 part B, sections 2.4.2 and 4.5.9).
+/// of its own that excludes others. Where a peripheral takes one, no procedure has ended the link
+/// at that end, and it has taken no LL_TERMINATE_IND (Core 5.2, volume 6 part B, sections 2.4.2,
+/// 4.5.9 and 5.1.6).
 pub fn control_pdus_do_not_cross_in_each_run()
     ensures central { (given : Given) (before rest : List Event) (octets : List ℕ) (room : Bool)
         (central peripheral : OpenEnd)
@@ -216,6 +219,20 @@ pub fn control_pdus_do_not_cross_in_each_run()
         → let slot = (facts_at given central.station before).turn.slot in
         (taking : TakesControl central.link.setup (facts_in central.link) slot octets room)
         → is_refusing taking.ctrl ≡ false }
+    ensures lasts { (given : Given) (before rest : List Event) (octets : List ℕ) (room : Bool)
+        (central peripheral : OpenEnd)
+        → AreDistinct given.stations → HaveAddresses given
+        → Contains given.stations central.station → Contains given.stations peripheral.station
+        → history_of (run_of given)
+        ≡ before ++ Called peripheral.station (PacketHeard octets) ∷ rest
+        → AreEnds before central peripheral → HearEachInTurn given before central peripheral
+        → IsOpen given before central → IsOpen given before peripheral
+        → link_listened (facts_at given peripheral.station before).turn.doing
+        ≡ Some peripheral.handle
+        → HasSentNow given before peripheral central (facts_in peripheral.link).event.channel octets
+        → let slot = (facts_at given peripheral.station before).turn.slot in
+        TakesControl peripheral.link.setup (facts_in peripheral.link) slot octets room
+        → is_lasting (facts_in peripheral.link) ≡ true }
 {
     air_frame::laws::packet_tells_its_pdu();
     controller_model::a_pdu_is_understood();
