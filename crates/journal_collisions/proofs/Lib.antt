@@ -15,3 +15,6 @@ pub mod SendingNotes
 pub mod Unrefused
 pub mod Indicated
 pub mod Worked
+-- what the crates above use of those below
+pub use Rattle.journal_endings.proofs as journal_endings
+pub use Rattle.run_collisions.proofs as run_collisions

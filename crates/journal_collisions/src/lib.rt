@@ -14,6 +14,7 @@ pub use crate::rows::{worked_collision, wrong_collisions_are_refused, wrong_outc
 
 // What the crates above call of those below.
 pub use journal_endings::{
-    ends_enter_each_event_alike_in_every_journal, ends_follow_their_central_in_every_journal,
-    no_link_ends_by_a_protocol_error,
+    a_pdu_is_understood, ends_enter_each_event_alike_in_every_journal,
+    ends_follow_their_central_in_every_journal, no_link_ends_by_a_protocol_error,
 };
+pub use run_collisions::control_pdus_do_not_cross_in_each_run;
