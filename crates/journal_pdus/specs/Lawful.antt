@@ -13,10 +13,11 @@ use Rattle.journal_sending.specs.journal_data.Delivered.{AllDataArrives}
 use Rattle.journal_sending.specs.journal_data.Held.{LinesAreOfOpenLinks}
 use Rattle.journal_sending.specs.journal_due.ProcedureLines.{AllIndicationsAreDue, AllProceduresAreDue, NoneIsDue}
 use Rattle.journal_sending.specs.journal_due.ProcedureLines.{NoneIsLeftOut}
-use Rattle.journal_collisions.specs.Collisions.{AllAreRefused, AllAreRejectedNext}
-use Rattle.journal_collisions.specs.Outcomes.{NoneIsIndicated}
-use Rattle.journal_collisions.specs.journal_endings.Endings.{NoneEndsByProtocolError}
-use Rattle.journal_collisions.specs.journal_agreement.Indications.{AllAreEnteredAlike, AllFollowCentral}
+use Rattle.journal_outcomes.specs.Done.{NoneIsDone}
+use Rattle.journal_outcomes.specs.journal_collisions.Collisions.{AllAreRefused, AllAreRejectedNext}
+use Rattle.journal_outcomes.specs.journal_collisions.Outcomes.{NoneIsIndicated}
+use Rattle.journal_outcomes.specs.journal_collisions.journal_endings.Endings.{NoneEndsByProtocolError}
+use Rattle.journal_outcomes.specs.journal_collisions.journal_agreement.Indications.{AllAreEnteredAlike, AllFollowCentral}
 use Rattle.journal_hearings.specs.Openings.{AllHeardLinksAreOpened, HeardLinksAreOpened, OpenedLinksWereToOpen}
 use Rattle.journal_hearings.specs.Requests.{AllRequestsAreHeard}
 use Rattle.journal_sending.specs.journal_hosts.Answered.{AllAreAnswered}
@@ -68,8 +69,9 @@ pub record CollisionsAreRefused (journal : List Entry) : Type 0 where
   pub rejected : AllAreRejectedNext journal
   -- a peripheral that takes the rejection says next that its procedure is refused with that error
   pub refused : AllAreRefused journal
-  -- no indication of the central comes of it
+  -- no indication of the central comes of it, and the peripheral is never done with it
   pub indicated : NoneIsIndicated journal
+  pub done : NoneIsDone journal
 
 -- a journal of a run of these streams by this script, up to its end or to some place in a turn
 pub record IsLawful (a b : List ℕ) (script : Script) (journal : List Entry) : Type 0 where

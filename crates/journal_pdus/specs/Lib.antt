@@ -12,8 +12,8 @@ pub mod Lawful
 pub use Rattle.journal_sending.specs.controller_model as controller_model
 pub use Rattle.journal_sending.specs.journal_acks as journal_acks
 pub use Rattle.journal_sending.specs.journal_data as journal_data
-pub use Rattle.journal_collisions.specs as journal_collisions
-pub use Rattle.journal_collisions.specs.journal_agreement as journal_agreement
+pub use Rattle.journal_outcomes.specs.journal_collisions as journal_collisions
+pub use Rattle.journal_outcomes.specs.journal_collisions.journal_agreement as journal_agreement
 pub use Rattle.journal_hearings.specs as journal_hearings
 pub use Rattle.journal_sending.specs.journal_hosts as journal_hosts
 pub use Rattle.journal_sending.specs.journal_leaving as journal_leaving

@@ -26,11 +26,12 @@ use crate::links::{
 /// line of a control procedure comes where it is due by the lines before and nowhere else
 /// (`journal_due`); where two procedures collide, the next PDU of the central is the rejection of
 /// the peripheral's or LL_TERMINATE_IND, the peripheral's procedure is refused where that rejection
-/// is taken, and nothing else comes of it (`journal_collisions`); no link ends with 0x07, 0x23 or
-/// 0x2A (`journal_endings`); an answer on a link that passes is heard, and so are requests on the
-/// advertising channels; a side opens a link as its peripheral exactly where it heard the
-/// CONNECT_IND and is to open it (`journal_hearings`); each command is answered once, and complete
-/// packets are reported in their order (`journal_hosts`); and data arrives in order
+/// is taken, no indication comes of it, and it is never done (`journal_collisions`,
+/// `journal_outcomes`); no link ends with 0x07, 0x23 or 0x2A (`journal_endings`); an answer on a
+/// link that passes is heard, and so are requests on the advertising channels; a side opens a link
+/// as its peripheral exactly where it heard the CONNECT_IND and is to open it
+/// (`journal_hearings`); each command is answered once, and complete packets are reported in their
+/// order (`journal_hosts`); and data arrives in order
 /// (`journal_data::data_arrives_in_order_in_every_journal`). The packet at which damage ends a run
 /// is due as those before it are. Line by line (Core 5.2, volume 6 part B, sections 2.4, 4.5.6,
 /// 4.5.9, 4.5.10 and 5.1.6, and volume 4 part E, section 7.7.19):
@@ -79,12 +80,13 @@ pub fn each_journal_is_lawful()
     journal_sending::each_side_enters_its_events_in_order();
     journal_sending::lines_are_of_open_links_in_every_journal();
     journal_sending::data_arrives_in_order_in_every_journal();
-    journal_collisions::ends_follow_their_central_in_every_journal();
-    journal_collisions::ends_enter_each_event_alike_in_every_journal();
-    journal_collisions::colliding_procedures_are_rejected_next();
-    journal_collisions::rejected_procedures_are_refused();
-    journal_collisions::rejected_procedures_are_not_indicated();
-    journal_collisions::no_link_ends_by_a_protocol_error();
+    journal_outcomes::ends_follow_their_central_in_every_journal();
+    journal_outcomes::ends_enter_each_event_alike_in_every_journal();
+    journal_outcomes::colliding_procedures_are_rejected_next();
+    journal_outcomes::rejected_procedures_are_refused();
+    journal_outcomes::rejected_procedures_are_not_indicated();
+    journal_outcomes::rejected_procedures_are_not_done();
+    journal_outcomes::no_link_ends_by_a_protocol_error();
     journal_sending::each_line_of_a_procedure_is_where_it_is_due();
     journal_sending::each_shut_line_has_its_reason_by_the_lines();
     journal_sending::links_end_in_time_by_the_lines();

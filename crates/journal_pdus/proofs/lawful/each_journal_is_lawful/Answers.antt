@@ -48,6 +48,7 @@ returns-clause-lawful c = λ a b script six six_too. record {
     rejected = c.colliding_procedures_are_rejected_next.ensures.pair a b script six six_too;
     refused = c.rejected_procedures_are_refused.ensures.pair a b script six six_too;
     indicated = c.rejected_procedures_are_not_indicated.ensures.pair a b script six six_too;
+    done = c.rejected_procedures_are_not_done.ensures.pair a b script six six_too;
   };
   no_protocol_error = c.no_link_ends_by_a_protocol_error.ensures.pair a b script six six_too;
   answered = c.each_answer_on_a_link_is_heard.ensures (given_of a b script) refl (pair_addresses a b script six six_too);
