@@ -21,9 +21,9 @@ use Rattle.phased_control.specs.procedures.Beginning.{begin_step}
 use Rattle.phased_control.specs.table_laws.Encrypting.{has_encryption}
 use Rattle.phased_control.specs.Ends.{IsRequest}
 use Rattle.phased_control.specs.PhaseChanges.{Change, Starts, Took, change_of}
-use Rattle.phased_control.specs.Phased.{Phased, ask_begun, asking_if, asks_again, encrypting, encrypting_if, entered, first_phased, is_encrypt, is_open_now, is_quiet_now, key_given, key_lacking, refused_if, request_of, table_entered, with_owed_if, with_step}
+use Rattle.phased_control.specs.Phased.{Phased, ask_begun, asking_if, asks_again, encrypting, encrypting_if, entered, is_encrypt, is_open_now, is_quiet_now, key_given, key_lacking, refused_if, request_of, table_entered, with_owed_if, with_step}
 use Rattle.phased_control.specs.Steps.{seen_by_procedures}
-use Rattle.phased_control.specs.Taken.{PhasedStep, Response, answered_kept, ciphered, ended_with, phased_after_all, role_now, took}
+use Rattle.phased_control.specs.Taken.{PhasedStep, Response, answered_kept, ciphered, ended_with, role_now, took}
 use Rattle.phased_control.specs.Taken.{GivesKey as phased_gives_key, Takes as phased_takes}
 use Rattle.phased_control.proofs.Answering.{answers}
 use Rattle.phased_control.proofs.Moving.{keeps_role}

@@ -1,6 +1,6 @@
 //! Worked steps of one end, with the sample data of the Core specification (Core 5.2, volume 6 part
 //! C, section 1).
-ghost use Rattle.std.specs.Prelude.{◌≡◌, ◌≢◌};
+ghost use Rattle.std.specs.Prelude.{◌≡◌};
 ghost use Rattle.ble_base.specs.declared.channel_map.ChannelMap.{ChannelMap};
 ghost use Rattle.phased_control.specs.enc_phase.declared.facts.PhaseFacts.{PhaseFacts};
 ghost use Rattle.keyed_control.specs.Keyed.{session_of};

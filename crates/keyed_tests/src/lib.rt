@@ -1,0 +1,6 @@
+//! Tests of both ends of a link with their keys, with the sample data of Core 5.2, volume 6 part C,
+//! section 1.
+#![tactic(auto)]
+
+#[cfg(test)]
+mod starts;

@@ -1,0 +1,138 @@
+//! Encryption starts at a central and at a peripheral.
+ghost use Rattle.std.specs.Prelude.{◌≡◌};
+
+use ble_base::{ChannelMap, ErrCode, Kind, Role, SlotNo};
+use data_pdu::{Ctrl, CtrlRead};
+use enc_phase::PhaseFacts;
+use instants::Params;
+use keyed_control::Response;
+use phased_end::PhasedEnd;
+use procedures::Ask;
+
+/// The long term key of the sample data.
+const LTK: [u8; 16] = [
+    0x4C, 0x68, 0x38, 0x41, 0x39, 0xF5, 0x74, 0xD8, 0x36, 0xBC, 0xF3, 0x4E, 0x9D, 0xFB, 0x01, 0xBF,
+];
+
+/// LL_ENC_REQ of the sample data.
+const REQUEST: Ctrl = Ctrl::EncReq {
+    rand: 0xABCDEF1234567890,
+    ediv: 0x2474,
+    skd_m: 0xACBDCEDFE0F10213,
+    iv_m: 0xBADCAB24,
+};
+
+/// LL_ENC_RSP of the sample data.
+const RESPONSE: Ctrl = Ctrl::EncRsp {
+    skd_s: 0x0213243546576879,
+    iv_s: 0xDEAFBABE,
+};
+
+/// LL_START_ENC_RSP.
+const OPCODE: [u8; 1] = [0x06];
+
+/// What is sent for that by the central, and by the peripheral.
+const FROM_CENTRAL: [u8; 5] = [0x9F, 0xCD, 0xA7, 0xF4, 0x48];
+
+const FROM_PERIPHERAL: [u8; 5] = [0xA3, 0x4C, 0x13, 0xA4, 0x15];
+
+/// Parameters with an interval of 24 slots.
+fn params() -> Params
+    ensures interval { result.interval ≡ 24 }
+    ensures latency { result.latency ≡ 0 }
+{
+    Params {
+        interval: 24,
+        latency: 0,
+        timeout: 72,
+        map: ChannelMap::default(),
+    }
+}
+
+#[test]
+fn a_central_starts_with_the_sample(rt: HostRuntime) {
+    let none = Response { skd_s: 0, iv_s: 0 };
+    let mut central = PhasedEnd::new(Role::Central, 27, params(), SlotNo(2));
+    central.ask(Ask::Encrypt {
+        rand: 0xABCDEF1234567890,
+        ediv: 0x2474,
+        ltk: LTK,
+        skd_m: 0xACBDCEDFE0F10213,
+        iv_m: 0xBADCAB24,
+    });
+    let entry = central.enter(SlotNo(2));
+    assert_eq!(rt; entry.began, Some(Kind::Encrypt));
+    assert_eq!(rt; central.next(), Some(REQUEST));
+    central.send(SlotNo(2));
+    assert_eq!(rt; central.acked(), None);
+    central.take(&CtrlRead::Known(RESPONSE), SlotNo(26), none);
+    central.take(&CtrlRead::Known(Ctrl::StartEncReq), SlotNo(50), none);
+    assert_eq!(rt; central.next(), Some(Ctrl::StartEncRsp));
+    central.send(SlotNo(50));
+    assert_eq!(rt;
+        central.seal(0x0F, &OPCODE).as_slice(),
+        FROM_CENTRAL.as_slice()
+    );
+    assert_eq!(rt; central.open(0x07, &FROM_PERIPHERAL).is_ok(), true);
+    central.take(&CtrlRead::Known(Ctrl::StartEncRsp), SlotNo(74), none);
+    assert_eq!(rt; central.facts(), PhaseFacts::Secure);
+    assert_eq!(rt; (central.sent(), central.opened()), (1, 1));
+}
+
+/// What the peripheral draws for the sample data.
+const DRAWN: Response = Response {
+    skd_s: 0x0213243546576879,
+    iv_s: 0xDEAFBABE,
+};
+
+#[test]
+fn a_peripheral_starts_with_the_sample(rt: HostRuntime) {
+    let mut peripheral = PhasedEnd::new(Role::Peripheral, 27, params(), SlotNo(2));
+    peripheral.enter(SlotNo(2));
+    peripheral.take(&CtrlRead::Known(REQUEST), SlotNo(2), DRAWN);
+    assert_eq!(rt; peripheral.awaits_key(), true);
+    assert_eq!(rt; peripheral.next(), Some(RESPONSE));
+    peripheral.send(SlotNo(2));
+    assert_eq!(rt; peripheral.acked(), None);
+    peripheral.give_key(LTK);
+    assert_eq!(rt; peripheral.next(), Some(Ctrl::StartEncReq));
+    peripheral.send(SlotNo(26));
+    peripheral.acked();
+    assert_eq!(rt; peripheral.would_open(0x0F, &FROM_CENTRAL), true);
+    assert_eq!(rt; peripheral.open(0x0F, &FROM_CENTRAL).is_ok(), true);
+    peripheral.take(&CtrlRead::Known(Ctrl::StartEncRsp), SlotNo(50), DRAWN);
+    assert_eq!(rt; peripheral.next(), Some(Ctrl::StartEncRsp));
+    assert_eq!(rt;
+        peripheral.seal(0x07, &OPCODE).as_slice(),
+        FROM_PERIPHERAL.as_slice()
+    );
+    assert_eq!(rt; peripheral.facts(), PhaseFacts::Secure);
+}
+
+#[test]
+fn a_peripheral_without_a_key_refuses(rt: HostRuntime) {
+    let mut peripheral = PhasedEnd::new(Role::Peripheral, 27, params(), SlotNo(2));
+    peripheral.enter(SlotNo(2));
+    peripheral.take(&CtrlRead::Known(REQUEST), SlotNo(2), DRAWN);
+    peripheral.send(SlotNo(2));
+    peripheral.acked();
+    peripheral.lack_key();
+    // LL_REJECT_EXT_IND with the opcode of LL_ENC_REQ and 06, PIN or Key Missing.
+    let refusal = Ctrl::RejectExtInd {
+        opcode: 0x03,
+        code: 0x06,
+    };
+    assert_eq!(rt; peripheral.next(), Some(refusal));
+    assert_eq!(rt; peripheral.facts(), PhaseFacts::Clear);
+    assert_eq!(rt; peripheral.ends(), None);
+}
+
+#[test]
+fn data_in_asked_ends_a_peripheral(rt: HostRuntime) {
+    let mut peripheral = PhasedEnd::new(Role::Peripheral, 27, params(), SlotNo(2));
+    peripheral.enter(SlotNo(2));
+    peripheral.take(&CtrlRead::Known(REQUEST), SlotNo(2), DRAWN);
+    peripheral.take_data();
+    assert_eq!(rt; peripheral.ends(), Some(ErrCode::MIC_FAILURE));
+    assert_eq!(rt; peripheral.next(), None);
+}

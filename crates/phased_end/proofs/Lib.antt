@@ -1,0 +1,12 @@
+-- The lemmas of this crate.
+pub mod Asking
+pub mod Reached
+pub mod Refusals
+pub mod Replies
+pub mod Rooms
+pub mod Steps
+pub mod Taken
+pub mod Unknown
+-- what the crates above use of those below
+pub use Rattle.keyed_control.proofs as keyed_control
+pub use Rattle.control_end.proofs as control_end

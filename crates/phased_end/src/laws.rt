@@ -1,0 +1,15 @@
+//! The law of what an end holds. The body does nothing: the contract is the law.
+ghost use Rattle.std.specs.Prelude.{ℕ, List};
+ghost use Rattle.ble_base.specs.declared.roles.Role.{Role};
+ghost use Rattle.instants.specs.declared.indications.Params.{Params};
+ghost use Rattle.keyed_control.specs.Keyed.{first_keyed};
+ghost use Rattle.keyed_control.specs.KeyedSteps.{KeyedStep, keyed_after_all};
+ghost use Rattle.phased_end.specs.Held.{held_of};
+ghost use Rattle.phased_end.specs.Taking.{Fits};
+
+/// The parts of what an end holds fit together after any steps of its link: the session has the role
+/// of the end, and an encryption is in progress exactly outside Clear and Secure.
+pub fn reached_ends_fit()
+    ensures { (role : Role) (max_rx : ℕ) (first : Params) (slot : ℕ) (steps : List KeyedStep)
+        → Fits (held_of (keyed_after_all steps (first_keyed role max_rx first slot))) }
+{}

@@ -1,0 +1,18 @@
+//! One end of a link with its phase of encryption and its keys: the control part, the phase with its
+//! session, and what both need of each other (Core 5.2, volume 6 part B, section 5.1.3).
+#![tactic(auto)]
+
+mod answering;
+mod changes;
+mod end;
+mod entering;
+mod host;
+mod laws;
+mod material;
+mod sealing;
+mod sending;
+mod taking;
+
+pub use crate::end::PhasedEnd;
+pub use crate::laws::reached_ends_fit;
+pub use crate::taking::TakenKeyed;
