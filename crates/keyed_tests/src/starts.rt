@@ -101,12 +101,13 @@ fn a_peripheral_starts_with_the_sample(rt: HostRuntime) {
     assert_eq!(rt; peripheral.would_open(0x0F, &FROM_CENTRAL), true);
     assert_eq!(rt; peripheral.open(0x0F, &FROM_CENTRAL).is_ok(), true);
     peripheral.take(&CtrlRead::Known(Ctrl::StartEncRsp), SlotNo(50), DRAWN);
-    assert_eq!(rt; peripheral.next(), Some(Ctrl::StartEncRsp));
-    assert_eq!(rt;
-        peripheral.seal(0x07, &OPCODE).as_slice(),
-        FROM_PERIPHERAL.as_slice()
-    );
     assert_eq!(rt; peripheral.facts(), PhaseFacts::Secure);
+    assert_eq!(rt; peripheral.waiting(), 1);
+    if peripheral.sent() < 1 << 39 {
+        let sealed = peripheral.seal(0x07, &OPCODE);
+        assert_eq!(rt; sealed.as_slice(), FROM_PERIPHERAL.as_slice());
+    }
+    assert_eq!(rt; (peripheral.sent(), peripheral.opened()), (1, 1));
 }
 
 #[test]
