@@ -1,5 +1,6 @@
 -- The lemmas of this crate.
 pub mod Asking
+pub mod Depending
 pub mod Reached
 pub mod Refusals
 pub mod Replies

@@ -45,7 +45,7 @@ false_true e = absurd (cc)
 
 -- ---- an encryption begins
 
--- both make the same of an end whose phase is Clear or Secure
+-- both change an end whose phase is Clear or Secure in one way
 encrypting_same : (p : PhaseFacts) (h : HeldKeyed) (c : Control) (e : EncEnd) → is_quiet p ≡ true
     → encrypting_in p (record h { control = control_held c; end = record e { phase = p } })
     ≡ held_of (record {

@@ -14,5 +14,5 @@ mod sending;
 mod taking;
 
 pub use crate::end::PhasedEnd;
-pub use crate::laws::reached_ends_fit;
+pub use crate::laws::{keyed_steps_depend_on_what_is_held, reached_ends_fit};
 pub use crate::taking::TakenKeyed;
