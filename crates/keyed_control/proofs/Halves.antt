@@ -1,5 +1,5 @@
 -- The request of a central has the halves of its material.
-use Rattle.std.proofs.Common.{◌≡◌, ℕ, Bool, true, false, ◌&&◌, if◌then◌else◌, List, Option, Some, None, is_none, refl, sym, ap, subst, ◌∙◌}
+use Rattle.std.proofs.Common.{◌≡◌, ℕ, Bool, true, false, ◌&&◌, ◌||◌, if◌then◌else◌, List, Option, Some, None, is_none, refl, sym, ap, subst, ◌∙◌}
 use Rattle.ble_base.specs.ErrorCodes.{mic_failure}
 use Rattle.ble_base.specs.declared.roles.Role.{Role}
 use Rattle.ble_base.specs.declared.roles.Role.TheVariants.{Central}
@@ -32,7 +32,7 @@ use Rattle.phased_control.proofs.Taking.{handed_ways, took_ways}
 use Rattle.keyed_control.specs.declared.material.KeyMaterial.{KeyMaterial}
 use Rattle.keyed_control.specs.Halves.{IsRequestWith}
 use Rattle.keyed_control.specs.Keyed.{Keyed, first_keyed}
-use Rattle.keyed_control.specs.KeyedSteps.{KeyedStep, Answers, Asks, Disconnects, Enters, GivesKey, LacksKey, Opens, Seals, SeesAcknowledged, Sends, Takes, TakesData, keyed_after_all, keyed_moved, phased_steps, with_asked, with_asked_if, with_key, with_read}
+use Rattle.keyed_control.specs.KeyedSteps.{KeyedStep, Answers, Asks, Disconnects, Enters, GivesKey, LacksKey, Opens, Seals, SeesAcknowledged, Sends, Takes, TakesData, is_of_session, keyed_after_all, keyed_moved, phased_steps, with_asked, with_asked_if, with_key, with_read}
 use Rattle.keyed_control.proofs.Phases.{IsAfter, always, moves}
 
 -- an LL_ENC_REQ has the halves of this material
@@ -173,7 +173,7 @@ module _ (max_rx : ℕ) (first : Params) (slot : ℕ) where
   halved_now : (steps : List KeyedStep) → Halved (keyed_after_all steps (first_keyed Central max_rx first slot))
   halved_now =
       always Central max_rx first slot Halved tt
-      (λ front. λ step. λ k. λ is. λ h. halved_after front step k is h (is_none k.phased.control.ends))
+      (λ front. λ step. λ k. λ is. λ h. halved_after front step k is h (is_of_session step || is_none k.phased.control.ends))
 
   has_it : (m : KeyMaterial) (r : Option Ctrl) → IsRequest r → IsHalved m r → IsRequestWith m r
   has_it m (Some (EncReq rand ediv skd_m iv_m)) is h = h

@@ -1,5 +1,5 @@
 -- The phased part of an end moves by phased steps, and its session is in the phase of that part.
-use Rattle.std.proofs.Common.{◌≡◌, ℕ, Bool, true, false, if◌then◌else◌, List, [], ◌∷◌, ◌++◌, Option, Some, None, is_none, refl, sym, ap, subst, ◌∙◌}
+use Rattle.std.proofs.Common.{◌≡◌, ℕ, Bool, true, false, ◌||◌, if◌then◌else◌, List, [], ◌∷◌, ◌++◌, Option, Some, None, is_none, refl, sym, ap, subst, ◌∙◌}
 use Rattle.ble_base.specs.declared.error_codes.ErrCode.{ErrCode}
 use Rattle.ble_base.specs.declared.roles.Role.{Role}
 use Rattle.instants.specs.declared.indications.Params.{Params}
@@ -15,7 +15,7 @@ use Rattle.phased_control.proofs.Answering.{start_stays}
 use Rattle.phased_control.proofs.Changing.{phase_changes}
 use Rattle.keyed_control.specs.declared.material.KeyMaterial.{KeyMaterial}
 use Rattle.keyed_control.specs.Keyed.{Keyed, first_keyed, session_of}
-use Rattle.keyed_control.specs.KeyedSteps.{KeyedStep, Answers, Asks, Disconnects, Enters, GivesKey, LacksKey, Opens, Seals, SeesAcknowledged, Sends, Takes, TakesData, end_changed, end_opening, keyed_after, keyed_after_all, keyed_moved, phased_step, phased_steps, step_before}
+use Rattle.keyed_control.specs.KeyedSteps.{KeyedStep, Answers, Asks, Disconnects, Enters, GivesKey, LacksKey, Opens, Seals, SeesAcknowledged, Sends, Takes, TakesData, end_changed, end_opening, is_of_session, keyed_after, keyed_after_all, keyed_moved, phased_step, phased_steps, step_before}
 
 -- ---- the phased part
 
@@ -43,19 +43,16 @@ after_one None s = s
 after_one (Some step) s = phased_after step s
 
 pub phased_once : (step : KeyedStep) (k : Keyed) → (keyed_after step k).phased ≡ after_one (phased_step step) k.phased
-phased_once step k = by (is_none k.phased.control.ends) ∙ joins (phased_step step)
+phased_once step k = by (is_of_session step || is_none k.phased.control.ends) ∙ joins step
   where
     by : (b : Bool) → (if b then keyed_moved step k else k).phased ≡ (if b then moved_by (phased_step step) k.phased else k.phased)
     by true = phased_part step k
     by false = refl
 
-    same : (b : Bool) → (if b then k.phased else k.phased) ≡ k.phased
-    same true = refl
-    same false = refl
-
-    joins : (p : Option PhasedStep) → (if is_none k.phased.control.ends then moved_by p k.phased else k.phased) ≡ after_one p k.phased
-    joins None = same (is_none k.phased.control.ends)
-    joins (Some p) = refl
+    joins : (step : KeyedStep)
+        → (if is_of_session step || is_none k.phased.control.ends then moved_by (phased_step step) k.phased else k.phased) ≡ after_one (phased_step step) k.phased
+    joins (Seals header body) = refl
+    joins step = refl
 
 before : (p : Option PhasedStep) (steps : List PhasedStep) (s : Phased) → phased_after_all steps (after_one p s) ≡ phased_after_all (step_before p steps) s
 before None steps s = refl
@@ -180,24 +177,37 @@ module _ (role : Role) (max_rx : ℕ) (first : Params) (slot : ℕ) where
       subst (λ (t : Phased). t.control.ends ≡ None → (phased_after p t).phase ≡ changed (change_of p t) t.phase) (sym is)
       (phase_changes role max_rx first slot front p) lasts
 
-  stays_in_phase : (front : List PhasedStep) (step : KeyedStep) (k : Keyed) → IsAfter front k → InPhase k → InPhase (keyed_after step k)
-  stays_in_phase front step k is h = by k.phased.control.ends refl
+  -- a step of the phased part, at an end that ended the link and at one that did not
+  moves_in_phase : (front : List PhasedStep) (step : KeyedStep) (k : Keyed) → is_of_session step ≡ false → IsAfter front k → InPhase k
+      → InPhase (keyed_after step k)
+  moves_in_phase front step k other is h = by k.phased.control.ends refl
     where
+      test : (ends : Option ErrCode) → k.phased.control.ends ≡ ends → is_none ends ≡ is_of_session step || is_none k.phased.control.ends
+      test ends at =
+          sym (ap (λ (b : Bool). b || is_none k.phased.control.ends) other ∙ ap (λ (ends : Option ErrCode). is_none ends) at)
+
       by : (ends : Option ErrCode) → k.phased.control.ends ≡ ends → InPhase (keyed_after step k)
-      by (Some code) over =
-          subst (λ (b : Bool). InPhase (if b then keyed_moved step k else k)) (sym (ap (λ (ends : Option ErrCode). is_none ends) over)) h
+      by (Some code) over = subst (λ (b : Bool). InPhase (if b then keyed_moved step k else k)) (test (Some code) over) h
       by None lasts =
           let phase : (keyed_after step k).end.phase ≡ changed_by (phased_step step) k.phased k.end.phase =
           subst (λ (b : Bool). (if b then keyed_moved step k else k).end.phase ≡ changed_by (phased_step step) k.phased k.end.phase)
-          (sym (ap (λ (ends : Option ErrCode). is_none ends) lasts)) (moved_phase step k) in
+          (test None lasts) (moved_phase step k) in
           record {
             phase =
                 phase ∙ ap (changed_by (phased_step step) k.phased) h.phase ∙ sym (changes_now front k.phased is lasts (phased_step step))
                 ∙ sym (ap (λ (s : Phased). s.phase) (phased_once step k));
             role_too =
-                subst (λ (b : Bool). (if b then keyed_moved step k else k).end.role ≡ k.end.role)
-                (sym (ap (λ (ends : Option ErrCode). is_none ends) lasts)) (moved_role step k) ∙ h.role_too;
+                subst (λ (b : Bool). (if b then keyed_moved step k else k).end.role ≡ k.end.role) (test None lasts) (moved_role step k) ∙ h.role_too;
           }
+
+  stays_in_phase : (front : List PhasedStep) (step : KeyedStep) (k : Keyed) → IsAfter front k → InPhase k → InPhase (keyed_after step k)
+  stays_in_phase front (Seals header body) k is h = record { phase = h.phase; role_too = h.role_too }
+  stays_in_phase front (Opens header payload) k is h =
+      record {
+        phase = opening_keeps header payload k.end PhaseFacts (λ e. e.phase) refl ∙ h.phase;
+        role_too = opening_keeps header payload k.end Role (λ e. e.role) refl ∙ h.role_too;
+      }
+  stays_in_phase front step k is h = moves_in_phase front step k refl is h
 
   pub in_phase : (steps : List KeyedStep) → InPhase (keyed_after_all steps (first_keyed role max_rx first slot))
   in_phase = always InPhase (record { phase = refl; role_too = refl }) stays_in_phase

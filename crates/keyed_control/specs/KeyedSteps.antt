@@ -1,5 +1,5 @@
 -- All steps of one end with its keys (Core 5.2, volume 6 part B, sections 5.1.3.1 and 5.1.3.2).
-use Rattle.std.specs.Prelude.{ℕ, Bool, true, false, List, [], ◌∷◌, Option, Some, None, Result, is_none, if◌then◌else◌}
+use Rattle.std.specs.Prelude.{ℕ, Bool, true, false, ◌||◌, List, [], ◌∷◌, Option, Some, None, Result, is_none, if◌then◌else◌}
 use Rattle.ble_base.specs.declared.error_codes.ErrCode.{ErrCode}
 use Rattle.ble_base.specs.declared.roles.Role.{Role}
 use Rattle.ble_base.specs.declared.roles.Role.TheVariants.{Central, Peripheral}
@@ -125,9 +125,15 @@ keyed_moved TakesData k = with_phased phased_takes_data k.material k
 keyed_moved (Seals header body) k = record k { end = after_sending k.end }
 keyed_moved (Opens header payload) k = record k { end = end_opening header payload k.end }
 
--- nothing happens once the link ended
+-- the session alone does these
+abbrev pub is_of_session : KeyedStep → Bool
+is_of_session (Seals header body) = true
+is_of_session (Opens header payload) = true
+is_of_session other = false
+
+-- once the end ended the link it seals and opens as before, and nothing else happens
 abbrev pub keyed_after : KeyedStep → Keyed → Keyed
-keyed_after step k = (if is_none k.phased.control.ends then keyed_moved step k else k)
+keyed_after step k = (if is_of_session step || is_none k.phased.control.ends then keyed_moved step k else k)
 
 abbrev pub keyed_after_all : List KeyedStep → Keyed → Keyed
 keyed_after_all [] k = k
@@ -135,8 +141,7 @@ keyed_after_all (step ∷ steps) k = keyed_after_all steps (keyed_after step k)
 
 -- the payload of a PDU that goes out
 abbrev pub payload_of : KeyedStep → Keyed → Option (List ℕ)
-payload_of (Seals header body) k =
-    (if is_none k.phased.control.ends then Some (sent_payload k.end header body) else None)
+payload_of (Seals header body) k = Some (sent_payload k.end header body)
 payload_of step k = None
 
 -- ---- the steps of procedures, parameters and phase among these

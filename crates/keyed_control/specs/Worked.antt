@@ -54,6 +54,13 @@ start_at_peripheral =
     Enters 0 ∷ Takes (Known (EncReq 0 0 0xACBDCEDFE0F10213 0xBADCAB24)) 0 (record { skd_s = 0x0213243546576879; iv_s = 0xDEAFBABE })
     ∷ Sends 0 ∷ SeesAcknowledged ∷ GivesKey sample_ltk ∷ Sends 0 ∷ SeesAcknowledged ∷ takes (Known StartEncRsp) ∷ []
 
+-- wrong: an end that was not asked for encryption takes LL_START_ENC_REQ, or a key of its host
+abbrev pub starts_in_clear : List KeyedStep
+starts_in_clear = Enters 0 ∷ takes (Known StartEncReq) ∷ []
+
+abbrev pub keyed_in_clear : List KeyedStep
+keyed_in_clear = Enters 0 ∷ GivesKey sample_ltk ∷ []
+
 abbrev pub keyed_end_after : Role → ChannelMap → List KeyedStep → Keyed
 keyed_end_after role map steps = keyed_after_all steps (first_keyed role 27 (six_slots map) 3)
 

@@ -13,6 +13,7 @@ pub use crate::laws::{
 };
 pub use crate::material::{KeyMaterial, Response};
 pub use crate::rows::{
-    a_start_at_a_central_has_its_session, a_start_at_a_peripheral_has_its_session,
-    the_session_of_the_sample,
+    a_session_begun_in_clear_is_refused, a_start_at_a_central_has_its_session,
+    a_start_at_a_peripheral_has_its_session, the_session_of_the_sample, wrong_counters_are_refused,
+    wrong_material_is_refused,
 };
