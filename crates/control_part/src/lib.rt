@@ -3,5 +3,6 @@
 #![tactic(auto)]
 
 mod part;
+mod readers;
 
 pub use crate::part::{ControlPart, nothing_taken};

@@ -32,7 +32,7 @@ use std::marker::Model;
 /// empty, as with the control part alone.
 #[derive(Drop)]
 pub struct ControlPart {
-    control: ControlEnd,
+    pub(crate) control: ControlEnd,
     /// The error with which the phase ended the link, once it did.
     ended: Option<ErrCode>,
     /// LL_PAUSE_ENC_RSP was sent last, and is not acknowledged.

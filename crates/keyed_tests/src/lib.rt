@@ -3,4 +3,10 @@
 #![tactic(auto)]
 
 #[cfg(test)]
+mod hosts;
+#[cfg(test)]
+mod pauses;
+#[cfg(test)]
+mod sample;
+#[cfg(test)]
 mod starts;

@@ -1,53 +1,11 @@
 //! Encryption starts at a central and at a peripheral.
-ghost use Rattle.std.specs.Prelude.{◌≡◌};
-
-use ble_base::{ChannelMap, ErrCode, Kind, Role, SlotNo};
+use crate::sample::{DRAWN, FROM_CENTRAL, FROM_PERIPHERAL, LTK, OPCODE, REQUEST, RESPONSE, params};
+use ble_base::{ErrCode, Kind, Role, SlotNo};
 use data_pdu::{Ctrl, CtrlRead};
 use enc_phase::PhaseFacts;
-use instants::Params;
 use keyed_control::Response;
 use phased_end::PhasedEnd;
 use procedures::Ask;
-
-/// The long term key of the sample data.
-const LTK: [u8; 16] = [
-    0x4C, 0x68, 0x38, 0x41, 0x39, 0xF5, 0x74, 0xD8, 0x36, 0xBC, 0xF3, 0x4E, 0x9D, 0xFB, 0x01, 0xBF,
-];
-
-/// LL_ENC_REQ of the sample data.
-const REQUEST: Ctrl = Ctrl::EncReq {
-    rand: 0xABCDEF1234567890,
-    ediv: 0x2474,
-    skd_m: 0xACBDCEDFE0F10213,
-    iv_m: 0xBADCAB24,
-};
-
-/// LL_ENC_RSP of the sample data.
-const RESPONSE: Ctrl = Ctrl::EncRsp {
-    skd_s: 0x0213243546576879,
-    iv_s: 0xDEAFBABE,
-};
-
-/// LL_START_ENC_RSP.
-const OPCODE: [u8; 1] = [0x06];
-
-/// What is sent for that by the central, and by the peripheral.
-const FROM_CENTRAL: [u8; 5] = [0x9F, 0xCD, 0xA7, 0xF4, 0x48];
-
-const FROM_PERIPHERAL: [u8; 5] = [0xA3, 0x4C, 0x13, 0xA4, 0x15];
-
-/// Parameters with an interval of 24 slots.
-fn params() -> Params
-    ensures interval { result.interval ≡ 24 }
-    ensures latency { result.latency ≡ 0 }
-{
-    Params {
-        interval: 24,
-        latency: 0,
-        timeout: 72,
-        map: ChannelMap::default(),
-    }
-}
 
 #[test]
 fn a_central_starts_with_the_sample(rt: HostRuntime) {
@@ -78,12 +36,6 @@ fn a_central_starts_with_the_sample(rt: HostRuntime) {
     assert_eq!(rt; central.facts(), PhaseFacts::Secure);
     assert_eq!(rt; (central.sent(), central.opened()), (1, 1));
 }
-
-/// What the peripheral draws for the sample data.
-const DRAWN: Response = Response {
-    skd_s: 0x0213243546576879,
-    iv_s: 0xDEAFBABE,
-};
 
 #[test]
 fn a_peripheral_starts_with_the_sample(rt: HostRuntime) {
@@ -136,4 +88,22 @@ fn data_in_asked_ends_a_peripheral(rt: HostRuntime) {
     peripheral.take_data();
     assert_eq!(rt; peripheral.ends(), Some(ErrCode::MIC_FAILURE));
     assert_eq!(rt; peripheral.next(), None);
+}
+
+#[test]
+fn a_forged_packet_ends_a_peripheral(rt: HostRuntime) {
+    let mut peripheral = PhasedEnd::new(Role::Peripheral, 27, params(), SlotNo(2));
+    peripheral.enter(SlotNo(2));
+    peripheral.take(&CtrlRead::Known(REQUEST), SlotNo(2), DRAWN);
+    peripheral.give_key(LTK);
+    // The last octet of the integrity code differs.
+    let forged = [0x9F, 0xCD, 0xA7, 0xF4, 0x49];
+    assert_eq!(rt; peripheral.would_open(0x0F, &forged), false);
+    assert_eq!(rt; peripheral.open(0x0F, &forged).is_ok(), false);
+    peripheral.hear_forged();
+    assert_eq!(rt; peripheral.ends(), Some(ErrCode::MIC_FAILURE));
+    assert_eq!(rt; peripheral.next(), None);
+    // It opens what the session has next all the same.
+    assert_eq!(rt; peripheral.open(0x0F, &FROM_CENTRAL).is_ok(), true);
+    assert_eq!(rt; peripheral.opened(), 1);
 }

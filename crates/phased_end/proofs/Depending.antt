@@ -1,5 +1,5 @@
 -- A step depends on what an end holds, and neither on what it sent nor on whether it knows the version of its peer.
-use Rattle.std.proofs.Common.{◌≡◌, ℕ, nat_le, Bool, true, false, ◌&&◌, if◌then◌else◌, [], Option, Some, None, is_none, refl, sym, ap, ◌∙◌}
+use Rattle.std.proofs.Common.{◌≡◌, ℕ, nat_le, Bool, true, false, ◌&&◌, ◌||◌, if◌then◌else◌, [], Option, Some, None, is_none, refl, sym, ap, ◌∙◌}
 use Rattle.ble_base.specs.ErrorCodes.{memory_capacity_exceeded, mic_failure, pin_or_key_missing}
 use Rattle.data_pdu.specs.declared.ctrl.Ctrl.{Ctrl}
 use Rattle.data_pdu.specs.declared.ctrl.Ctrl.TheVariants.{PauseEncReq, RejectExtInd, StartEncReq, TerminateInd}
@@ -20,7 +20,7 @@ use Rattle.control_end.specs.Held.{Held, control_of}
 use Rattle.control_end.proofs.Depending.{step_held}
 use Rattle.keyed_control.specs.declared.material.KeyMaterial.{KeyMaterial}
 use Rattle.keyed_control.specs.Keyed.{Keyed}
-use Rattle.keyed_control.specs.KeyedSteps.{KeyedStep, Answers, Asks, Disconnects, Enters, GivesKey, LacksKey, Opens, Seals, SeesAcknowledged, Sends, Takes, TakesData, end_changed, keyed_after, keyed_moved, material_entered, with_key, with_read}
+use Rattle.keyed_control.specs.KeyedSteps.{KeyedStep, Answers, Asks, Disconnects, Enters, GivesKey, LacksKey, Opens, Seals, SeesAcknowledged, Sends, Takes, TakesData, end_changed, is_of_session, keyed_after, keyed_moved, material_entered, with_key, with_read}
 use Rattle.keyed_control.specs.phased_control.PhaseChanges.{Change, Stays, Took, answer_change, change_of, handed_change}
 use Rattle.keyed_control.specs.phased_control.Phased.{Phased, ask_begun, asking_if, asks_again, encrypting, encrypting_if, is_encrypt, is_open_now, is_quiet_now, key_given, key_lacking, refused_if, request_of, table_entered, with_owed_if, with_step}
 use Rattle.keyed_control.specs.phased_control.Steps.{read_answer, seen_by_procedures}
@@ -224,7 +224,7 @@ keyed_blind (Seals header body) k = refl
 keyed_blind (Opens header payload) k = refl
 
 after_blind : (step : KeyedStep) (k : Keyed) → held_of (keyed_after step k) ≡ held_of (keyed_after step (blinded k))
-after_blind step k = by (is_none k.phased.control.ends)
+after_blind step k = by (is_of_session step || is_none k.phased.control.ends)
   where
     by : (b : Bool) → held_of (if b then keyed_moved step k else k) ≡ held_of (if b then keyed_moved step (blinded k) else blinded k)
     by true = keyed_blind step k

@@ -1,10 +1,14 @@
 -- The lemmas of this crate.
 pub mod Asking
 pub mod Depending
+pub mod Entered
+pub mod Lengths
+pub mod Payloads
 pub mod Reached
 pub mod Refusals
 pub mod Replies
 pub mod Rooms
+pub mod Sized
 pub mod Steps
 pub mod Taken
 pub mod Unknown

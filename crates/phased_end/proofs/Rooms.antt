@@ -1,5 +1,5 @@
 -- Where fewer than 24 control PDUs wait, fewer do after a PDU of the peer; and an event was entered.
-use Rattle.std.proofs.Common.{◌≡◌, ℕ, ◌+◌, ◌<◌, ◌≤◌, nat_le, length, Bool, true, false, ◌&&◌, ◌||◌, if◌then◌else◌, ◌∷◌, [], ◌++◌, List, Option, Some, None, is_none, is_some, refl, sym, ap, subst, ◌∙◌, arith}
+use Rattle.std.proofs.Common.{◌≡◌, ℕ, ◌+◌, ◌<◌, ◌≤◌, nat_le, length, Bool, true, false, ◌&&◌, ◌||◌, if◌then◌else◌, ◌∷◌, [], ◌++◌, List, Option, Some, None, is_none, is_some, refl, sym, subst, arith}
 use Rattle.ble_base.specs.declared.error_codes.ErrCode.{ErrCode}
 use Rattle.ble_base.specs.declared.roles.Role.{Role}
 use Rattle.ble_base.specs.declared.roles.Role.TheVariants.{Central, Peripheral}
@@ -12,7 +12,6 @@ use Rattle.enc_phase.specs.declared.classes.PduClass.TheVariants.{Refusal}
 use Rattle.enc_phase.specs.declared.facts.Transition.TheVariants.{Ask as AskTransition, Confirm, Pause, Unlock}
 use Rattle.enc_phase.specs.Phases.{is_asked, may_follow}
 use Rattle.enc_phase.specs.Taking.{ctrl_class}
-use Rattle.instants.specs.Track.{TrackFacts}
 use Rattle.keyed_control.specs.declared.material.Response.{Response}
 use Rattle.instants.specs.declared.indications.Indication.{Indication}
 use Rattle.procedures.specs.procedure_stages.declared.closing.Closing.{Closing}
@@ -114,53 +113,55 @@ entered_taking read slot quiet h = by (is_none h.ends)
         entered_taken h.track.entered r.0 r.1.ends (indicated_by r.1.effect) (control_of h) refl
     by false = refl
 
--- what is owed leaves the track
-track_owed : (ctrl : Ctrl) (h : Held) → (control_after (Owes ctrl) h).track ≡ h.track
-track_owed ctrl h = by (is_none h.ends)
+-- ---- what each PDU that is queued leaves
+
+either_end : (P : HeldKeyed → Type 0) (b : Bool) (h g : HeldKeyed) → P h → P g → P (if b then g else h)
+either_end P true h g one other = other
+either_end P false h g one other = one
+
+-- what a PDU that is queued leaves of the control part and of what is kept, the answer to a PDU of the peer leaves
+module _ (P : Held → Option Ctrl → Type 0) (owes : (ctrl : Ctrl) (c : Held) (kept : Option Ctrl) → P c kept → P (control_after (Owes ctrl) c) kept) where
+  abbrev Now : HeldKeyed → Type 0
+  Now h = P h.control h.kept
+
+  now_refusing : (pdu : PduClass) (refused : Bool) (h : HeldKeyed) → Now h → Now (refusing pdu refused h)
+  now_refusing Refusal true h is = is
+  now_refusing Refusal false h is = is
+  now_refusing pdu true h is = is
+  now_refusing pdu false h is = is
+
+  now_central : (refused : Bool) (ctrl : Ctrl) (h : HeldKeyed) → Now h → Now (answering_at_central refused ctrl h)
+  now_central refused StartEncReq h is = either_end Now (is_asked h.end.phase) h _ is (owes StartEncRsp h.control h.kept is)
+  now_central refused StartEncRsp h is = is
+  now_central refused PauseEncRsp h is = either_end Now (may_follow Unlock h.end.phase) h _ is (owes PauseEncRsp h.control h.kept is)
+  now_central refused ctrl h is = now_refusing (ctrl_class ctrl) refused h is
+
+  now_peripheral : (response : Response) (ctrl : Ctrl) (h : HeldKeyed) → Now h → Now (answering_at_peripheral response ctrl h)
+  now_peripheral response (EncReq rand ediv skd_m iv_m) h is =
+      either_end Now (may_follow AskTransition h.end.phase) h _ is (owes (EncRsp response.skd_s response.iv_s) h.control h.kept is)
+  now_peripheral response PauseEncReq h is = either_end Now (may_follow Pause h.end.phase) h _ is (owes PauseEncRsp h.control h.kept is)
+  now_peripheral response StartEncRsp h is = either_end Now (may_follow Confirm h.end.phase) h _ is (owes StartEncRsp h.control h.kept is)
+  now_peripheral response PauseEncRsp h is = is
+  now_peripheral response ctrl h is = is
+
+  now_at : (role : Role) (refused : Bool) (response : Response) (ctrl : Ctrl) (h : HeldKeyed) → Now h → Now (answering_at role refused response ctrl h)
+  now_at Central refused response ctrl h is = now_central refused ctrl h is
+  now_at Peripheral refused response ctrl h is = now_peripheral response ctrl h is
+
+  pub now_answered : (refused : Bool) (response : Response) (read : CtrlRead) (h : HeldKeyed) → Now h → Now (answered refused response read h)
+  now_answered refused response (Known ctrl) h is = now_at h.end.role refused response ctrl h is
+  now_answered refused response (Unknown opcode) h is = is
+  now_answered refused response Bare h is = is
+
+owes_entered : (ctrl : Ctrl) (c : Held) (kept : Option Ctrl) → 1 ≤ c.track.entered → 1 ≤ (control_after (Owes ctrl) c).track.entered
+owes_entered ctrl c kept is = by (is_none c.ends)
   where
-    by : (b : Bool) → (if b then moved (Owes ctrl) (control_of h) else control_of h).track ≡ h.track
-    by true = refl
-    by false = refl
-
--- an end with another control part and the same track
-abbrev Tracks : HeldKeyed → HeldKeyed → Type 0
-Tracks h g = g.control.track ≡ h.control.track
-
-tracks_if : (b : Bool) (h g : HeldKeyed) → Tracks h g → Tracks h (if b then g else h)
-tracks_if true h g is = is
-tracks_if false h g is = refl
-
-tracks_refusing : (pdu : PduClass) (refused : Bool) (h : HeldKeyed) → Tracks h (refusing pdu refused h)
-tracks_refusing Refusal true h = refl
-tracks_refusing Refusal false h = refl
-tracks_refusing pdu true h = refl
-tracks_refusing pdu false h = refl
-
-tracks_central : (refused : Bool) (ctrl : Ctrl) (h : HeldKeyed) → Tracks h (answering_at_central refused ctrl h)
-tracks_central refused StartEncReq h = tracks_if (is_asked h.end.phase) h _ (track_owed StartEncRsp h.control)
-tracks_central refused StartEncRsp h = refl
-tracks_central refused PauseEncRsp h = tracks_if (may_follow Unlock h.end.phase) h _ (track_owed PauseEncRsp h.control)
-tracks_central refused ctrl h = tracks_refusing (ctrl_class ctrl) refused h
-
-tracks_peripheral : (response : Response) (ctrl : Ctrl) (h : HeldKeyed) → Tracks h (answering_at_peripheral response ctrl h)
-tracks_peripheral response (EncReq rand ediv skd_m iv_m) h =
-    tracks_if (may_follow AskTransition h.end.phase) h _ (track_owed (EncRsp response.skd_s response.iv_s) h.control)
-tracks_peripheral response PauseEncReq h = tracks_if (may_follow Pause h.end.phase) h _ (track_owed PauseEncRsp h.control)
-tracks_peripheral response StartEncRsp h = tracks_if (may_follow Confirm h.end.phase) h _ (track_owed StartEncRsp h.control)
-tracks_peripheral response PauseEncRsp h = refl
-tracks_peripheral response ctrl h = refl
-
-tracks_at : (role : Role) (refused : Bool) (response : Response) (ctrl : Ctrl) (h : HeldKeyed) → Tracks h (answering_at role refused response ctrl h)
-tracks_at Central refused response ctrl h = tracks_central refused ctrl h
-tracks_at Peripheral refused response ctrl h = tracks_peripheral response ctrl h
-
-tracks_answered : (refused : Bool) (response : Response) (read : CtrlRead) (h : HeldKeyed) → Tracks h (answered refused response read h)
-tracks_answered refused response (Known ctrl) h = tracks_at h.end.role refused response ctrl h
-tracks_answered refused response (Unknown opcode) h = refl
-tracks_answered refused response Bare h = refl
+    by : (b : Bool) → 1 ≤ (if b then moved (Owes ctrl) (control_of c) else control_of c).track.entered
+    by true = is
+    by false = is
 
 pub entered_handed : (slot : ℕ) (refused : Bool) (response : Response) (read : CtrlRead) (h : HeldKeyed) → 1 ≤ h.control.track.entered
     → 1 ≤ (answered refused response read (handing slot read h)).control.track.entered
 entered_handed slot refused response read h is =
-    subst (λ (n : ℕ). 1 ≤ n)
-    (sym (ap (λ (t : TrackFacts). t.entered) (tracks_answered refused response read (handing slot read h)) ∙ entered_taking _ slot _ h.control)) is
+    now_answered (λ (c : Held) (kept : Option Ctrl). 1 ≤ c.track.entered) owes_entered refused response read (handing slot read h)
+    (subst (λ (n : ℕ). 1 ≤ n) (sym (entered_taking _ slot _ h.control)) is)

@@ -2,7 +2,9 @@
 pub mod Answers
 pub mod Changes
 pub mod Held
+pub mod Lengths
 pub mod Moves
+pub mod Reached
 pub mod Requests
 pub mod Taking
 -- what the crates above use of those below

@@ -97,6 +97,10 @@ keeping read h = record (seeing read h) { kept = ctrl_in read }
 abbrev pub ending : ℕ → HeldKeyed → HeldKeyed
 ending code h = record h { control = ended_with (record { 0 = code }) h.control }
 
+-- a packet whose integrity code is wrong ends the link (section 5.1.3.1)
+abbrev pub hearing_forged : HeldKeyed → HeldKeyed
+hearing_forged h = (if lasts h then ending mic_failure h else h)
+
 -- ---- the procedures see it
 
 abbrev pub handing : ℕ → CtrlRead → HeldKeyed → HeldKeyed

@@ -11,6 +11,7 @@ ghost use Rattle.keyed_control.specs.Keyed.{first_keyed};
 ghost use Rattle.phased_end.specs.Answers.{quiet_now};
 ghost use Rattle.phased_end.specs.Held.{held_of};
 ghost use Rattle.phased_end.specs.Moves.{lasts};
+ghost use Rattle.phased_end.specs.Reached.{IsReached};
 
 use crate::changes::first_phase;
 use crate::material::{EncRequest, KeptPdu, first_material};
@@ -24,8 +25,8 @@ use std::marker::Model;
 /// One end of a link: its control procedures and parameters, its phase of encryption with the
 /// session, and what its keys are made of (Core 5.2, volume 6 part B, section 5.1.3).
 ///
-/// An end that ended the link keeps all as it was: no call changes it any more, and what a call
-/// would answer is empty.
+/// An end that ended the link seals and opens payloads as before. No other call changes it any more,
+/// and what such a call would answer is empty.
 #[derive(Drop)]
 pub struct PhasedEnd {
     /// Its procedures and its parameters.
@@ -62,13 +63,15 @@ impl Model for PhasedEnd {
 
 impl PhasedEnd {
     /// One end of a new link, before event 0, with this role: it receives payloads of at most
-    /// `max_rx` octets, 27 to 251, and has the first parameters and the slot of the anchor of event
-    /// 0.
+    /// `max_rx` octets, 27 to 251, and has the first parameters, with a latency of at most 499
+    /// events, and the slot of the anchor of event 0.
     pub fn new(role: Role, max_rx: u16, first: Params, anchor: SlotNo) -> Self
         requires octets { IsPayloadMax max_rx }
         requires interval { 1 ≤ first.interval }
+        requires latency { first.latency ≤ 499 }
         requires slot { anchor.0 < 2 ^ 33 }
-        ensures { result ≡ held_of (first_keyed role max_rx first anchor.0) }
+        ensures new { result ≡ held_of (first_keyed role max_rx first anchor.0) }
+        ensures reached { IsReached result }
     {
         PhasedEnd {
             control: ControlPart::new(role, max_rx, first, anchor),

@@ -1,5 +1,5 @@
 //! What an end does as an event is entered: an encryption that its host wants may begin.
-ghost use Rattle.std.specs.Prelude.{◌≡◌, ◌<◌, ◌^◌, position};
+ghost use Rattle.std.specs.Prelude.{◌≡◌, ◌<◌, ◌≤◌, ◌^◌, IsTrue, position};
 ghost use Rattle.instants.specs.Track.{next_anchor_of};
 ghost use Rattle.procedures.specs.Beginning.{ask_at};
 ghost use Rattle.procedures.specs.procedure_stages.Queue.{waiting_in};
@@ -10,8 +10,9 @@ ghost use Rattle.phased_end.specs.Answers.{quiet_now};
 ghost use Rattle.phased_end.specs.Held.{held_after};
 ghost use Rattle.data_pdu.specs.declared.ctrl.Ctrl.{Ctrl};
 ghost use Rattle.enc_phase.specs.declared.facts.Transition.{Transition};
-ghost use Rattle.phased_end.specs.Moves.{is_encryption, moving, owing, with_encryption};
+ghost use Rattle.phased_end.specs.Moves.{is_encryption, lasts, moving, owing, with_encryption};
 ghost use Rattle.phased_end.specs.Moves.{with_request_again};
+ghost use Rattle.phased_end.specs.Reached.{IsReached};
 
 use crate::changes::{ask, pause};
 use crate::end::PhasedEnd;
@@ -58,11 +59,16 @@ impl PhasedEnd {
     /// holds from it on (Core 5.2, volume 6 part B, section 5.5), and then one procedure that the
     /// host wants may begin: with an encryption LL_ENC_REQ is queued, or in phase Secure
     /// LL_PAUSE_ENC_REQ (sections 5.1.3.1 and 5.1.3.2).
+    #[tactic(auto, using(crate::proofs::Reached::reached_room))]
     pub fn enter(&mut self, slot: SlotNo) -> Entry
+        requires reached { IsReached self.old }
         requires slot { next_anchor_of self.old.control.track < 2 ^ 32 }
-        requires room { waiting_in self.old.control.table.queue < 24 }
         ensures step { self.new ≡ held_after (KeyedStep.Enters slot.0) self.old }
         ensures entry { result ≡ entry_of slot.0 (quiet_now self.old) self.old.control }
+        ensures reached { IsReached self.new }
+        ensures enters { IsTrue (lasts self.old) → 1 ≤ self.new.control.track.entered }
+        ensures entered { 1 ≤ self.old.control.track.entered
+            → 1 ≤ self.new.control.track.entered }
     {
         let asked = encryption_wanted(self.control.wanted());
         let quiet = self.is_quiet();

@@ -1,5 +1,5 @@
 //! What the host of an end asks, answers and ends, and the key that it gives.
-ghost use Rattle.std.specs.Prelude.{◌≡◌, ◌<◌};
+ghost use Rattle.std.specs.Prelude.{◌≡◌, ◌<◌, ◌≤◌};
 ghost use Rattle.std.specs.Result.{ForOk};
 ghost use Rattle.procedures.specs.procedure_values.Wants.{IsAsk};
 ghost use Rattle.procedures.specs.procedure_stages.Queue.{waiting_in};
@@ -9,6 +9,7 @@ ghost use Rattle.enc_phase.specs.Phases.{may_follow};
 ghost use Rattle.keyed_control.specs.KeyedSteps.{KeyedStep};
 ghost use Rattle.phased_end.specs.Held.{held_after};
 ghost use Rattle.phased_end.specs.Moves.{awaits_key, with_key_given, with_key_refused};
+ghost use Rattle.phased_end.specs.Reached.{IsReached};
 
 use crate::changes::{refuse, start};
 use crate::end::PhasedEnd;
@@ -33,8 +34,12 @@ impl PhasedEnd {
     /// The host asks for a procedure, with values in their ranges (Core 5.2, volume 6 part B,
     /// section 5.1). It begins as an event is entered.
     pub fn ask(&mut self, ask: Ask)
-        requires { IsAsk ask }
-        ensures { self.new ≡ held_after (KeyedStep.Asks ask) self.old }
+        requires reached { IsReached self.old }
+        requires in_range { IsAsk ask }
+        ensures step { self.new ≡ held_after (KeyedStep.Asks ask) self.old }
+        ensures reached { IsReached self.new }
+        ensures entered { 1 ≤ self.old.control.track.entered
+            → 1 ≤ self.new.control.track.entered }
     {
         self.control.ask(ask);
     }
@@ -51,9 +56,12 @@ impl PhasedEnd {
     /// refuses it with an error (Core 5.2, volume 6 part B, section 5.1.7). Nothing happens where
     /// no request waits, or the answer grants it by something else.
     pub fn answer(&mut self, answer: Result<Ask, ErrCode>)
+        requires reached { IsReached self.old }
         requires in_range { ForOk answer IsAsk }
-        requires room { waiting_in self.old.control.table.queue < 24 }
-        ensures { self.new ≡ held_after (KeyedStep.Answers answer) self.old }
+        ensures step { self.new ≡ held_after (KeyedStep.Answers answer) self.old }
+        ensures reached { IsReached self.new }
+        ensures entered { 1 ≤ self.old.control.track.entered
+            → 1 ≤ self.new.control.track.entered }
     {
         self.control.answer(answer);
     }
@@ -61,7 +69,11 @@ impl PhasedEnd {
     /// The host ends the link, for this reason: LL_TERMINATE_IND is queued, unless the link is to
     /// end already (Core 5.2, volume 6 part B, section 5.1.6).
     pub fn disconnect(&mut self, reason: ErrCode)
-        ensures { self.new ≡ held_after (KeyedStep.Disconnects reason) self.old }
+        requires reached { IsReached self.old }
+        ensures step { self.new ≡ held_after (KeyedStep.Disconnects reason) self.old }
+        ensures reached { IsReached self.new }
+        ensures entered { 1 ≤ self.old.control.track.entered
+            → 1 ≤ self.new.control.track.entered }
     {
         self.control.disconnect(reason);
     }
@@ -77,9 +89,13 @@ impl PhasedEnd {
     /// The host gives the long term key that it was asked for, most significant octet first: the
     /// session begins, and LL_START_ENC_REQ is queued (Core 5.2, volume 6 part B, section 5.1.3.1).
     /// Nothing happens where no key is asked for.
+    #[tactic(auto, using(crate::proofs::Reached::reached_room))]
     pub fn give_key(&mut self, ltk: [u8; 16])
-        requires room { waiting_in self.old.control.table.queue < 24 }
-        ensures { self.new ≡ held_after (KeyedStep.GivesKey ltk) self.old }
+        requires reached { IsReached self.old }
+        ensures step { self.new ≡ held_after (KeyedStep.GivesKey ltk) self.old }
+        ensures reached { IsReached self.new }
+        ensures entered { 1 ≤ self.old.control.track.entered
+            → 1 ≤ self.new.control.track.entered }
     {
         if self.awaits_key() {
             self.begin_session(ltk);
@@ -99,9 +115,13 @@ impl PhasedEnd {
 
     /// The host has no key: the start is refused, or after a pause the link ends (Core 5.2, volume
     /// 6 part B, sections 5.1.3.1 and 5.1.3.2). Nothing happens where no key is asked for.
+    #[tactic(auto, using(crate::proofs::Reached::reached_room))]
     pub fn lack_key(&mut self)
-        requires room { waiting_in self.old.control.table.queue < 24 }
-        ensures { self.new ≡ held_after KeyedStep.LacksKey self.old }
+        requires reached { IsReached self.old }
+        ensures step { self.new ≡ held_after KeyedStep.LacksKey self.old }
+        ensures reached { IsReached self.new }
+        ensures entered { 1 ≤ self.old.control.track.entered
+            → 1 ≤ self.new.control.track.entered }
     {
         if self.awaits_key() {
             self.refuse_start();

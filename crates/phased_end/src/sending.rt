@@ -2,13 +2,13 @@
 ghost use Rattle.std.specs.Prelude.{◌≡◌, ◌≤◌, ◌<◌, IfSome};
 ghost use Rattle.data_pdu.specs.Ranges.{IsInRange};
 ghost use Rattle.procedures.specs.procedure_stages.Queue.{waiting_in};
-ghost use Rattle.control_end.specs.Answers.{done_by_acknowledgement, indication_next};
+ghost use Rattle.control_end.specs.Answers.{done_by_acknowledgement};
 ghost use Rattle.control_end.specs.Answers.{is_unacknowledged, next_ctrl};
-ghost use Rattle.control_end.specs.Following.{CanFollow};
 ghost use Rattle.keyed_control.specs.KeyedSteps.{KeyedStep};
 ghost use Rattle.phased_end.specs.Answers.{quiet_now};
 ghost use Rattle.phased_end.specs.Held.{held_after};
 ghost use Rattle.phased_end.specs.Moves.{asks_again_now};
+ghost use Rattle.phased_end.specs.Reached.{IsReached};
 
 use crate::end::PhasedEnd;
 use ble_base::{Kind, SlotNo};
@@ -30,10 +30,11 @@ impl PhasedEnd {
     /// central follows its own indication from its Instant on (Core 5.2, volume 6 part B, section
     /// 5.5). Nothing happens if there is none.
     pub fn send(&mut self, slot: SlotNo)
+        requires reached { IsReached self.old }
         requires entered { 1 ≤ self.old.control.track.entered }
-        requires can_follow { IfSome (indication_next slot.0 (quiet_now self.old) self.old.control)
-            (CanFollow self.old.control.track) }
-        ensures { self.new ≡ held_after (KeyedStep.Sends slot.0) self.old }
+        ensures step { self.new ≡ held_after (KeyedStep.Sends slot.0) self.old }
+        ensures reached { IsReached self.new }
+        ensures entered { 1 ≤ self.new.control.track.entered }
     {
         let quiet = self.is_quiet();
         self.control.send(slot, quiet);
@@ -61,10 +62,14 @@ impl PhasedEnd {
     /// The control PDU that was sent last was acknowledged. The answer is the procedure of this end
     /// that it completes. After its LL_PAUSE_ENC_RSP a central queues LL_ENC_REQ (Core 5.2, volume
     /// 6 part B, section 5.1.3.2). Nothing happens if there is none.
+    #[tactic(auto, using(crate::proofs::Reached::reached_room))]
     pub fn acked(&mut self) -> Option<Kind>
-        requires room { waiting_in self.old.control.table.queue < 24 }
+        requires reached { IsReached self.old }
         ensures step { self.new ≡ held_after KeyedStep.SeesAcknowledged self.old }
         ensures done { result ≡ done_by_acknowledgement self.old.control }
+        ensures reached { IsReached self.new }
+        ensures entered { 1 ≤ self.old.control.track.entered
+            → 1 ≤ self.new.control.track.entered }
     {
         let asks = self.asks_again();
         let done = self.control.acked();

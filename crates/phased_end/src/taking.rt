@@ -10,8 +10,10 @@ ghost use Rattle.data_pdu.specs.declared.ctrl.CtrlRead.{CtrlRead};
 ghost use Rattle.keyed_control.specs.KeyedSteps.{KeyedStep};
 ghost use Rattle.phased_end.specs.Held.{held_after};
 ghost use Rattle.data_pdu.specs.Reading.{opcode_of};
-ghost use Rattle.phased_end.specs.Taking.{Fits, IsNamed, does_keep, drawn, handed, handed_keyed, handing};
-ghost use Rattle.phased_end.specs.Taking.{handed_taken, is_allowed, is_answered_in};
+ghost use Rattle.phased_end.specs.Lengths.{HasPayloadLengths};
+ghost use Rattle.phased_end.specs.Reached.{IsReached};
+ghost use Rattle.phased_end.specs.Taking.{IsNamed, does_keep, drawn, handed, handed_keyed, handing};
+ghost use Rattle.phased_end.specs.Taking.{handed_taken, hearing_forged, is_allowed, is_answered_in};
 ghost use Rattle.phased_end.specs.Taking.{keeping, kept_if_quiet, kept_taken_if_quiet};
 ghost use Rattle.phased_end.specs.Taking.{lacks_room, nothing_keyed, seeing, seen_as};
 ghost use Rattle.phased_end.specs.Taking.{taken_keyed, took, took_data, with_rsp};
@@ -133,7 +135,7 @@ fn unknown_of(ctrl: &Ctrl) -> CtrlRead
 
 impl PhasedEnd {
     /// Whether the phase lets this end take a PDU.
-    fn is_allowed(&self, read: &CtrlRead) -> bool
+    pub(crate) fn is_allowed(&self, read: &CtrlRead) -> bool
         ensures { result ≡ is_allowed read.now self.now }
     {
         self.phase
@@ -142,7 +144,7 @@ impl PhasedEnd {
     }
 
     /// Whether this end keeps a PDU until the phase is Clear or Secure.
-    fn does_keep(&self, read: &CtrlRead) -> bool
+    pub(crate) fn does_keep(&self, read: &CtrlRead) -> bool
         ensures { result ≡ does_keep read.now self.now }
     {
         match (class_of_read(read), self.phase.role()) {
@@ -152,7 +154,7 @@ impl PhasedEnd {
     }
 
     /// Whether a PDU is answered at once, and there is no room for the answer.
-    fn lacks_room(&self, read: &CtrlRead) -> bool
+    pub(crate) fn lacks_room(&self, read: &CtrlRead) -> bool
         ensures { result ≡ lacks_room read.now self.now }
     {
         if self.is_closing() || self.waiting() < 16 {
@@ -283,14 +285,18 @@ impl PhasedEnd {
     /// keeps the first PDU of a procedure of the peripheral, which is answered once the phase is
     /// Clear or Secure. Where sixteen control PDUs wait, one of the encryption that would be answered
     /// ends the link with error 07 (section 5.1.3, and our choice).
+    #[tactic(auto, using(crate::proofs::Reached::reached_room))]
     pub fn take(&mut self, read: &CtrlRead, slot: SlotNo, response: Response) -> TakenKeyed
+        requires reached { IsReached self.old }
         requires entered { 1 ≤ self.old.control.track.entered }
         requires in_range { IfKnown read.now IsInRange }
-        requires room { waiting_in self.old.control.table.queue < 24 }
-        requires fits { Fits self.old }
         ensures step { self.new
             ≡ held_after (KeyedStep.Takes read.now slot.0 (drawn response)) self.old }
         ensures taken { result ≡ taken_keyed slot.0 response read.now self.old }
+        ensures payloads { HasPayloadLengths result.taken.effect }
+        ensures kept_payloads { HasPayloadLengths result.kept.effect }
+        ensures reached { IsReached self.new }
+        ensures entered { 1 ≤ self.new.control.track.entered }
     {
         self.take_by(read, slot, response)
     }
@@ -307,9 +313,24 @@ impl PhasedEnd {
     /// Takes data of the peer: where the phase forbids it, the link ends with error 3D (Core 5.2,
     /// volume 6 part B, section 5.1.3, and our choice).
     pub fn take_data(&mut self)
-        requires { Fits self.old }
-        ensures { self.new ≡ held_after KeyedStep.TakesData self.old }
+        requires reached { IsReached self.old }
+        ensures step { self.new ≡ held_after KeyedStep.TakesData self.old }
+        ensures reached { IsReached self.new }
+        ensures entered { 1 ≤ self.old.control.track.entered
+            → 1 ≤ self.new.control.track.entered }
     {
         self.take_data_by();
+    }
+
+    /// Hears a packet whose integrity code is wrong: the link ends with error 3D (Core 5.2, volume 6
+    /// part B, section 5.1.3.1). Nothing happens where this end ended the link before.
+    pub fn hear_forged(&mut self)
+        requires reached { IsReached self.old }
+        ensures step { self.new ≡ hearing_forged self.old }
+        ensures reached { IsReached self.new }
+    {
+        if self.goes_on() {
+            self.control.end_with(ErrCode::MIC_FAILURE);
+        }
     }
 }

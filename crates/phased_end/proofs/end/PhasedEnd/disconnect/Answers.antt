@@ -1,0 +1,18 @@
+-- The proof of `PhasedEnd::disconnect`: the step is one that may come.
+use Rattle.std.proofs.Common.{rules}
+use Rattle.keyed_control.specs.KeyedSteps.{Disconnects}
+use Rattle.phased_end.proofs.Entered.{entered_as}
+use Rattle.phased_end.proofs.Reached.{reached_as}
+use Rattle.phased_end.proofs.end.PhasedEnd.disconnect.Goals as goal
+
+pub returns-clause-step : goal.returns-clause-step
+returns-clause-step c = search (rules)
+
+pub returns-clause-reached : goal.returns-clause-reached
+returns-clause-reached c =
+    reached_as (Disconnects c.args.reason) c.args.self.now _ tt (returns-clause-step c) c.requires.reached
+
+pub returns-clause-entered : goal.returns-clause-entered
+returns-clause-entered c =
+    entered_as (Disconnects c.args.reason) c.args.self.now _ tt c.requires.reached
+    (returns-clause-step c)
