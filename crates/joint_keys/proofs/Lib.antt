@@ -1,0 +1,23 @@
+-- The lemmas of this crate.
+pub mod SealedWays
+pub mod JointRuns
+pub mod EndChanges
+pub mod EndGoing
+pub mod KeysGoing
+pub mod BothGoing
+pub mod Fitting
+pub mod Counting
+pub mod Made
+pub mod Standing
+pub mod Stepping
+pub mod Walking
+pub mod Opened
+pub mod Queues
+pub mod PairFacts
+pub mod Materials
+pub mod Vectors
+pub mod Owed
+pub mod HalvesKept
+pub mod CentralVectors
+pub mod PeripheralVectors
+pub mod Vectored
