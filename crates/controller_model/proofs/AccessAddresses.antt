@@ -16,10 +16,10 @@ use Rattle.host_view.proofs.TakenCommands.{connection_has_address}
 use Rattle.host_view.specs.scan_init.Access.{access_at, bit_count, is_valid_access, next_access_of, nth_access, valid_count}
 use Rattle.host_view.specs.scan_init.Initiating.{InitiatorFacts}
 use Rattle.host_view.specs.scan_init.Reports.{does_ask, scan_answer}
-use Rattle.open_links.specs.OpenLinks.{link_at}
+use Rattle.link_commands.specs.open_links.OpenLinks.{link_at}
 use Rattle.std.proofs.lemmas.Bool.{eqb-true}
 use Rattle.host_view.proofs.scan_init.Numbers.{none_passed}
-use Rattle.link_model.specs.declared.setup.LinkSetup.{LinkSetup}
+use Rattle.link_commands.specs.open_links.link_model.declared.setup.LinkSetup.{LinkSetup}
 use Rattle.ble_base.specs.declared.roles.Role.{Role}
 use Rattle.ble_base.specs.declared.roles.Role.TheVariants.{Central}
 use Rattle.controller_model.specs.declared.doing.Doing.{Doing}
@@ -27,8 +27,8 @@ use Rattle.controller_model.specs.declared.doing.Doing.TheVariants.{Advertises, 
 use Rattle.controller_model.specs.Step.{Step, HostOctet, TurnBegins, PacketHeard, NothingHeard, TurnEnds}
 use Rattle.controller_model.specs.Facts.{Setup, Facts, first_facts}
 use Rattle.controller_model.specs.Commands.{facts_accepted, facts_commanded, facts_known, initiator_after}
-use Rattle.open_links.specs.declared.offers.Offer.{Offer}
-use Rattle.open_links.specs.declared.offers.Offer.TheVariants.{NoLink, Empty, Overflow, Kept}
+use Rattle.link_commands.specs.open_links.declared.offers.Offer.{Offer}
+use Rattle.link_commands.specs.open_links.declared.offers.Offer.TheVariants.{NoLink, Empty, Overflow, Kept}
 use Rattle.controller_model.specs.Data.{facts_ended_turn, facts_handed, facts_offered, offer_of}
 use Rattle.controller_model.specs.Connecting.{SendsEach, SendsEachFrom, cuts_off}
 use Rattle.controller_model.specs.Heard.{asks_if, has_room, heard, link_taken, opens, replies_in, scanner_after, unheard, with_scanner}

@@ -14,15 +14,15 @@ use Rattle.hci_evt.specs.declared.event.Event.{Event}
 use Rattle.host_view.specs.View.{View}
 use Rattle.host_view.specs.Changes.{view_after}
 use Rattle.host_view.specs.Unbuilt.{status_of}
-use Rattle.open_links.specs.Data.{buffers_taken, links_given}
-use Rattle.open_links.specs.OpenLinks.{Links, link_at}
+use Rattle.link_commands.specs.open_links.Data.{buffers_taken, links_given}
+use Rattle.link_commands.specs.open_links.OpenLinks.{Links, link_at}
 use Rattle.link_commands.specs.LinksCommanded.{links_commanded, view_commanded_on}
 use Rattle.controller_model.specs.Facts.{Setup, Facts, first_facts}
 use Rattle.controller_model.specs.Answers.{accepted_answer, answer_with, complete_answer, has_status_answer, refused_fields, returned, status_answer}
 use Rattle.controller_model.specs.Commands.{drawn_after, events_caused, facts_asking, facts_commanded, facts_known, is_asking, links_after, notes_asking, notes_before, notes_commanded, notes_known}
-use Rattle.open_links.specs.declared.offers.Offer.{Offer}
-use Rattle.open_links.specs.declared.offers.Offer.TheVariants.{NoLink, Empty, Overflow, Kept}
-use Rattle.open_links.specs.Data.{offer_by}
+use Rattle.link_commands.specs.open_links.declared.offers.Offer.{Offer}
+use Rattle.link_commands.specs.open_links.declared.offers.Offer.TheVariants.{NoLink, Empty, Overflow, Kept}
+use Rattle.link_commands.specs.open_links.Data.{offer_by}
 use Rattle.controller_model.specs.Data.{facts_offered, offer_of}
 use Rattle.controller_model.specs.Events.{notes_of_events}
 use Rattle.controller_model.specs.Side.{facts_fed, notes_fed}

@@ -24,15 +24,15 @@ use Rattle.host_view.specs.Unbuilt.{status_of}
 use Rattle.adv_pdu.specs.declared.pdu.AdvPdu.{AdvPdu}
 use Rattle.host_view.specs.scan_init.declared.reports.ReportKind.{ReportKind}
 use Rattle.host_view.specs.scan_init.Reports.{ScannerFacts, does_ask, kind_of, scan_answer}
-use Rattle.open_links.specs.OpenLinks.{OpenLink, link_at}
-use Rattle.open_links.specs.Turns.{due_in}
+use Rattle.link_commands.specs.open_links.OpenLinks.{OpenLink, link_at}
+use Rattle.link_commands.specs.open_links.Turns.{due_in}
 use Rattle.controller_model.specs.declared.doing.Doing.{Doing}
 use Rattle.controller_model.specs.declared.doing.Doing.TheVariants.{Advertises, AwaitsRequest, Responds, Requests, AwaitsResponse, Connects, CentralSends, CentralListens, Rests}
 use Rattle.link_commands.specs.LinksCommanded.{links_commanded}
 use Rattle.controller_model.specs.Step.{Step, HostOctet, TurnBegins, PacketHeard, NothingHeard, TurnEnds}
 use Rattle.controller_model.specs.Facts.{Setup, Facts, first_facts}
 use Rattle.controller_model.specs.Commands.{facts_commanded, facts_known, received_after}
-use Rattle.open_links.specs.Data.{offer_by}
+use Rattle.link_commands.specs.open_links.Data.{offer_by}
 use Rattle.controller_model.specs.Data.{facts_ended_turn, facts_offered, is_full}
 use Rattle.controller_model.specs.Events.{notes_of_events, passes}
 use Rattle.controller_model.specs.Heard.{asks_if, does_report, events_received, has_room, link_received, link_taken, notes_taken, piece_taken, replies_in, reply_if, report_event, report_events, scanner_after, unheard, with_scanner}

@@ -25,19 +25,19 @@ use Rattle.host_view.specs.scan_init.Windows.{slots_of}
 use Rattle.slot_plan.specs.declared.Activity.{Activity}
 use Rattle.slot_plan.specs.declared.Activity.TheVariants.{Link, Advertise, Scan, Initiate}
 use Rattle.slot_plan.specs.Holding.{is_held_in, winner_of}
-use Rattle.link_model.specs.declared.setup.LinkSetup.{LinkSetup}
-use Rattle.link_model.specs.Times.{has_second_exchange}
-use Rattle.open_links.specs.declared.ended.LinkEnded.{LinkEnded}
-use Rattle.open_links.specs.Data.{links_given, received_past}
-use Rattle.open_links.specs.OpenLinks.{Links, OpenLink, facts_in, in_event, link_at, link_served, with_change, with_link}
+use Rattle.link_commands.specs.open_links.link_model.declared.setup.LinkSetup.{LinkSetup}
+use Rattle.link_commands.specs.open_links.link_model.Times.{has_second_exchange}
+use Rattle.link_commands.specs.open_links.declared.ended.LinkEnded.{LinkEnded}
+use Rattle.link_commands.specs.open_links.Data.{links_given, received_past}
+use Rattle.link_commands.specs.open_links.OpenLinks.{Links, OpenLink, facts_in, in_event, link_at, link_served, with_change, with_link}
 use Rattle.controller_model.specs.declared.doing.Doing.{Doing}
 use Rattle.controller_model.specs.declared.doing.Doing.TheVariants.{Advertises, Scans, Initiates, CentralSends, PeripheralListens, Rests}
 use Rattle.controller_model.specs.Step.{Step, HostOctet, TurnBegins, PacketHeard, NothingHeard, TurnEnds}
 use Rattle.controller_model.specs.Facts.{Setup, Facts, Radio, first_facts, free_radio}
 use Rattle.controller_model.specs.Commands.{facts_accepted, facts_commanded, facts_known, is_asking}
-use Rattle.open_links.specs.declared.offers.Offer.{Offer}
-use Rattle.open_links.specs.declared.offers.Offer.TheVariants.{NoLink, Empty, Overflow, Kept}
-use Rattle.open_links.specs.Ended.{received_without}
+use Rattle.link_commands.specs.open_links.declared.offers.Offer.{Offer}
+use Rattle.link_commands.specs.open_links.declared.offers.Offer.TheVariants.{NoLink, Empty, Overflow, Kept}
+use Rattle.link_commands.specs.open_links.Ended.{received_without}
 use Rattle.controller_model.specs.Data.{facts_ended_turn, facts_handed, facts_offered, offer_of}
 use Rattle.controller_model.specs.Heard.{opens}
 use Rattle.controller_model.specs.Links.{ends_for, facts_ending, facts_leaving, facts_opened, facts_shut, facts_without, note_opened, radio_without, stopped}
@@ -47,7 +47,7 @@ use Rattle.controller_model.specs.Radio.{advertises_at, advertises_on, doing_hel
 use Rattle.controller_model.specs.Side.{facts_after, facts_fed, facts_of, result_of, with_octet}
 use Rattle.controller_model.proofs.Following.{entering_is, facts_at_events}
 use Rattle.controller_model.proofs.Phases.{EachOutcome, heard_is, unheard_is}
-use Rattle.open_links.specs.Turns.{due_in, ending_in, links_without}
+use Rattle.link_commands.specs.open_links.Turns.{due_in, ending_in, links_without}
 use Rattle.controller_model.proofs.Asked.{facts_asked, of_asking}
 
 -- ---- links that end

@@ -5,8 +5,8 @@ use Rattle.adv_pdu.specs.declared.pdu.AdvPdu.{AdvPdu}
 use Rattle.adv_pdu.specs.Ranges.{is_in_range}
 use Rattle.host_view.specs.scan_init.Access.{nth_access}
 use Rattle.host_view.specs.scan_init.Initiating.{InitiatorFacts}
-use Rattle.link_model.specs.declared.setup.LinkSetup.{LinkSetup}
-use Rattle.open_links.specs.OpenLinks.{free_from}
+use Rattle.link_commands.specs.open_links.link_model.declared.setup.LinkSetup.{LinkSetup}
+use Rattle.link_commands.specs.open_links.OpenLinks.{free_from}
 use Rattle.controller_model.specs.declared.doing.Doing.TheVariants.{Initiates}
 use Rattle.controller_model.specs.Step.{Step}
 use Rattle.controller_model.specs.Facts.{Setup, Facts}

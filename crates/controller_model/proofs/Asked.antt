@@ -16,15 +16,15 @@ use Rattle.host_view.specs.OnLinks.{asks_links}
 use Rattle.host_view.specs.Unbuilt.{status_of}
 use Rattle.host_view.specs.View.{View}
 use Rattle.host_view.specs.Changes.{view_after}
-use Rattle.link_model.specs.declared.state.PeerFacts.{PeerFacts}
-use Rattle.link_model.specs.procedure_values.declared.asks.Ask.{Ask}
-use Rattle.link_model.specs.procedure_values.declared.asks.Ask.TheVariants.{Features, Version}
-use Rattle.link_model.specs.End.{notes_after as end_notes}
-use Rattle.link_model.specs.Facts.{Facts as EndFacts}
-use Rattle.link_model.specs.Setup.{Setup as EndSetup}
-use Rattle.link_model.specs.Step.{Step as EndStep, ProcedureAsked, RequestAnswered, Disconnected}
-use Rattle.open_links.specs.OpenLinks.{HasHandle, HaveHandles, Links, OpenLink, facts_in, link_after, link_at, link_from}
-use Rattle.open_links.proofs.Unmoved.{LeavesData, answered_leaves, asked_leaves, disconnected_leaves}
+use Rattle.link_commands.specs.open_links.link_model.declared.state.PeerFacts.{PeerFacts}
+use Rattle.link_commands.specs.open_links.link_model.procedure_values.declared.asks.Ask.{Ask}
+use Rattle.link_commands.specs.open_links.link_model.procedure_values.declared.asks.Ask.TheVariants.{Features, Version}
+use Rattle.link_commands.specs.open_links.link_model.End.{notes_after as end_notes}
+use Rattle.link_commands.specs.open_links.link_model.Facts.{Facts as EndFacts}
+use Rattle.link_commands.specs.open_links.link_model.Setup.{Setup as EndSetup}
+use Rattle.link_commands.specs.open_links.link_model.Step.{Step as EndStep, ProcedureAsked, RequestAnswered, Disconnected}
+use Rattle.link_commands.specs.open_links.OpenLinks.{HasHandle, HaveHandles, Links, OpenLink, facts_in, link_after, link_at, link_from}
+use Rattle.link_commands.proofs.open_links.Unmoved.{LeavesData, answered_leaves, asked_leaves, disconnected_leaves}
 use Rattle.link_commands.specs.Commands.{ask_unless, host_step_of, is_about, map_by, step_if_about, step_on}
 use Rattle.link_commands.specs.LinksCommanded.{events_commanded_on, events_known_in, known_in, link_after_if, links_commanded, links_commanded_from, place_commanded, view_commanded_on, view_known_on}
 use Rattle.link_commands.specs.Views.{events_if, kind_known, view_answered}

@@ -14,19 +14,19 @@ use Rattle.hci_cmd.specs.declared.command.CmdRead.{CmdRead}
 use Rattle.hci_cmd.specs.declared.command.CmdRead.TheVariants.{Known, UnknownOpcode, BadLength}
 use Rattle.hci_cmd.specs.Command.{command_of}
 use Rattle.host_view.specs.Unbuilt.{status_of}
-use Rattle.link_model.specs.Data.{Data, data_given}
-use Rattle.link_model.specs.Facts.{Facts as EndFacts}
-use Rattle.link_model.specs.Step.{Step as EndStep, DataGiven, DataReported}
-use Rattle.link_model.proofs.Pasts.{grows}
-use Rattle.open_links.specs.Data.{complete_in, links_reported}
-use Rattle.open_links.specs.OpenLinks.{Links, OpenLink, facts_in, link_after, link_at, link_from, with_change_from, without_links}
-use Rattle.open_links.specs.Turns.{ending_in, links_without, staying_by}
+use Rattle.link_commands.specs.open_links.link_model.Data.{Data, data_given}
+use Rattle.link_commands.specs.open_links.link_model.Facts.{Facts as EndFacts}
+use Rattle.link_commands.specs.open_links.link_model.Step.{Step as EndStep, DataGiven, DataReported}
+use Rattle.link_commands.proofs.open_links.link_model.Pasts.{grows}
+use Rattle.link_commands.specs.open_links.Data.{complete_in, links_reported}
+use Rattle.link_commands.specs.open_links.OpenLinks.{Links, OpenLink, facts_in, link_after, link_at, link_from, with_change_from, without_links}
+use Rattle.link_commands.specs.open_links.Turns.{ending_in, links_without, staying_by}
 use Rattle.controller_model.specs.Step.{Step, HostOctet, TurnBegins, PacketHeard, NothingHeard, TurnEnds}
 use Rattle.controller_model.specs.Facts.{Setup, Facts, first_facts}
 use Rattle.controller_model.specs.Commands.{facts_commanded, facts_known, links_after, received_after}
-use Rattle.open_links.specs.declared.ended.LinkEnded.{LinkEnded}
-use Rattle.open_links.specs.declared.offers.Offer.{Offer}
-use Rattle.open_links.specs.declared.offers.Offer.TheVariants.{NoLink, Empty, Overflow, Kept}
+use Rattle.link_commands.specs.open_links.declared.ended.LinkEnded.{LinkEnded}
+use Rattle.link_commands.specs.open_links.declared.offers.Offer.{Offer}
+use Rattle.link_commands.specs.open_links.declared.offers.Offer.TheVariants.{NoLink, Empty, Overflow, Kept}
 use Rattle.controller_model.specs.Data.{facts_handed, facts_offered, offer_of}
 use Rattle.controller_model.specs.Links.{ends_for, facts_leaving}
 use Rattle.controller_model.specs.Side.{facts_after, facts_fed, facts_of, result_of}

@@ -6,17 +6,17 @@ use Rattle.std.proofs.lemmas.Bool.{eq-eqb, eqb-true, lt-ltb}
 use Rattle.acl_banks.specs.declared.pieces.Piece.{Piece}
 use Rattle.ble_base.specs.declared.notes.Note.{Note}
 use Rattle.host_view.specs.View.{View}
-use Rattle.link_model.specs.Setup.{Setup as EndSetup}
-use Rattle.link_model.specs.Step.{DataReported}
-use Rattle.open_links.specs.declared.ended.LinkEnded.{LinkEnded}
-use Rattle.open_links.specs.Data.{complete_in, completed_from, link_reported, links_reported, received_past}
-use Rattle.open_links.specs.Offered.{completed_by}
-use Rattle.open_links.specs.Ended.{received_without}
-use Rattle.open_links.specs.OpenLinks.{Links, OpenLink, link_after, link_at, link_from, new_link, with_link}
-use Rattle.open_links.specs.Ended.{HandlesAscend, end_by}
-use Rattle.open_links.specs.Turns.{ends_by, links_without, place_without, reason_at, staying_by}
-use Rattle.open_links.proofs.Ends.{ends_ascend, stays_where_not_due}
-use Rattle.open_links.proofs.Handles.{opened_at, other_stays}
+use Rattle.link_commands.specs.open_links.link_model.Setup.{Setup as EndSetup}
+use Rattle.link_commands.specs.open_links.link_model.Step.{DataReported}
+use Rattle.link_commands.specs.open_links.declared.ended.LinkEnded.{LinkEnded}
+use Rattle.link_commands.specs.open_links.Data.{complete_in, completed_from, link_reported, links_reported, received_past}
+use Rattle.link_commands.specs.open_links.Offered.{completed_by}
+use Rattle.link_commands.specs.open_links.Ended.{received_without}
+use Rattle.link_commands.specs.open_links.OpenLinks.{Links, OpenLink, link_after, link_at, link_from, new_link, with_link}
+use Rattle.link_commands.specs.open_links.Ended.{HandlesAscend, end_by}
+use Rattle.link_commands.specs.open_links.Turns.{ends_by, links_without, place_without, reason_at, staying_by}
+use Rattle.link_commands.proofs.open_links.Ends.{ends_ascend, stays_where_not_due}
+use Rattle.link_commands.proofs.open_links.Handles.{opened_at, other_stays}
 use Rattle.controller_model.specs.Data.{event_completed, note_received}
 use Rattle.controller_model.specs.Events.{notes_of_events}
 use Rattle.controller_model.specs.Links.{events_opened, note_opened, notes_opened}

@@ -4,11 +4,11 @@ use Rattle.std.specs.Prelude.{filter}
 use Rattle.std.specs.Option.{option_map}
 use Rattle.acl_banks.specs.declared.pieces.Piece.{Piece}
 use Rattle.ble_base.specs.declared.notes.Note.{Note}
-use Rattle.link_model.specs.Step.{Step as EndStep, EventEntered, PduFixed, PacketSent, PacketReceived, RequestAnswered}
-use Rattle.open_links.specs.OpenLinks.{Links, OpenLink, HaveHandles, link_after, link_at, link_served, with_change}
-use Rattle.open_links.specs.Turns.{entered_if, enters_in, link_entered}
-use Rattle.open_links.proofs.Handles.{changed_is, has_its_handle, other_stays}
-use Rattle.open_links.proofs.UnderHandles.{map_at}
+use Rattle.link_commands.specs.open_links.link_model.Step.{Step as EndStep, EventEntered, PduFixed, PacketSent, PacketReceived, RequestAnswered}
+use Rattle.link_commands.specs.open_links.OpenLinks.{Links, OpenLink, HaveHandles, link_after, link_at, link_served, with_change}
+use Rattle.link_commands.specs.open_links.Turns.{entered_if, enters_in, link_entered}
+use Rattle.link_commands.proofs.open_links.Handles.{changed_is, has_its_handle, other_stays}
+use Rattle.link_commands.proofs.open_links.UnderHandles.{map_at}
 use Rattle.controller_model.specs.declared.doing.Doing.{Doing}
 use Rattle.controller_model.specs.declared.doing.Doing.TheVariants.{Advertises, CentralSends, PeripheralListens, PeripheralSends}
 use Rattle.controller_model.specs.Facts.{Facts}

@@ -10,18 +10,18 @@ use Rattle.std.proofs.lemmas.List.Sums.{fold-append}
 use Rattle.acl_banks.specs.declared.pieces.Piece.{Piece}
 use Rattle.ble_base.specs.declared.notes.Note.{Note}
 use Rattle.data_pdu.specs.Header.{header_in}
-use Rattle.link_model.specs.Acknowledgement.{Pdu}
-use Rattle.link_model.specs.Data.{is_data}
-use Rattle.link_model.specs.Facts.{Facts as EndFacts}
-use Rattle.link_model.specs.Packets.{good_pdu}
-use Rattle.link_model.specs.Verdicts.{pdu_of}
-use Rattle.link_model.specs.Setup.{Setup as EndSetup}
-use Rattle.link_model.specs.Step.{Step as EndStep, DataGiven, ProcedureAsked, RequestAnswered, Disconnected, EventEntered, PduFixed, PacketSent, PacketReceived, DataReported}
-use Rattle.link_model.specs.End.{facts_of as end_facts, notes_after as end_notes}
-use Rattle.link_model.specs.Receiving.{accepts, facts_before_taking}
-use Rattle.link_model.specs.Kept.{kept_from, kept_of}
-use Rattle.link_model.specs.Pieces.{kept_if}
-use Rattle.open_links.specs.OpenLinks.{OpenLink, HasHandle, facts_in, link_after, link_served}
+use Rattle.link_commands.specs.open_links.link_model.Acknowledgement.{Pdu}
+use Rattle.link_commands.specs.open_links.link_model.Data.{is_data}
+use Rattle.link_commands.specs.open_links.link_model.Facts.{Facts as EndFacts}
+use Rattle.link_commands.specs.open_links.link_model.Packets.{good_pdu}
+use Rattle.link_commands.specs.open_links.link_model.Verdicts.{pdu_of}
+use Rattle.link_commands.specs.open_links.link_model.Setup.{Setup as EndSetup}
+use Rattle.link_commands.specs.open_links.link_model.Step.{Step as EndStep, DataGiven, ProcedureAsked, RequestAnswered, Disconnected, EventEntered, PduFixed, PacketSent, PacketReceived, DataReported}
+use Rattle.link_commands.specs.open_links.link_model.End.{facts_of as end_facts, notes_after as end_notes}
+use Rattle.link_commands.specs.open_links.link_model.Receiving.{accepts, facts_before_taking}
+use Rattle.link_commands.specs.open_links.link_model.Kept.{kept_from, kept_of}
+use Rattle.link_commands.specs.open_links.link_model.Pieces.{kept_if}
+use Rattle.link_commands.specs.open_links.OpenLinks.{OpenLink, HasHandle, facts_in, link_after, link_served}
 use Rattle.controller_model.specs.Data.{note_received}
 use Rattle.controller_model.specs.Heard.{notes_taken, piece_taken}
 use Rattle.controller_model.specs.Packets.{notes_sent}

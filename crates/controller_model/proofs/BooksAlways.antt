@@ -19,14 +19,14 @@ use Rattle.adv_pdu.specs.declared.pdu.AdvPdu.{AdvPdu}
 use Rattle.host_view.specs.scan_init.Reports.{ScannerFacts, does_ask, scan_answer}
 use Rattle.slot_plan.specs.declared.Activity.{Activity}
 use Rattle.slot_plan.specs.declared.Activity.TheVariants.{Link, Advertise, Scan, Initiate}
-use Rattle.link_model.specs.declared.setup.LinkSetup.{LinkSetup}
-use Rattle.link_model.specs.Step.{Step as EndStep, DataGiven, Disconnected, PacketReceived, ProcedureAsked, RequestAnswered}
-use Rattle.open_links.specs.declared.offers.Offer.{Offer}
-use Rattle.open_links.specs.declared.offers.Offer.TheVariants.{Empty, Overflow, Kept}
-use Rattle.open_links.specs.Offered.{buffer_octets}
-use Rattle.open_links.specs.Data.{completed_from, links_reported, offer_by}
-use Rattle.open_links.specs.OpenLinks.{Links, OpenLink, HaveHandles, link_after, link_at, link_from, with_change, without_links}
-use Rattle.open_links.specs.Turns.{due_in, ending_in}
+use Rattle.link_commands.specs.open_links.link_model.declared.setup.LinkSetup.{LinkSetup}
+use Rattle.link_commands.specs.open_links.link_model.Step.{Step as EndStep, DataGiven, Disconnected, PacketReceived, ProcedureAsked, RequestAnswered}
+use Rattle.link_commands.specs.open_links.declared.offers.Offer.{Offer}
+use Rattle.link_commands.specs.open_links.declared.offers.Offer.TheVariants.{Empty, Overflow, Kept}
+use Rattle.link_commands.specs.open_links.Offered.{buffer_octets}
+use Rattle.link_commands.specs.open_links.Data.{completed_from, links_reported, offer_by}
+use Rattle.link_commands.specs.open_links.OpenLinks.{Links, OpenLink, HaveHandles, link_after, link_at, link_from, with_change, without_links}
+use Rattle.link_commands.specs.open_links.Turns.{due_in, ending_in}
 use Rattle.controller_model.specs.declared.doing.Doing.{Doing}
 use Rattle.controller_model.specs.Step.{Step, HostOctet, TurnBegins, PacketHeard, NothingHeard, TurnEnds}
 use Rattle.controller_model.specs.Facts.{Setup, Facts, first_facts}

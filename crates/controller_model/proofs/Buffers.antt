@@ -9,33 +9,35 @@ use Rattle.acl_banks.specs.declared.pieces.Piece.{Piece}
 use Rattle.acl_banks.specs.Packets.{new_packet, packet_after_acked, packet_after_went, with_first, without_first}
 use Rattle.data_pdu.specs.Header.{header_in}
 use Rattle.ble_base.specs.declared.roles.Role.{Role}
-use Rattle.link_model.specs.procedure_stages.Queue.{waiting_in}
-use Rattle.open_links.proofs.Unmoved.{LeavesData, asked_leaves, entered_leaves}
+use Rattle.link_commands.specs.open_links.link_model.procedure_stages.Queue.{waiting_in}
+use Rattle.link_commands.proofs.open_links.Unmoved.{LeavesData, asked_leaves, entered_leaves}
 use Rattle.hci_cmd.specs.declared.command.Command.{Command}
 use Rattle.hci_cmd.specs.declared.command.Command.TheVariants.{Reset}
-use Rattle.link_model.specs.Acknowledgement.{Pdu, is_acked}
-use Rattle.link_model.specs.Data.{Data, data_acked_if, data_completed, data_given, data_sent_if, is_completed, is_control, is_data, is_empty, is_out, is_unsent}
-use Rattle.link_model.specs.Facts.{Facts as EndFacts}
-use Rattle.link_model.specs.Packets.{good_pdu}
-use Rattle.link_model.specs.Verdicts.{pdu_of}
-use Rattle.link_model.specs.Setup.{Setup as EndSetup}
-use Rattle.link_model.specs.declared.setup.LinkSetup.{LinkSetup}
-use Rattle.link_model.specs.Step.{Step as EndStep, DataGiven, ProcedureAsked, RequestAnswered, Disconnected, EventEntered, PduFixed, PacketSent, PacketReceived, DataReported}
-use Rattle.link_model.specs.End.{facts_after as end_after, facts_of as end_facts}
-use Rattle.link_model.specs.Controls.{is_procedure_pdu, next_control}
-use Rattle.link_model.specs.Fixing.{data_cut, data_fixed_by, data_goes, fixed_anew}
-use Rattle.link_model.specs.Receiving.{accepted_if, accepts, acknowledged_if, answers_with_control, facts_before_taking, facts_received, has_acknowledged, has_new_pdu, heard_in_slot, procedures_take_if}
-use Rattle.link_model.specs.Sending.{control_gone_if, facts_sent, takes_leave}
-use Rattle.link_model.specs.Kept.{kept_from}
-use Rattle.link_model.specs.Pieces.{kept_if as piece_if}
-use Rattle.link_model.proofs.Pasts.{grows}
+use Rattle.link_commands.specs.open_links.link_model.Acknowledgement.{Pdu, is_acked}
+use Rattle.link_commands.specs.open_links.link_model.Data.{Data, data_acked_if, data_completed, data_given, is_completed, is_control, is_data, is_empty, is_out, is_unsent}
+use Rattle.link_commands.specs.open_links.link_model.Facts.{Facts as EndFacts}
+use Rattle.link_commands.specs.open_links.link_model.Packets.{good_pdu, has_new_pdu, is_forged}
+use Rattle.link_commands.specs.open_links.link_model.Payload.{payload_made}
+use Rattle.link_commands.specs.open_links.link_model.Verdicts.{pdu_of}
+use Rattle.link_commands.specs.open_links.link_model.Setup.{Setup as EndSetup}
+use Rattle.link_commands.specs.open_links.link_model.declared.setup.LinkSetup.{LinkSetup}
+use Rattle.link_commands.specs.open_links.link_model.Step.{Step as EndStep, DataGiven, ProcedureAsked, RequestAnswered, KeyAnswered, Disconnected, EventEntered, PduFixed, PacketSent, WordsGiven, PacketReceived, DataReported}
+use Rattle.link_commands.specs.open_links.link_model.End.{facts_after as end_after, facts_of as end_facts}
+use Rattle.link_commands.specs.open_links.link_model.Controls.{is_procedure_pdu, is_quiet_now, next_control}
+use Rattle.link_commands.specs.open_links.link_model.Fixing.{data_cut, data_fixed_by, data_goes, fixed_anew}
+use Rattle.link_commands.specs.open_links.link_model.Receiving.{accepted_if, accepts, acknowledged_if, answers_with_control, facts_before_taking, facts_received, has_acknowledged, heard_in_slot, procedures_take_if}
+use Rattle.link_commands.specs.open_links.link_model.Sending.{control_gone_if, data_sent_as, facts_sent, takes_leave}
+use Rattle.link_commands.specs.open_links.link_model.Kept.{kept_from}
+use Rattle.link_commands.specs.open_links.link_model.Pieces.{kept_if as piece_if}
+use Rattle.link_commands.proofs.open_links.link_model.Choices.{either_data, either_forged}
+use Rattle.link_commands.proofs.open_links.link_model.Pasts.{grows}
 use Rattle.host_view.specs.scan_init.Reports.{does_ask, scan_answer}
 use Rattle.slot_plan.specs.declared.Activity.{Activity}
 use Rattle.slot_plan.specs.declared.Activity.TheVariants.{Link, Advertise, Scan, Initiate}
-use Rattle.open_links.specs.declared.ended.LinkEnded.{LinkEnded}
-use Rattle.open_links.specs.Data.{buffers_in, buffers_taken, complete_in, link_reported, links_given, links_reported}
-use Rattle.open_links.specs.OpenLinks.{Links, OpenLink, facts_in, link_after, link_at, link_served, new_link, with_change, with_change_from, with_link, without_links}
-use Rattle.open_links.specs.Turns.{entered_if, enters_in, link_entered, links_without, place_without, staying_by}
+use Rattle.link_commands.specs.open_links.declared.ended.LinkEnded.{LinkEnded}
+use Rattle.link_commands.specs.open_links.Data.{buffers_in, buffers_taken, complete_in, link_reported, links_given, links_reported}
+use Rattle.link_commands.specs.open_links.OpenLinks.{Links, OpenLink, facts_in, link_after, link_at, link_served, new_link, with_change, with_change_from, with_link, without_links}
+use Rattle.link_commands.specs.open_links.Turns.{entered_if, enters_in, link_entered, links_without, place_without, staying_by}
 use Rattle.controller_model.specs.declared.doing.Doing.{Doing}
 use Rattle.controller_model.specs.declared.doing.Doing.TheVariants.{Advertises, CentralSends, PeripheralListens, PeripheralSends, Rests}
 use Rattle.link_commands.specs.Commands.{is_about}
@@ -43,9 +45,9 @@ use Rattle.link_commands.specs.LinksCommanded.{links_commanded, links_commanded_
 use Rattle.controller_model.specs.Step.{Step}
 use Rattle.controller_model.specs.Facts.{Setup, Facts}
 use Rattle.controller_model.specs.Commands.{links_after, received_after}
-use Rattle.open_links.specs.declared.offers.Offer.TheVariants.{Kept, Empty, Overflow}
-use Rattle.open_links.specs.Data.{offer_by, received_past}
-use Rattle.open_links.specs.Ended.{received_without}
+use Rattle.link_commands.specs.open_links.declared.offers.Offer.TheVariants.{Kept, Empty, Overflow}
+use Rattle.link_commands.specs.open_links.Data.{offer_by, received_past}
+use Rattle.link_commands.specs.open_links.Ended.{received_without}
 use Rattle.controller_model.specs.Data.{is_full, offer_of}
 use Rattle.controller_model.specs.Heard.{asks_if, has_room, link_received, link_taken, links_refusing, piece_taken, replies_in, reply_if}
 use Rattle.controller_model.specs.Packets.{facts_doing, links_sending}
@@ -89,9 +91,9 @@ sent_as : (is_piece : Bool) (outgoing : Data)
 sent_as true outgoing = let same = length-with is_unsent (packet_after_went (length outgoing.fixed.body)) outgoing.packets in omega (arith, same)
 sent_as false outgoing = omega arith
 
-sent_less : (is_new : Bool) (outgoing : Data) → length (data_sent_if is_new outgoing).packets ≤ length outgoing.packets
-sent_less true outgoing = sent_as (is_data outgoing.fixed) outgoing
-sent_less false outgoing = omega arith
+sent_less : (payload : List ℕ) (is_new : Bool) (outgoing : Data) → length (data_sent_as payload is_new outgoing).packets ≤ length outgoing.packets
+sent_less payload true outgoing = sent_as (is_data outgoing.fixed) outgoing
+sent_less payload false outgoing = omega arith
 
 completed_less : (completes : Bool) (outgoing : Data) → length (data_completed completes outgoing).packets ≤ length outgoing.packets
 completed_less true outgoing = length-without is_out outgoing.packets
@@ -119,17 +121,20 @@ received_less role slot room (Some octets) facts =
     let seen = acknowledged_if acked (heard_in_slot slot header.md facts) in
     let now = facts_before_taking role slot header facts in
     let accepted = accepts room header pdu now in
-    let took = took_same (accepted && is_procedure_pdu pdu) pdu slot (accepted_if accepted pdu now) in
+    let takes = accepted && is_procedure_pdu pdu in
+    let taken = procedures_take_if takes pdu slot (accepted_if accepted pdu now) in
+    let took = took_same takes pdu slot (accepted_if accepted pdu now) in
     let gone = gone_same (answers_with_control role seen) slot seen in
     let less = acked_less (acked && is_data facts.acknowledgement.last) facts.outgoing in
-    omega (arith, took, gone, less)
+    let in_all : waiting taken ≤ waiting facts = omega (arith, took, gone, less) in
+    either_data (λ f. waiting f ≤ waiting facts) (accepted && is_data pdu) taken in_all in_all
 
 -- an end that fixes its PDU, and one that sends it
 anew_same : (stays : Bool) (facts : EndFacts) → waiting (cond stays facts (fixed_anew facts)) ≡ waiting facts
 anew_same true facts = refl
 anew_same false facts = by_control (is_some (next_control facts)) (data_goes facts)
   where
-    by_control : (control goes : Bool) → length (data_fixed_by control (waiting_in facts.control.table.queue) goes (data_cut facts)).packets ≡ waiting facts
+    by_control : (control goes : Bool) → length (data_fixed_by control (waiting_in facts.control.table.queue) (is_quiet_now facts) goes (data_cut facts)).packets ≡ waiting facts
     by_control true goes = refl
     by_control false true = refl
     by_control false false = refl
@@ -138,7 +143,7 @@ gone_less : (slot : ℕ) (facts : EndFacts) → waiting (facts_sent slot facts) 
 gone_less slot facts =
     let gone = control_gone_if (takes_leave facts) slot facts in
     let same = gone_same (takes_leave facts) slot facts in
-    let less = sent_less (is_acked gone.acknowledgement) gone.outgoing in
+    let less = sent_less (payload_made gone.encryption.end gone.outgoing.fixed) (is_acked gone.acknowledgement) gone.outgoing in
     omega (arith, same, less)
 
 -- a step that leaves its data
@@ -155,12 +160,17 @@ step_waiting : (setup : EndSetup) (facts : EndFacts) (step : EndStep) → waitin
 step_waiting setup facts (DataGiven start body) = given_more setup.link.handle start body facts.outgoing
 step_waiting setup facts (ProcedureAsked ask) = left_same setup facts (ProcedureAsked ask) (asked_leaves ask)
 step_waiting setup facts (RequestAnswered answer) = omega arith
+step_waiting setup facts (KeyAnswered key slot) = omega arith
 step_waiting setup facts (Disconnected reason slot) = omega arith
 step_waiting setup facts (EventEntered slot) = left_same setup facts (EventEntered slot) (entered_leaves slot)
 step_waiting setup facts PduFixed = let same = anew_same (is_control facts.outgoing.fixed) facts in omega (arith, same)
 step_waiting setup facts (PacketSent slot) = let less = gone_less slot facts in omega (arith, less)
+step_waiting setup facts (WordsGiven skd_s iv_s) = omega arith
 step_waiting setup facts (PacketReceived slot octets room) =
-    let less = received_less setup.link.role slot room (good_pdu setup facts octets) facts in omega (arith, less)
+    let found = good_pdu setup facts octets in
+    let less = received_less setup.link.role slot room found facts in
+    let in_all : waiting (facts_received setup.link.role slot room found facts) ≤ waiting facts + 0 = omega (arith, less) in
+    either_forged (λ f. waiting f ≤ waiting facts + 0) (is_forged setup facts octets) (facts_received setup.link.role slot room found facts) in_all in_all
 step_waiting setup facts DataReported = omega arith
 
 after_waiting : (step : EndStep) (link : OpenLink) → waiting (facts_in (link_after step link)) ≤ waiting (facts_in link) + more_in step

@@ -11,23 +11,23 @@ use Rattle.ble_base.specs.declared.notes.Note.TheVariants.{Up}
 use Rattle.data_pdu.specs.Header.{header_in}
 use Rattle.host_view.specs.Noted.{acl_handle}
 use Rattle.wire_fields.specs.Field.{little_endian}
-use Rattle.link_model.specs.Acknowledgement.{Acknowledgement, Pdu}
-use Rattle.link_model.specs.Data.{data_in, data_of, is_control, is_data}
-use Rattle.link_model.specs.Controls.{goes_on}
-use Rattle.link_model.specs.Hosts.{is_to_come}
-use Rattle.link_model.proofs.Acknowledging.{ack_heard, ack_sent, asked_leaves, entered_leaves, fixed_leaves}
-use Rattle.link_model.specs.End.{facts_after as end_after, facts_of as end_facts, notes_after as end_notes}
-use Rattle.link_model.specs.Receiving.{accepts, facts_before_taking, facts_received, received_notes}
-use Rattle.link_model.specs.Sending.{sent_notes}
-use Rattle.link_model.specs.Facts.{Facts as EndFacts}
-use Rattle.link_model.specs.Kept.{kept_from, kept_of}
-use Rattle.link_model.specs.Pieces.{kept_if}
-use Rattle.link_model.specs.Packets.{good_pdu}
-use Rattle.link_model.specs.Verdicts.{pdu_of}
-use Rattle.link_model.specs.Setup.{Setup as EndSetup}
-use Rattle.link_model.specs.Step.{Step as EndStep, DataGiven, ProcedureAsked, RequestAnswered, Disconnected, EventEntered, PduFixed, PacketSent, PacketReceived, DataReported}
-use Rattle.link_model.proofs.Pasts.{grows}
-use Rattle.open_links.specs.OpenLinks.{OpenLink, facts_in, link_at}
+use Rattle.link_commands.specs.open_links.link_model.Acknowledgement.{Acknowledgement, Pdu}
+use Rattle.link_commands.specs.open_links.link_model.Data.{data_in, data_of, is_control, is_data}
+use Rattle.link_commands.specs.open_links.link_model.Controls.{goes_on}
+use Rattle.link_commands.specs.open_links.link_model.Hosts.{is_to_come}
+use Rattle.link_commands.proofs.open_links.link_model.Acknowledging.{ack_heard, ack_sent, asked_leaves, entered_leaves, fixed_leaves, forged_leaves}
+use Rattle.link_commands.specs.open_links.link_model.End.{facts_after as end_after, facts_of as end_facts, notes_after as end_notes}
+use Rattle.link_commands.specs.open_links.link_model.Receiving.{accepts, facts_before_taking, facts_received, received_notes}
+use Rattle.link_commands.specs.open_links.link_model.Sending.{sent_notes}
+use Rattle.link_commands.specs.open_links.link_model.Facts.{Facts as EndFacts}
+use Rattle.link_commands.specs.open_links.link_model.Kept.{kept_from, kept_of}
+use Rattle.link_commands.specs.open_links.link_model.Pieces.{kept_if}
+use Rattle.link_commands.specs.open_links.link_model.Packets.{good_pdu, is_forged}
+use Rattle.link_commands.specs.open_links.link_model.Verdicts.{pdu_of}
+use Rattle.link_commands.specs.open_links.link_model.Setup.{Setup as EndSetup}
+use Rattle.link_commands.specs.open_links.link_model.Step.{Step as EndStep, DataGiven, ProcedureAsked, RequestAnswered, Disconnected, EventEntered, PduFixed, PacketSent, PacketReceived, DataReported}
+use Rattle.link_commands.proofs.open_links.link_model.Pasts.{grows}
+use Rattle.link_commands.specs.open_links.OpenLinks.{OpenLink, facts_in, link_at}
 use Rattle.controller_model.specs.Between.{is_between_turns}
 use Rattle.controller_model.specs.Data.{acl_packet, boundary_of, note_received}
 use Rattle.controller_model.specs.Facts.{Setup}
@@ -186,6 +186,8 @@ module _ (most handle : ℕ) (few : most ≤ 4096) where
       ∙ sym (append_assoc before (flat_map data_of_piece waiting) (flat_map data_of_piece pieces))
       ∙ ap (λ first. first ++ flat_map data_of_piece pieces) handed
       ∙ sym (received_more setup slot room (good_pdu setup facts octets) facts)
+      ∙ ap (λ (a : Acknowledgement). data_of a.accepted)
+      (sym (forged_leaves (is_forged setup facts octets) (facts_received setup.link.role slot room (good_pdu setup facts octets) facts)))
       ∙ ap (λ (facts : EndFacts). data_of facts.acknowledgement.accepted) (sym (grows setup past (PacketReceived slot octets room)))
 
   first_handed : (setup : EndSetup) → [] ≡ data_of (end_facts setup []).acknowledgement.accepted

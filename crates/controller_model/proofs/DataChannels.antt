@@ -15,22 +15,23 @@ use Rattle.chan_select.specs.PseudoRandom.{channel_identifier, prn}
 use Rattle.ble_base.specs.declared.roles.Role.{Role}
 use Rattle.data_pdu.specs.Header.{header_in}
 use Rattle.instants.specs.Track.{event_of}
-use Rattle.link_model.specs.procedure_values.declared.asks.Ask.{Ask}
-use Rattle.link_model.specs.Setup.{Setup, algorithm_of}
-use Rattle.link_model.specs.Acknowledgement.{Pdu}
-use Rattle.link_model.specs.Data.{is_control}
-use Rattle.link_model.specs.Verdicts.{pdu_of}
-use Rattle.link_model.specs.Facts.{Facts as EndFacts, first_facts}
-use Rattle.link_model.specs.Step.{Step, DataGiven, DataReported, Disconnected, EventEntered, PacketReceived, PacketSent, PduFixed, ProcedureAsked, RequestAnswered}
-use Rattle.link_model.specs.Controls.{goes_on, is_procedure_pdu}
-use Rattle.link_model.specs.Entering.{control_entered, facts_entered_if}
-use Rattle.link_model.specs.Fixing.{fixed_anew}
-use Rattle.link_model.specs.Hosts.{asked_unless, is_to_come}
-use Rattle.link_model.specs.Packets.{good_pdu}
-use Rattle.link_model.specs.Receiving.{accepted_if, accepts, acknowledged_if, answers_with_control, facts_before_taking, facts_received, has_acknowledged, heard_in_slot, procedures_take_if}
-use Rattle.link_model.specs.Sending.{control_gone_if, takes_leave}
-use Rattle.link_model.specs.End.{facts_after, facts_of}
-use Rattle.open_links.specs.OpenLinks.{OpenLink, facts_in}
+use Rattle.link_commands.specs.open_links.link_model.procedure_values.declared.asks.Ask.{Ask}
+use Rattle.link_commands.specs.open_links.link_model.Setup.{Setup, algorithm_of}
+use Rattle.link_commands.specs.open_links.link_model.Acknowledgement.{Pdu}
+use Rattle.link_commands.specs.open_links.link_model.Data.{is_control, is_data}
+use Rattle.link_commands.specs.open_links.link_model.Verdicts.{pdu_of}
+use Rattle.link_commands.specs.open_links.link_model.Facts.{Facts as EndFacts, first_facts}
+use Rattle.link_commands.specs.open_links.link_model.Step.{Step, DataGiven, DataReported, Disconnected, EventEntered, KeyAnswered, PacketReceived, PacketSent, PduFixed, ProcedureAsked, RequestAnswered, WordsGiven}
+use Rattle.link_commands.specs.open_links.link_model.Controls.{goes_on, is_procedure_pdu}
+use Rattle.link_commands.specs.open_links.link_model.Entering.{control_entered, facts_entered_if}
+use Rattle.link_commands.specs.open_links.link_model.Fixing.{fixed_anew}
+use Rattle.link_commands.specs.open_links.link_model.Hosts.{asked_unless, is_to_come}
+use Rattle.link_commands.specs.open_links.link_model.Packets.{good_pdu, is_forged}
+use Rattle.link_commands.specs.open_links.link_model.Receiving.{accepted_if, accepts, acknowledged_if, answers_with_control, facts_before_taking, facts_received, has_acknowledged, heard_in_slot, procedures_take_if}
+use Rattle.link_commands.specs.open_links.link_model.Sending.{control_gone_if, takes_leave}
+use Rattle.link_commands.specs.open_links.link_model.End.{facts_after, facts_of}
+use Rattle.link_commands.proofs.open_links.link_model.Choices.{either_data, either_forged}
+use Rattle.link_commands.specs.open_links.OpenLinks.{OpenLink, facts_in}
 
 used_below : (bits i : ℕ) → get_or (used_channels bits) i 0 < 37
 used_below bits i = elim (cases_lt i (length (used_channels bits))) [
@@ -86,19 +87,25 @@ received_below role slot room (Some octets) facts below =
     let pdu = pdu_of octets in
     let own = acknowledged_if (has_acknowledged facts header) (heard_in_slot slot header.md facts) in
     let now = facts_before_taking role slot header facts in
-    taken_below (accepts room header pdu now && is_procedure_pdu pdu) pdu slot (accepted_if (accepts room header pdu now) pdu now)
-    (gone_below (answers_with_control role own) slot own below)
+    let accepted = accepts room header pdu now in
+    let takes = accepted && is_procedure_pdu pdu in
+    let taken = taken_below takes pdu slot (accepted_if accepted pdu now) (gone_below (answers_with_control role own) slot own below) in
+    either_data IsBelow (accepted && is_data pdu) (procedures_take_if takes pdu slot (accepted_if accepted pdu now)) taken taken
 
 step_below : (setup : Setup) (facts : EndFacts) (step : Step) → IsBelow facts → IsBelow (facts_after setup facts step)
 step_below setup facts (DataGiven start body) below = below
 step_below setup facts (ProcedureAsked ask) below = asked_below (is_to_come ask facts) ask facts below
 step_below setup facts (RequestAnswered answer) below = below
+step_below setup facts (KeyAnswered key slot) below = below
 step_below setup facts (Disconnected reason slot) below = below
 step_below setup facts (EventEntered slot) below = entered_below (goes_on facts) setup slot facts below
 step_below setup facts PduFixed below = fixed_below (is_control facts.outgoing.fixed) facts below
 step_below setup facts (PacketSent slot) below = gone_below (takes_leave facts) slot facts below
+step_below setup facts (WordsGiven skd_s iv_s) below = below
 step_below setup facts (PacketReceived slot octets room) below =
-    received_below setup.link.role slot room (good_pdu setup facts octets) facts below
+    let found = good_pdu setup facts octets in
+    let received = received_below setup.link.role slot room found facts below in
+    either_forged IsBelow (is_forged setup facts octets) (facts_received setup.link.role slot room found facts) received received
 step_below setup facts DataReported below = below
 
 from_below : (setup : Setup) (facts : EndFacts) (past : List Step) → IsBelow facts → IsBelow (fold (facts_after setup) facts past)

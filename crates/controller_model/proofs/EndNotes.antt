@@ -8,21 +8,21 @@ use Rattle.ble_base.specs.declared.notes.Note.TheVariants.{Applied, Began, Done,
 use Rattle.ble_base.specs.declared.procedure_kinds.Kind.{Kind}
 use Rattle.data_pdu.specs.declared.header.DataHeader.{DataHeader}
 use Rattle.data_pdu.specs.Header.{header_in}
-use Rattle.link_model.specs.control_end.declared.answers.Entry.{Entry}
-use Rattle.link_model.specs.control_end.declared.answers.Taken.{Taken}
-use Rattle.link_model.specs.control_end.Answers.{entry_of}
-use Rattle.link_model.specs.control_end.Held.{held_of}
-use Rattle.link_model.specs.declared.events.ConnectionEvent.{ConnectionEvent}
-use Rattle.link_model.specs.Acknowledgement.{Pdu, is_acked}
-use Rattle.link_model.specs.Data.{is_empty, numbered}
-use Rattle.link_model.specs.Events.{applied_notes}
-use Rattle.link_model.specs.Verdicts.{pdu_of}
-use Rattle.link_model.specs.Setup.{Setup}
-use Rattle.link_model.specs.Facts.{Facts}
-use Rattle.link_model.specs.Controls.{goes_on, is_procedure_pdu, is_quiet_now, pdu_fixed}
-use Rattle.link_model.specs.Entering.{began_notes, done_notes, entry_notes, event_notes, facts_entered}
-use Rattle.link_model.specs.Receiving.{accepts, acked_kind, acks_control, facts_before_taking, given_if, given_notes, has_acknowledged, notes_hearing, received_notes, refused_notes, took_notes_if}
-use Rattle.link_model.specs.Sending.{sent_notes, sent_notes_if}
+use Rattle.link_commands.specs.open_links.link_model.control_end.declared.answers.Entry.{Entry}
+use Rattle.link_commands.specs.open_links.link_model.control_end.declared.answers.Taken.{Taken}
+use Rattle.link_commands.specs.open_links.link_model.control_end.Answers.{entry_of}
+use Rattle.link_commands.specs.open_links.link_model.control_end.Held.{held_of}
+use Rattle.link_commands.specs.open_links.link_model.declared.events.ConnectionEvent.{ConnectionEvent}
+use Rattle.link_commands.specs.open_links.link_model.Acknowledgement.{Pdu, is_acked}
+use Rattle.link_commands.specs.open_links.link_model.Data.{is_empty, numbered}
+use Rattle.link_commands.specs.open_links.link_model.Events.{applied_notes}
+use Rattle.link_commands.specs.open_links.link_model.Verdicts.{pdu_of}
+use Rattle.link_commands.specs.open_links.link_model.Setup.{Setup}
+use Rattle.link_commands.specs.open_links.link_model.Facts.{Facts}
+use Rattle.link_commands.specs.open_links.link_model.Controls.{goes_on, is_procedure_pdu, is_quiet_now, pdu_fixed}
+use Rattle.link_commands.specs.open_links.link_model.Entering.{began_notes, done_notes, entry_notes, event_notes, facts_entered}
+use Rattle.link_commands.specs.open_links.link_model.Receiving.{accepts, acked_kind, acks_control, facts_before_taking, given_if, given_notes, has_acknowledged, kept_given_if, notes_hearing, received_notes, refused_notes, took_notes_if}
+use Rattle.link_commands.specs.open_links.link_model.Sending.{sent_notes, sent_notes_if}
 
 -- a fact of each note of a packet that is received on the link under this handle
 pub record EachReceived (handle : ℕ) (P : Note → Type 0) : Type 0 where
@@ -88,9 +88,11 @@ module _ (P : Note → Type 0) where
       let acked = acked_kind (acks_control (has_acknowledged facts header) facts) facts in
       let noted = accepted && not (is_empty pdu) in
       let given = given_if (accepted && is_procedure_pdu pdu) pdu slot now in
-      both_each (done_notes handle acked) (took_notes_if noted handle pdu now ++ given_notes handle given) (done_each handle acked each.done)
-      (both_each (took_notes_if noted handle pdu now) (given_notes handle given) (took_if noted handle pdu now each.took)
-      (given_each handle given each))
+      let kept = kept_given_if (accepted && is_procedure_pdu pdu) pdu slot now in
+      let of_given = given_notes handle given ++ given_notes handle kept in
+      both_each (done_notes handle acked) (took_notes_if noted handle pdu now ++ of_given) (done_each handle acked each.done)
+      (both_each (took_notes_if noted handle pdu now) of_given (took_if noted handle pdu now each.took)
+      (both_each (given_notes handle given) (given_notes handle kept) (given_each handle given each) (given_each handle kept each)))
 
   pub received_each : (setup : Setup) (slot : ℕ) (room : Bool) (found : Option (List ℕ)) (facts : Facts) → EachReceived setup.link.handle P
       → AllByRecursion P (received_notes setup slot room found facts)

@@ -18,23 +18,25 @@ use Rattle.hci_cmd.specs.Command.{command_of}
 use Rattle.hci_evt.specs.declared.event.Event.TheVariants.{HardwareError}
 use Rattle.host_view.specs.Unbuilt.{status_of}
 use Rattle.host_view.specs.View.{View}
-use Rattle.link_model.specs.Step.{EventEntered}
-use Rattle.link_model.specs.Facts.{Facts as EndFacts}
-use Rattle.link_model.specs.control_end.Answers.{entry_of as entry_of_end}
-use Rattle.link_model.specs.control_end.Held.{held_of}
-use Rattle.link_model.proofs.control_model.Moving.{enters_track}
+use Rattle.link_commands.specs.open_links.link_model.Step.{EventEntered}
+use Rattle.link_commands.specs.open_links.link_model.Facts.{Facts as EndFacts}
+use Rattle.link_commands.specs.open_links.link_model.control_end.Answers.{entry_of as entry_of_end}
+use Rattle.link_commands.specs.open_links.link_model.control_end.Held.{held_of}
+use Rattle.link_commands.specs.open_links.link_model.control_model.Control.{Control}
+use Rattle.link_commands.proofs.open_links.link_model.control_model.Moving.{enters_track}
+use Rattle.link_commands.proofs.open_links.link_model.Plain.{entered_control_plain, past_plain}
 use Rattle.instants.specs.Track.{TrackFacts, event_of}
-use Rattle.link_model.specs.Events.{applied_notes}
-use Rattle.link_model.proofs.Pasts.{grows}
-use Rattle.link_model.specs.Controls.{goes_on, is_quiet_now}
-use Rattle.link_model.specs.End.{notes_after as end_notes}
-use Rattle.link_model.specs.Entering.{began_notes, done_notes, event_notes, facts_entered, facts_entered_if}
-use Rattle.open_links.specs.declared.ended.LinkEnded.{LinkEnded}
-use Rattle.open_links.specs.OpenLinks.{Links, OpenLink, HasHandle, HaveHandles, facts_in, handles_from, link_at, link_from}
-use Rattle.open_links.specs.Turns.{due_in, ending_in, entered_if, enters_in, is_anchor, link_entered, links_without, notes_entering, notes_if, place_without, staying_by}
-use Rattle.open_links.proofs.Anchors.{one_more_entered}
-use Rattle.open_links.proofs.Ends.{stays_where_not_due}
-use Rattle.open_links.proofs.Handles.{has_its_handle}
+use Rattle.link_commands.specs.open_links.link_model.Events.{applied_notes}
+use Rattle.link_commands.proofs.open_links.link_model.Pasts.{grows}
+use Rattle.link_commands.specs.open_links.link_model.Controls.{goes_on, is_quiet_now}
+use Rattle.link_commands.specs.open_links.link_model.End.{notes_after as end_notes}
+use Rattle.link_commands.specs.open_links.link_model.Entering.{began_notes, done_notes, event_notes, facts_entered, facts_entered_if}
+use Rattle.link_commands.specs.open_links.declared.ended.LinkEnded.{LinkEnded}
+use Rattle.link_commands.specs.open_links.OpenLinks.{Links, OpenLink, HasHandle, HaveHandles, facts_in, handles_from, link_at, link_from}
+use Rattle.link_commands.specs.open_links.Turns.{due_in, ending_in, entered_if, enters_in, is_anchor, link_entered, links_without, notes_entering, notes_if, place_without, staying_by}
+use Rattle.link_commands.proofs.open_links.Anchors.{one_more_entered}
+use Rattle.link_commands.proofs.open_links.Ends.{stays_where_not_due}
+use Rattle.link_commands.proofs.open_links.Handles.{has_its_handle}
 use Rattle.controller_model.specs.Step.{Step, HostOctet, TurnBegins, PacketHeard, NothingHeard, TurnEnds}
 use Rattle.controller_model.specs.Facts.{Setup, Facts}
 use Rattle.controller_model.specs.Answers.{answer_to}
@@ -69,7 +71,9 @@ number_is : (slot : ℕ) (link : OpenLink) → goes_on (facts_in link) ≡ true
 number_is slot link goes =
     let control = (facts_in link).control in
     let more = one_more_entered control.track in
-    ap (λ (t : TrackFacts). event_of t) (enters_track control slot (is_quiet_now (facts_in link)) (none_of control.ends goes)) ∙ omega (arith, more)
+    ap (λ (c : Control). event_of c.track)
+    (entered_control_plain link.setup.link.role slot (facts_in link) (past_plain link.setup link.past))
+    ∙ ap (λ (t : TrackFacts). event_of t) (enters_track control slot true (none_of control.ends goes)) ∙ omega (arith, more)
 
 -- the tests of a link that enters
 both_are : (goes anchor : Bool) → (goes && anchor) ≡ true → (goes ≡ true) × (anchor ≡ true)

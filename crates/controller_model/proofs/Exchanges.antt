@@ -13,17 +13,17 @@ use Rattle.advertise.specs.Advertising.{AdvertiserFacts, event_channel}
 use Rattle.advertise.specs.Answers.{advertiser_answer}
 use Rattle.hci_cmd.specs.declared.command.Command.{Command}
 use Rattle.hci_cmd.specs.declared.command.Command.TheVariants.{Reset}
-use Rattle.link_model.specs.declared.setup.LinkSetup.{LinkSetup}
+use Rattle.link_commands.specs.open_links.link_model.declared.setup.LinkSetup.{LinkSetup}
 use Rattle.host_view.specs.scan_init.Initiating.{InitiatorFacts}
 use Rattle.host_view.specs.scan_init.Reports.{ScannerFacts, does_ask, scan_answer}
 use Rattle.slot_plan.specs.declared.Activity.{Activity}
 use Rattle.slot_plan.specs.declared.Activity.TheVariants.{Link, Advertise, Scan, Initiate}
 use Rattle.slot_plan.specs.Holding.{is_held_in}
-use Rattle.link_model.specs.Step.{Step as EndStep, DataGiven, PacketReceived, PacketSent, PduFixed, RequestAnswered}
-use Rattle.link_model.specs.Times.{has_second_exchange}
-use Rattle.open_links.specs.OpenLinks.{Links, OpenLink, facts_in, free_from, has_entered, in_event, link_after, link_at, link_served, with_change}
-use Rattle.open_links.proofs.OnTime.{stays_entered}
-use Rattle.open_links.proofs.UnderHandles.{map_at}
+use Rattle.link_commands.specs.open_links.link_model.Step.{Step as EndStep, DataGiven, PacketReceived, PacketSent, PduFixed, RequestAnswered}
+use Rattle.link_commands.specs.open_links.link_model.Times.{has_second_exchange}
+use Rattle.link_commands.specs.open_links.OpenLinks.{Links, OpenLink, facts_in, free_from, has_entered, in_event, link_after, link_at, link_served, with_change}
+use Rattle.link_commands.proofs.open_links.OnTime.{stays_entered}
+use Rattle.link_commands.proofs.open_links.UnderHandles.{map_at}
 use Rattle.controller_model.specs.declared.doing.Doing.{Doing}
 use Rattle.controller_model.specs.declared.doing.Doing.TheVariants.{Advertises, AwaitsRequest, Scans, Requests, AwaitsResponse, Initiates, Connects, CentralSends, CentralListens, PeripheralListens, PeripheralSends, Rests}
 use Rattle.link_commands.specs.LinksCommanded.{links_commanded}

@@ -10,9 +10,9 @@ use Rattle.host_view.specs.declared.links.Link.{Link as ViewLink}
 use Rattle.host_view.specs.View.{View}
 use Rattle.host_view.specs.Changes.{on_link}
 use Rattle.host_view.specs.Noted.{acl_handle, after_packet, event_handle, is_acl_data, is_le_event, view_noted}
-use Rattle.link_model.specs.Packets.{good_pdu}
-use Rattle.open_links.specs.OpenLinks.{Links, OpenLink, facts_in, link_at}
-use Rattle.open_links.specs.Turns.{enters_in, notes_entering, notes_if}
+use Rattle.link_commands.specs.open_links.link_model.Packets.{good_pdu}
+use Rattle.link_commands.specs.open_links.OpenLinks.{Links, OpenLink, facts_in, link_at}
+use Rattle.link_commands.specs.open_links.Turns.{enters_in, notes_entering, notes_if}
 use Rattle.controller_model.specs.Entering.{all_entered, events_entering, notes_all_entering}
 use Rattle.controller_model.specs.Events.{notes_of_events, passes}
 use Rattle.controller_model.specs.Facts.{Setup, Facts}

@@ -6,8 +6,8 @@ use Rattle.ble_base.specs.declared.roles.Role.{Role}
 use Rattle.host_view.specs.declared.view.Advertising.{Advertising as ViewAdvertising}
 use Rattle.host_view.specs.Refusals.{count_if}
 use Rattle.host_view.specs.scan_init.Initiating.{InitiatorFacts}
-use Rattle.link_model.specs.declared.setup.LinkSetup.{LinkSetup}
-use Rattle.open_links.specs.OpenLinks.{free_from}
+use Rattle.link_commands.specs.open_links.link_model.declared.setup.LinkSetup.{LinkSetup}
+use Rattle.link_commands.specs.open_links.OpenLinks.{free_from}
 use Rattle.controller_model.specs.Step.{Step, HostOctet, TurnBegins, PacketHeard, NothingHeard, TurnEnds}
 use Rattle.controller_model.specs.Facts.{Setup, Facts}
 use Rattle.controller_model.specs.Side.{facts_after, facts_of}

@@ -9,19 +9,19 @@ use Rattle.hci_cmd.specs.declared.command.Command.TheVariants.{Reset}
 use Rattle.adv_pdu.specs.declared.pdu.AdvPdu.{AdvPdu}
 use Rattle.adv_pdu.specs.Pdu.{sender_of}
 use Rattle.host_view.specs.scan_init.Reports.{does_ask, scan_answer}
-use Rattle.link_model.specs.declared.setup.LinkSetup.{LinkSetup}
-use Rattle.link_model.specs.Setup.{Setup as EndSetup}
-use Rattle.link_model.specs.Step.{DataGiven, DataReported, PduFixed, PacketSent, PacketReceived}
+use Rattle.link_commands.specs.open_links.link_model.declared.setup.LinkSetup.{LinkSetup}
+use Rattle.link_commands.specs.open_links.link_model.Setup.{Setup as EndSetup}
+use Rattle.link_commands.specs.open_links.link_model.Step.{DataGiven, DataReported, PduFixed, PacketSent, PacketReceived}
 use Rattle.slot_plan.specs.declared.Activity.{Activity}
 use Rattle.slot_plan.specs.declared.Activity.TheVariants.{Link, Advertise, Scan, Initiate}
-use Rattle.open_links.specs.Data.{complete_in, link_reported}
-use Rattle.open_links.specs.OpenLinks.{Links, OpenLink, HasHandle, HaveHandles, IsFreeHandle, free_from, link_after, link_at, link_from, link_served, with_change, with_change_from, without_links}
-use Rattle.open_links.specs.Turns.{ending_in, link_entered, links_without, place_without}
-use Rattle.open_links.proofs.Counts.{count_at_first, count_changing, count_ending, count_opening, count_resetting}
-use Rattle.open_links.proofs.Unmoved.{entered_setup}
-use Rattle.open_links.proofs.Ends.{stay_with_handles, stays_where_not_due}
-use Rattle.open_links.proofs.UnderHandles.{map_at}
-use Rattle.open_links.proofs.Handles.{changed_have, free_is, none_have, opened_has, place_keeps}
+use Rattle.link_commands.specs.open_links.Data.{complete_in, link_reported}
+use Rattle.link_commands.specs.open_links.OpenLinks.{Links, OpenLink, HasHandle, HaveHandles, IsFreeHandle, free_from, link_after, link_at, link_from, link_served, with_change, with_change_from, without_links}
+use Rattle.link_commands.specs.open_links.Turns.{ending_in, link_entered, links_without, place_without}
+use Rattle.link_commands.proofs.open_links.Counts.{count_at_first, count_changing, count_ending, count_opening, count_resetting}
+use Rattle.link_commands.proofs.open_links.Unmoved.{entered_setup}
+use Rattle.link_commands.proofs.open_links.Ends.{stay_with_handles, stays_where_not_due}
+use Rattle.link_commands.proofs.open_links.UnderHandles.{map_at}
+use Rattle.link_commands.proofs.open_links.Handles.{changed_have, free_is, none_have, opened_has, place_keeps}
 use Rattle.controller_model.specs.declared.doing.Doing.{Doing}
 use Rattle.controller_model.specs.declared.doing.Doing.TheVariants.{Advertises, AwaitsRequest, Responds, Requests, AwaitsResponse, Connects, CentralSends, CentralListens, PeripheralListens, PeripheralSends, Rests}
 use Rattle.link_commands.specs.LinksCommanded.{links_commanded}

@@ -19,13 +19,13 @@ use Rattle.hci_evt.specs.declared.event.Event.{Event}
 use Rattle.hci_evt.specs.declared.event.Event.TheVariants.{CommandComplete, CommandStatus}
 use Rattle.host_view.specs.View.{View}
 use Rattle.host_view.specs.Unbuilt.{status_of}
-use Rattle.open_links.specs.OpenLinks.{OpenLink, link_at}
+use Rattle.link_commands.specs.open_links.OpenLinks.{OpenLink, link_at}
 use Rattle.controller_model.specs.Step.{Step, HostOctet, TurnBegins, PacketHeard, NothingHeard, TurnEnds}
 use Rattle.controller_model.specs.Facts.{Setup, Facts, first_facts}
 use Rattle.controller_model.specs.Answers.{accepted_answer, answer_to, complete_answer, has_status_answer, is_host_completed, refused_fields, returned, status_answer}
 use Rattle.controller_model.specs.Commands.{notes_commanded}
-use Rattle.open_links.specs.declared.offers.Offer.{Offer}
-use Rattle.open_links.specs.Data.{offer_by}
+use Rattle.link_commands.specs.open_links.declared.offers.Offer.{Offer}
+use Rattle.link_commands.specs.open_links.Data.{offer_by}
 use Rattle.controller_model.specs.Data.{is_full, notes_offered, offer_of}
 use Rattle.controller_model.specs.Events.{notes_of_events}
 use Rattle.controller_model.specs.Side.{facts_after, facts_of, notes_after, notes_fed, notes_from, notes_of, result_of}

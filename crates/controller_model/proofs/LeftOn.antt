@@ -13,8 +13,8 @@ use Rattle.slot_plan.specs.declared.Activity.{Activity}
 use Rattle.slot_plan.specs.declared.Activity.TheVariants.{Advertise, Scan, Initiate}
 use Rattle.slot_plan.specs.Holding.{is_held_in, winner_of}
 use Rattle.slot_plan.specs.Winner.{first_activity}
-use Rattle.open_links.specs.OpenLinks.{Links}
-use Rattle.open_links.specs.Turns.{due_in, link_entered}
+use Rattle.link_commands.specs.open_links.OpenLinks.{Links}
+use Rattle.link_commands.specs.open_links.Turns.{due_in, link_entered}
 use Rattle.controller_model.specs.declared.doing.Doing.{Doing}
 use Rattle.controller_model.specs.Facts.{Facts, Radio}
 use Rattle.controller_model.specs.Links.{facts_ending}

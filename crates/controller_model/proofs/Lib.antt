@@ -56,8 +56,8 @@ pub mod Entries
 pub mod Shuts
 pub mod Resets
 -- what the crates above use of those below
-pub use Rattle.link_model.proofs.control_model as control_model
-pub use Rattle.link_model.proofs as link_model
-pub use Rattle.open_links.proofs as open_links
-pub use Rattle.open_links.proofs.link_end as link_end
+pub use Rattle.link_commands.proofs.open_links.link_model.control_model as control_model
+pub use Rattle.link_commands.proofs.open_links.link_model as link_model
+pub use Rattle.link_commands.proofs.open_links as open_links
+pub use Rattle.link_commands.proofs.open_links.link_end as link_end
 pub use Rattle.link_commands.proofs as link_commands

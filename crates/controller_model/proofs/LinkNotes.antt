@@ -14,21 +14,21 @@ use Rattle.hci_evt.specs.declared.event.Event.{Event}
 use Rattle.hci_evt.specs.declared.event.Event.TheVariants.{DisconnectionComplete, CompletedPackets, BufferOverflow}
 use Rattle.hci_evt.specs.Event.{mask_bit_of, written}
 use Rattle.host_view.specs.View.{View}
-use Rattle.link_model.specs.declared.setup.LinkSetup.{LinkSetup}
-use Rattle.link_model.specs.Packets.{good_pdu}
+use Rattle.link_commands.specs.open_links.link_model.declared.setup.LinkSetup.{LinkSetup}
+use Rattle.link_commands.specs.open_links.link_model.Packets.{good_pdu}
 use Rattle.host_view.specs.scan_init.Reports.{scan_answer}
-use Rattle.open_links.specs.declared.ended.LinkEnded.{LinkEnded}
-use Rattle.open_links.specs.Data.{completed_from}
-use Rattle.link_model.specs.End.{notes_after as end_notes}
-use Rattle.link_model.specs.Step.{EventEntered}
-use Rattle.open_links.specs.OpenLinks.{Links, OpenLink, HasHandle, HaveHandles, facts_in, link_at, link_from}
-use Rattle.open_links.specs.Turns.{due_in, ending_in, enters_in, links_without, notes_entering, notes_if, place_without, staying_by}
+use Rattle.link_commands.specs.open_links.declared.ended.LinkEnded.{LinkEnded}
+use Rattle.link_commands.specs.open_links.Data.{completed_from}
+use Rattle.link_commands.specs.open_links.link_model.End.{notes_after as end_notes}
+use Rattle.link_commands.specs.open_links.link_model.Step.{EventEntered}
+use Rattle.link_commands.specs.open_links.OpenLinks.{Links, OpenLink, HasHandle, HaveHandles, facts_in, link_at, link_from}
+use Rattle.link_commands.specs.open_links.Turns.{due_in, ending_in, enters_in, links_without, notes_entering, notes_if, place_without, staying_by}
 use Rattle.controller_model.specs.Facts.{Setup, Facts}
 use Rattle.controller_model.specs.Events.{notes_of_events, passes}
 use Rattle.controller_model.specs.declared.doing.Doing.{Doing}
 use Rattle.controller_model.specs.declared.doing.Doing.TheVariants.{Advertises, CentralSends, PeripheralSends}
-use Rattle.open_links.specs.declared.offers.Offer.{Offer}
-use Rattle.open_links.specs.declared.offers.Offer.TheVariants.{NoLink, Empty, Overflow, Kept}
+use Rattle.link_commands.specs.open_links.declared.offers.Offer.{Offer}
+use Rattle.link_commands.specs.open_links.declared.offers.Offer.TheVariants.{NoLink, Empty, Overflow, Kept}
 use Rattle.controller_model.specs.Data.{acl_packet, event_completed, facts_handed, note_received, notes_ended_turn, notes_handed, notes_offered}
 use Rattle.controller_model.specs.Entering.{events_entering, notes_all_entering}
 use Rattle.controller_model.specs.Heard.{events_received, events_reported, has_room, link_heard, notes_taken, opens, scanner_heard}

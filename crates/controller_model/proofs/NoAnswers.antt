@@ -14,9 +14,9 @@ use Rattle.hci_evt.specs.declared.event.Event.{Event}
 use Rattle.hci_evt.specs.declared.event.Event.TheVariants.{DisconnectionComplete, CommandComplete, CommandStatus, HardwareError, CompletedPackets, BufferOverflow}
 use Rattle.host_view.specs.Unbuilt.{status_of}
 use Rattle.host_view.specs.View.{View}
-use Rattle.open_links.specs.OpenLinks.{handles_from}
-use Rattle.open_links.specs.declared.offers.Offer.{Offer}
-use Rattle.open_links.specs.declared.offers.Offer.TheVariants.{NoLink, Empty, Overflow, Kept}
+use Rattle.link_commands.specs.open_links.OpenLinks.{handles_from}
+use Rattle.link_commands.specs.open_links.declared.offers.Offer.{Offer}
+use Rattle.link_commands.specs.open_links.declared.offers.Offer.TheVariants.{NoLink, Empty, Overflow, Kept}
 use Rattle.link_commands.specs.LinksCommanded.{events_commanded_on}
 use Rattle.controller_model.specs.Step.{Step}
 use Rattle.controller_model.specs.Facts.{Setup, Facts}

@@ -5,12 +5,12 @@ use Rattle.std.specs.Option.{option_map}
 use Rattle.host_view.specs.View.{View}
 use Rattle.hci_cmd.specs.declared.command.Command.{Command}
 use Rattle.hci_cmd.specs.declared.command.Command.TheVariants.{Reset}
-use Rattle.link_model.specs.Step.{PacketSent, PduFixed}
+use Rattle.link_commands.specs.open_links.link_model.Step.{PacketSent, PduFixed}
 use Rattle.slot_plan.specs.declared.Activity.{Activity}
 use Rattle.slot_plan.specs.declared.Activity.TheVariants.{Link, Advertise, Scan, Initiate}
-use Rattle.open_links.specs.Data.{completed_from, link_reported, links_reported}
-use Rattle.open_links.specs.OpenLinks.{Links, OpenLink, link_after, link_at, link_from, link_served, with_change, with_change_from, without_links}
-use Rattle.open_links.specs.Turns.{ending_in, ends_by, link_entered, links_without, place_without}
+use Rattle.link_commands.specs.open_links.Data.{completed_from, link_reported, links_reported}
+use Rattle.link_commands.specs.open_links.OpenLinks.{Links, OpenLink, link_after, link_at, link_from, link_served, with_change, with_change_from, without_links}
+use Rattle.link_commands.specs.open_links.Turns.{ending_in, ends_by, link_entered, links_without, place_without}
 use Rattle.controller_model.specs.declared.doing.Doing.{Doing}
 use Rattle.controller_model.specs.declared.doing.Doing.TheVariants.{Advertises, Connects, CentralSends, PeripheralListens, PeripheralSends}
 use Rattle.link_commands.specs.LinksCommanded.{links_commanded_from, place_commanded}

@@ -6,12 +6,12 @@ use Rattle.std.proofs.lemmas.List.Elements.{filter-append}
 use Rattle.ack_bit.specs.Nonempty.{nonempty}
 use Rattle.ble_base.specs.declared.notes.Note.{Note}
 use Rattle.ble_base.specs.declared.notes.Note.TheVariants.{Opened, Sent, Took, Up}
-use Rattle.link_model.specs.Data.{is_empty}
-use Rattle.link_model.specs.Numbers.{is_sent_note, is_took_note, numbered_notes, sent_note, took_note}
-use Rattle.link_model.specs.End.{notes_of as end_notes_of}
-use Rattle.link_model.proofs.Numbering.{are_numbered}
-use Rattle.open_links.specs.OpenLinks.{OpenLink, facts_in, link_at}
-use Rattle.open_links.proofs.Handles.{handle_is}
+use Rattle.link_commands.specs.open_links.link_model.Data.{is_empty}
+use Rattle.link_commands.specs.open_links.link_model.Numbers.{is_sent_note, is_took_note, numbered_notes, sent_note, took_note}
+use Rattle.link_commands.specs.open_links.link_model.End.{notes_of as end_notes_of}
+use Rattle.link_commands.proofs.open_links.link_model.Numbering.{are_numbered}
+use Rattle.link_commands.specs.open_links.OpenLinks.{OpenLink, facts_in, link_at}
+use Rattle.link_commands.proofs.open_links.Handles.{handle_is}
 use Rattle.controller_model.specs.Facts.{Setup}
 use Rattle.controller_model.specs.Links.{note_opened}
 use Rattle.controller_model.specs.Side.{facts_of, notes_of}

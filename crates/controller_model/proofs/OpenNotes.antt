@@ -15,20 +15,20 @@ use Rattle.hci_evt.specs.declared.event.Event.TheVariants.{BufferOverflow, Hardw
 use Rattle.host_view.specs.View.{View}
 use Rattle.adv_pdu.specs.declared.pdu.AdvPdu.{AdvPdu}
 use Rattle.host_view.specs.scan_init.Reports.{ScannerFacts, does_ask, scan_answer}
-use Rattle.link_model.specs.declared.setup.LinkSetup.{LinkSetup}
+use Rattle.link_commands.specs.open_links.link_model.declared.setup.LinkSetup.{LinkSetup}
 use Rattle.ble_base.specs.declared.error_codes.ErrCode.{ErrCode}
-use Rattle.link_model.specs.Facts.{Facts as EndFacts}
-use Rattle.link_model.specs.Step.{DataReported, PacketSent}
-use Rattle.link_model.specs.Times.{ending_of}
-use Rattle.link_model.proofs.Pasts.{grows}
-use Rattle.open_links.specs.declared.offers.Offer.TheVariants.{Empty, Overflow, Kept}
-use Rattle.open_links.specs.Offered.{buffer_octets, completed_by}
-use Rattle.open_links.specs.Data.{complete_in, completed_from, link_reported, links_reported, offer_by}
-use Rattle.open_links.specs.OpenLinks.{Links, OpenLink, HasHandle, HaveHandles, link_after, link_at, link_from, with_change}
-use Rattle.open_links.specs.Turns.{due_in, ending_in, link_entered, place_without, reason_at, staying_by}
-use Rattle.open_links.proofs.Ends.{stays_where_not_due}
-use Rattle.open_links.proofs.Handles.{has_its_handle}
-use Rattle.open_links.proofs.UnderHandles.{map_at}
+use Rattle.link_commands.specs.open_links.link_model.Facts.{Facts as EndFacts}
+use Rattle.link_commands.specs.open_links.link_model.Step.{DataReported, PacketSent}
+use Rattle.link_commands.specs.open_links.link_model.Times.{ending_of}
+use Rattle.link_commands.proofs.open_links.link_model.Pasts.{grows}
+use Rattle.link_commands.specs.open_links.declared.offers.Offer.TheVariants.{Empty, Overflow, Kept}
+use Rattle.link_commands.specs.open_links.Offered.{buffer_octets, completed_by}
+use Rattle.link_commands.specs.open_links.Data.{complete_in, completed_from, link_reported, links_reported, offer_by}
+use Rattle.link_commands.specs.open_links.OpenLinks.{Links, OpenLink, HasHandle, HaveHandles, link_after, link_at, link_from, with_change}
+use Rattle.link_commands.specs.open_links.Turns.{due_in, ending_in, link_entered, place_without, reason_at, staying_by}
+use Rattle.link_commands.proofs.open_links.Ends.{stays_where_not_due}
+use Rattle.link_commands.proofs.open_links.Handles.{has_its_handle}
+use Rattle.link_commands.proofs.open_links.UnderHandles.{map_at}
 use Rattle.controller_model.specs.declared.doing.Doing.{Doing}
 use Rattle.controller_model.specs.declared.doing.Doing.TheVariants.{Advertises, CentralSends, PeripheralSends}
 use Rattle.controller_model.specs.Step.{Step, HostOctet, TurnBegins, PacketHeard, NothingHeard, TurnEnds}

@@ -18,14 +18,14 @@ use Rattle.host_view.specs.View.{View}
 use Rattle.host_view.specs.Changes.{after_count, after_counts, changed_at, on_link, view_after}
 use Rattle.host_view.specs.Noted.{acl_handle, after_packet, event_handle, is_acl_data, is_le_event, view_noted}
 use Rattle.host_view.specs.Links.{link_in}
-use Rattle.link_model.specs.Step.{PacketSent, PduFixed}
+use Rattle.link_commands.specs.open_links.link_model.Step.{PacketSent, PduFixed}
 use Rattle.slot_plan.specs.declared.Activity.{Activity}
 use Rattle.slot_plan.specs.declared.Activity.TheVariants.{Link, Advertise, Scan, Initiate}
-use Rattle.open_links.specs.OpenLinks.{Links, OpenLink, free_from, link_after, link_at, link_served, with_change, with_change_from, without_links}
-use Rattle.open_links.specs.Ended.{end_by}
+use Rattle.link_commands.specs.open_links.OpenLinks.{Links, OpenLink, free_from, link_after, link_at, link_served, with_change, with_change_from, without_links}
+use Rattle.link_commands.specs.open_links.Ended.{end_by}
 use Rattle.link_commands.specs.LinksCommanded.{known_in, links_commanded, view_known_on}
 use Rattle.link_commands.specs.Views.{view_answered}
-use Rattle.open_links.specs.Turns.{ends_by, links_without, staying_by}
+use Rattle.link_commands.specs.open_links.Turns.{ends_by, links_without, staying_by}
 use Rattle.controller_model.specs.declared.doing.Doing.{Doing}
 use Rattle.controller_model.specs.declared.doing.Doing.TheVariants.{Advertises, CentralSends, PeripheralListens, PeripheralSends}
 use Rattle.controller_model.specs.Facts.{Facts}

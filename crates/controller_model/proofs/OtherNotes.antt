@@ -23,10 +23,10 @@ use Rattle.adv_pdu.specs.declared.pdu.AdvPdu.{AdvPdu}
 use Rattle.host_view.specs.scan_init.declared.reports.ReportKind.{ReportKind}
 use Rattle.host_view.specs.scan_init.declared.scanner.ScanAnswer.{ScanAnswer}
 use Rattle.host_view.specs.scan_init.Reports.{kind_of}
-use Rattle.link_model.specs.declared.setup.LinkSetup.{LinkSetup}
-use Rattle.open_links.specs.declared.ended.LinkEnded.{LinkEnded}
-use Rattle.open_links.specs.OpenLinks.{Links, OpenLink, facts_in, handles_from}
-use Rattle.open_links.specs.Turns.{enters_in, notes_entering, notes_if}
+use Rattle.link_commands.specs.open_links.link_model.declared.setup.LinkSetup.{LinkSetup}
+use Rattle.link_commands.specs.open_links.declared.ended.LinkEnded.{LinkEnded}
+use Rattle.link_commands.specs.open_links.OpenLinks.{Links, OpenLink, facts_in, handles_from}
+use Rattle.link_commands.specs.open_links.Turns.{enters_in, notes_entering, notes_if}
 use Rattle.controller_model.specs.Answers.{AreOneAnswer, HasNoAnswer, IsAnswerTo, answer_to}
 use Rattle.link_commands.specs.LinksCommanded.{events_commanded_on}
 use Rattle.controller_model.specs.Commands.{events_caused, notes_before, notes_commanded, notes_known}

@@ -5,10 +5,10 @@ use Rattle.std.specs.List.{AllByRecursion}
 use Rattle.acl_banks.specs.declared.pieces.Piece.{Piece}
 use Rattle.hci_cmd.specs.declared.command.Command.{Command}
 use Rattle.hci_cmd.specs.declared.command.Command.TheVariants.{Reset}
-use Rattle.open_links.specs.declared.ended.LinkEnded.{LinkEnded}
-use Rattle.open_links.specs.Data.{received_past}
-use Rattle.open_links.specs.Ended.{received_without}
-use Rattle.open_links.specs.OpenLinks.{OpenLink, facts_in, link_at}
+use Rattle.link_commands.specs.open_links.declared.ended.LinkEnded.{LinkEnded}
+use Rattle.link_commands.specs.open_links.Data.{received_past}
+use Rattle.link_commands.specs.open_links.Ended.{received_without}
+use Rattle.link_commands.specs.open_links.OpenLinks.{OpenLink, facts_in, link_at}
 use Rattle.controller_model.specs.Commands.{received_after}
 use Rattle.controller_model.specs.Facts.{Setup, Facts, first_facts}
 use Rattle.controller_model.specs.Heard.{has_room, link_taken, piece_taken}

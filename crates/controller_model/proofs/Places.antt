@@ -5,10 +5,10 @@ use Rattle.std.specs.Prelude.{Err}
 use Rattle.std.proofs.lemmas.Bool.{eq-eqb, eqb-true}
 use Rattle.ble_base.specs.declared.error_codes.ErrCode.{ErrCode}
 use Rattle.ble_base.specs.ErrorCodes.{unsupported_remote_feature}
-use Rattle.link_model.specs.procedure_values.declared.asks.Ask.{Ask}
-use Rattle.link_model.specs.Step.{PacketReceived, RequestAnswered}
-use Rattle.open_links.specs.OpenLinks.{Links, OpenLink, link_after, link_at, with_change, with_change_from}
-use Rattle.open_links.proofs.Handles.{changed_is, other_stays}
+use Rattle.link_commands.specs.open_links.link_model.procedure_values.declared.asks.Ask.{Ask}
+use Rattle.link_commands.specs.open_links.link_model.Step.{PacketReceived, RequestAnswered}
+use Rattle.link_commands.specs.open_links.OpenLinks.{Links, OpenLink, link_after, link_at, with_change, with_change_from}
+use Rattle.link_commands.proofs.open_links.Handles.{changed_is, other_stays}
 use Rattle.controller_model.specs.Facts.{Facts}
 use Rattle.controller_model.specs.Heard.{effect_in, is_refused, link_received, links_refusing}
 

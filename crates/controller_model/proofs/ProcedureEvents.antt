@@ -9,19 +9,19 @@ use Rattle.ble_base.specs.declared.procedure_kinds.Kind.TheVariants.{Encrypt, Fe
 use Rattle.hci_evt.specs.declared.event.Event.{Event}
 use Rattle.hci_evt.specs.declared.event.Event.TheVariants.{EncryptionChange, LengthChange, ParamRequest, PhyComplete, RemoteFeatures, RemoteVersion, UpdateComplete}
 use Rattle.instants.specs.declared.indications.Params.{Params}
-use Rattle.link_model.specs.procedure_stages.declared.steps.Effect.{Effect}
-use Rattle.link_model.specs.procedure_stages.declared.steps.Effect.TheVariants.{AskHost, Lengths}
-use Rattle.link_model.specs.control_end.declared.answers.Entry.{Entry}
-use Rattle.link_model.specs.declared.state.PeerFacts.{PeerFacts}
-use Rattle.link_model.specs.declared.state.PeerVersion.{PeerVersion}
-use Rattle.link_model.specs.Facts.{params_of}
-use Rattle.link_model.specs.Receiving.{effect_of}
-use Rattle.link_model.specs.Step.{PacketReceived}
-use Rattle.link_end.specs.Answers.{acked_of, given_of}
-use Rattle.open_links.specs.OpenLinks.{OpenLink, facts_in, link_after}
-use Rattle.open_links.specs.Turns.{entry_at, link_entered}
-use Rattle.procedure_events.specs.Calls.{event_if_done, event_if_refused, events_known, events_of_entry}
-use Rattle.procedure_events.specs.Events.{event_of_done, event_of_effect, event_of_refusal, features_event, version_event}
+use Rattle.link_commands.specs.open_links.link_model.procedure_stages.declared.steps.Effect.{Effect}
+use Rattle.link_commands.specs.open_links.link_model.procedure_stages.declared.steps.Effect.TheVariants.{AskHost, Lengths}
+use Rattle.link_commands.specs.open_links.link_model.control_end.declared.answers.Entry.{Entry}
+use Rattle.link_commands.specs.open_links.link_model.declared.state.PeerFacts.{PeerFacts}
+use Rattle.link_commands.specs.open_links.link_model.declared.state.PeerVersion.{PeerVersion}
+use Rattle.link_commands.specs.open_links.link_model.Facts.{params_of}
+use Rattle.link_commands.specs.open_links.link_model.Receiving.{effect_of}
+use Rattle.link_commands.specs.open_links.link_model.Step.{PacketReceived}
+use Rattle.link_commands.specs.open_links.link_end.Answers.{acked_of, given_of}
+use Rattle.link_commands.specs.open_links.OpenLinks.{OpenLink, facts_in, link_after}
+use Rattle.link_commands.specs.open_links.Turns.{entry_at, link_entered}
+use Rattle.link_commands.specs.procedure_events.Calls.{event_if_done, event_if_refused, events_known, events_of_entry}
+use Rattle.link_commands.specs.procedure_events.Events.{event_of_done, event_of_effect, event_of_refusal, features_event, version_event}
 use Rattle.controller_model.specs.Entering.{events_entering, events_of}
 use Rattle.controller_model.specs.Heard.{events_received}
 

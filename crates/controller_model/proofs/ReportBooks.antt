@@ -10,25 +10,27 @@ use Rattle.ble_base.specs.declared.notes.Note.{Note}
 use Rattle.data_pdu.specs.Header.{header_in}
 use Rattle.wire_fields.specs.Field.{little_endian}
 use Rattle.acl_banks.specs.declared.pieces.Piece.{Piece}
-use Rattle.link_model.specs.Acknowledgement.{Pdu, is_acked}
+use Rattle.link_commands.specs.open_links.link_model.Acknowledgement.{Pdu, is_acked}
 use Rattle.ble_base.specs.declared.roles.Role.{Role}
-use Rattle.link_model.specs.procedure_stages.Queue.{waiting_in}
-use Rattle.link_model.specs.procedure_values.declared.asks.Ask.{Ask}
-use Rattle.link_model.specs.Data.{Data, data_acked_if, data_given, data_sent_if, is_control, is_data}
-use Rattle.link_model.specs.Controls.{goes_on, is_procedure_pdu, next_control}
-use Rattle.link_model.specs.Entering.{facts_entered_if}
-use Rattle.link_model.specs.Fixing.{data_cut, data_fixed_by, data_goes, fixed_anew}
-use Rattle.link_model.specs.Hosts.{asked_unless, is_to_come}
-use Rattle.link_model.specs.End.{facts_after as end_after, facts_of as end_facts, notes_after as end_notes}
-use Rattle.link_model.specs.Receiving.{accepted_if, accepts, acknowledged_if, answers_with_control, facts_before_taking, facts_received, has_acknowledged, heard_in_slot, procedures_take_if, received_notes}
-use Rattle.link_model.specs.Sending.{control_gone_if, facts_sent, sent_notes, takes_leave}
-use Rattle.link_model.specs.Facts.{Facts as EndFacts}
-use Rattle.link_model.specs.Packets.{good_pdu}
-use Rattle.link_model.specs.Verdicts.{pdu_of}
-use Rattle.link_model.specs.Setup.{Setup as EndSetup}
-use Rattle.link_model.specs.Step.{Step as EndStep, DataGiven, ProcedureAsked, RequestAnswered, Disconnected, EventEntered, PduFixed, PacketSent, PacketReceived, DataReported}
-use Rattle.link_model.proofs.Pasts.{grows}
-use Rattle.open_links.specs.OpenLinks.{OpenLink, facts_in, link_at}
+use Rattle.link_commands.specs.open_links.link_model.procedure_stages.Queue.{waiting_in}
+use Rattle.link_commands.specs.open_links.link_model.procedure_values.declared.asks.Ask.{Ask}
+use Rattle.link_commands.specs.open_links.link_model.Data.{Data, data_acked_if, data_given, is_control, is_data}
+use Rattle.link_commands.specs.open_links.link_model.Controls.{goes_on, is_procedure_pdu, is_quiet_now, next_control}
+use Rattle.link_commands.specs.open_links.link_model.Entering.{facts_entered_if}
+use Rattle.link_commands.specs.open_links.link_model.Fixing.{data_cut, data_fixed_by, data_goes, fixed_anew}
+use Rattle.link_commands.specs.open_links.link_model.Hosts.{asked_unless, is_to_come}
+use Rattle.link_commands.specs.open_links.link_model.End.{facts_after as end_after, facts_of as end_facts, notes_after as end_notes}
+use Rattle.link_commands.specs.open_links.link_model.Receiving.{accepted_if, accepts, acknowledged_if, answers_with_control, facts_before_taking, facts_received, has_acknowledged, heard_in_slot, procedures_take_if, received_notes}
+use Rattle.link_commands.specs.open_links.link_model.Sending.{control_gone_if, data_sent_as, facts_sent, sent_notes, takes_leave}
+use Rattle.link_commands.specs.open_links.link_model.Facts.{Facts as EndFacts}
+use Rattle.link_commands.specs.open_links.link_model.Packets.{good_pdu, is_forged}
+use Rattle.link_commands.specs.open_links.link_model.Payload.{payload_made}
+use Rattle.link_commands.specs.open_links.link_model.Verdicts.{pdu_of}
+use Rattle.link_commands.specs.open_links.link_model.Setup.{Setup as EndSetup}
+use Rattle.link_commands.specs.open_links.link_model.Step.{Step as EndStep, DataGiven, ProcedureAsked, RequestAnswered, Disconnected, EventEntered, PduFixed, PacketSent, PacketReceived, DataReported}
+use Rattle.link_commands.proofs.open_links.link_model.Choices.{either_data, either_forged}
+use Rattle.link_commands.proofs.open_links.link_model.Pasts.{grows}
+use Rattle.link_commands.specs.open_links.OpenLinks.{OpenLink, facts_in, link_at}
 use Rattle.controller_model.specs.Data.{note_received}
 use Rattle.controller_model.specs.Facts.{Setup}
 use Rattle.controller_model.specs.Side.{facts_of, notes_of}
@@ -80,14 +82,16 @@ entered_same : (goes : Bool) (setup : EndSetup) (slot : ℕ) (facts : EndFacts)
 entered_same true setup slot facts = refl
 entered_same false setup slot facts = refl
 
-fixed_by_same : (control : Bool) (waiting : ℕ) (goes : Bool) (outgoing : Data) → (data_fixed_by control waiting goes outgoing).reported ≡ outgoing.reported
-fixed_by_same true waiting goes outgoing = refl
-fixed_by_same false waiting true outgoing = refl
-fixed_by_same false waiting false outgoing = refl
+fixed_by_same : (control : Bool) (waiting : ℕ) (quiet goes : Bool) (outgoing : Data)
+    → (data_fixed_by control waiting quiet goes outgoing).reported ≡ outgoing.reported
+fixed_by_same true waiting quiet goes outgoing = refl
+fixed_by_same false waiting quiet true outgoing = refl
+fixed_by_same false waiting quiet false outgoing = refl
 
 fixed_same : (stays : Bool) (facts : EndFacts) → (cond stays facts (fixed_anew facts)).outgoing.reported ≡ facts.outgoing.reported
 fixed_same true facts = refl
-fixed_same false facts = fixed_by_same (is_some (next_control facts)) (waiting_in facts.control.table.queue) (data_goes facts) (data_cut facts)
+fixed_same false facts =
+    fixed_by_same (is_some (next_control facts)) (waiting_in facts.control.table.queue) (is_quiet_now facts) (data_goes facts) (data_cut facts)
 
 silent_same : (setup : EndSetup) (facts : EndFacts) (step : EndStep) → IsSilent step
     → (end_after setup facts step).outgoing.reported ≡ facts.outgoing.reported
@@ -103,14 +107,14 @@ gone_same : (goes : Bool) (slot : ℕ) (facts : EndFacts) → (control_gone_if g
 gone_same true slot facts = refl
 gone_same false slot facts = refl
 
-sent_if_same : (is_new : Bool) (outgoing : Data) → (data_sent_if is_new outgoing).reported ≡ outgoing.reported
-sent_if_same true outgoing = refl
-sent_if_same false outgoing = refl
+sent_as_same : (payload : List ℕ) (is_new : Bool) (outgoing : Data) → (data_sent_as payload is_new outgoing).reported ≡ outgoing.reported
+sent_as_same payload true outgoing = refl
+sent_as_same payload false outgoing = refl
 
 sent_same : (slot : ℕ) (facts : EndFacts) → (facts_sent slot facts).outgoing.reported ≡ facts.outgoing.reported
 sent_same slot facts =
     let gone = control_gone_if (takes_leave facts) slot facts in
-    sent_if_same (is_acked gone.acknowledgement) gone.outgoing ∙ gone_same (takes_leave facts) slot facts
+    sent_as_same (payload_made gone.encryption.end gone.outgoing.fixed) (is_acked gone.acknowledgement) gone.outgoing ∙ gone_same (takes_leave facts) slot facts
 
 acked_same : (acked : Bool) (outgoing : Data) → (data_acked_if acked outgoing).reported ≡ outgoing.reported
 acked_same true outgoing = refl
@@ -130,9 +134,18 @@ received_same role slot room (Some octets) facts =
     let own = acknowledged_if (has_acknowledged facts header) (heard_in_slot slot header.md facts) in
     let now = facts_before_taking role slot header facts in
     let accepted = accepts room header pdu now in
-    taken_same (accepted && is_procedure_pdu pdu) pdu slot (accepted_if accepted pdu now)
+    let taken = procedures_take_if (accepted && is_procedure_pdu pdu) pdu slot (accepted_if accepted pdu now) in
+    either_data (λ (f : EndFacts). f.outgoing.reported ≡ taken.outgoing.reported) (accepted && is_data pdu) taken refl refl
+    ∙ taken_same (accepted && is_procedure_pdu pdu) pdu slot (accepted_if accepted pdu now)
     ∙ gone_same (answers_with_control role own) slot own
     ∙ acked_same (has_acknowledged facts header && is_data facts.acknowledgement.last) facts.outgoing
+
+all_same : (setup : EndSetup) (facts : EndFacts) (slot : ℕ) (octets : List ℕ) (room : Bool)
+    → (end_after setup facts (PacketReceived slot octets room)).outgoing.reported ≡ facts.outgoing.reported
+all_same setup facts slot octets room =
+    let next = facts_received setup.link.role slot room (good_pdu setup facts octets) facts in
+    either_forged (λ (f : EndFacts). f.outgoing.reported ≡ next.outgoing.reported) (is_forged setup facts octets) next refl refl
+    ∙ received_same setup.link.role slot room (good_pdu setup facts octets) facts
 
 -- ---- the book
 
@@ -191,7 +204,7 @@ module _ (most handle : ℕ) (few : most ≤ 4096) where
         let facts = end_facts setup past in
         let more = end_notes setup facts (PacketReceived slot octets room) in
         as_before setup past (PacketReceived slot octets room) (since ++ more) count
-        (received_same setup.link.role slot room (good_pdu setup facts octets) facts)
+        (all_same setup facts slot octets room)
         (plain since more _ (none_took handle setup slot room (good_pdu setup facts octets) facts) reports);
     handed = λ setup past piece waiting since count below same reports.
         one_plain since (note_received piece) _ (none_received handle piece) reports;

@@ -20,18 +20,18 @@ use Rattle.hci_cmd.specs.Command.{command_of}
 use Rattle.hci_evt.specs.declared.event.Event.TheVariants.{HardwareError}
 use Rattle.host_view.specs.Unbuilt.{status_of}
 use Rattle.host_view.specs.View.{View}
-use Rattle.link_model.specs.control_end.Answers.{timeout_of}
-use Rattle.link_model.specs.control_end.Held.{held_of}
-use Rattle.link_model.specs.declared.events.Reception.{Reception}
-use Rattle.link_model.specs.Lost.{has_failed, has_timed_out, reason_due}
-use Rattle.link_model.specs.declared.state.Leaving.{Leaving}
-use Rattle.link_model.specs.Facts.{Facts as EndFacts, params_of}
-use Rattle.link_model.specs.Times.{ended_by_procedures, first_of, termination_due}
-use Rattle.open_links.specs.declared.ended.LinkEnded.{LinkEnded}
-use Rattle.open_links.specs.OpenLinks.{Links, OpenLink, HaveHandles, facts_in, handles_from, link_at, link_from}
-use Rattle.open_links.specs.Ended.{IsAmong, end_by}
-use Rattle.open_links.specs.Turns.{due_in, ending_in, ends_by, reason_at}
-use Rattle.open_links.proofs.Ends.{due_is_among}
+use Rattle.link_commands.specs.open_links.link_model.control_end.Answers.{timeout_of}
+use Rattle.link_commands.specs.open_links.link_model.control_end.Held.{held_of}
+use Rattle.link_commands.specs.open_links.link_model.declared.events.Reception.{Reception}
+use Rattle.link_commands.specs.open_links.link_model.Lost.{has_failed, has_timed_out, reason_due}
+use Rattle.link_commands.specs.open_links.link_model.declared.state.Leaving.{Leaving}
+use Rattle.link_commands.specs.open_links.link_model.Facts.{Facts as EndFacts, params_of}
+use Rattle.link_commands.specs.open_links.link_model.Times.{ended_by_procedures, first_of, termination_due}
+use Rattle.link_commands.specs.open_links.declared.ended.LinkEnded.{LinkEnded}
+use Rattle.link_commands.specs.open_links.OpenLinks.{Links, OpenLink, HaveHandles, facts_in, handles_from, link_at, link_from}
+use Rattle.link_commands.specs.open_links.Ended.{IsAmong, end_by}
+use Rattle.link_commands.specs.open_links.Turns.{due_in, ending_in, ends_by, reason_at}
+use Rattle.link_commands.proofs.open_links.Ends.{due_is_among}
 use Rattle.controller_model.specs.Step.{Step, HostOctet, TurnBegins, PacketHeard, NothingHeard, TurnEnds}
 use Rattle.controller_model.specs.Facts.{Setup, Facts}
 use Rattle.controller_model.specs.Answers.{answer_to}

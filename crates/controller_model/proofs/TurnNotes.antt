@@ -12,17 +12,17 @@ use Rattle.hci_evt.specs.declared.event.Event.{Event}
 use Rattle.hci_evt.specs.declared.event.Event.TheVariants.{DisconnectionComplete, CompletedPackets, ConnectionComplete, AdvertisingReport, EnhancedConnection, ChannelSelection}
 use Rattle.hci_evt.specs.Event.{mask_bit_of, written}
 use Rattle.host_view.specs.View.{View}
-use Rattle.link_model.specs.declared.setup.LinkSetup.{LinkSetup}
-use Rattle.link_model.specs.Packets.{good_pdu}
+use Rattle.link_commands.specs.open_links.link_model.declared.setup.LinkSetup.{LinkSetup}
+use Rattle.link_commands.specs.open_links.link_model.Packets.{good_pdu}
 use Rattle.host_view.specs.scan_init.declared.reports.ReportKind.{ReportKind}
 use Rattle.host_view.specs.scan_init.declared.scanner.ScanAnswer.{ScanAnswer}
 use Rattle.host_view.specs.scan_init.Reports.{does_ask, kind_of, scan_answer}
-use Rattle.open_links.specs.declared.ended.LinkEnded.{LinkEnded}
-use Rattle.open_links.specs.declared.offers.Completed.{Completed}
-use Rattle.open_links.specs.Data.{completed_from, link_reported, links_reported}
-use Rattle.open_links.specs.OpenLinks.{Links, OpenLink, HaveHandles, facts_in, handles_from, link_at}
-use Rattle.open_links.specs.Ended.{end_by}
-use Rattle.open_links.specs.Turns.{due_in, ending_in, ends_by, links_without}
+use Rattle.link_commands.specs.open_links.declared.ended.LinkEnded.{LinkEnded}
+use Rattle.link_commands.specs.open_links.declared.offers.Completed.{Completed}
+use Rattle.link_commands.specs.open_links.Data.{completed_from, link_reported, links_reported}
+use Rattle.link_commands.specs.open_links.OpenLinks.{Links, OpenLink, HaveHandles, facts_in, handles_from, link_at}
+use Rattle.link_commands.specs.open_links.Ended.{end_by}
+use Rattle.link_commands.specs.open_links.Turns.{due_in, ending_in, ends_by, links_without}
 use Rattle.controller_model.specs.Step.{Step, HostOctet, TurnBegins, PacketHeard, NothingHeard, TurnEnds}
 use Rattle.controller_model.specs.Facts.{Setup, Facts}
 use Rattle.controller_model.specs.Events.{notes_of_events, passes}

@@ -27,23 +27,23 @@ use Rattle.host_view.specs.Unbuilt.{status_of}
 use Rattle.host_view.specs.scan_init.Reports.{ScannerFacts, does_ask, scan_answer}
 use Rattle.slot_plan.specs.declared.Activity.{Activity}
 use Rattle.slot_plan.specs.declared.Activity.TheVariants.{Link, Advertise, Scan, Initiate}
-use Rattle.link_model.specs.declared.setup.LinkSetup.{LinkSetup}
-use Rattle.link_model.specs.End.{notes_from as end_notes_from, notes_of as end_notes_of}
-use Rattle.link_model.specs.End.{facts_after as end_after, notes_after as end_notes}
-use Rattle.link_model.specs.Facts.{Facts as EndFacts, first_facts as first_end}
-use Rattle.link_model.specs.Packets.{good_pdu}
-use Rattle.link_model.specs.Setup.{Setup as EndSetup}
-use Rattle.link_model.specs.Step.{Step as EndStep, DataGiven, EventEntered, PduFixed, PacketSent, PacketReceived, RequestAnswered, DataReported}
-use Rattle.link_model.proofs.Pasts.{notes_grow}
-use Rattle.open_links.specs.Data.{complete_in, completed_from, link_reported, links_reported}
-use Rattle.open_links.specs.declared.offers.Offer.{Offer}
-use Rattle.open_links.specs.declared.offers.Offer.TheVariants.{NoLink, Empty, Overflow, Kept}
-use Rattle.open_links.specs.OpenLinks.{Links, OpenLink, HasHandle, HaveHandles, facts_in, handles_from, link_after, link_at, link_from, link_served, new_link, with_change, with_link}
-use Rattle.open_links.specs.Ended.{end_by}
-use Rattle.open_links.specs.Turns.{due_in, ending_in, ends_by, entered_if, enters_in, link_entered, links_without, notes_entering, notes_if, place_without, staying_by}
-use Rattle.open_links.proofs.Ends.{stay_with_handles, stays_where_not_due}
-use Rattle.open_links.proofs.UnderHandles.{map_at}
-use Rattle.open_links.proofs.Handles.{changed_is, has_its_handle, opened_at, other_stays}
+use Rattle.link_commands.specs.open_links.link_model.declared.setup.LinkSetup.{LinkSetup}
+use Rattle.link_commands.specs.open_links.link_model.End.{notes_from as end_notes_from, notes_of as end_notes_of}
+use Rattle.link_commands.specs.open_links.link_model.End.{facts_after as end_after, notes_after as end_notes}
+use Rattle.link_commands.specs.open_links.link_model.Facts.{Facts as EndFacts, first_facts as first_end}
+use Rattle.link_commands.specs.open_links.link_model.Packets.{good_pdu}
+use Rattle.link_commands.specs.open_links.link_model.Setup.{Setup as EndSetup}
+use Rattle.link_commands.specs.open_links.link_model.Step.{Step as EndStep, DataGiven, EventEntered, PduFixed, PacketSent, PacketReceived, RequestAnswered, DataReported}
+use Rattle.link_commands.proofs.open_links.link_model.Pasts.{notes_grow}
+use Rattle.link_commands.specs.open_links.Data.{complete_in, completed_from, link_reported, links_reported}
+use Rattle.link_commands.specs.open_links.declared.offers.Offer.{Offer}
+use Rattle.link_commands.specs.open_links.declared.offers.Offer.TheVariants.{NoLink, Empty, Overflow, Kept}
+use Rattle.link_commands.specs.open_links.OpenLinks.{Links, OpenLink, HasHandle, HaveHandles, facts_in, handles_from, link_after, link_at, link_from, link_served, new_link, with_change, with_link}
+use Rattle.link_commands.specs.open_links.Ended.{end_by}
+use Rattle.link_commands.specs.open_links.Turns.{due_in, ending_in, ends_by, entered_if, enters_in, link_entered, links_without, notes_entering, notes_if, place_without, staying_by}
+use Rattle.link_commands.proofs.open_links.Ends.{stay_with_handles, stays_where_not_due}
+use Rattle.link_commands.proofs.open_links.UnderHandles.{map_at}
+use Rattle.link_commands.proofs.open_links.Handles.{changed_is, has_its_handle, opened_at, other_stays}
 use Rattle.controller_model.specs.declared.doing.Doing.{Doing}
 use Rattle.controller_model.specs.declared.doing.Doing.TheVariants.{Advertises, CentralSends, PeripheralListens, PeripheralSends}
 use Rattle.controller_model.specs.Step.{Step, HostOctet, TurnBegins, PacketHeard, NothingHeard, TurnEnds}

@@ -26,12 +26,12 @@ use Rattle.advertise.specs.Answers.{advertiser_answer, is_scan_answered}
 use Rattle.advertise.proofs.Takings.{taken_connection}
 use Rattle.host_view.specs.scan_init.Initiating.{InitiatorFacts}
 use Rattle.host_view.specs.scan_init.Reports.{does_ask, scan_answer}
-use Rattle.link_model.specs.declared.setup.LinkSetup.{LinkSetup}
-use Rattle.link_model.specs.Step.{DataGiven}
-use Rattle.open_links.specs.declared.ended.LinkEnded.{LinkEnded}
-use Rattle.open_links.specs.Data.{link_reported}
-use Rattle.open_links.specs.OpenLinks.{Links, OpenLink, free_from, link_after, link_at, new_link, with_link}
-use Rattle.open_links.specs.Turns.{ending_in, link_entered}
+use Rattle.link_commands.specs.open_links.link_model.declared.setup.LinkSetup.{LinkSetup}
+use Rattle.link_commands.specs.open_links.link_model.Step.{DataGiven}
+use Rattle.link_commands.specs.open_links.declared.ended.LinkEnded.{LinkEnded}
+use Rattle.link_commands.specs.open_links.Data.{link_reported}
+use Rattle.link_commands.specs.open_links.OpenLinks.{Links, OpenLink, free_from, link_after, link_at, new_link, with_link}
+use Rattle.link_commands.specs.open_links.Turns.{ending_in, link_entered}
 use Rattle.link_commands.specs.LinksCommanded.{view_commanded_on}
 use Rattle.controller_model.specs.declared.doing.Doing.{Doing}
 use Rattle.controller_model.specs.declared.doing.Doing.TheVariants.{Advertises, AwaitsRequest, Responds, AwaitsResponse, Connects, CentralListens, Rests}

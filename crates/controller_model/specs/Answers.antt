@@ -10,8 +10,8 @@ use Rattle.hci_cmd.specs.declared.command.CmdRead.TheVariants.{Known, UnknownOpc
 use Rattle.hci_evt.specs.declared.event.Event.{Event}
 use Rattle.hci_evt.specs.declared.event.Event.TheVariants.{CommandComplete, CommandStatus}
 use Rattle.host_view.specs.Unbuilt.{status_of}
-use Rattle.link_model.specs.Facts.{params_of}
-use Rattle.open_links.specs.OpenLinks.{OpenLink, facts_in, link_at}
+use Rattle.link_commands.specs.open_links.link_model.Facts.{params_of}
+use Rattle.link_commands.specs.open_links.OpenLinks.{OpenLink, facts_in, link_at}
 use Rattle.controller_model.specs.Facts.{Setup, Facts}
 
 -- the commands that start something: Disconnect, Read Remote Version, LE Create Connection, LE Connection Update, LE

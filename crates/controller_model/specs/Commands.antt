@@ -22,7 +22,7 @@ use Rattle.host_view.specs.scan_init.Initiating.{InitiatorFacts}
 use Rattle.host_view.specs.scan_init.Reports.{ScannerFacts}
 use Rattle.slot_plan.specs.declared.Activity.{Activity}
 use Rattle.slot_plan.specs.declared.Activity.TheVariants.{Link, Advertise, Scan, Initiate}
-use Rattle.open_links.specs.OpenLinks.{Links, without_links}
+use Rattle.link_commands.specs.open_links.OpenLinks.{Links, without_links}
 use Rattle.link_commands.specs.LinksCommanded.{events_commanded_on, links_commanded, view_commanded_on}
 use Rattle.controller_model.specs.Answers.{answer_to}
 use Rattle.controller_model.specs.Events.{notes_of_events}

@@ -8,11 +8,11 @@ use Rattle.hci_evt.specs.declared.event.Event.{Event}
 use Rattle.hci_evt.specs.declared.event.Event.TheVariants.{CompletedPackets, BufferOverflow}
 use Rattle.host_view.specs.View.{View}
 use Rattle.wire_fields.specs.Field.{little_endian}
-use Rattle.open_links.specs.declared.offers.Completed.{Completed}
-use Rattle.open_links.specs.declared.offers.Offer.{Offer}
-use Rattle.open_links.specs.declared.offers.Offer.TheVariants.{NoLink, Empty, Overflow, Kept}
-use Rattle.open_links.specs.Data.{buffers_taken, completed_from, links_given, links_reported, offer_by}
-use Rattle.open_links.specs.OpenLinks.{link_at}
+use Rattle.link_commands.specs.open_links.declared.offers.Completed.{Completed}
+use Rattle.link_commands.specs.open_links.declared.offers.Offer.{Offer}
+use Rattle.link_commands.specs.open_links.declared.offers.Offer.TheVariants.{NoLink, Empty, Overflow, Kept}
+use Rattle.link_commands.specs.open_links.Data.{buffers_taken, completed_from, links_given, links_reported, offer_by}
+use Rattle.link_commands.specs.open_links.OpenLinks.{link_at}
 use Rattle.controller_model.specs.Events.{notes_of_events}
 use Rattle.controller_model.specs.Facts.{Setup, Facts}
 use Rattle.controller_model.specs.Links.{facts_leaving, notes_leaving}

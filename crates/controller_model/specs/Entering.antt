@@ -8,12 +8,12 @@ use Rattle.host_view.specs.View.{View}
 use Rattle.instants.specs.declared.indications.Params.{Params}
 use Rattle.instants.specs.Track.{next_anchor_of}
 use Rattle.slot_plan.specs.declared.Want.{Want}
-use Rattle.link_model.specs.control_end.declared.answers.Entry.{Entry}
-use Rattle.link_model.specs.Controls.{goes_on}
-use Rattle.link_model.specs.Facts.{params_of}
-use Rattle.open_links.specs.OpenLinks.{Links, OpenLink, facts_in, has_entered, link_at}
-use Rattle.open_links.specs.Turns.{due_in, entry_at, link_entered, notes_entering, want_entering}
-use Rattle.procedure_events.specs.Calls.{events_of_entry}
+use Rattle.link_commands.specs.open_links.link_model.control_end.declared.answers.Entry.{Entry}
+use Rattle.link_commands.specs.open_links.link_model.Controls.{goes_on}
+use Rattle.link_commands.specs.open_links.link_model.Facts.{params_of}
+use Rattle.link_commands.specs.open_links.OpenLinks.{Links, OpenLink, facts_in, has_entered, link_at}
+use Rattle.link_commands.specs.open_links.Turns.{due_in, entry_at, link_entered, notes_entering, want_entering}
+use Rattle.link_commands.specs.procedure_events.Calls.{events_of_entry}
 use Rattle.controller_model.specs.declared.doing.Doing.{Doing}
 use Rattle.controller_model.specs.declared.doing.Doing.TheVariants.{CentralSends, CentralListens, PeripheralListens, PeripheralSends}
 use Rattle.controller_model.specs.Events.{notes_of_events}

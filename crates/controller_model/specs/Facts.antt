@@ -12,7 +12,7 @@ use Rattle.host_view.specs.scan_init.Reports.{ScannerFacts}
 use Rattle.slot_plan.specs.declared.Activity.{Activity}
 use Rattle.slot_plan.specs.declared.Activity.TheVariants.{Scan}
 use Rattle.slot_plan.specs.declared.plan.Hold.{Hold}
-use Rattle.open_links.specs.OpenLinks.{Links}
+use Rattle.link_commands.specs.open_links.OpenLinks.{Links}
 use Rattle.controller_model.specs.declared.doing.Doing.TheVariants.{Rests}
 use Rattle.controller_model.specs.declared.doing.Turn.{Turn}
 

@@ -20,24 +20,24 @@ use Rattle.hci_evt.specs.declared.event.Event.TheVariants.{AdvertisingReport, Pa
 use Rattle.hci_evt.specs.Event.{mask_bit_of}
 use Rattle.host_view.specs.View.{View}
 use Rattle.host_view.specs.Noted.{view_noted}
-use Rattle.link_model.specs.declared.setup.LinkSetup.{LinkSetup}
-use Rattle.link_model.specs.Step.{PacketReceived}
-use Rattle.link_model.specs.End.{notes_after as end_notes}
-use Rattle.link_model.specs.Facts.{params_of}
-use Rattle.link_model.specs.Receiving.{effect_of, replies_of}
-use Rattle.link_model.specs.Kept.{kept_of}
+use Rattle.link_commands.specs.open_links.link_model.declared.setup.LinkSetup.{LinkSetup}
+use Rattle.link_commands.specs.open_links.link_model.Step.{PacketReceived}
+use Rattle.link_commands.specs.open_links.link_model.End.{notes_after as end_notes}
+use Rattle.link_commands.specs.open_links.link_model.Facts.{params_of}
+use Rattle.link_commands.specs.open_links.link_model.Receiving.{effect_of, replies_of}
+use Rattle.link_commands.specs.open_links.link_model.Kept.{kept_of}
 use Rattle.host_view.specs.scan_init.declared.reports.ReportKind.{ReportKind}
 use Rattle.host_view.specs.scan_init.declared.scanner.ScanAnswer.{ScanAnswer}
 use Rattle.host_view.specs.scan_init.declared.scanner.ScanAnswer.TheVariants.{Ignore as Ignores, Report, Ask, ReportAndAsk}
 use Rattle.host_view.specs.scan_init.Access.{nth_access}
 use Rattle.host_view.specs.scan_init.Initiating.{InitiatorFacts, connect_fields, is_accepted}
 use Rattle.host_view.specs.scan_init.Reports.{ScannerFacts, does_ask, event_type, kind_of, last_16, reports_after, scan_answer}
-use Rattle.open_links.specs.OpenLinks.{Links, OpenLink, facts_in, free_from, has_link_between, link_after, link_at, with_change}
-use Rattle.link_end.specs.Answers.{acked_of, given_of}
-use Rattle.open_links.specs.Hosts.{links_answered}
-use Rattle.link_model.specs.procedure_stages.declared.steps.Effect.{Effect}
-use Rattle.link_model.specs.procedure_stages.declared.steps.Effect.TheVariants.{AskHost, Nothing}
-use Rattle.procedure_events.specs.Calls.{events_of_reception}
+use Rattle.link_commands.specs.open_links.OpenLinks.{Links, OpenLink, facts_in, free_from, has_link_between, link_after, link_at, with_change}
+use Rattle.link_commands.specs.open_links.link_end.Answers.{acked_of, given_of}
+use Rattle.link_commands.specs.open_links.Hosts.{links_answered}
+use Rattle.link_commands.specs.open_links.link_model.procedure_stages.declared.steps.Effect.{Effect}
+use Rattle.link_commands.specs.open_links.link_model.procedure_stages.declared.steps.Effect.TheVariants.{AskHost, Nothing}
+use Rattle.link_commands.specs.procedure_events.Calls.{events_of_reception}
 use Rattle.controller_model.specs.declared.doing.Doing.{Doing}
 use Rattle.controller_model.specs.declared.doing.Doing.TheVariants.{Advertises, AwaitsRequest, Responds, Scans, Requests, AwaitsResponse, Initiates, Connects, CentralSends, CentralListens, PeripheralListens, PeripheralSends, Rests}
 use Rattle.controller_model.specs.Answers.{next_word}

@@ -22,12 +22,12 @@ pub mod Rows
 pub mod Entering
 pub mod Shutting
 -- what the crates above use of those below
-pub use Rattle.link_model.specs.control_end as control_end
-pub use Rattle.link_end.specs as link_end
-pub use Rattle.link_model.specs as link_model
-pub use Rattle.open_links.specs as open_links
-pub use Rattle.link_model.specs.procedure_stages as procedure_stages
-pub use Rattle.link_model.specs.procedure_values as procedure_values
-pub use Rattle.open_links.specs.control_model as control_model
+pub use Rattle.link_commands.specs.open_links.link_model.control_end as control_end
+pub use Rattle.link_commands.specs.open_links.link_end as link_end
+pub use Rattle.link_commands.specs.open_links.link_model as link_model
+pub use Rattle.link_commands.specs.open_links as open_links
+pub use Rattle.link_commands.specs.open_links.link_model.procedure_stages as procedure_stages
+pub use Rattle.link_commands.specs.open_links.link_model.procedure_values as procedure_values
+pub use Rattle.link_commands.specs.open_links.control_model as control_model
 pub use Rattle.host_view.specs as host_view
 pub use Rattle.link_commands.specs as link_commands

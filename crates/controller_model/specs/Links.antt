@@ -11,14 +11,14 @@ use Rattle.hci_evt.specs.declared.event.Event.{Event}
 use Rattle.hci_evt.specs.declared.event.Event.TheVariants.{DisconnectionComplete, ConnectionComplete, EnhancedConnection, ChannelSelection}
 use Rattle.host_view.specs.View.{View}
 use Rattle.host_view.specs.Noted.{view_noted}
-use Rattle.link_model.specs.declared.setup.LinkSetup.{LinkSetup}
+use Rattle.link_commands.specs.open_links.link_model.declared.setup.LinkSetup.{LinkSetup}
 use Rattle.slot_plan.specs.declared.Activity.{Activity}
 use Rattle.slot_plan.specs.declared.Activity.TheVariants.{Link, Advertise, Scan, Initiate}
-use Rattle.open_links.specs.declared.ended.LinkEnded.{LinkEnded}
-use Rattle.open_links.specs.Data.{received_past}
-use Rattle.open_links.specs.Ended.{received_without}
-use Rattle.open_links.specs.OpenLinks.{OpenLink, handles_from, link_at, with_link}
-use Rattle.open_links.specs.Turns.{due_in, ending_in, ends_by, links_without}
+use Rattle.link_commands.specs.open_links.declared.ended.LinkEnded.{LinkEnded}
+use Rattle.link_commands.specs.open_links.Data.{received_past}
+use Rattle.link_commands.specs.open_links.Ended.{received_without}
+use Rattle.link_commands.specs.open_links.OpenLinks.{OpenLink, handles_from, link_at, with_link}
+use Rattle.link_commands.specs.open_links.Turns.{due_in, ending_in, ends_by, links_without}
 use Rattle.controller_model.specs.Events.{notes_of_events}
 use Rattle.controller_model.specs.Facts.{Facts, Radio, free_radio}
 

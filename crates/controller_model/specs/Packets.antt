@@ -16,11 +16,11 @@ use Rattle.air_frame.specs.declared.Heard.TheVariants.{NotOurs, Broken as Faulty
 use Rattle.air_frame.specs.Advertising.{advertising_access, advertising_crc_init}
 use Rattle.air_frame.specs.Hearing.{heard_in}
 use Rattle.air_frame.specs.Packet.{on_air}
-use Rattle.link_model.specs.declared.setup.LinkSetup.{LinkSetup}
-use Rattle.link_model.specs.End.{notes_after as end_notes}
-use Rattle.link_model.specs.Packets.{packet_sent, verdict_of as verdict_of_end}
-use Rattle.link_model.specs.Step.{PacketSent}
-use Rattle.open_links.specs.OpenLinks.{Links, OpenLink, facts_in, link_after, link_at, with_change}
+use Rattle.link_commands.specs.open_links.link_model.declared.setup.LinkSetup.{LinkSetup}
+use Rattle.link_commands.specs.open_links.link_model.End.{notes_after as end_notes}
+use Rattle.link_commands.specs.open_links.link_model.Packets.{packet_sent, verdict_of as verdict_of_end}
+use Rattle.link_commands.specs.open_links.link_model.Step.{PacketSent}
+use Rattle.link_commands.specs.open_links.OpenLinks.{Links, OpenLink, facts_in, link_after, link_at, with_change}
 use Rattle.controller_model.specs.declared.doing.Doing.{Doing}
 use Rattle.controller_model.specs.declared.doing.Doing.TheVariants.{Advertises, AwaitsRequest, Responds, Scans, Requests, AwaitsResponse, Initiates, Connects, CentralSends, CentralListens, PeripheralListens, PeripheralSends, Rests}
 use Rattle.controller_model.specs.Facts.{Facts, Use, Sends, Listens, Idle}

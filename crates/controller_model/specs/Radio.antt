@@ -5,7 +5,7 @@ use Rattle.ble_base.specs.declared.roles.Role.{Role}
 use Rattle.ble_base.specs.declared.roles.Role.TheVariants.{Central, Peripheral}
 use Rattle.ble_base.specs.declared.notes.Note.{Note}
 use Rattle.advertise.specs.Advertising.{AdvertiserFacts, due_after, event_channel}
-use Rattle.link_model.specs.Times.{has_second_exchange, span_of}
+use Rattle.link_commands.specs.open_links.link_model.Times.{has_second_exchange, span_of}
 use Rattle.host_view.specs.Noted.{view_noted}
 use Rattle.host_view.specs.scan_init.Initiating.{InitiatorFacts}
 use Rattle.host_view.specs.scan_init.Reports.{ScannerFacts}
@@ -15,8 +15,8 @@ use Rattle.slot_plan.specs.declared.Activity.TheVariants.{Link, Advertise, Scan,
 use Rattle.slot_plan.specs.declared.Want.{Want}
 use Rattle.slot_plan.specs.declared.plan.Hold.{Hold}
 use Rattle.slot_plan.specs.Holding.{PlanFacts, is_held_in, winner_of}
-use Rattle.link_model.specs.Step.{PduFixed}
-use Rattle.open_links.specs.OpenLinks.{Links, OpenLink, facts_in, in_event, link_after, link_at, link_served, with_change}
+use Rattle.link_commands.specs.open_links.link_model.Step.{PduFixed}
+use Rattle.link_commands.specs.open_links.OpenLinks.{Links, OpenLink, facts_in, in_event, link_after, link_at, link_served, with_change}
 use Rattle.controller_model.specs.declared.doing.Doing.{Doing}
 use Rattle.controller_model.specs.declared.doing.Doing.TheVariants.{Advertises, Scans, Initiates, CentralSends, PeripheralListens, Rests}
 use Rattle.controller_model.specs.Entering.{all_entered, notes_all_entering, wants_from}

@@ -3,9 +3,9 @@ use Rattle.std.specs.Prelude.{◌≡◌, ℕ, ◌≤◌, ◌<◌, List, ◌++◌
 use Rattle.std.specs.List.{AllByRecursion}
 use Rattle.adv_pdu.specs.declared.pdu.AdvPdu.{AdvPdu}
 use Rattle.adv_pdu.specs.Pdu.{IsPdu}
-use Rattle.link_model.specs.Packets.{packet_sent}
-use Rattle.link_model.specs.Step.{Step, DataGiven, Disconnected, PacketSent, ProcedureAsked, RequestAnswered}
-use Rattle.open_links.specs.OpenLinks.{OpenLink, facts_in, link_after, link_at}
+use Rattle.link_commands.specs.open_links.link_model.Packets.{packet_sent}
+use Rattle.link_commands.specs.open_links.link_model.Step.{Step, DataGiven, Disconnected, PacketSent, ProcedureAsked, RequestAnswered}
+use Rattle.link_commands.specs.open_links.OpenLinks.{OpenLink, facts_in, link_after, link_at}
 use Rattle.controller_model.specs.declared.doing.Doing.{Doing}
 use Rattle.controller_model.specs.declared.doing.Doing.TheVariants.{CentralSends, PeripheralSends}
 use Rattle.controller_model.specs.Facts.{Facts}

@@ -4,13 +4,13 @@ use Rattle.std.specs.Prelude.{◌≡◌, ℕ, ◌+◌, ◌*◌, ◌≤◌, Bool,
 use Rattle.ble_base.specs.ErrorCodes.{success, connection_timeout, connection_not_established, terminated_by_local_host}
 use Rattle.ble_base.specs.declared.error_codes.ErrCode.{ErrCode}
 use Rattle.hci_cmd.specs.declared.command.Command.TheVariants.{Reset}
-use Rattle.link_model.specs.control_end.Answers.{timeout_of}
-use Rattle.link_model.specs.control_end.Held.{held_of}
-use Rattle.link_model.specs.declared.events.Reception.{Reception}
-use Rattle.link_model.specs.Lost.{reason_due}
-use Rattle.link_model.specs.Facts.{params_of}
-use Rattle.open_links.specs.OpenLinks.{OpenLink, facts_in, link_at}
-use Rattle.open_links.specs.Turns.{ending_in, reason_at}
+use Rattle.link_commands.specs.open_links.link_model.control_end.Answers.{timeout_of}
+use Rattle.link_commands.specs.open_links.link_model.control_end.Held.{held_of}
+use Rattle.link_commands.specs.open_links.link_model.declared.events.Reception.{Reception}
+use Rattle.link_commands.specs.open_links.link_model.Lost.{reason_due}
+use Rattle.link_commands.specs.open_links.link_model.Facts.{params_of}
+use Rattle.link_commands.specs.open_links.OpenLinks.{OpenLink, facts_in, link_at}
+use Rattle.link_commands.specs.open_links.Turns.{ending_in, reason_at}
 use Rattle.controller_model.specs.Step.{Step, TurnBegins, TurnEnds}
 use Rattle.controller_model.specs.Facts.{Facts}
 use Rattle.controller_model.specs.Data.{facts_handed}

@@ -12,9 +12,9 @@ use Rattle.h4_frames.specs.declared.packet.Fed.TheVariants.{Packet}
 use Rattle.hci_evt.specs.Event.{written}
 use Rattle.hci_evt.specs.declared.event.Event.TheVariants.{CompletedPackets}
 use Rattle.host_view.specs.Noted.{acl_handle, is_acl_data, two_octets}
-use Rattle.link_model.specs.End.{notes_of as end_notes_of}
-use Rattle.link_model.specs.Setup.{Setup as EndSetup}
-use Rattle.link_model.specs.Step.{Step as EndStep}
+use Rattle.link_commands.specs.open_links.link_model.End.{notes_of as end_notes_of}
+use Rattle.link_commands.specs.open_links.link_model.Setup.{Setup as EndSetup}
+use Rattle.link_commands.specs.open_links.link_model.Step.{Step as EndStep}
 use Rattle.controller_model.specs.Step.{Step, HostOctet}
 use Rattle.controller_model.specs.Facts.{Setup, Facts, first_facts}
 use Rattle.controller_model.specs.Links.{note_opened, note_shut}

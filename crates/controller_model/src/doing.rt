@@ -1,6 +1,6 @@
 //! What a controller does in a phase of a turn.
 use ble_base::Address;
-use link_model::LinkSetup;
+use link_commands::LinkSetup;
 
 /// What a controller does in a phase of a turn (Core 5.2, volume 6 part B, sections 4.4 and 4.5;
 /// that a turn has phases is our choice). Channels are those of the air: 37 to 39 here.

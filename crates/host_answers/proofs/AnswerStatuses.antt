@@ -9,9 +9,9 @@ use Rattle.hci_evt.specs.Event.{written}
 use Rattle.hci_evt.specs.declared.event.Event.{Event}
 use Rattle.hci_evt.specs.declared.event.Event.TheVariants.{CommandComplete, CommandStatus}
 use Rattle.host_view.specs.View.{View}
-use Rattle.controller_model.specs.Answers.{complete_answer, status_answer}
-use Rattle.controller_model.specs.Events.{notes_of_events}
-use Rattle.controller_model.proofs.NoAnswers.{IsNoAnswer, IsNoPacket, ReadsAnswers}
+use Rattle.run_model.specs.controller_model.Answers.{complete_answer, status_answer}
+use Rattle.run_model.specs.controller_model.Events.{notes_of_events}
+use Rattle.run_model.proofs.controller_model.NoAnswers.{IsNoAnswer, IsNoPacket, ReadsAnswers}
 use Rattle.run_model.specs.Readers.{packets_of}
 use Rattle.host_answers.specs.Answered.{is_left_out, status_unless, answer_statuses, answer_status}
 

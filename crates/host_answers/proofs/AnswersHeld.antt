@@ -9,14 +9,14 @@ use Rattle.h4_frames.specs.declared.packet.Fed.{Fed}
 use Rattle.h4_frames.specs.declared.packet.Fed.TheVariants.{More, Packet, LostSync}
 use Rattle.hci_cmd.specs.declared.command.Command.{Command}
 use Rattle.hci_cmd.specs.declared.command.CmdRead.{CmdRead}
-use Rattle.controller_model.specs.Step.{Step, HostOctet, TurnBegins, PacketHeard, NothingHeard, TurnEnds}
-use Rattle.controller_model.specs.Facts.{Setup, Facts, first_facts}
-use Rattle.controller_model.specs.Host.{commands_accepted, commands_accepted_after, commands_accepted_from}
-use Rattle.controller_model.specs.Side.{facts_after, facts_of, notes_after, notes_from, notes_of, result_of}
-use Rattle.controller_model.proofs.Always.{IsInTurn, holds_step}
-use Rattle.controller_model.proofs.Feds.{frames_more, more_octets, no_frames, turn_octets}
-use Rattle.controller_model.proofs.Handles.{HaveOwnHandles, handles_kept, own_handles}
-use Rattle.controller_model.proofs.NoAnswers.{none_in_turn}
+use Rattle.run_model.specs.controller_model.Step.{Step, HostOctet, TurnBegins, PacketHeard, NothingHeard, TurnEnds}
+use Rattle.run_model.specs.controller_model.Facts.{Setup, Facts, first_facts}
+use Rattle.run_model.specs.controller_model.Host.{commands_accepted, commands_accepted_after, commands_accepted_from}
+use Rattle.run_model.specs.controller_model.Side.{facts_after, facts_of, notes_after, notes_from, notes_of, result_of}
+use Rattle.run_model.proofs.controller_model.Always.{IsInTurn, holds_step}
+use Rattle.run_model.proofs.controller_model.Feds.{frames_more, more_octets, no_frames, turn_octets}
+use Rattle.run_model.proofs.controller_model.Handles.{HaveOwnHandles, handles_kept, own_handles}
+use Rattle.run_model.proofs.controller_model.NoAnswers.{none_in_turn}
 use Rattle.host_answers.specs.Answered.{accepted_command, accepted_commands, command_read, commands_sent}
 use Rattle.host_answers.specs.Calls.{answered_after, answered_command, answered_commands, answered_of}
 use Rattle.host_answers.proofs.AnswerStatuses.{reads_statuses, statuses_append, statuses_noted, statuses_of}

@@ -18,21 +18,21 @@ use Rattle.hci_cmd.specs.Command.{command_of}
 use Rattle.hci_evt.specs.declared.event.Event.TheVariants.{RemoteFeatures, RemoteVersion}
 use Rattle.host_view.specs.View.{View}
 use Rattle.host_view.specs.Unbuilt.{status_of}
-use Rattle.controller_model.specs.link_model.declared.state.PeerFacts.{PeerFacts}
-use Rattle.controller_model.specs.link_model.declared.state.PeerVersion.{PeerVersion}
-use Rattle.controller_model.specs.open_links.OpenLinks.{Links, OpenLink, facts_in, link_at}
-use Rattle.controller_model.specs.Answers.{accepted_answer, complete_answer, has_status_answer, is_host_completed, refused_fields, returned, status_answer}
-use Rattle.controller_model.specs.Commands.{is_asking, notes_asking, notes_commanded, notes_known}
-use Rattle.controller_model.specs.Data.{offer_of}
-use Rattle.controller_model.specs.Events.{notes_of_events}
-use Rattle.controller_model.specs.Facts.{Setup, Facts}
-use Rattle.controller_model.specs.Host.{commands_accepted_by, commands_accepted_in}
-use Rattle.controller_model.specs.Side.{notes_fed}
-use Rattle.controller_model.specs.link_commands.LinksCommanded.{events_commanded_on, events_known_in}
-use Rattle.controller_model.specs.link_commands.Views.{events_if, kind_if}
+use Rattle.run_model.specs.controller_model.link_model.declared.state.PeerFacts.{PeerFacts}
+use Rattle.run_model.specs.controller_model.link_model.declared.state.PeerVersion.{PeerVersion}
+use Rattle.run_model.specs.controller_model.open_links.OpenLinks.{Links, OpenLink, facts_in, link_at}
+use Rattle.run_model.specs.controller_model.Answers.{accepted_answer, complete_answer, has_status_answer, is_host_completed, refused_fields, returned, status_answer}
+use Rattle.run_model.specs.controller_model.Commands.{is_asking, notes_asking, notes_commanded, notes_known}
+use Rattle.run_model.specs.controller_model.Data.{offer_of}
+use Rattle.run_model.specs.controller_model.Events.{notes_of_events}
+use Rattle.run_model.specs.controller_model.Facts.{Setup, Facts}
+use Rattle.run_model.specs.controller_model.Host.{commands_accepted_by, commands_accepted_in}
+use Rattle.run_model.specs.controller_model.Side.{notes_fed}
+use Rattle.run_model.specs.controller_model.link_commands.LinksCommanded.{events_commanded_on, events_known_in}
+use Rattle.run_model.specs.controller_model.link_commands.Views.{events_if, kind_if}
 use Rattle.procedure_events.specs.Calls.{events_known}
 use Rattle.procedure_events.specs.Events.{features_event, version_event}
-use Rattle.controller_model.proofs.NoAnswers.{answer_alone, none_in_event, none_in_loss, none_of_offers}
+use Rattle.run_model.proofs.controller_model.NoAnswers.{answer_alone, none_in_event, none_in_loss, none_of_offers}
 use Rattle.host_answers.specs.Answered.{accepted_command, accepted_commands, command_read, is_left_out, status_unless}
 use Rattle.host_answers.specs.Calls.{answered_commands}
 use Rattle.host_answers.proofs.AnswerStatuses.{command_status, complete_status, reads_statuses, statuses_append, statuses_noted, statuses_of}

@@ -9,7 +9,7 @@ use Rattle.hci_cmd.specs.declared.command.Command.{Command}
 use Rattle.hci_cmd.specs.declared.command.HandleCount.{HandleCount}
 use Rattle.hci_cmd.specs.declared.command.CmdRead.TheVariants.{Known, BadLength}
 use Rattle.hci_cmd.specs.Command.{are_parameters, command_of, counts_layout, layout_of, layouts, read_with}
-use Rattle.controller_model.specs.Answers.{is_host_completed}
+use Rattle.run_model.specs.controller_model.Answers.{is_host_completed}
 
 -- ---- for any test
 

@@ -14,12 +14,12 @@ use Rattle.hci_cmd.specs.declared.command.Command.{Command}
 use Rattle.hci_cmd.specs.declared.command.CmdRead.{CmdRead}
 use Rattle.hci_cmd.specs.Command.{command_of}
 use Rattle.journal.specs.declared.entries.Entry.{Entry}
-use Rattle.controller_model.specs.Facts.{Setup, Facts, first_facts}
-use Rattle.controller_model.specs.Side.{facts_after, facts_of, notes_after, notes_of, result_of}
-use Rattle.controller_model.specs.Step.{Step, HostOctet, TurnBegins, PacketHeard, NothingHeard, TurnEnds}
-use Rattle.controller_model.proofs.Always.{IsInTurn}
-use Rattle.controller_model.proofs.Feds.{more_octets, turn_octets}
-use Rattle.controller_model.proofs.Handles.{own_handles}
+use Rattle.run_model.specs.controller_model.Facts.{Setup, Facts, first_facts}
+use Rattle.run_model.specs.controller_model.Side.{facts_after, facts_of, notes_after, notes_of, result_of}
+use Rattle.run_model.specs.controller_model.Step.{Step, HostOctet, TurnBegins, PacketHeard, NothingHeard, TurnEnds}
+use Rattle.run_model.proofs.controller_model.Always.{IsInTurn}
+use Rattle.run_model.proofs.controller_model.Feds.{more_octets, turn_octets}
+use Rattle.run_model.proofs.controller_model.Handles.{own_handles}
 use Rattle.run_model.specs.Due.{IsDue, octet_in, octets_called}
 use Rattle.run_model.specs.Feeding.{HasNoted}
 use Rattle.run_model.specs.History.{Event, Called, Noted, fed_to, noted_by, past_of}

@@ -13,7 +13,7 @@ use Rattle.hci_cmd.specs.declared.command.CmdRead.TheVariants.{Known}
 use Rattle.hci_cmd.specs.Command.{command_of}
 use Rattle.host_view.specs.Noted.{two_octets}
 use Rattle.journal.specs.declared.entries.Entry.{Entry}
-use Rattle.controller_model.specs.Notes.{as_two_octets, is_event}
+use Rattle.run_model.specs.controller_model.Notes.{as_two_octets, is_event}
 use Rattle.run_model.specs.Readers.{fed_to_side, packets_in, packets_to_host}
 
 -- ---- the commands

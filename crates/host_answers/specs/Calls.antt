@@ -4,10 +4,10 @@ use Rattle.std.specs.Prelude.{ℕ, List, [], ◌∷◌, map}
 use Rattle.std.specs.List.{flat_map}
 use Rattle.hci_cmd.specs.declared.command.Command.{Command}
 use Rattle.hci_cmd.specs.declared.command.Command.TheVariants.{HostCompleted}
-use Rattle.controller_model.specs.Facts.{Facts, Setup}
-use Rattle.controller_model.specs.Host.{commands_accepted, commands_accepted_after}
-use Rattle.controller_model.specs.Side.{notes_after}
-use Rattle.controller_model.specs.Step.{Step}
+use Rattle.run_model.specs.controller_model.Facts.{Facts, Setup}
+use Rattle.run_model.specs.controller_model.Host.{commands_accepted, commands_accepted_after}
+use Rattle.run_model.specs.controller_model.Side.{notes_after}
+use Rattle.run_model.specs.controller_model.Step.{Step}
 use Rattle.journal.specs.declared.entries.Entry.{Entry}
 use Rattle.run_model.specs.History.{Event, Noted}
 use Rattle.run_model.specs.Journal.{journal_from}

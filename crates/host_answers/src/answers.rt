@@ -2,7 +2,7 @@
 ghost use Rattle.std.specs.Prelude.{◌≡◌, ◌++◌, ◌∷◌, [], ℕ, false, List};
 ghost use Rattle.std.specs.List.{Contains};
 ghost use Rattle.ble_base.specs.declared.roles.Side.{Side};
-ghost use Rattle.controller_model.specs.Step.{Step};
+ghost use Rattle.run_model.specs.controller_model.Step.{Step};
 ghost use Rattle.run_model.specs.Feeding.{is_note};
 ghost use Rattle.run_model.specs.History.{Called, Event, past_of};
 ghost use Rattle.run_model.specs.Journal.{journal_of, side_of};

@@ -39,6 +39,7 @@ use Rattle.open_links.specs.link_model.Rows.{central_with}
 use Rattle.open_links.specs.link_model.Setup.{Setup}
 use Rattle.open_links.specs.link_model.Step.{Step, ProcedureAsked}
 use Rattle.open_links.specs.link_model.End.{facts_after}
+use Rattle.open_links.specs.link_model.Plain.{IsPlain}
 use Rattle.host_view.specs.declared.links.Link.{Link}
 use Rattle.host_view.specs.View.{View}
 use Rattle.host_view.specs.declared.links.Asked.{Asked}
@@ -366,12 +367,13 @@ pub request_withdrawn : (effect : Effect) (link : Link) → record (link_with_re
 request_withdrawn (AskHost min max latency timeout) link = refl
 request_withdrawn effect link = refl
 
-pub withheld_knows : (setup : Setup) (step : Step) (link : Link) (facts : Facts) (code : ErrCode) → is_of_host step ≡ false → KnowsAsks link facts
+pub withheld_knows : (setup : Setup) (step : Step) (link : Link) (facts : Facts) (code : ErrCode) → IsPlain setup.link.role facts → is_of_host step ≡ false
+    → KnowsAsks link facts
     → (facts_answered (Err code) (facts_after setup facts step)).control.ends ≡ None
     → KnowsAsks (link_after_notes setup facts step link) (facts_answered (Err code) (facts_after setup facts step))
-withheld_knows setup step link facts code other knows lasts =
+withheld_knows setup step link facts code plain other knows lasts =
     let next = facts_after setup facts step in
     let noted = link_after_notes setup facts step link in
     subst (λ (l : Link). KnowsAsks l (facts_answered (Err code) next)) (request_withdrawn (effect_after setup facts step) noted)
     (refused_knows (link_after_step setup facts step link) next code noted.waits_for_parameters
-    (step_knows setup step link facts other knows (ends_before (Answers (Err code)) next.control lasts)) lasts)
+    (step_knows setup step link facts plain other knows (ends_before (Answers (Err code)) next.control lasts)) lasts)

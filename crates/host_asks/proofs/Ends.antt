@@ -20,6 +20,7 @@ use Rattle.open_links.specs.control_end.declared.answers.Entry.{Entry}
 use Rattle.open_links.specs.control_end.declared.answers.Taken.{Taken}
 use Rattle.open_links.specs.control_end.Answers.{entry_of, entry_step, is_update_waiting, no_entry}
 use Rattle.open_links.specs.control_end.Held.{Held, held_of}
+use Rattle.open_links.specs.control_model.Control.{Control}
 use Rattle.open_links.specs.link_model.declared.events.ConnectionEvent.{ConnectionEvent}
 use Rattle.open_links.specs.link_model.declared.state.KnownLengths.{KnownLengths}
 use Rattle.open_links.specs.link_model.declared.state.Leaving.{Leaving}
@@ -27,16 +28,20 @@ use Rattle.open_links.specs.link_model.Acknowledgement.{Pdu}
 use Rattle.open_links.specs.link_model.Controls.{goes_on, is_procedure_pdu, is_quiet_now, pdu_fixed, read_of}
 use Rattle.open_links.specs.link_model.Data.{is_control, is_empty}
 use Rattle.open_links.specs.link_model.End.{facts_after}
-use Rattle.open_links.specs.link_model.Entering.{began_notes, done_notes, event_notes, facts_entered}
+use Rattle.open_links.specs.link_model.Entering.{began_notes, done_notes, event_notes, facts_entered_if}
 use Rattle.open_links.specs.link_model.Events.{applied_notes}
 use Rattle.open_links.specs.link_model.Facts.{Facts, first_facts}
+use Rattle.open_links.specs.link_model.Hosts.{facts_key_answered, leaving_from_if}
 use Rattle.open_links.specs.link_model.Fixing.{fixed_anew}
 use Rattle.open_links.specs.link_model.Packets.{good_pdu}
-use Rattle.open_links.specs.link_model.Receiving.{accepted_if, accepts, acked_kind, acknowledged_if, acks_control, answers_with_control, code_of, control_acked_if, effect_of, effect_received, effect_unless_known, facts_before_taking, facts_hearing, facts_received, given_if, given_notes, has_acknowledged, heard_in_slot, leaving_by, notes_hearing, procedures_give, procedures_take_if, received_notes, refused_notes, took_notes_if}
+use Rattle.open_links.specs.link_model.Plain.{IsPlain, control_acked_if, plain_accepted_if as accepted_if, plain_acknowledged_if as acknowledged_if, plain_before_taking as facts_before_taking, plain_entered as facts_entered, plain_entry_notes, plain_given_if as given_if, plain_gives as procedures_give, plain_hearing as facts_hearing, plain_notes_hearing as notes_hearing, plain_takes_if as procedures_take_if}
+use Rattle.open_links.specs.link_model.Receiving.{accepts, acked_kind, acks_control, answers_with_control, code_of, effect_hearing, effect_of, effect_received, effect_unless_known, facts_received, given_notes, has_acknowledged, heard_in_slot, leaving_by, notes_hearing as all_notes, received_notes, refused_notes, took_notes_if}
 use Rattle.open_links.specs.link_model.Sending.{control_gone_if, sent_notes, sent_notes_if, takes_leave}
 use Rattle.open_links.specs.link_model.Setup.{Setup}
-use Rattle.open_links.specs.link_model.Step.{Step, DataGiven, DataReported, Disconnected, EventEntered, PacketReceived, PacketSent, PduFixed, ProcedureAsked, RequestAnswered}
+use Rattle.open_links.specs.link_model.Step.{Step, DataGiven, DataReported, Disconnected, EventEntered, KeyAnswered, PacketReceived, PacketSent, PduFixed, ProcedureAsked, RequestAnswered, WordsGiven}
 use Rattle.open_links.specs.link_model.Verdicts.{pdu_of}
+use Rattle.open_links.proofs.link_model.ControlSteps.{one_step}
+use Rattle.open_links.proofs.link_model.Plain.{effect_hearing_plain, entered_plain, entry_notes_plain, hearing_plain, notes_hearing_plain, on_plain, received_plain}
 use Rattle.host_view.specs.declared.links.Link.{Link}
 use Rattle.host_view.specs.Links.{is_asked}
 use Rattle.host_view.specs.Noted.{nothing_asked, opened_link}
@@ -144,7 +149,7 @@ enter_knows setup slot link facts true entry goes is knows =
     subst (λ (l : Link). KnowsAsks l (facts_entered setup slot facts))
     (sym (noted_event setup.link.handle (facts_entered setup slot facts).event entry link ∙ ap (λ (over : Option Kind). link_done over link) (is refl)))
     (record {
-      table = control_entered_knows link facts.control slot (is_quiet_now facts) (none_by facts.control.ends goes) knows.table;
+      table = control_entered_knows link facts.control slot true (none_by facts.control.ends goes) knows.table;
       disconnecting = knows.disconnecting;
     })
   where
@@ -171,7 +176,7 @@ gone_stage link false slot facts knows = knows
 taken_stage : (link : Link) (takes accepted : Bool) (pdu : Pdu) (slot : ℕ) (facts : Facts) → KnowsTable link facts.control.table
     → (procedures_take_if takes pdu slot (accepted_if accepted pdu facts)).control.ends ≡ None
     → KnowsTable (link_given (given_if takes pdu slot facts) link) (procedures_take_if takes pdu slot (accepted_if accepted pdu facts)).control.table
-taken_stage link true accepted pdu slot facts knows lasts = control_taken_knows link facts.control (read_of pdu) slot (is_quiet_now facts) knows lasts
+taken_stage link true accepted pdu slot facts knows lasts = control_taken_knows link facts.control (read_of pdu) slot true knows lasts
 taken_stage link false accepted pdu slot facts knows lasts = knows
 
 hears : (setup : Setup) (slot : ℕ) (room : Bool) (header : DataHeader) (pdu : Pdu) (link : Link) (facts : Facts) → KnowsAsks link facts
@@ -226,12 +231,37 @@ hears setup slot room header pdu link facts knows lasts =
         (noted_hearing setup.link.handle over (took_notes_if (accepted && not (is_empty pdu)) setup.link.handle pdu now) given link
         (noted_took (accepted && not (is_empty pdu)) setup.link.handle pdu now))
 
-receives : (setup : Setup) (slot : ℕ) (room : Bool) (octets : Option (List ℕ)) (link : Link) (facts : Facts) → KnowsAsks link facts
+receives : (setup : Setup) (slot : ℕ) (room : Bool) (octets : Option (List ℕ)) (link : Link) (facts : Facts) → IsPlain setup.link.role facts → KnowsAsks link facts
     → (facts_received setup.link.role slot room octets facts).control.ends ≡ None
     → KnowsAsks (link_with_request (effect_received setup.link.role slot room octets facts) (fold link_after_note link (received_notes setup slot room octets facts)))
     (facts_received setup.link.role slot room octets facts)
-receives setup slot room None link facts knows lasts = knows
-receives setup slot room (Some octets) link facts knows lasts = hears setup slot room (header_in octets) (pdu_of octets) link facts knows lasts
+receives setup slot room None link facts plain knows lasts = knows
+receives setup slot room (Some octets) link facts plain knows lasts =
+    let role = setup.link.role in
+    let header = header_in octets in
+    let pdu = pdu_of octets in
+    let same = hearing_plain role role slot room header pdu facts plain in
+    let notes = notes_hearing_plain setup slot room header pdu facts plain in
+    let effect = effect_hearing_plain role role slot room header pdu facts plain in
+    subst (λ (next : Facts). KnowsAsks (link_with_request (effect_hearing role slot room header pdu facts) (fold link_after_note link (all_notes setup slot room header pdu facts))) next)
+    (sym same)
+    (subst (λ (xs : List Note). KnowsAsks (link_with_request (effect_hearing role slot room header pdu facts) (fold link_after_note link xs)) (facts_hearing role slot room header pdu facts))
+    (sym notes)
+    (subst (λ (e : Effect). KnowsAsks (link_with_request e (fold link_after_note link (notes_hearing setup slot room header pdu facts))) (facts_hearing role slot room header pdu facts))
+    (sym effect)
+    (hears setup slot room header pdu link facts knows (ap (λ (f : Facts). f.control.ends) (sym same) ∙ lasts))))
+
+-- ---- the host of an end that encrypts nothing has a key
+
+no_key : (one other : Bool) → ((one && false) && other) ≡ false
+no_key true other = refl
+no_key false other = refl
+
+key_leaving : (role : Role) (key : Option (List ℕ)) (slot : ℕ) (facts : Facts) → IsPlain role facts → (facts_key_answered key slot facts).leaving ≡ facts.leaving
+key_leaving role (Some ltk) slot facts plain = refl
+key_leaving role None slot facts plain =
+    on_plain role (λ (f : Facts). (facts_key_answered None slot f).leaving ≡ f.leaving) facts plain
+    (λ knows response. ap (λ b. leaving_from_if b slot facts.leaving) (no_key _ _))
 
 -- ---- every step that the host does not make
 
@@ -249,21 +279,33 @@ fixed_knows : (stays : Bool) (link : Link) (facts : Facts) → KnowsAsks link fa
 fixed_knows true link facts knows = knows
 fixed_knows false link facts knows = record { table = knows.table; disconnecting = knows.disconnecting }
 
-pub step_knows : (setup : Setup) (step : Step) (link : Link) (facts : Facts) → is_of_host step ≡ false → KnowsAsks link facts
+pub step_knows : (setup : Setup) (step : Step) (link : Link) (facts : Facts) → IsPlain setup.link.role facts → is_of_host step ≡ false → KnowsAsks link facts
     → (facts_after setup facts step).control.ends ≡ None → KnowsAsks (link_after_step setup facts step link) (facts_after setup facts step)
 unfolding effect_of
-step_knows setup (DataGiven start body) link facts other knows lasts = record { table = knows.table; disconnecting = knows.disconnecting }
-step_knows setup (ProcedureAsked ask) link facts other knows lasts = absurd (cc)
-step_knows setup (RequestAnswered answer) link facts other knows lasts = absurd (cc)
-step_knows setup (Disconnected reason slot) link facts other knows lasts = absurd (cc)
-step_knows setup (EventEntered slot) link facts other knows lasts =
-    enter_knows setup slot link facts (goes_on facts) (entry_of slot (is_quiet_now facts) (held_of facts.control)) refl
-    (entry_done (held_of facts.control) slot (is_quiet_now facts)) knows
-step_knows setup PduFixed link facts other knows lasts = fixed_knows (is_control facts.outgoing.fixed) link facts knows
-step_knows setup (PacketSent slot) link facts other knows lasts = sent_knows setup slot link facts knows
-step_knows setup (PacketReceived slot octets room) link facts other knows lasts =
-    receives setup slot room (good_pdu setup facts octets) link facts knows lasts
-step_knows setup DataReported link facts other knows lasts = record { table = knows.table; disconnecting = knows.disconnecting }
+step_knows setup (DataGiven start body) link facts plain other knows lasts = record { table = knows.table; disconnecting = knows.disconnecting }
+step_knows setup (ProcedureAsked ask) link facts plain other knows lasts = absurd (cc)
+step_knows setup (RequestAnswered answer) link facts plain other knows lasts = absurd (cc)
+step_knows setup (KeyAnswered key slot) link facts plain other knows lasts =
+    record {
+      table = subst (λ (c : Control). KnowsTable link c.table) (sym (one_step setup facts (KeyAnswered key slot) plain)) knows.table;
+      disconnecting = knows.disconnecting ∙ ap (λ (l : Leaving). is_some l.disconnected) (sym (key_leaving setup.link.role key slot facts plain));
+    }
+step_knows setup (Disconnected reason slot) link facts plain other knows lasts = absurd (cc)
+step_knows setup (EventEntered slot) link facts plain other knows lasts =
+    subst (λ (notes : List Note). KnowsAsks (fold link_after_note link notes) (facts_entered_if (goes_on facts) setup slot facts))
+    (sym (entry_notes_plain setup slot facts plain))
+    (subst (λ (next : Facts). KnowsAsks (fold link_after_note link (plain_entry_notes setup slot facts)) (if goes_on facts then next else facts))
+    (sym (entered_plain setup slot facts plain))
+    (enter_knows setup slot link facts (goes_on facts) (entry_of slot true (held_of facts.control)) refl
+    (entry_done (held_of facts.control) slot true) knows))
+step_knows setup PduFixed link facts plain other knows lasts = fixed_knows (is_control facts.outgoing.fixed) link facts knows
+step_knows setup (PacketSent slot) link facts plain other knows lasts = sent_knows setup slot link facts knows
+step_knows setup (WordsGiven skd_s iv_s) link facts plain other knows lasts = record { table = knows.table; disconnecting = knows.disconnecting }
+step_knows setup (PacketReceived slot octets room) link facts plain other knows lasts =
+    let same = received_plain setup facts slot octets room plain in
+    subst (λ (next : Facts). KnowsAsks (link_after_step setup facts (PacketReceived slot octets room) link) next) (sym same)
+    (receives setup slot room (good_pdu setup facts octets) link facts plain knows (ap (λ (f : Facts). f.control.ends) (sym same) ∙ lasts))
+step_knows setup DataReported link facts plain other knows lasts = record { table = knows.table; disconnecting = knows.disconnecting }
 
 -- ---- a new link
 

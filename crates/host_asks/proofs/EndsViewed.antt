@@ -23,6 +23,7 @@ use Rattle.open_links.specs.link_model.Hosts.{facts_answered}
 use Rattle.open_links.specs.link_model.Setup.{Setup}
 use Rattle.open_links.specs.link_model.Step.{Step}
 use Rattle.open_links.specs.link_model.Facts.{Facts}
+use Rattle.open_links.specs.link_model.Plain.{IsPlain}
 use Rattle.host_view.specs.Changes.{answered, view_after}
 use Rattle.host_view.specs.Refusals.{count_if, first_refusal}
 use Rattle.host_view.specs.Status.{rows_of}
@@ -191,16 +192,16 @@ request_refused_at_once effect view handle facts code known lasts =
 option_some : (f : Link → Link) (found : Option Link) (link : Link) → found ≡ Some link → option_map f found ≡ Some (f link)
 option_some f found link is = ap (option_map f) is
 
-pub step_known : (view : View) (setup : Setup) (facts : Facts) (step : Step) → is_of_host step ≡ false
+pub step_known : (view : View) (setup : Setup) (facts : Facts) (step : Step) → IsPlain setup.link.role facts → is_of_host step ≡ false
     → KnowsAt view setup.link.handle facts → (facts_after setup facts step).control.ends ≡ None
     → KnowsOnceReported (effect_after setup facts step) (fold view_noted view (notes_after setup facts step)) setup.link.handle (facts_after setup facts step)
-step_known view setup facts step other known lasts =
+step_known view setup facts step plain other known lasts =
     record {
       link = link_after_notes setup facts step known.link;
       is_open =
           notes_own setup.link.handle view (notes_after setup facts step) (notes_of_step setup facts step)
           ∙ option_some (link_after_notes setup facts step) (link_in view.links setup.link.handle) known.link known.is_open;
-      knows = step_knows setup step known.link facts other known.knows lasts;
+      knows = step_knows setup step known.link facts plain other known.knows lasts;
     }
 
 answered_view : (view : View) (handle : ℕ) (kind : Kind) (link : Link) → link_in view.links handle ≡ Some link

@@ -25,7 +25,7 @@ use Rattle.open_links.specs.link_model.Entering.{began_notes, done_notes, event_
 use Rattle.open_links.specs.link_model.Events.{applied_notes}
 use Rattle.open_links.specs.link_model.Facts.{Facts, first_facts}
 use Rattle.open_links.specs.link_model.Packets.{good_pdu}
-use Rattle.open_links.specs.link_model.Receiving.{accepts, acked_kind, acks_control, facts_before_taking, given_if, given_notes, has_acknowledged, notes_hearing, received_notes, refused_notes, took_notes_if}
+use Rattle.open_links.specs.link_model.Receiving.{accepts, acked_kind, acks_control, facts_before_taking, given_if, given_notes, has_acknowledged, kept_given_if, notes_hearing, received_notes, refused_notes, took_notes_if}
 use Rattle.open_links.specs.link_model.Sending.{sent_notes_if}
 use Rattle.open_links.specs.link_model.Setup.{Setup}
 use Rattle.open_links.specs.link_model.Step.{Step, EventEntered, PacketReceived, PacketSent}
@@ -150,9 +150,10 @@ of_hearing : (setup : Setup) (slot : ℕ) (room : Bool) (header : DataHeader) (p
 of_hearing setup slot room header pdu facts =
     let now = facts_before_taking setup.link.role slot header facts in
     let accepted = accepts room header pdu now in
+    let takes = accepted && is_procedure_pdu pdu in
     both setup.link.handle _ _ (of_done setup.link.handle (acked_kind (acks_control (has_acknowledged facts header) facts) facts))
     (both setup.link.handle _ _ (of_took setup.link.handle (accepted && not (is_empty pdu)) pdu now)
-    (of_given setup.link.handle (given_if (accepted && is_procedure_pdu pdu) pdu slot now)))
+    (both setup.link.handle _ _ (of_given setup.link.handle (given_if takes pdu slot now)) (of_given setup.link.handle (kept_given_if takes pdu slot now))))
 
 of_received : (setup : Setup) (slot : ℕ) (room : Bool) (octets : Option (List ℕ)) (facts : Facts)
     → AllByRecursion (IsNoteOf setup.link.handle) (received_notes setup slot room octets facts)

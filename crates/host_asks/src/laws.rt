@@ -8,7 +8,7 @@ ghost use Rattle.open_links.specs.link_model.Setup.{Setup};
 ghost use Rattle.open_links.specs.link_model.Facts.{Facts, first_facts};
 ghost use Rattle.open_links.specs.link_model.Hosts.{facts_answered};
 ghost use Rattle.open_links.specs.link_model.Step.{Step};
-ghost use Rattle.open_links.specs.link_model.End.{facts_after};
+ghost use Rattle.open_links.specs.link_model.End.{facts_after, facts_of};
 ghost use Rattle.host_view.specs.declared.links.Link.{Link};
 ghost use Rattle.host_view.specs.View.{View};
 ghost use Rattle.host_view.specs.Links.{link_in};
@@ -59,8 +59,8 @@ pub fn a_command_keeps_what_is_known()
 /// The view knows the end after any other step, with what that notes, and with the event of a
 /// request of the peer: a procedure that is refused or done is the one that the host asked for.
 pub fn a_step_keeps_what_is_known()
-    ensures { (setup : Setup) (step : Step) (link : Link) (facts : Facts)
-        → is_of_host step ≡ false → KnowsAsks link facts
+    ensures { (setup : Setup) (past : List Step) (step : Step) (link : Link)
+        → let facts = facts_of setup past in is_of_host step ≡ false → KnowsAsks link facts
         → (facts_after setup facts step).control.ends ≡ None
         → KnowsAsks (link_after_step setup facts step link) (facts_after setup facts step) }
 {}
@@ -73,8 +73,9 @@ pub fn an_answer_keeps_what_is_known()
         → (facts_answered (Err code) facts).control.ends ≡ None
         → KnowsAsks (record link { waits_for_parameters = waits })
         (facts_answered (Err code) facts) }
-    ensures withheld { (setup : Setup) (step : Step) (link : Link) (facts : Facts)
-        (code : ErrCode) → is_of_host step ≡ false → KnowsAsks link facts
+    ensures withheld { (setup : Setup) (past : List Step) (step : Step) (link : Link)
+        (code : ErrCode) → let facts = facts_of setup past in is_of_host step ≡ false
+        → KnowsAsks link facts
         → (facts_answered (Err code) (facts_after setup facts step)).control.ends ≡ None
         → KnowsAsks (link_after_notes setup facts step link)
         (facts_answered (Err code) (facts_after setup facts step)) }

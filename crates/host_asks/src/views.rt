@@ -18,7 +18,7 @@ ghost use Rattle.procedure_events.specs.procedure_stages.Steps.{asks_host};
 ghost use Rattle.open_links.specs.link_model.Setup.{Setup};
 ghost use Rattle.open_links.specs.link_model.Facts.{Facts, first_facts};
 ghost use Rattle.open_links.specs.link_model.Step.{Step};
-ghost use Rattle.open_links.specs.link_model.End.{facts_after, notes_after};
+ghost use Rattle.open_links.specs.link_model.End.{facts_after, facts_of, notes_after};
 ghost use Rattle.open_links.specs.link_model.Hosts.{facts_answered};
 ghost use Rattle.open_links.specs.link_model.declared.state.PeerFacts.{PeerFacts};
 ghost use Rattle.link_pairs.specs.Hosts.{MayHost};
@@ -79,8 +79,9 @@ pub fn commands_change_their_link()
 /// receives before that, since data and requests for keys change nothing that it asked for. Where a
 /// mask withholds the request, it is refused at once.
 pub fn steps_keep_what_is_known()
-    ensures step { (view : View) (setup : Setup) (facts : Facts) (step : Step)
-        → is_of_host step ≡ false → KnowsAt view setup.link.handle facts
+    ensures step { (view : View) (setup : Setup) (past : List Step) (step : Step)
+        → let facts = facts_of setup past in is_of_host step ≡ false
+        → KnowsAt view setup.link.handle facts
         → (facts_after setup facts step).control.ends ≡ None
         → KnowsOnceReported (effect_after setup facts step)
         (fold view_noted view (notes_after setup facts step)) setup.link.handle

@@ -5,7 +5,7 @@ use Rattle.std.proofs.lemmas.List.Concat.{flat_map-append}
 use Rattle.ble_base.specs.declared.notes.Note.{Note}
 use Rattle.ble_base.specs.declared.roles.Side.{Side}
 use Rattle.ble_base.specs.declared.roles.Side.TheVariants.{A, B}
-use Rattle.controller_model.specs.Step.{Step}
+use Rattle.run_model.specs.controller_model.Step.{Step}
 use Rattle.run_model.specs.Due.{Each, octets_called}
 use Rattle.run_model.specs.Feeding.{is_octet, is_of_feeding}
 use Rattle.run_model.specs.History.{Event, TurnBegan, HostFed, Called, Noted, Transmitted, fed_to, octets_in}

@@ -12,22 +12,22 @@ use Rattle.hci_cmd.specs.declared.command.Command.TheVariants.{HostCompleted, Le
 use Rattle.hci_cmd.specs.declared.command.CmdRead.{CmdRead}
 use Rattle.hci_cmd.specs.declared.command.CmdRead.TheVariants.{Known, UnknownOpcode, BadLength}
 use Rattle.hci_cmd.specs.Command.{command_of}
-use Rattle.controller_model.specs.host_view.View.{View}
-use Rattle.controller_model.specs.host_view.Changes.{view_after}
-use Rattle.controller_model.specs.host_view.Unbuilt.{status_of}
-use Rattle.controller_model.specs.open_links.declared.offers.Offer.{Offer}
-use Rattle.controller_model.specs.open_links.declared.offers.Offer.TheVariants.{NoLink, Empty, Overflow, Kept}
-use Rattle.controller_model.specs.Step.{Step, HostOctet, TurnBegins, PacketHeard, NothingHeard, TurnEnds}
-use Rattle.controller_model.specs.Facts.{Setup, Facts, first_facts}
-use Rattle.controller_model.specs.Commands.{facts_asking, facts_commanded, facts_known, is_asking}
-use Rattle.controller_model.specs.Data.{facts_offered, offer_of}
-use Rattle.controller_model.specs.Heard.{link_taken}
-use Rattle.controller_model.specs.Side.{facts_after, facts_fed, facts_of, result_of}
-use Rattle.controller_model.proofs.Accepted.{same_after_counts}
-use Rattle.controller_model.proofs.Always.{IsInTurn, IsKeptInTurns, kept_always, opening_passes, turn_keeps}
-use Rattle.controller_model.proofs.Asked.{asked_view_is}
-use Rattle.controller_model.proofs.Following.{receiving_passes}
-use Rattle.controller_model.proofs.Feds.{frames_more, more_octets, no_frames, turn_octets}
+use Rattle.run_model.specs.controller_model.host_view.View.{View}
+use Rattle.run_model.specs.controller_model.host_view.Changes.{view_after}
+use Rattle.run_model.specs.controller_model.host_view.Unbuilt.{status_of}
+use Rattle.run_model.specs.controller_model.open_links.declared.offers.Offer.{Offer}
+use Rattle.run_model.specs.controller_model.open_links.declared.offers.Offer.TheVariants.{NoLink, Empty, Overflow, Kept}
+use Rattle.run_model.specs.controller_model.Step.{Step, HostOctet, TurnBegins, PacketHeard, NothingHeard, TurnEnds}
+use Rattle.run_model.specs.controller_model.Facts.{Setup, Facts, first_facts}
+use Rattle.run_model.specs.controller_model.Commands.{facts_asking, facts_commanded, facts_known, is_asking}
+use Rattle.run_model.specs.controller_model.Data.{facts_offered, offer_of}
+use Rattle.run_model.specs.controller_model.Heard.{link_taken}
+use Rattle.run_model.specs.controller_model.Side.{facts_after, facts_fed, facts_of, result_of}
+use Rattle.run_model.proofs.controller_model.Accepted.{same_after_counts}
+use Rattle.run_model.proofs.controller_model.Always.{IsInTurn, IsKeptInTurns, kept_always, opening_passes, turn_keeps}
+use Rattle.run_model.proofs.controller_model.Asked.{asked_view_is}
+use Rattle.run_model.proofs.controller_model.Following.{receiving_passes}
+use Rattle.run_model.proofs.controller_model.Feds.{frames_more, more_octets, no_frames, turn_octets}
 use Rattle.host_masks.specs.Masks.{Masks, first_masks, framed_command, framed_commands, known_command, masks_after, masks_of, view_masks}
 
 -- ---- the three commands are accepted at any time

@@ -2,11 +2,11 @@
 -- its host sent.
 use Rattle.std.proofs.Common.{◌≡◌, ℕ, List, [], ◌∷◌, ◌++◌, sym, ap, ◌∙◌, append-nil, append_assoc, false}
 use Rattle.std.specs.Prelude.{flat_map, fold}
-use Rattle.controller_model.specs.Step.{Step, HostOctet, TurnBegins, PacketHeard, NothingHeard, TurnEnds}
-use Rattle.controller_model.specs.Facts.{Setup, Facts, first_facts}
-use Rattle.controller_model.specs.Side.{facts_after, facts_of}
-use Rattle.controller_model.proofs.Always.{IsInTurn}
-use Rattle.controller_model.proofs.Feds.{more_octets, turn_octets}
+use Rattle.run_model.specs.controller_model.Step.{Step, HostOctet, TurnBegins, PacketHeard, NothingHeard, TurnEnds}
+use Rattle.run_model.specs.controller_model.Facts.{Setup, Facts, first_facts}
+use Rattle.run_model.specs.controller_model.Side.{facts_after, facts_of}
+use Rattle.run_model.proofs.controller_model.Always.{IsInTurn}
+use Rattle.run_model.proofs.controller_model.Feds.{more_octets, turn_octets}
 use Rattle.run_model.specs.Due.{octet_in, octets_called}
 use Rattle.run_model.specs.Feeding.{is_of_feeding}
 use Rattle.run_model.specs.History.{Event, fed_to, past_of}

@@ -14,7 +14,7 @@ use Rattle.hci_cmd.specs.declared.command.CmdRead.TheVariants.{Known}
 use Rattle.hci_cmd.specs.Command.{command_of}
 use Rattle.hci_evt.specs.declared.event.MaskBit.{MaskBit}
 use Rattle.hci_evt.specs.declared.event.MaskBit.TheVariants.{Always, Main, Meta}
-use Rattle.controller_model.specs.host_view.View.{View}
+use Rattle.run_model.specs.controller_model.host_view.View.{View}
 
 pub record Masks : Type 0 where
   -- of events (section 7.3.1)

@@ -1,6 +1,6 @@
 -- Octets of hosts that set masks, as worked examples have them.
 use Rattle.std.specs.Prelude.{ℕ, List, [], ◌∷◌, ◌++◌}
-use Rattle.controller_model.specs.Rows.{mask_octets}
+use Rattle.run_model.specs.controller_model.Rows.{mask_octets}
 use Rattle.run_model.specs.Rows.{reset}
 
 -- LE Set Event Mask, with the bit of LE Remote Connection Parameter Request

@@ -1,6 +1,6 @@
 //! Worked examples, which the definitions compute.
 ghost use Rattle.std.specs.Prelude.{◌≡◌, ◌++◌, [], false, true, take};
-ghost use Rattle.controller_model.specs.Rows.{mask_octets};
+ghost use Rattle.run_model.specs.controller_model.Rows.{mask_octets};
 ghost use Rattle.run_model.specs.Rows.{reset};
 ghost use Rattle.host_masks.specs.Masks.{first_masks, masks_of, withholds_requests};
 ghost use Rattle.host_masks.specs.Rows.{le_mask_octets, masking_octets, short_octets};

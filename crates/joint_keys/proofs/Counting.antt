@@ -39,7 +39,7 @@ pub one_more : (r : Counted) (events : List PhaseEvent) (event : PhaseEvent) →
 one_more r [] event = refl
 one_more r (first ∷ events) event = one_more (counted_step first r) events event
 
--- the counters of a central and of a peripheral that has so many data PDUs fixed sealed
+-- the counters of a central and of a peripheral; this many data PDUs that the peripheral will seal are fixed and not sent
 pub record Counts (r : Counted) (e f : EncEnd) (ahead : ℕ) : Type 0 where
   pub central_sent : r.central_sent ≡ e.sent
   pub central_opened : r.central_opened ≡ e.opened

@@ -9,7 +9,7 @@ use Rattle.journal_packets.specs.link_model.Acknowledgement.{Acknowledgement, Pd
 use Rattle.journal_packets.specs.link_model.Data.{is_accepted, is_data, is_empty}
 use Rattle.journal_packets.specs.link_model.Controls.{pdu_fixed}
 use Rattle.journal_packets.specs.link_model.Facts.{Facts}
-use Rattle.journal_packets.specs.link_model.Packets.{good_pdu, header_sent, packet_sent, payload_sent, pdu_sent}
+use Rattle.journal_packets.specs.link_model.Packets.{good_pdu, has_new_pdu, header_sent, packet_sent, payload_sent, pdu_sent}
 use Rattle.journal_packets.specs.link_model.End.{facts_after}
 use Rattle.journal_packets.specs.link_model.Hearing.{IsUnderstood, pdu_heard, pdu_octets}
 use Rattle.journal_packets.specs.link_model.Receiving.{accepts, facts_before_taking, has_acknowledged}
@@ -19,8 +19,8 @@ use Rattle.journal_packets.specs.link_model.Step.{PacketSent, PacketReceived}
 use Rattle.journal_packets.proofs.link_model.Acknowledging.{ack_before_taking, ack_heard, ack_sent as end_sent}
 use Rattle.journal_packets.proofs.link_model.Agreeing.{heard_acks, heard_agrees}
 use Rattle.journal_packets.proofs.link_model.Hearing.{IsHeardWhole}
-use Rattle.journal_packets.proofs.link_model.Received.{facts_heard, heard_good, pdu_read}
-use Rattle.journal_packets.proofs.link_model.Repeating.{past_payload}
+use Rattle.journal_packets.proofs.link_model.Received.{body_heard, facts_heard, heard_good}
+use Rattle.journal_packets.proofs.link_model.Plain.{past_payload}
 use Rattle.journal_packets.specs.open_links.OpenLinks.{OpenLink, facts_in, link_after}
 use Rattle.journal_packets.proofs.run_laws.Agreed.{ack_of, ack_sent, out_after, packet_of, sent_ack, step_facts}
 use Rattle.link_calls.specs.Ranges.{HasRanges}
@@ -98,6 +98,11 @@ module _ (sender : Facts) (one : Acknowledgement) (agreed : AreInAgreement (sent
       (sent_again (sent_ack sender) (pdu_fixed sender) (is_acked (sent_ack sender)) refl (out_after sender one agreed)))
       ahead.sent_only ahead.at_most_one_ahead
 
+-- what is read of a payload that is the body, opened or not
+read_alike : (fresh : Bool) (body payload : List ℕ) → payload ≡ body → (if fresh then body else payload) ≡ body
+read_alike true body payload is = refl
+read_alike false body payload is = is
+
 -- an end that receives the packet of the other one, which it understands
 module _ (whole : IsHeardWhole) (slot now : ℕ) (one from : OpenLink) (octets : List ℕ) (ranges : HasRanges one) (from_ranges : HasRanges from)
     (fields : from.setup.link.fields ≡ one.setup.link.fields) (packet : octets ≡ packet_sent from.setup (facts_in from))
@@ -117,14 +122,14 @@ module _ (whole : IsHeardWhole) (slot now : ℕ) (one from : OpenLink) (octets :
   body : payload_sent far ≡ (pdu_sent far).body
   body = past_payload from.setup from.past
 
-  pdu_is : pdu_heard far ≡ pdu_sent far
-  pdu_is = λ i. record { llid = (pdu_sent far).llid; body = body i }
+  pdu_is : pdu_heard far listener ≡ pdu_sent far
+  pdu_is = λ i. record { llid = (pdu_sent far).llid; body = read_alike (has_new_pdu listener (header_sent far)) (pdu_sent far).body (payload_sent far) body i }
 
-  good_is : good_pdu own listener octets ≡ Some (pdu_octets far)
+  good_is : good_pdu own listener octets ≡ Some (pdu_octets far listener)
   good_is = ap (good_pdu own listener) packet ∙ heard_good whole from.setup own far listener understood
 
   own_line : has_own_line (good_pdu own listener octets) ≡ not (is_empty (pdu_sent far))
-  own_line = ap has_own_line good_is ∙ ap (λ pdu. not (is_empty pdu)) (pdu_read far understood.llid ∙ pdu_is)
+  own_line = ap has_own_line good_is ∙ ap (λ pdu. not (is_empty pdu)) (body_heard far listener understood.llid ∙ pdu_is)
 
   once : AreInAgreement (sent_ack far) (ack_of one)
   once = subst (λ a. AreInAgreement a (ack_of one)) (ack_sent now from) agreed
@@ -145,9 +150,7 @@ module _ (whole : IsHeardWhole) (slot now : ℕ) (one from : OpenLink) (octets :
   form =
       received_is false
       ∙ ap (λ (f : Facts). f.acknowledgement) (facts_heard whole from.setup own far listener understood slot false)
-      ∙ ack_heard own.link.role slot false (header_sent far) (pdu_heard far) listener
-      ∙ ap (λ pdu. received_by (has_acknowledged listener (header_sent far))
-      (accepts false (header_sent far) pdu (facts_before_taking own.link.role slot (header_sent far) listener)) pdu listener.acknowledgement) pdu_is
+      ∙ ack_heard own.link.role slot false (header_sent far) (pdu_sent far) listener
 
   accepts_empty : is_empty (pdu_sent far) ≡ true → accepts_it ≡ is_new (bits_of (ack_of one)) (header_sent far)
   accepts_empty empty =
@@ -174,7 +177,7 @@ module _ (whole : IsHeardWhole) (slot now : ℕ) (one from : OpenLink) (octets :
     empty = λ empty. ap length (accepted_by true empty) ∙ ap (λ (a : Acknowledgement). length a.accepted) form
         ∙ all_sent far (ack_of one) once accepts_it (accepts_empty empty) ∙ ap (λ (a : Acknowledgement). length a.sent) (sym (ack_sent now from));
     full = λ full. ap length (accepted_by false full);
-    acked = ap (λ (a : Acknowledgement). a.acked) (received_is false) ∙ heard_acks whole from.setup own far listener slot false understood body as_sent
+    acked = ap (λ (a : Acknowledgement). a.acked) (received_is false) ∙ heard_acks whole from.setup own far listener slot false understood as_sent
         ∙ ap (λ (a : Acknowledgement). length a.accepted) (sym (ack_sent now from));
     sent = ap (λ (a : Acknowledgement). a.sent) form;
   }
@@ -183,7 +186,7 @@ module _ (whole : IsHeardWhole) (slot now : ℕ) (one from : OpenLink) (octets :
   pub takes_all : (room : Bool) → length (ack_of (link_after (PacketReceived slot octets room) one)).accepted ≡ length (ack_of one).accepted + 1
       → length (ack_of (link_after (PacketSent now) from)).sent ≡ length (ack_of one).accepted + 1
   takes_all room more =
-      let after = heard_agrees whole from.setup own far listener slot room understood body as_sent in
+      let after = heard_agrees whole from.setup own far listener slot room understood as_sent in
       let low = after.from_a.reliable.sent_only in
       let high = once.from_a.reliable.at_most_one_ahead in
       let same = ap (λ (a : Acknowledgement). length a.accepted) (received_is room) in

@@ -26,15 +26,15 @@ use Rattle.journal_packets.proofs.controller_model.Sent.{sends_well}
 use Rattle.journal_packets.specs.controller_model.Packets.{verdict_of}
 use Rattle.radio_replay.specs.declared.fates.Fate.{Fate}
 use Rattle.radio_replay.specs.Damage.{damaged_packet}
-use Rattle.run_model.specs.Feeding.{AreDistinct}
-use Rattle.run_model.specs.History.{Event, Transmitted, Hearing, fates_used, has_received, is_good, packet_received, past_of, turns_begun}
-use Rattle.run_model.specs.Journal.{journal_of, side_of}
-use Rattle.run_model.specs.LinkEnds.{HaveAddresses}
-use Rattle.run_model.specs.Links.{is_advertising}
-use Rattle.run_model.specs.Run.{Given, facts_at, fate_at, hearings_of, setup_at, unseen_in, use_at}
-use Rattle.run_model.proofs.LinkEnds.{is_listener, received_event}
-use Rattle.run_model.proofs.Stations.{is_in, among, in_more_other, in_more_same, not_before}
-use Rattle.run_model.proofs.Walk.{Place, AtPackets}
+use Rattle.link_calls.specs.run_model.Feeding.{AreDistinct}
+use Rattle.link_calls.specs.run_model.History.{Event, Transmitted, Hearing, fates_used, has_received, is_good, packet_received, past_of, turns_begun}
+use Rattle.link_calls.specs.run_model.Journal.{journal_of, side_of}
+use Rattle.link_calls.specs.run_model.LinkEnds.{HaveAddresses}
+use Rattle.link_calls.specs.run_model.Links.{is_advertising}
+use Rattle.link_calls.specs.run_model.Run.{Given, facts_at, fate_at, hearings_of, setup_at, unseen_in, use_at}
+use Rattle.link_calls.proofs.run_model.LinkEnds.{is_listener, received_event}
+use Rattle.link_calls.proofs.run_model.Stations.{is_in, among, in_more_other, in_more_same, not_before}
+use Rattle.link_calls.proofs.run_model.Walk.{Place, AtPackets}
 use Rattle.journal_packets.specs.run_laws.Ends.{HaveOneConnectInd}
 use Rattle.journal_packets.proofs.run_laws.Agreed.{Agree, ack_of}
 use Rattle.journal_packets.proofs.run_laws.ByCalls.{Holds}

@@ -7,8 +7,8 @@ use Rattle.ble_base.specs.declared.roles.Side.{Side}
 use Rattle.ble_base.specs.declared.roles.Side.TheVariants.{A, B}
 use Rattle.journal.specs.declared.entries.Entry.{Entry}
 use Rattle.journal.specs.declared.entries.Entry.TheVariants.{Turn, Air, Took}
-use Rattle.run_model.specs.History.{is_good}
-use Rattle.run_model.specs.Links.{is_advertising}
+use Rattle.link_calls.specs.run_model.History.{is_good}
+use Rattle.link_calls.specs.run_model.Links.{is_advertising}
 use Rattle.journal_packets.specs.journal_links.Begun.{link_numbered}
 use Rattle.journal_packets.specs.Belonging.{link_of_packet}
 use Rattle.journal_acks.specs.Exchange.{Exchanged, after_packet, after_taking, carries_empty, exchange_after, exchange_from, exchange_of, is_number, first_exchanged, with_heard, with_sent, with_taken}

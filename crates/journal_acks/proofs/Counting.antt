@@ -18,13 +18,13 @@ use Rattle.journal_packets.specs.controller_model.declared.doing.Turn.{Turn}
 use Rattle.journal_packets.specs.controller_model.Since.{notes_opened_on}
 use Rattle.journal_packets.specs.controller_model.Step.{Step}
 use Rattle.journal_packets.specs.controller_model.Facts.{Facts, Sends}
-use Rattle.run_model.specs.History.{Event, Noted, packet_received, steps_in}
-use Rattle.run_model.specs.Journal.{journal_of, side_of}
-use Rattle.run_model.specs.Links.{is_advertising, links_of}
-use Rattle.run_model.specs.Run.{Given, after_call, facts_at, setup_at, use_at}
-use Rattle.run_model.proofs.Fronts.{IsFront}
-use Rattle.run_model.proofs.Stations.{is_in}
-use Rattle.run_model.proofs.Walk.{Place, AtPackets, IsKept}
+use Rattle.link_calls.specs.run_model.History.{Event, Noted, packet_received, steps_in}
+use Rattle.link_calls.specs.run_model.Journal.{journal_of, side_of}
+use Rattle.link_calls.specs.run_model.Links.{is_advertising, links_of}
+use Rattle.link_calls.specs.run_model.Run.{Given, after_call, facts_at, setup_at, use_at}
+use Rattle.link_calls.proofs.run_model.Fronts.{IsFront}
+use Rattle.link_calls.proofs.run_model.Stations.{is_in}
+use Rattle.link_calls.proofs.run_model.Walk.{Place, AtPackets, IsKept}
 use Rattle.journal_packets.specs.run_laws.Ends.{HaveOneConnectInd}
 use Rattle.journal_packets.proofs.run_laws.Agreed.{ack_of}
 use Rattle.journal_packets.proofs.run_laws.Hearings.{other_facts}

@@ -26,9 +26,9 @@ use Rattle.journal_packets.proofs.controller_model.Always.{begun_doing}
 use Rattle.journal_packets.proofs.controller_model.EndNotes.{received_each, sent_each}
 use Rattle.journal_packets.proofs.controller_model.Handles.{HaveOwnHandles, handles_kept}
 use Rattle.journal_packets.proofs.controller_model.Places.{link_receiving, receiving_is}
-use Rattle.run_model.specs.History.{Event, turns_begun}
-use Rattle.run_model.specs.Journal.{journal_of}
-use Rattle.run_model.specs.Run.{Given, facts_at, setup_at, step_of}
+use Rattle.link_calls.specs.run_model.History.{Event, turns_begun}
+use Rattle.link_calls.specs.run_model.Journal.{journal_of}
+use Rattle.link_calls.specs.run_model.Run.{Given, facts_at, setup_at, step_of}
 use Rattle.journal_packets.proofs.run_laws.LinkPasses.{is_on_link}
 use Rattle.journal_packets.specs.journal_links.Begun.{LinkBegun, link_numbered}
 use Rattle.link_calls.proofs.CallNotes.{HasNoData, all_more, begin_noted, events_noted, no_data, notes_starting, start_noted}

@@ -3,11 +3,11 @@ use Rattle.std.proofs.Common.{◌≡◌, ℕ, List, [], ◌∷◌, ◌++◌}
 use Rattle.std.specs.Prelude.{⊤, map, take}
 use Rattle.journal_packets.specs.controller_model.Step.{Step, HostOctet, TurnBegins, TurnEnds}
 use Rattle.journal_packets.specs.controller_model.Side.{notes_after}
-use Rattle.run_model.specs.Due.{Each}
-use Rattle.run_model.specs.History.{Event, TurnBegan, HostFed, Called, Noted, Transmitted, packet_received}
-use Rattle.run_model.specs.Run.{Given, Plan, after_call, after_feed, after_octets, facts_at, hearings_of, history_of, octets_left, run_of, setup_at, step_of}
-use Rattle.run_model.proofs.Places.{each_called, each_event}
-use Rattle.run_model.proofs.Walk.{Place, NoTurn, AtBegins, AtListening, AtEnds, IsKept, IsStopped, IsWhole, ends_with, run_kept}
+use Rattle.link_calls.specs.run_model.Due.{Each}
+use Rattle.link_calls.specs.run_model.History.{Event, TurnBegan, HostFed, Called, Noted, Transmitted, packet_received}
+use Rattle.link_calls.specs.run_model.Run.{Given, Plan, after_call, after_feed, after_octets, facts_at, hearings_of, history_of, octets_left, run_of, setup_at, step_of}
+use Rattle.link_calls.proofs.run_model.Places.{each_called, each_event}
+use Rattle.link_calls.proofs.run_model.Walk.{Place, NoTurn, AtBegins, AtListening, AtEnds, IsKept, IsStopped, IsWhole, ends_with, run_kept}
 
 module _ (given : Given) (fact : List Event → ℕ → Step → Type 0) where
   -- of a call, after the events before it

@@ -10,8 +10,8 @@ use Rattle.journal_packets.specs.link_model.Setup.{Setup}
 use Rattle.journal_packets.specs.link_model.Step.{Step}
 use Rattle.journal_packets.specs.open_links.OpenLinks.{OpenLink, facts_in}
 use Rattle.journal_packets.specs.controller_model.Since.{notes_opened_on}
-use Rattle.run_model.specs.History.{Event}
-use Rattle.run_model.specs.Journal.{journal_of, side_of}
+use Rattle.link_calls.specs.run_model.History.{Event}
+use Rattle.link_calls.specs.run_model.Journal.{journal_of, side_of}
 use Rattle.journal_packets.specs.journal_links.LinkLines.{AreLinesOf}
 use Rattle.journal_acks.specs.Carried.{channel_after, channel_entered}
 use Rattle.journal_acks.specs.EventOrder.{entered_after, entered_on}

@@ -19,21 +19,21 @@ use Rattle.journal_packets.specs.controller_model.Step.{Step}
 use Rattle.journal_packets.proofs.controller_model.Entries.{enters_as_turns_begin, enters_at_anchors}
 use Rattle.journal_packets.proofs.controller_model.Pasts.{notes_more}
 use Rattle.journal_packets.proofs.controller_model.UnderNotes.{open_noted, shut_noted}
-use Rattle.run_model.specs.Feeding.{AreDistinct}
-use Rattle.run_model.specs.History.{Called, Noted, noted_by, past_of}
-use Rattle.run_model.specs.Journal.{journal_of}
-use Rattle.run_model.specs.LinkEnds.{HaveAddresses}
-use Rattle.run_model.specs.NoteLines.{enter_line}
-use Rattle.run_model.specs.OnAir.{ends_phase}
-use Rattle.run_model.specs.Run.{Given, facts_at, history_of, run_of, setup_at}
-use Rattle.run_model.proofs.Calls.{noted_called, same_station}
-use Rattle.run_model.proofs.LinkEnds.{AreTaken, IsUnderstood}
-use Rattle.run_model.proofs.NoteLines.{is_contained, line_in_call, to_line}
-use Rattle.run_model.proofs.Notes.{NotedBefore, run_noted}
-use Rattle.run_model.proofs.Numbers.{numbered_at}
-use Rattle.run_model.proofs.OfStations.{OfStations, run_of_stations}
-use Rattle.run_model.proofs.OpenedNotes.{is_opened, opens_under as opens, outside_open}
-use Rattle.run_model.proofs.Places.{each_at}
+use Rattle.link_calls.specs.run_model.Feeding.{AreDistinct}
+use Rattle.link_calls.specs.run_model.History.{Called, Noted, noted_by, past_of}
+use Rattle.link_calls.specs.run_model.Journal.{journal_of}
+use Rattle.link_calls.specs.run_model.LinkEnds.{HaveAddresses}
+use Rattle.link_calls.specs.run_model.NoteLines.{enter_line}
+use Rattle.link_calls.specs.run_model.OnAir.{ends_phase}
+use Rattle.link_calls.specs.run_model.Run.{Given, facts_at, history_of, run_of, setup_at}
+use Rattle.link_calls.proofs.run_model.Calls.{noted_called, same_station}
+use Rattle.link_calls.proofs.run_model.LinkEnds.{AreTaken, IsUnderstood}
+use Rattle.link_calls.proofs.run_model.NoteLines.{is_contained, line_in_call, to_line}
+use Rattle.link_calls.proofs.run_model.Notes.{NotedBefore, run_noted}
+use Rattle.link_calls.proofs.run_model.Numbers.{numbered_at}
+use Rattle.link_calls.proofs.run_model.OfStations.{OfStations, run_of_stations}
+use Rattle.link_calls.proofs.run_model.OpenedNotes.{is_opened, opens_under as opens, outside_open}
+use Rattle.link_calls.proofs.run_model.Places.{each_at}
 use Rattle.journal_packets.proofs.journal_links.EnterLines.{turn_of}
 use Rattle.journal_packets.proofs.journal_links.LineNotes.{lines_are_notes, open_was_opened}
 use Rattle.journal_packets.proofs.journal_links.OfTwo.{two_apart}

@@ -10,12 +10,12 @@ use Rattle.ble_base.specs.declared.notes.Note.TheVariants.{Up, Opened, Took}
 use Rattle.journal.specs.declared.entries.Entry.{Entry}
 use Rattle.journal_packets.specs.controller_model.Step.{Step}
 use Rattle.journal_packets.specs.controller_model.Side.{notes_after}
-use Rattle.run_model.specs.History.{Event, TurnBegan, HostFed, Called, Noted, Transmitted, Hearing}
-use Rattle.run_model.specs.Journal.{entries_of, entry_of, journal_of, side_of}
-use Rattle.run_model.specs.Links.{Links, begins_link, links_after, links_noted, links_of, with_link}
-use Rattle.run_model.specs.Run.{Given, after_call, facts_at, setup_at}
-use Rattle.run_model.proofs.LinksKnown.{links_event}
-use Rattle.run_model.proofs.Parts.{journal_event}
+use Rattle.link_calls.specs.run_model.History.{Event, TurnBegan, HostFed, Called, Noted, Transmitted, Hearing}
+use Rattle.link_calls.specs.run_model.Journal.{entries_of, entry_of, journal_of, side_of}
+use Rattle.link_calls.specs.run_model.Links.{Links, begins_link, links_after, links_noted, links_of, with_link}
+use Rattle.link_calls.specs.run_model.Run.{Given, after_call, facts_at, setup_at}
+use Rattle.link_calls.proofs.run_model.LinksKnown.{links_event}
+use Rattle.link_calls.proofs.run_model.Parts.{journal_event}
 use Rattle.journal_packets.specs.Belonging.{is_side}
 use Rattle.journal_acks.specs.Exchange.{Exchanged, after_taking, exchange_after, exchange_from, exchange_of, first_exchanged, with_taken}
 use Rattle.link_calls.proofs.CallNotes.{OpensNone, TakesNone, is_taking}

@@ -9,16 +9,16 @@ use Rattle.journal_packets.specs.controller_model.Step.{Step, HostOctet, TurnBeg
 use Rattle.journal_packets.specs.controller_model.Side.{facts_of, notes_after}
 use Rattle.journal_packets.proofs.controller_model.Always.{IsInTurn}
 use Rattle.journal_packets.proofs.controller_model.Feds.{more_octets, turn_octets}
-use Rattle.run_model.specs.Due.{Each}
-use Rattle.run_model.specs.History.{Event, TurnBegan, HostFed, Called, Noted, Transmitted, fed_to, octets_in, packet_received, steps_in}
-use Rattle.run_model.specs.Journal.{journal_of, side_of}
-use Rattle.run_model.specs.Order.{AreNotes}
-use Rattle.run_model.specs.Run.{Given, after_call, after_feed, after_octets, facts_at, hearings_of, history_of, octets_left, run_of, setup_at, step_of}
-use Rattle.run_model.proofs.Calls.{flat_nothing, same_station}
-use Rattle.run_model.proofs.Dues.{fed_called, fed_own}
-use Rattle.run_model.proofs.Parts.{call_adds, journal_event, notes_more}
-use Rattle.run_model.proofs.Places.{each_called, each_event}
-use Rattle.run_model.proofs.Walk.{Place, IsKept, IsStopped, IsWhole, ends_with, run_kept}
+use Rattle.link_calls.specs.run_model.Due.{Each}
+use Rattle.link_calls.specs.run_model.History.{Event, TurnBegan, HostFed, Called, Noted, Transmitted, fed_to, octets_in, packet_received, steps_in}
+use Rattle.link_calls.specs.run_model.Journal.{journal_of, side_of}
+use Rattle.link_calls.specs.run_model.Order.{AreNotes}
+use Rattle.link_calls.specs.run_model.Run.{Given, after_call, after_feed, after_octets, facts_at, hearings_of, history_of, octets_left, run_of, setup_at, step_of}
+use Rattle.link_calls.proofs.run_model.Calls.{flat_nothing, same_station}
+use Rattle.link_calls.proofs.run_model.Dues.{fed_called, fed_own}
+use Rattle.link_calls.proofs.run_model.Parts.{call_adds, journal_event, notes_more}
+use Rattle.link_calls.proofs.run_model.Places.{each_called, each_event}
+use Rattle.link_calls.proofs.run_model.Walk.{Place, IsKept, IsStopped, IsWhole, ends_with, run_kept}
 use Rattle.journal_packets.proofs.run_laws.Hearings.{other_facts, own_facts}
 use Rattle.journal_acks.proofs.Counting.{facts_event}
 

@@ -11,13 +11,13 @@ use Rattle.journal.specs.declared.entries.Entry.TheVariants.{Air}
 use Rattle.journal_packets.specs.link_model.Setup.{Setup as EndSetup}
 use Rattle.journal_packets.specs.controller_model.Step.{Step}
 use Rattle.journal_packets.specs.controller_model.Side.{notes_after}
-use Rattle.run_model.specs.History.{Event, TurnBegan, HostFed, Called, Noted, Transmitted, Hearing, is_good, turns_begun}
-use Rattle.run_model.specs.Journal.{air_entries, entries_of, entry_of, journal_from, journal_of, mark_of, side_of}
-use Rattle.run_model.specs.Links.{is_advertising, links_of}
-use Rattle.run_model.specs.Readers.{turns_of}
-use Rattle.run_model.specs.Run.{Given, after_call, facts_at, setup_at}
-use Rattle.run_model.proofs.Calls.{turns_called}
-use Rattle.run_model.proofs.Parts.{journal_event, journal_more}
+use Rattle.link_calls.specs.run_model.History.{Event, TurnBegan, HostFed, Called, Noted, Transmitted, Hearing, is_good, turns_begun}
+use Rattle.link_calls.specs.run_model.Journal.{air_entries, entries_of, entry_of, journal_from, journal_of, mark_of, side_of}
+use Rattle.link_calls.specs.run_model.Links.{is_advertising, links_of}
+use Rattle.link_calls.specs.run_model.Readers.{turns_of}
+use Rattle.link_calls.specs.run_model.Run.{Given, after_call, facts_at, setup_at}
+use Rattle.link_calls.proofs.run_model.Calls.{turns_called}
+use Rattle.link_calls.proofs.run_model.Parts.{journal_event, journal_more}
 use Rattle.journal_packets.specs.journal_links.Begun.{LinkBegun, link_numbered}
 use Rattle.journal_packets.proofs.journal_links.LinksBegun.{number_stays}
 use Rattle.journal_packets.specs.Belonging.{is_side, link_of_packet}

@@ -22,17 +22,17 @@ use Rattle.journal_packets.specs.controller_model.Packets.{notes_doing}
 use Rattle.journal_packets.proofs.controller_model.Places.{link_receiving}
 use Rattle.journal_packets.specs.controller_model.Side.{facts_after, notes_after}
 use Rattle.radio_replay.specs.declared.fates.Fate.{Fate}
-use Rattle.run_model.specs.Due.{packet_in}
-use Rattle.run_model.specs.Feeding.{AreDistinct}
-use Rattle.run_model.specs.History.{Event, TurnBegan, HostFed, Transmitted, has_received, packet_received, turns_begun}
-use Rattle.run_model.specs.Journal.{side_of}
-use Rattle.run_model.specs.LinkEnds.{HaveAddresses}
-use Rattle.run_model.specs.Links.{is_advertising}
-use Rattle.run_model.specs.Run.{Given, after_call, after_feed, after_octets, facts_at, hearings_of, octets_left, setup_at, step_of, use_at}
-use Rattle.run_model.proofs.Calls.{same_station, turns_called}
-use Rattle.run_model.proofs.LinkEnds.{received_by, received_event}
-use Rattle.run_model.proofs.Stations.{is_in, among, in_more_other, in_more_same, not_before}
-use Rattle.run_model.proofs.Walk.{Place, NoTurn, AtFeeds, AtBegins, AfterPhases, AtPackets, AtListening, AtEnds, IsKept}
+use Rattle.link_calls.specs.run_model.Due.{packet_in}
+use Rattle.link_calls.specs.run_model.Feeding.{AreDistinct}
+use Rattle.link_calls.specs.run_model.History.{Event, TurnBegan, HostFed, Transmitted, has_received, packet_received, turns_begun}
+use Rattle.link_calls.specs.run_model.Journal.{side_of}
+use Rattle.link_calls.specs.run_model.LinkEnds.{HaveAddresses}
+use Rattle.link_calls.specs.run_model.Links.{is_advertising}
+use Rattle.link_calls.specs.run_model.Run.{Given, after_call, after_feed, after_octets, facts_at, hearings_of, octets_left, setup_at, step_of, use_at}
+use Rattle.link_calls.proofs.run_model.Calls.{same_station, turns_called}
+use Rattle.link_calls.proofs.run_model.LinkEnds.{received_by, received_event}
+use Rattle.link_calls.proofs.run_model.Stations.{is_in, among, in_more_other, in_more_same, not_before}
+use Rattle.link_calls.proofs.run_model.Walk.{Place, NoTurn, AtFeeds, AtBegins, AfterPhases, AtPackets, AtListening, AtEnds, IsKept}
 use Rattle.journal_packets.proofs.run_laws.Agreed.{ack_of}
 use Rattle.journal_packets.proofs.run_laws.ByCalls.{Holds, holds_kept}
 use Rattle.journal_packets.proofs.run_laws.Hearings.{own_facts, use_sent_at, wanted_is}

@@ -25,14 +25,14 @@ use Rattle.journal_packets.specs.controller_model.Packets.{notes_doing}
 use Rattle.journal_packets.specs.controller_model.Radio.{outcome_begun}
 use Rattle.journal_packets.specs.controller_model.Side.{facts_after, notes_after}
 use Rattle.journal_packets.proofs.controller_model.Places.{link_receiving}
-use Rattle.run_model.specs.Feeding.{AreDistinct}
-use Rattle.run_model.specs.History.{Event, TurnBegan, HostFed, Transmitted, packet_received, steps_in, turns_begun}
-use Rattle.run_model.specs.Journal.{side_of}
-use Rattle.run_model.specs.LinkEnds.{HaveAddresses}
-use Rattle.run_model.specs.Run.{Given, after_call, after_feed, after_octets, facts_at, hearings_of, octets_left, setup_at, step_of}
-use Rattle.run_model.proofs.Calls.{turns_called}
-use Rattle.run_model.proofs.Stations.{is_in, among, not_before}
-use Rattle.run_model.proofs.Walk.{Place, AtBegins, AtListening, IsKept}
+use Rattle.link_calls.specs.run_model.Feeding.{AreDistinct}
+use Rattle.link_calls.specs.run_model.History.{Event, TurnBegan, HostFed, Transmitted, packet_received, steps_in, turns_begun}
+use Rattle.link_calls.specs.run_model.Journal.{side_of}
+use Rattle.link_calls.specs.run_model.LinkEnds.{HaveAddresses}
+use Rattle.link_calls.specs.run_model.Run.{Given, after_call, after_feed, after_octets, facts_at, hearings_of, octets_left, setup_at, step_of}
+use Rattle.link_calls.proofs.run_model.Calls.{turns_called}
+use Rattle.link_calls.proofs.run_model.Stations.{is_in, among, not_before}
+use Rattle.link_calls.proofs.run_model.Walk.{Place, AtBegins, AtListening, IsKept}
 use Rattle.journal_packets.proofs.run_laws.Agreed.{ack_of, ack_sent, sent_ack}
 use Rattle.journal_packets.proofs.run_laws.ByCalls.{Holds}
 use Rattle.journal_packets.proofs.run_laws.Hearings.{other_facts, own_facts}

@@ -6,17 +6,17 @@ use Rattle.ble_base.specs.declared.roles.Role.{Role}
 use Rattle.ble_base.specs.declared.roles.Role.TheVariants.{Central, Peripheral}
 use Rattle.air_frame.specs.Packet.{access_octets}
 use Rattle.journal_packets.specs.link_model.Setup.{Setup as EndSetup}
-use Rattle.run_model.specs.Due.{Each}
-use Rattle.run_model.specs.History.{Event, Noted, Transmitted}
-use Rattle.run_model.specs.Journal.{journal_of, side_of}
-use Rattle.run_model.specs.LinkEnds.{ConnectInd, HaveAddresses, IsAtEnd}
-use Rattle.run_model.specs.Links.{links_of}
-use Rattle.run_model.specs.Numbers.{HasNumber}
-use Rattle.run_model.specs.Run.{Given, setup_at}
-use Rattle.run_model.proofs.Fronts.{front_at}
-use Rattle.run_model.proofs.LinkEnds.{AreTaken, IsUnderstood}
-use Rattle.run_model.proofs.Numbers.{opening_at}
-use Rattle.run_model.proofs.Places.{each_at}
+use Rattle.link_calls.specs.run_model.Due.{Each}
+use Rattle.link_calls.specs.run_model.History.{Event, Noted, Transmitted}
+use Rattle.link_calls.specs.run_model.Journal.{journal_of, side_of}
+use Rattle.link_calls.specs.run_model.LinkEnds.{ConnectInd, HaveAddresses, IsAtEnd}
+use Rattle.link_calls.specs.run_model.Links.{links_of}
+use Rattle.link_calls.specs.run_model.Numbers.{HasNumber}
+use Rattle.link_calls.specs.run_model.Run.{Given, setup_at}
+use Rattle.link_calls.proofs.run_model.Fronts.{front_at}
+use Rattle.link_calls.proofs.run_model.LinkEnds.{AreTaken, IsUnderstood}
+use Rattle.link_calls.proofs.run_model.Numbers.{opening_at}
+use Rattle.link_calls.proofs.run_model.Places.{each_at}
 use Rattle.journal_packets.specs.run_laws.Access.{connects_sent}
 use Rattle.journal_packets.proofs.run_laws.ConnectInds.{TakenInOrder}
 use Rattle.journal_packets.proofs.run_laws.DistinctAccess.{AreApart}

@@ -33,5 +33,5 @@ pub use Rattle.link_calls.proofs as link_calls
 pub use Rattle.journal_packets.proofs.link_model as link_model
 pub use Rattle.journal_packets.proofs.open_links as open_links
 pub use Rattle.journal_packets.proofs.run_laws as run_laws
-pub use Rattle.run_model.proofs as run_model
+pub use Rattle.link_calls.proofs.run_model as run_model
 pub use Rattle.journal_packets.proofs.controller_model as controller_model

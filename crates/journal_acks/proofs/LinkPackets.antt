@@ -8,7 +8,7 @@ use Rattle.journal.specs.declared.entries.Entry.{Entry}
 use Rattle.journal.specs.declared.entries.Mark.{Mark}
 use Rattle.ble_base.specs.declared.verdicts.Verdict.{Verdict}
 use Rattle.data_pdu.specs.Header.{octets_of}
-use Rattle.journal_packets.proofs.link_model.Repeating.{past_payload}
+use Rattle.journal_packets.proofs.link_model.Plain.{past_payload}
 use Rattle.journal_packets.proofs.link_model.Hearing.{IsHeardWhole}
 use Rattle.journal_packets.specs.link_model.Acknowledgement.{Acknowledgement, Pdu, bits_of as ack_bits}
 use Rattle.journal_packets.specs.link_model.Packets.{more_sent, packet_sent, pdu_sent}
@@ -16,16 +16,16 @@ use Rattle.journal_packets.specs.link_model.Step.{PacketSent}
 use Rattle.journal_packets.specs.open_links.OpenLinks.{OpenLink, facts_in, has_entered, link_after}
 use Rattle.journal_packets.specs.controller_model.Facts.{Sends}
 use Rattle.journal_packets.specs.controller_model.Side.{facts_of}
-use Rattle.run_model.specs.Entries.{IsAired}
-use Rattle.run_model.specs.Feeding.{AreDistinct}
-use Rattle.run_model.specs.History.{Event, past_of}
-use Rattle.run_model.specs.Journal.{journal_of, side_of}
-use Rattle.run_model.specs.LinkEnds.{HaveAddresses}
-use Rattle.run_model.specs.Links.{is_advertising}
-use Rattle.run_model.specs.Run.{Given, facts_at, setup_at, use_at}
-use Rattle.run_model.proofs.LinkEnds.{AreTaken, IsUnderstood}
-use Rattle.run_model.proofs.Stations.{among}
-use Rattle.run_model.proofs.Walk.{Place, NoTurn, AtPackets}
+use Rattle.link_calls.specs.run_model.Entries.{IsAired}
+use Rattle.link_calls.specs.run_model.Feeding.{AreDistinct}
+use Rattle.link_calls.specs.run_model.History.{Event, past_of}
+use Rattle.link_calls.specs.run_model.Journal.{journal_of, side_of}
+use Rattle.link_calls.specs.run_model.LinkEnds.{HaveAddresses}
+use Rattle.link_calls.specs.run_model.Links.{is_advertising}
+use Rattle.link_calls.specs.run_model.Run.{Given, facts_at, setup_at, use_at}
+use Rattle.link_calls.proofs.run_model.LinkEnds.{AreTaken, IsUnderstood}
+use Rattle.link_calls.proofs.run_model.Stations.{among}
+use Rattle.link_calls.proofs.run_model.Walk.{Place, NoTurn, AtPackets}
 use Rattle.journal_packets.proofs.run_laws.Agreed.{ack_of, ack_sent, step_facts}
 use Rattle.journal_packets.proofs.run_laws.DistinctAccess.{AreApart}
 use Rattle.journal_packets.proofs.run_laws.OpenSteps.{none_open, open_has}

@@ -25,17 +25,17 @@ use Rattle.journal_packets.specs.controller_model.Packets.{notes_doing, notes_se
 use Rattle.journal_packets.specs.controller_model.Radio.{outcome_begun}
 use Rattle.journal_packets.specs.controller_model.Side.{notes_after}
 use Rattle.journal_packets.proofs.controller_model.Places.{link_receiving}
-use Rattle.run_model.specs.Feeding.{AreDistinct}
-use Rattle.run_model.specs.History.{Event, Called, Noted, packet_received, turns_begun}
-use Rattle.run_model.specs.Journal.{journal_of, side_of}
-use Rattle.run_model.specs.LinkEnds.{HaveAddresses}
-use Rattle.run_model.specs.NoteLines.{sent_line}
-use Rattle.run_model.specs.Run.{Given, after_call, facts_at, history_of, run_of, setup_at, step_of}
-use Rattle.run_model.proofs.LinkEnds.{AreTaken, IsUnderstood}
-use Rattle.run_model.proofs.NoteLines.{line_in_call, to_line}
-use Rattle.run_model.proofs.Places.{each_at}
-use Rattle.run_model.proofs.Stations.{among, is_in, not_before}
-use Rattle.run_model.proofs.Walk.{Place, AtBegins, AtListening}
+use Rattle.link_calls.specs.run_model.Feeding.{AreDistinct}
+use Rattle.link_calls.specs.run_model.History.{Event, Called, Noted, packet_received, turns_begun}
+use Rattle.link_calls.specs.run_model.Journal.{journal_of, side_of}
+use Rattle.link_calls.specs.run_model.LinkEnds.{HaveAddresses}
+use Rattle.link_calls.specs.run_model.NoteLines.{sent_line}
+use Rattle.link_calls.specs.run_model.Run.{Given, after_call, facts_at, history_of, run_of, setup_at, step_of}
+use Rattle.link_calls.proofs.run_model.LinkEnds.{AreTaken, IsUnderstood}
+use Rattle.link_calls.proofs.run_model.NoteLines.{line_in_call, to_line}
+use Rattle.link_calls.proofs.run_model.Places.{each_at}
+use Rattle.link_calls.proofs.run_model.Stations.{among, is_in, not_before}
+use Rattle.link_calls.proofs.run_model.Walk.{Place, AtBegins, AtListening}
 use Rattle.journal_packets.proofs.run_laws.Agreed.{ack_of}
 use Rattle.journal_packets.proofs.run_laws.ByCalls.{Holds}
 use Rattle.journal_packets.proofs.run_laws.DistinctAccess.{AreApart}

@@ -21,13 +21,13 @@ use Rattle.journal_packets.specs.link_model.Acknowledgement.{Acknowledgement, re
 use Rattle.journal_packets.specs.link_model.Data.{is_data, is_empty, numbered}
 use Rattle.journal_packets.specs.link_model.Controls.{is_procedure_pdu}
 use Rattle.journal_packets.specs.link_model.Entering.{done_notes}
-use Rattle.journal_packets.specs.link_model.Receiving.{accepts, acked_kind, acks_control, facts_before_taking, facts_received, given_if, given_notes, has_acknowledged, has_new_pdu, received_notes, refused_notes, took_notes_if}
+use Rattle.journal_packets.specs.link_model.Receiving.{accepts, acked_kind, acks_control, facts_before_taking, facts_received, given_if, given_notes, has_acknowledged, kept_given_if, received_notes, refused_notes, took_notes_if}
 use Rattle.journal_packets.specs.control_end.declared.answers.Taken.{Taken}
-use Rattle.journal_packets.proofs.link_model.Acknowledging.{ack_heard}
+use Rattle.journal_packets.proofs.link_model.Acknowledging.{ack_heard, forged_leaves}
 use Rattle.journal_packets.specs.link_model.End.{notes_after as end_notes}
 use Rattle.journal_packets.specs.link_model.Sending.{sent_notes}
 use Rattle.journal_packets.specs.link_model.Facts.{Facts as EndFacts}
-use Rattle.journal_packets.specs.link_model.Packets.{good_pdu}
+use Rattle.journal_packets.specs.link_model.Packets.{good_pdu, has_new_pdu, is_forged}
 use Rattle.journal_packets.specs.link_model.Verdicts.{pdu_of}
 use Rattle.journal_packets.specs.link_model.Step.{PacketReceived, PacketSent}
 use Rattle.journal_packets.specs.link_model.declared.setup.LinkSetup.{LinkSetup}
@@ -46,7 +46,7 @@ use Rattle.journal_packets.specs.controller_model.Links.{events_opened, note_ope
 use Rattle.journal_packets.specs.controller_model.Outcome.{Outcome, notes_passed}
 use Rattle.journal_packets.specs.controller_model.Packets.{notes_doing, notes_sent, pdu_heard}
 use Rattle.journal_packets.specs.controller_model.Side.{notes_after}
-use Rattle.run_model.specs.Run.{step_of}
+use Rattle.link_calls.specs.run_model.Run.{step_of}
 use Rattle.journal_packets.proofs.run_laws.Agreed.{ack_of, step_facts}
 use Rattle.journal_acks.proofs.Acks.{empty_is_no_data}
 use Rattle.journal_acks.proofs.Counting.{accepted_before, ack_taking, has_own_line}
@@ -72,6 +72,7 @@ received_ack : (slot : ℕ) (octets : List ℕ) (room : Bool) (link : OpenLink) 
     → ack_of (link_after (PacketReceived slot octets room) link) ≡ (facts_received link.setup.link.role slot room found (facts_in link)).acknowledgement
 received_ack slot octets room link found is =
     ap (λ (f : EndFacts). f.acknowledgement) (step_facts link (PacketReceived slot octets room))
+    ∙ forged_leaves (is_forged link.setup (facts_in link) octets) (facts_received link.setup.link.role slot room (good_pdu link.setup (facts_in link) octets) (facts_in link))
     ∙ ap (λ may. (facts_received link.setup.link.role slot room may (facts_in link)).acknowledgement) is
 
 -- all but what is accepted is the same with room and without
@@ -168,8 +169,16 @@ module _ (slot : ℕ) (octets : List ℕ) (room : Bool) (link : OpenLink) where
   abbrev given_by : List ℕ → Taken
   given_by pdu = given_if (accepts room (header_in pdu) (pdu_of pdu) (before pdu) && is_procedure_pdu (pdu_of pdu)) (pdu_of pdu) slot (before pdu)
 
+  abbrev kept_by : List ℕ → Taken
+  kept_by pdu = kept_given_if (accepts room (header_in pdu) (pdu_of pdu) (before pdu) && is_procedure_pdu (pdu_of pdu)) (pdu_of pdu) slot (before pdu)
+
   abbrev later_of : List ℕ → List Note
-  later_of pdu = given_notes own_handle (given_by pdu)
+  later_of pdu = given_notes own_handle (given_by pdu) ++ given_notes own_handle (kept_by pdu)
+
+  later_takes : (pdu : List ℕ) → All TakesNone (later_of pdu)
+  later_takes pdu =
+      All-append TakesNone (given_notes own_handle (given_by pdu)) (given_notes own_handle (kept_by pdu))
+      (given_takes own_handle (given_by pdu)) (given_takes own_handle (kept_by pdu))
 
   notes_are : (found : Option (List ℕ)) → good_pdu link.setup (facts_in link) octets ≡ found
       → notes_taken slot room (Some link) octets ≡ received_notes link.setup slot room found (facts_in link)
@@ -214,7 +223,7 @@ module _ (slot : ℕ) (octets : List ℕ) (room : Bool) (link : OpenLink) where
           let own = (facts_in link).acknowledgement in
           Noted (earlier_of pdu) (later_of pdu) (numbered (before pdu).acknowledgement.accepted + 1) (pdu_of pdu).llid (pdu_of pdu).body
           (notes_are (Some pdu) is ∙ ap (λ b. earlier_of pdu ++ (took_notes_if b own_handle (pdu_of pdu) (before pdu) ++ later_of pdu)) noted)
-          (done_takes own_handle (kind_by pdu)) (done_opens own_handle (kind_by pdu)) (given_takes own_handle (given_by pdu))
+          (done_takes own_handle (kind_by pdu)) (done_opens own_handle (kind_by pdu)) (later_takes pdu)
           (ap (λ (a : Acknowledgement). length a.accepted) (ack_is room pdu is)
           ∙ ap (λ b. length (received_by acked b (pdu_of pdu) own).accepted)
           (first_true (accepts room (header_in pdu) (pdu_of pdu) (before pdu)) (not (is_empty (pdu_of pdu))) noted)
@@ -222,7 +231,7 @@ module _ (slot : ℕ) (octets : List ℕ) (room : Bool) (link : OpenLink) where
       noted_by pdu is false noted =
           Unnoted
           (subst (All TakesNone) (sym (notes_are (Some pdu) is ∙ ap (λ b. earlier_of pdu ++ (took_notes_if b own_handle (pdu_of pdu) (before pdu) ++ later_of pdu)) noted))
-          (All-append TakesNone (earlier_of pdu) (later_of pdu) (done_takes own_handle (kind_by pdu)) (given_takes own_handle (given_by pdu))))
+          (All-append TakesNone (earlier_of pdu) (later_of pdu) (done_takes own_handle (kind_by pdu)) (later_takes pdu)))
           (unnoted pdu is (is_empty (pdu_of pdu)) refl noted)
 
       by : (found : Option (List ℕ)) → good_pdu link.setup (facts_in link) octets ≡ found → IsTakenSo slot octets room link

@@ -12,18 +12,18 @@ use Rattle.journal_packets.specs.controller_model.Host.{commands_accepted_after}
 use Rattle.journal_packets.specs.controller_model.Side.{result_of}
 use Rattle.journal_packets.specs.controller_model.Step.{Step, HostOctet, TurnBegins, PacketHeard, NothingHeard, TurnEnds}
 use Rattle.journal_packets.proofs.controller_model.Resets.{resets}
-use Rattle.run_model.specs.Due.{Each}
-use Rattle.run_model.specs.History.{Event, TurnBegan, HostFed, Called, Noted, Transmitted, fed_to, octets_in, past_of}
-use Rattle.run_model.specs.Journal.{entries_of, journal_from, journal_of, side_of}
-use Rattle.run_model.specs.Links.{Links, first_links, links_after, links_of}
-use Rattle.run_model.specs.NoteLines.{IsLineInCall, shut_line}
-use Rattle.run_model.specs.Readers.{IsOfStations, fed_in, fed_to_side, of_side}
-use Rattle.run_model.specs.Run.{Given, facts_at, history_of, run_of, setup_at}
-use Rattle.run_model.proofs.Journals.{each_front, two, note_fed}
-use Rattle.run_model.proofs.OfStations.{OfStations, run_of_stations}
-use Rattle.run_model.proofs.Parts.{journal_more, notes_noted, notes_more}
-use Rattle.run_model.proofs.Places.{each_at}
-use Rattle.run_model.proofs.Stations.{is_in}
+use Rattle.link_calls.specs.run_model.Due.{Each}
+use Rattle.link_calls.specs.run_model.History.{Event, TurnBegan, HostFed, Called, Noted, Transmitted, fed_to, octets_in, past_of}
+use Rattle.link_calls.specs.run_model.Journal.{entries_of, journal_from, journal_of, side_of}
+use Rattle.link_calls.specs.run_model.Links.{Links, first_links, links_after, links_of}
+use Rattle.link_calls.specs.run_model.NoteLines.{IsLineInCall, shut_line}
+use Rattle.link_calls.specs.run_model.Readers.{IsOfStations, fed_in, fed_to_side, of_side}
+use Rattle.link_calls.specs.run_model.Run.{Given, facts_at, history_of, run_of, setup_at}
+use Rattle.link_calls.proofs.run_model.Journals.{each_front, two, note_fed}
+use Rattle.link_calls.proofs.run_model.OfStations.{OfStations, run_of_stations}
+use Rattle.link_calls.proofs.run_model.Parts.{journal_more, notes_noted, notes_more}
+use Rattle.link_calls.proofs.run_model.Places.{each_at}
+use Rattle.link_calls.proofs.run_model.Stations.{is_in}
 use Rattle.journal_acks.specs.Shut.{CompletesReset}
 use Rattle.journal_acks.proofs.FeedCalls.{IsFedNow, OfFeed, run_feeds}
 use Rattle.journal_acks.proofs.TwoStations.{IsOfTwo}

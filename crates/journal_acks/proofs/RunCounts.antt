@@ -3,14 +3,14 @@ use Rattle.std.proofs.Common.{◌≡◌, ℕ, true, Some, None, Bool, List, [], 
 use Rattle.journal_packets.proofs.link_model.Hearing.{IsHeardWhole}
 use Rattle.journal_packets.specs.open_links.OpenLinks.{OpenLink, link_at}
 use Rattle.journal_packets.specs.controller_model.Side.{facts_of}
-use Rattle.run_model.specs.Feeding.{AreDistinct}
-use Rattle.run_model.specs.History.{Event, TurnBegan, packet_received}
-use Rattle.run_model.specs.Journal.{side_of}
-use Rattle.run_model.specs.LinkEnds.{HaveAddresses}
-use Rattle.run_model.specs.Run.{Given, GoesOn, facts_at, history_of, run_of, setup_at}
-use Rattle.run_model.proofs.LinkEnds.{AreTaken, IsUnderstood}
-use Rattle.run_model.proofs.Stations.{is_in}
-use Rattle.run_model.proofs.Walk.{Place, NoTurn, IsKept}
+use Rattle.link_calls.specs.run_model.Feeding.{AreDistinct}
+use Rattle.link_calls.specs.run_model.History.{Event, TurnBegan, packet_received}
+use Rattle.link_calls.specs.run_model.Journal.{side_of}
+use Rattle.link_calls.specs.run_model.LinkEnds.{HaveAddresses}
+use Rattle.link_calls.specs.run_model.Run.{Given, GoesOn, facts_at, history_of, run_of, setup_at}
+use Rattle.link_calls.proofs.run_model.LinkEnds.{AreTaken, IsUnderstood}
+use Rattle.link_calls.proofs.run_model.Stations.{is_in}
+use Rattle.link_calls.proofs.run_model.Walk.{Place, NoTurn, IsKept}
 use Rattle.journal_packets.proofs.run_laws.Agreed.{ack_of}
 use Rattle.journal_packets.proofs.run_laws.ByCalls.{all_facts, first_hears}
 use Rattle.journal_packets.proofs.run_laws.DistinctAccess.{AreApart}

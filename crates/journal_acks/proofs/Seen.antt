@@ -4,11 +4,11 @@ use Rattle.std.proofs.Common.{◌≡◌, ℕ, Bool, List, [], ◌∷◌, ◌++�
 use Rattle.std.specs.Prelude.{map, take}
 use Rattle.journal_packets.specs.controller_model.Step.{TurnBegins, TurnEnds}
 use Rattle.journal_packets.specs.controller_model.Facts.{Sends}
-use Rattle.run_model.specs.Due.{Each}
-use Rattle.run_model.specs.History.{Event, TurnBegan, HostFed, Called, Noted, Transmitted, Hearing, packet_received}
-use Rattle.run_model.specs.Run.{Given, GoesOn, Stop, Stops, hearings_of, history_of, octets_left, run_of, step_of, use_at}
-use Rattle.run_model.proofs.Places.{each_at, each_event}
-use Rattle.run_model.proofs.Walk.{Place, NoTurn, AtPackets, IsKept, IsWhole, IsStopped, ends_stopped, ends_whole, ends_with, run_kept}
+use Rattle.link_calls.specs.run_model.Due.{Each}
+use Rattle.link_calls.specs.run_model.History.{Event, TurnBegan, HostFed, Called, Noted, Transmitted, Hearing, packet_received}
+use Rattle.link_calls.specs.run_model.Run.{Given, GoesOn, Stop, Stops, hearings_of, history_of, octets_left, run_of, step_of, use_at}
+use Rattle.link_calls.proofs.run_model.Places.{each_at, each_event}
+use Rattle.link_calls.proofs.run_model.Walk.{Place, NoTurn, AtPackets, IsKept, IsWhole, IsStopped, ends_stopped, ends_whole, ends_with, run_kept}
 use Rattle.journal_packets.proofs.EachEvent.{each_call, each_feed}
 
 -- what holds before a turn, and before a packet

@@ -7,11 +7,11 @@ use Rattle.ble_base.specs.declared.notes.Note.TheVariants.{Up, Sent}
 use Rattle.journal.specs.declared.entries.Entry.{Entry}
 use Rattle.journal_packets.specs.controller_model.Step.{Step}
 use Rattle.journal_packets.specs.controller_model.Side.{notes_after}
-use Rattle.run_model.specs.History.{Event, TurnBegan, HostFed, Called, Noted, Transmitted, Hearing}
-use Rattle.run_model.specs.Journal.{air_entries, entry_of, journal_of, side_of}
-use Rattle.run_model.specs.Links.{links_of}
-use Rattle.run_model.specs.Run.{Given, after_call, facts_at, setup_at}
-use Rattle.run_model.proofs.Parts.{journal_event}
+use Rattle.link_calls.specs.run_model.History.{Event, TurnBegan, HostFed, Called, Noted, Transmitted, Hearing}
+use Rattle.link_calls.specs.run_model.Journal.{air_entries, entry_of, journal_of, side_of}
+use Rattle.link_calls.specs.run_model.Links.{links_of}
+use Rattle.link_calls.specs.run_model.Run.{Given, after_call, facts_at, setup_at}
+use Rattle.link_calls.proofs.run_model.Parts.{journal_event}
 use Rattle.journal_packets.specs.Belonging.{is_side}
 use Rattle.journal_acks.specs.Carried.{SentLine, sent_line_after, sent_line_from, sent_line_of}
 use Rattle.journal_acks.specs.Exchange.{exchange_of}

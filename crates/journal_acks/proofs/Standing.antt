@@ -13,12 +13,12 @@ use Rattle.journal_packets.specs.controller_model.Heard.{reply_if}
 use Rattle.journal_packets.specs.controller_model.Packets.{listens_on}
 use Rattle.journal_packets.specs.controller_model.Sent.{SendsOn}
 use Rattle.journal_packets.proofs.controller_model.DataChannels.{link_channel}
-use Rattle.run_model.specs.Due.{packet_in}
-use Rattle.run_model.specs.History.{Event, past_of, turns_begun}
-use Rattle.run_model.specs.Links.{is_advertising}
-use Rattle.run_model.specs.Run.{Given, facts_at, setup_at}
-use Rattle.run_model.proofs.Stations.{is_in}
-use Rattle.run_model.proofs.Walk.{Place}
+use Rattle.link_calls.specs.run_model.Due.{packet_in}
+use Rattle.link_calls.specs.run_model.History.{Event, past_of, turns_begun}
+use Rattle.link_calls.specs.run_model.Links.{is_advertising}
+use Rattle.link_calls.specs.run_model.Run.{Given, facts_at, setup_at}
+use Rattle.link_calls.proofs.run_model.Stations.{is_in}
+use Rattle.link_calls.proofs.run_model.Walk.{Place}
 use Rattle.journal_packets.proofs.run_laws.Agreed.{ack_of}
 use Rattle.journal_packets.proofs.run_laws.ConnectInds.{no_advertising}
 use Rattle.journal_packets.proofs.run_laws.InAgreement.{IsFresh, IsStation, OpenedBefore}

@@ -14,12 +14,13 @@ use Rattle.data_pdu.specs.Header.{counts_as_empty, octets_of}
 use Rattle.journal_packets.specs.link_model.Data.{is_empty}
 use Rattle.journal.specs.declared.entries.Entry.TheVariants.{Air}
 use Rattle.journal_packets.specs.link_model.Facts.{Facts as EndFacts}
-use Rattle.journal_packets.specs.link_model.Packets.{header_sent, packet_sent, payload_sent, pdu_sent, verdict_of as verdict_of_end}
+use Rattle.journal_packets.specs.link_model.Packets.{header_sent, is_forged_pdu, packet_sent, payload_sent, pdu_sent, verdict_of as verdict_of_end}
+use Rattle.journal_packets.specs.link_model.Payload.{opens_now}
 use Rattle.journal_packets.specs.link_model.Verdicts.{verdict_by as verdict_by_end}
 use Rattle.journal_packets.specs.link_model.Setup.{Setup as EndSetup}
 use Rattle.link_calls.specs.Ranges.{IsReadable}
 use Rattle.journal_packets.proofs.link_model.Hearing.{IsHeardWhole}
-use Rattle.journal_packets.proofs.link_model.Received.{header_read}
+use Rattle.journal_packets.proofs.link_model.Received.{has_header}
 use Rattle.journal_packets.specs.open_links.OpenLinks.{OpenLink, facts_in, link_at}
 use Rattle.journal_packets.specs.controller_model.declared.doing.Doing.{Doing}
 use Rattle.journal_packets.specs.controller_model.declared.doing.Doing.TheVariants.{Advertises, AwaitsRequest, Scans, AwaitsResponse, Initiates, CentralListens}
@@ -30,13 +31,13 @@ use Rattle.journal_packets.proofs.controller_model.Always.{IsAdvertisingChannel}
 use Rattle.journal_packets.proofs.controller_model.Sent.{DoingFits}
 use Rattle.radio_replay.specs.declared.fates.Fate.{Fate}
 use Rattle.radio_replay.specs.Damage.{damaged_packet}
-use Rattle.run_model.specs.History.{Event, Transmitted, Hearing, fates_used, has_received, is_good}
-use Rattle.run_model.specs.Journal.{air_entries, journal_of, mark_of, side_of}
-use Rattle.run_model.specs.Links.{is_advertising}
-use Rattle.run_model.specs.Run.{Given, fate_at, hearing_at, hearings_from, hearings_of, is_lost, others_than, reaches, unseen_in, verdict_where}
-use Rattle.run_model.proofs.Journals.{two}
-use Rattle.run_model.proofs.Parts.{journal_event}
-use Rattle.run_model.proofs.Stations.{is_in}
+use Rattle.link_calls.specs.run_model.History.{Event, Transmitted, Hearing, fates_used, has_received, is_good}
+use Rattle.link_calls.specs.run_model.Journal.{air_entries, journal_of, mark_of, side_of}
+use Rattle.link_calls.specs.run_model.Links.{is_advertising}
+use Rattle.link_calls.specs.run_model.Run.{Given, fate_at, hearing_at, hearings_from, hearings_of, is_lost, others_than, reaches, unseen_in, verdict_where}
+use Rattle.link_calls.proofs.run_model.Journals.{two}
+use Rattle.link_calls.proofs.run_model.Parts.{journal_event}
+use Rattle.link_calls.proofs.run_model.Stations.{is_in}
 use Rattle.journal_packets.proofs.run_laws.TurnSteps.{IsListening as IsListeningFor}
 use Rattle.journal_packets.specs.journal_links.Begun.{LinkBegun, link_numbered}
 use Rattle.journal_packets.specs.Belonging.{is_side, link_of_packet}
@@ -203,7 +204,7 @@ unfolding verdict_of_end heard_in
 good_begins setup facts octets good = by (bytes_eq (take 4 octets) (access_octets setup.link.fields.access)) refl good
   where
     by : (same : Bool) → bytes_eq (take 4 octets) (access_octets setup.link.fields.access) ≡ same
-        → is_good (verdict_by_end setup.link.max_rx (if same
+        → is_good (verdict_by_end setup.link.max_rx (opens_now facts.encryption.end) (is_forged_pdu facts) (if same
         then (if is_packet facts.event.channel setup.link.fields.access setup.link.fields.crc_init octets then Whole (record { items = pdu_in facts.event.channel octets }) else Broken)
         else NotOurs)) ≡ true
         → take 4 octets ≡ access_octets setup.link.fields.access
@@ -259,5 +260,5 @@ sent_empty whole setup facts link channel octets form fields on packet =
     let pdu = octets_of (header_sent facts) ++ payload_sent facts in
     (λ i. is_empty_in (heard_in (on i) ((fields i).access) ((fields i).crc_init) (packet i)))
     ∙ ap is_empty_in (whole facts.event.channel setup.link.fields.access setup.link.fields.crc_init pdu (readable_in_form facts form))
-    ∙ ap counts_as_empty (header_read facts form.llid)
+    ∙ ap counts_as_empty (has_header facts facts form.llid (payload_sent facts)).read
     ∙ ap (λ (payload : List ℕ). (pdu_sent facts).llid == 0 || length payload == 0) form.opened

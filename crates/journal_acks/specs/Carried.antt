@@ -6,7 +6,6 @@ use Rattle.air_frame.specs.Packet.{on_air}
 use Rattle.data_pdu.specs.Header.{octets_of}
 use Rattle.journal_packets.specs.link_model.Acknowledgement.{Pdu, empty_pdu}
 use Rattle.journal_packets.specs.link_model.Data.{is_empty}
-use Rattle.journal_packets.specs.link_model.Payload.{payload_of}
 use Rattle.journal.specs.declared.entries.Entry.{Entry}
 use Rattle.journal.specs.declared.entries.Entry.TheVariants.{Enter, Sent}
 use Rattle.journal_packets.specs.journal_links.Begun.{LinkBegun, link_numbered}
@@ -65,7 +64,7 @@ bits_of end = record { sn = is_odd end.acked; nesn = is_odd end.accepted }
 
 -- the octets of a PDU with these bits and this MD
 abbrev pub pdu_octets : AckBits → Bool → Pdu → List ℕ
-pdu_octets bits md pdu = octets_of (header_of bits pdu.llid md (length (payload_of pdu))) ++ payload_of pdu
+pdu_octets bits md pdu = octets_of (header_of bits pdu.llid md (length pdu.body)) ++ pdu.body
 
 -- a packet that a side sends after these entries is of this link, on the channel of the event that it is in. It has the
 -- access address and CRCInit of the CONNECT_IND, and carries the PDU and the bits that the lines before it give

@@ -9,8 +9,8 @@ use Rattle.air_frame.specs.Hearing.{heard_in}
 use Rattle.data_pdu.specs.Header.{counts_as_empty, header_in}
 use Rattle.journal.specs.declared.entries.Entry.{Entry}
 use Rattle.journal.specs.declared.entries.Entry.TheVariants.{Air, Took}
-use Rattle.run_model.specs.History.{is_good}
-use Rattle.run_model.specs.Links.{is_advertising}
+use Rattle.link_calls.specs.run_model.History.{is_good}
+use Rattle.link_calls.specs.run_model.Links.{is_advertising}
 use Rattle.journal_packets.specs.journal_links.Begun.{LinkBegun, link_numbered}
 use Rattle.journal_packets.specs.Belonging.{is_side, link_of_packet}
 

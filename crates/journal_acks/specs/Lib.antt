@@ -14,5 +14,5 @@ pub use Rattle.journal_packets.specs.link_model as link_model
 pub use Rattle.journal_packets.specs.open_links as open_links
 pub use Rattle.journal_packets.specs.procedure_stages as procedure_stages
 pub use Rattle.journal_packets.specs.run_laws as run_laws
-pub use Rattle.run_model.specs as run_model
+pub use Rattle.link_calls.specs.run_model as run_model
 pub use Rattle.journal_packets.specs.controller_model as controller_model

@@ -7,7 +7,7 @@ use Rattle.journal.specs.declared.entries.Entry.{Entry}
 use Rattle.journal.specs.declared.entries.Entry.TheVariants.{Air, Enter, Fed, Sent, Took}
 use Rattle.journal.specs.declared.entries.Mark.TheVariants.{Pass as Passed}
 use Rattle.journal_packets.specs.link_model.Acknowledgement.{Pdu}
-use Rattle.run_model.specs.Rows.{first_reply, one_connection_journal, turn_entry}
+use Rattle.link_calls.specs.run_model.Rows.{first_reply, one_connection_journal, turn_entry}
 
 -- a packet of a host on its first link, with one octet, which starts a message
 abbrev pub host_packet : ℕ → List ℕ

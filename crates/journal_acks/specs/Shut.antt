@@ -8,10 +8,10 @@ use Rattle.ble_base.specs.declared.roles.Side.{Side}
 use Rattle.journal.specs.declared.entries.Entry.{Entry}
 use Rattle.journal.specs.declared.entries.Entry.TheVariants.{Air, Fed}
 use Rattle.journal_packets.specs.controller_model.Side.{result_of}
-use Rattle.run_model.specs.History.{is_good}
-use Rattle.run_model.specs.Links.{is_advertising}
-use Rattle.run_model.specs.Order.{AreNotes}
-use Rattle.run_model.specs.Readers.{fed_to_side, turns_of}
+use Rattle.link_calls.specs.run_model.History.{is_good}
+use Rattle.link_calls.specs.run_model.Links.{is_advertising}
+use Rattle.link_calls.specs.run_model.Order.{AreNotes}
+use Rattle.link_calls.specs.run_model.Readers.{fed_to_side, turns_of}
 use Rattle.journal_packets.specs.Belonging.{is_side, link_of_packet}
 use Rattle.journal_acks.specs.Exchange.{is_number}
 

@@ -6,9 +6,9 @@ ghost use Rattle.journal.specs.declared.entries.Entry.{Entry};
 ghost use Rattle.journal.specs.declared.entries.Entry.TheVariants.{Enter};
 ghost use Rattle.journal_acks.specs.EventOrder.{entered_on};
 ghost use Rattle.radio_replay.specs.Script.{Script};
-ghost use Rattle.run_model.specs.Journal.{journal_of};
-ghost use Rattle.run_model.specs.Pair.{given_of};
-ghost use Rattle.run_model.specs.Run.{history_of, run_of};
+ghost use Rattle.link_calls.specs.run_model.Journal.{journal_of};
+ghost use Rattle.link_calls.specs.run_model.Pair.{given_of};
+ghost use Rattle.link_calls.specs.run_model.Run.{history_of, run_of};
 
 use crate::stations::links_of_two_stations_keep_to_the_journal;
 

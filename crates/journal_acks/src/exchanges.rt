@@ -4,11 +4,11 @@ ghost use Rattle.std.specs.Prelude.{◌≡◌, ◌++◌, ◌∷◌, ℕ, Bool, L
 ghost use Rattle.std.specs.List.{Contains};
 ghost use Rattle.journal_packets.specs.open_links.OpenLinks.{OpenLink, facts_in, link_at};
 ghost use Rattle.radio_replay.specs.Script.{Script};
-ghost use Rattle.run_model.specs.History.{Event, TurnBegan};
-ghost use Rattle.run_model.specs.Journal.{journal_of, side_of};
-ghost use Rattle.run_model.specs.Links.{links_of};
-ghost use Rattle.run_model.specs.Pair.{given_of};
-ghost use Rattle.run_model.specs.Run.{GoesOn, facts_at, history_of, run_of};
+ghost use Rattle.link_calls.specs.run_model.History.{Event, TurnBegan};
+ghost use Rattle.link_calls.specs.run_model.Journal.{journal_of, side_of};
+ghost use Rattle.link_calls.specs.run_model.Links.{links_of};
+ghost use Rattle.link_calls.specs.run_model.Pair.{given_of};
+ghost use Rattle.link_calls.specs.run_model.Run.{GoesOn, facts_at, history_of, run_of};
 ghost use Rattle.journal_acks.specs.Counted.{IsCounted};
 ghost use Rattle.journal_acks.specs.Exchange.{exchange_of};
 

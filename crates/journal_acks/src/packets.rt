@@ -7,10 +7,10 @@ ghost use Rattle.journal.specs.declared.entries.Entry.{Entry};
 ghost use Rattle.journal.specs.declared.entries.Entry.TheVariants.{Air, Sent};
 ghost use Rattle.journal.specs.declared.entries.Mark.{Mark};
 ghost use Rattle.radio_replay.specs.Script.{Script};
-ghost use Rattle.run_model.specs.Journal.{journal_of};
-ghost use Rattle.run_model.specs.Links.{is_advertising};
-ghost use Rattle.run_model.specs.Pair.{given_of};
-ghost use Rattle.run_model.specs.Run.{history_of, run_of};
+ghost use Rattle.link_calls.specs.run_model.Journal.{journal_of};
+ghost use Rattle.link_calls.specs.run_model.Links.{is_advertising};
+ghost use Rattle.link_calls.specs.run_model.Pair.{given_of};
+ghost use Rattle.link_calls.specs.run_model.Run.{history_of, run_of};
 ghost use Rattle.journal_acks.specs.Carried.{IsLinkPacket, IsNewPdu};
 
 use crate::stations::links_of_two_stations_keep_to_the_journal;

@@ -11,8 +11,8 @@ ghost use Rattle.journal_acks.specs.EventOrder.{entered_on};
 ghost use Rattle.journal_acks.specs.Exchange.{exchange_of};
 ghost use Rattle.journal_acks.specs.Rows.{data_heard, data_packet, data_pdu, data_sent};
 ghost use Rattle.journal_acks.specs.Rows.{data_taken};
-ghost use Rattle.run_model.specs.Rows.{first_packet, one_connection_journal, one_event_journal};
-ghost use Rattle.run_model.specs.Rows.{turn_entry};
+ghost use Rattle.link_calls.specs.run_model.Rows.{first_packet, one_connection_journal, one_event_journal};
+ghost use Rattle.link_calls.specs.run_model.Rows.{turn_entry};
 
 /// After the first exchange of a link, each end has accepted the PDU of the other, and the central
 /// knows that its own is acknowledged. Where the first packet is lost nothing is accepted. Each end

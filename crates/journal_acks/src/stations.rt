@@ -8,11 +8,11 @@ ghost use Rattle.journal.specs.declared.entries.Entry.{Entry};
 ghost use Rattle.journal.specs.declared.entries.Entry.TheVariants.{Air, Enter, Sent};
 ghost use Rattle.journal.specs.declared.entries.Mark.{Mark};
 ghost use Rattle.journal_packets.specs.open_links.OpenLinks.{OpenLink, facts_in, link_at};
-ghost use Rattle.run_model.specs.History.{Event, TurnBegan};
-ghost use Rattle.run_model.specs.Journal.{journal_of, side_of};
-ghost use Rattle.run_model.specs.LinkEnds.{HaveAddresses};
-ghost use Rattle.run_model.specs.Links.{is_advertising, links_of};
-ghost use Rattle.run_model.specs.Run.{Given, GoesOn, facts_at, history_of, run_of};
+ghost use Rattle.link_calls.specs.run_model.History.{Event, TurnBegan};
+ghost use Rattle.link_calls.specs.run_model.Journal.{journal_of, side_of};
+ghost use Rattle.link_calls.specs.run_model.LinkEnds.{HaveAddresses};
+ghost use Rattle.link_calls.specs.run_model.Links.{is_advertising, links_of};
+ghost use Rattle.link_calls.specs.run_model.Run.{Given, GoesOn, facts_at, history_of, run_of};
 ghost use Rattle.journal_acks.specs.Carried.{IsLinkPacket, IsNewPdu};
 ghost use Rattle.journal_acks.specs.Counted.{IsCounted};
 ghost use Rattle.journal_acks.specs.EventOrder.{entered_on};
@@ -63,5 +63,5 @@ pub fn links_of_two_stations_keep_to_the_journal()
     advertise::laws::connections_are_taken();
     scan_init::laws::searches_give_each_valid_address();
     air_frame::laws::packet_tells_its_pdu();
-    run_model::each_packet_on_the_air_is_due();
+    link_calls::each_packet_on_the_air_is_due();
 }

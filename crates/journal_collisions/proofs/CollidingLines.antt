@@ -52,6 +52,7 @@ use Rattle.journal_endings.proofs.journal_indications.journal_data.journal_links
 use Rattle.journal_endings.proofs.journal_indications.journal_data.journal_links.OfTwo.{are_distinct, of_two_stations}
 use Rattle.journal_endings.proofs.journal_indications.journal_data.journal_packets.AccessOrder.{AreNth}
 use Rattle.journal_endings.proofs.journal_indications.journal_data.link_model.Hearing.{IsHeardWhole}
+use Rattle.journal_endings.proofs.journal_indications.journal_data.link_model.Plain.{past_plain as end_plain}
 use Rattle.journal_endings.proofs.journal_indications.journal_data.link_model.Pasts.{notes_grow}
 use Rattle.journal_endings.proofs.journal_indications.journal_data.open_links.Handles.{handle_is}
 use Rattle.journal_endings.proofs.journal_indications.journal_data.run_laws.DistinctAccess.{AreApart}
@@ -269,7 +270,8 @@ module _ (whole_heard : IsHeardWhole) (understood : IsUnderstood) (taken : AreTa
   -- its own procedure, as it looks at the PDU
   runs_now : runs_at p (seen setup facts.turn.slot heard.octets (facts_in heard.link)) ≡ true
   runs_now =
-      sym (runs_seen call.earlier heard.rest call.handle count llid body setup role facts.turn.slot room (facts_in heard.link) heard.octets p heard.notes_are)
+      sym (runs_seen call.earlier heard.rest call.handle count llid body setup role facts.turn.slot room (facts_in heard.link)
+      (end_plain setup heard.link.past) heard.octets p heard.notes_are)
       ∙ ap (λ b. fold (note_runs p) b call.earlier) (sym (past_goes setup heard.link.past p))
       ∙ sym (fold-append (note_runs p) false (notes_opened_on setup heard.link.past) call.earlier)
       ∙ sym (lines_run link.central number p false (notes_opened_on setup heard.link.past ++ call.earlier))

@@ -42,7 +42,8 @@ use Rattle.journal_endings.proofs.link_calls.CallNotes.{is_sending}
 use Rattle.journal_endings.specs.journal_indications.journal_data.link_model.Acknowledgement.{empty_pdu, is_acked}
 use Rattle.journal_endings.specs.journal_indications.journal_data.link_model.ControlSteps.{control_steps_in, step_if, steps_received}
 use Rattle.journal_endings.specs.journal_indications.journal_data.link_model.Controls.{goes_on, is_procedure_pdu, is_quiet_now, next_control, pdu_fixed, pdu_of_control, read_of}
-use Rattle.journal_endings.specs.journal_indications.journal_data.link_model.Receiving.{accepts, acks_control, facts_before_taking, has_acknowledged}
+use Rattle.journal_endings.specs.journal_indications.journal_data.link_model.Plain.{IsPlain, plain_before_taking}
+use Rattle.journal_endings.specs.journal_indications.journal_data.link_model.Receiving.{accepts, acks_control, has_acknowledged}
 use Rattle.journal_endings.specs.journal_indications.journal_data.link_model.Verdicts.{pdu_of}
 use Rattle.data_pdu.specs.Header.{header_in}
 use Rattle.journal_endings.specs.journal_indications.journal_data.link_model.Fixing.{data_cut, data_fixed_by, data_goes, facts_fixed, fixed_anew}
@@ -59,8 +60,9 @@ use Rattle.journal_endings.specs.journal_indications.journal_data.link_model.Hos
 use Rattle.journal_endings.specs.journal_indications.journal_data.link_model.Packets.{good_pdu}
 use Rattle.journal_endings.specs.journal_indications.journal_data.link_model.Sending.{sent_notes, sent_notes_if, takes_leave}
 use Rattle.journal_endings.specs.journal_indications.journal_data.link_model.Setup.{Setup}
-use Rattle.journal_endings.specs.journal_indications.journal_data.link_model.Step.{DataGiven, DataReported, Disconnected, EventEntered, PacketReceived, PacketSent, PduFixed, ProcedureAsked, RequestAnswered, Step}
+use Rattle.journal_endings.specs.journal_indications.journal_data.link_model.Step.{DataGiven, DataReported, Disconnected, EventEntered, KeyAnswered, PacketReceived, PacketSent, PduFixed, ProcedureAsked, RequestAnswered, Step, WordsGiven}
 use Rattle.journal_endings.proofs.journal_indications.journal_data.link_model.ControlSteps.{one_step}
+use Rattle.journal_endings.proofs.journal_indications.journal_data.link_model.Plain.{quiet_plain, step_plain}
 use Rattle.run_collisions.specs.Prevailing.{next_outgoing}
 use Rattle.run_collisions.specs.Waiting.{facts_from, sends_control}
 use Rattle.journal_collisions.proofs.Waits.{ends_go}
@@ -194,89 +196,100 @@ module _ (d : Option ErrCode) (setup : Setup) (is_central : setup.link.role ≡ 
   received_unsent slot room (Some octets) facts =
       let header = header_in octets in
       let pdu = pdu_of octets in
-      let now = facts_before_taking Central slot header facts in
+      let now = plain_before_taking Central slot header facts in
       let acks = acks_control (has_acknowledged facts header) facts in
       let takes = accepts room header pdu now && is_procedure_pdu pdu in
-      both_unsent d (step_if acks SeesAcknowledged ++ []) (step_if takes (Takes (read_of pdu) slot (is_quiet_now now)))
+      both_unsent d (step_if acks SeesAcknowledged ++ []) (step_if takes (Takes (read_of pdu) slot true))
       (both_unsent d (step_if acks SeesAcknowledged) [] (one_if_taken d acks SeesAcknowledged tt) tt)
-      (one_if_taken d takes (Takes (read_of pdu) slot (is_quiet_now now)) tt)
+      (one_if_taken d takes (Takes (read_of pdu) slot true) tt)
 
   step_unsent : (step : Step) (facts : Facts) → sends_control facts step ≡ false → AllByRecursion (IsUnsent d) (control_steps_in setup facts step)
   step_unsent (DataGiven start body) facts none = tt
   step_unsent (ProcedureAsked ask) facts none = one_if_taken d (not (asks_to_come ask facts)) (Asks ask) tt
   step_unsent (RequestAnswered answer) facts none = (tt, tt)
+  step_unsent (KeyAnswered key slot) facts none = tt
   step_unsent (Disconnected reason slot) facts none = (tt, tt)
   step_unsent (EventEntered slot) facts none = one_if_taken d (goes_on facts) (Enters slot true) tt
   step_unsent PduFixed facts none = tt
   step_unsent (PacketSent slot) facts none =
       subst (λ (b : Bool). AllByRecursion (IsUnsent d) (step_if b (Sends slot true))) (sym none) tt
+  step_unsent (WordsGiven skd_s iv_s) facts none = tt
   step_unsent (PacketReceived slot octets room) facts none =
       subst (λ (role : Role). AllByRecursion (IsUnsent d) (steps_received role slot room (good_pdu setup facts octets) facts)) (sym is_central)
       (received_unsent slot room (good_pdu setup facts octets) facts)
   step_unsent DataReported facts none = tt
 
-  pub end_step : (step : Step) (facts : Facts) → sends_control facts step ≡ false → EndsWith d facts.control.table
+  pub end_step : (step : Step) (facts : Facts) → IsPlain setup.link.role facts → sends_control facts step ≡ false → EndsWith d facts.control.table
       → EndsWith d (facts_after setup facts step).control.table
-  end_step step facts none ends =
-      subst (λ (c : Control). EndsWith d c.table) (sym (one_step setup facts step))
+  end_step step facts plain none ends =
+      subst (λ (c : Control). EndsWith d c.table) (sym (one_step setup facts step plain))
       (to_end d (control_steps_in setup facts step) facts.control (step_unsent step facts none) ends)
 
 -- ---- what it sends next
 
 -- what goes next
-next_by_end : (d : Option ErrCode) (facts : Facts) → EndsWith d facts.control.table → next_outgoing facts ≡ next_disconnect d
-next_by_end d facts ends =
-    (λ i. next_by (ends.rejections i) (next_after_rejections (ends.closing i && true) facts.control.table.progress (event_of facts.control.track)
-    facts.control.table.queue))
+abbrev outgoing_by : Bool → Control → Outgoing
+outgoing_by quiet c =
+    next_by c.table.queue.rejections (next_after_rejections (is_disconnecting c.table.closing && quiet) c.table.progress (event_of c.track) c.table.queue)
+
+next_at : (d : Option ErrCode) (c : Control) → EndsWith d c.table → outgoing_by true c ≡ next_disconnect d
+next_at d c ends =
+    (λ i. next_by (ends.rejections i) (next_after_rejections (ends.closing i && true) c.table.progress (event_of c.track) c.table.queue))
     ∙ ap next_disconnect ends.disconnect
+
+next_by_end : (d : Option ErrCode) (role : Role) (facts : Facts) → IsPlain role facts → EndsWith d facts.control.table → next_outgoing facts ≡ next_disconnect d
+next_by_end d role facts plain ends =
+    ap (λ quiet. outgoing_by quiet facts.control) (quiet_plain role facts plain) ∙ next_at d facts.control ends
 
 -- LL_TERMINATE_IND waits until it is sent
 module _ (code : ErrCode) (setup : Setup) (is_central : setup.link.role ≡ Central) where
-  control_next : (facts : Facts) → EndsWith (Some code) facts.control.table → goes_on facts ≡ true → next_control facts ≡ Some (TerminateInd code.0)
-  control_next facts ends goes =
-      (λ i. if goes i then ctrl_of_outgoing (next_by_end (Some code) facts ends i) (event_of facts.control.track) facts.control.track.params.latency else None)
+  control_next : (facts : Facts) → IsPlain setup.link.role facts → EndsWith (Some code) facts.control.table → goes_on facts ≡ true → next_control facts ≡ Some (TerminateInd code.0)
+  control_next facts plain ends goes =
+      (λ i. if goes i then ctrl_of_outgoing (next_by_end (Some code) setup.link.role facts plain ends i) (event_of facts.control.track) facts.control.track.params.latency else None)
 
   full : not (is_empty (pdu_of_control (Some (TerminateInd code.0)))) ≡ true
   unfolding little_endian
   full = refl
 
-  goes_out_so : (facts : Facts) → EndsWith (Some code) facts.control.table → goes_on facts ≡ true → takes_leave facts ≡ true
+  goes_out_so : (facts : Facts) → IsPlain setup.link.role facts → EndsWith (Some code) facts.control.table → goes_on facts ≡ true → takes_leave facts ≡ true
       → sent_notes setup facts
       ≡ Sent setup.link.handle (numbered facts.acknowledgement.sent + 1) 3 (record { items = written (TerminateInd code.0) }) ∷ []
-  goes_out_so facts ends goes leaves =
+  goes_out_so facts plain ends goes leaves =
       let both = and_parts (is_acked facts.acknowledgement) facts.fixes_control leaves in
       let fixed : pdu_fixed facts ≡ pdu_of_control (Some (TerminateInd code.0)) =
-      (λ i. if both.1 i then pdu_of_control (control_next facts ends goes i) else facts.outgoing.fixed) in
+      (λ i. if both.1 i then pdu_of_control (control_next facts plain ends goes i) else facts.outgoing.fixed) in
       (λ i. sent_notes_if (both.0 i && not (is_empty (fixed i))) setup.link.handle (numbered facts.acknowledgement.sent) (fixed i))
       ∙ ap (λ (b : Bool). sent_notes_if b setup.link.handle (numbered facts.acknowledgement.sent) (pdu_of_control (Some (TerminateInd code.0)))) full
 
-  unsent_one : (step : Step) (facts : Facts) → EndsWith (Some code) facts.control.table → facts.control.ends ≡ None
+  unsent_one : (step : Step) (facts : Facts) → IsPlain setup.link.role facts → EndsWith (Some code) facts.control.table → facts.control.ends ≡ None
       → list_any is_sending (notes_after setup facts step) ≡ false → sends_control facts step ≡ false
-  unsent_one (PacketSent slot) facts ends goes none = by (takes_leave facts) refl
+  unsent_one (PacketSent slot) facts plain ends goes none = by (takes_leave facts) refl
     where
       by : (leaves : Bool) → takes_leave facts ≡ leaves → leaves ≡ false
       by false leaves = refl
       by true leaves =
-          absurd (let h : true ≡ false = ap (list_any is_sending) (sym (goes_out_so facts ends (ap (λ (e : Option ErrCode). is_none e) goes) leaves))
+          absurd (let h : true ≡ false = ap (list_any is_sending) (sym (goes_out_so facts plain ends (ap (λ (e : Option ErrCode). is_none e) goes) leaves))
           ∙ none in absurd cc)
-  unsent_one (DataGiven start body) facts ends goes none = refl
-  unsent_one (ProcedureAsked ask) facts ends goes none = refl
-  unsent_one (RequestAnswered answer) facts ends goes none = refl
-  unsent_one (Disconnected reason slot) facts ends goes none = refl
-  unsent_one (EventEntered slot) facts ends goes none = refl
-  unsent_one PduFixed facts ends goes none = refl
-  unsent_one (PacketReceived slot octets room) facts ends goes none = refl
-  unsent_one DataReported facts ends goes none = refl
+  unsent_one (DataGiven start body) facts plain ends goes none = refl
+  unsent_one (ProcedureAsked ask) facts plain ends goes none = refl
+  unsent_one (RequestAnswered answer) facts plain ends goes none = refl
+  unsent_one (KeyAnswered key slot) facts plain ends goes none = refl
+  unsent_one (Disconnected reason slot) facts plain ends goes none = refl
+  unsent_one (EventEntered slot) facts plain ends goes none = refl
+  unsent_one PduFixed facts plain ends goes none = refl
+  unsent_one (WordsGiven skd_s iv_s) facts plain ends goes none = refl
+  unsent_one (PacketReceived slot octets room) facts plain ends goes none = refl
+  unsent_one DataReported facts plain ends goes none = refl
 
-  pub ending_still : (steps : List Step) (facts : Facts) → EndsWith (Some code) facts.control.table → (facts_from setup facts steps).control.ends ≡ None
+  pub ending_still : (steps : List Step) (facts : Facts) → IsPlain setup.link.role facts → EndsWith (Some code) facts.control.table → (facts_from setup facts steps).control.ends ≡ None
       → list_any is_sending (notes_from setup facts steps) ≡ false → EndsWith (Some code) (facts_from setup facts steps).control.table
-  ending_still [] facts ends goes none = ends
-  ending_still (step ∷ steps) facts ends goes none =
+  ending_still [] facts plain ends goes none = ends
+  ending_still (step ∷ steps) facts plain ends goes none =
       let after_step = facts_after setup facts step in
       let parts = or_parts (list_any is_sending (notes_after setup facts step)) (list_any is_sending (notes_from setup after_step steps))
       (sym (list_any-append is_sending (notes_after setup facts step) (notes_from setup after_step steps)) ∙ none) in
-      ending_still steps after_step
-      (end_step (Some code) setup is_central step facts (unsent_one step facts ends (ends_go setup facts (step ∷ steps) goes) parts.0) ends) goes parts.1
+      let unsent = unsent_one step facts plain ends (ends_go setup facts (step ∷ steps) plain goes) parts.0 in
+      ending_still steps after_step (step_plain setup facts step plain) (end_step (Some code) setup is_central step facts plain unsent ends) goes parts.1
 
   same_pdu : (handle count other counted llid : ℕ) (body items : List ℕ)
       → Sent handle count 3 (record { items = items }) ∷ [] ≡ Sent other counted llid (record { items = body }) ∷ [] → (llid ≡ 3) × (body ≡ items)
@@ -287,10 +300,10 @@ module _ (code : ErrCode) (setup : Setup) (is_central : setup.link.role ≡ Cent
       (sym llids, ap (λ (v : ArrayVec ℕ). v.items) (sym bodies))
 
   -- the next PDU that it sends is LL_TERMINATE_IND
-  pub sent_ending : (facts : Facts) → is_control facts.outgoing.fixed ≡ false → EndsWith (Some code) facts.control.table → facts.control.ends ≡ None
+  pub sent_ending : (facts : Facts) → IsPlain setup.link.role facts → is_control facts.outgoing.fixed ≡ false → EndsWith (Some code) facts.control.table → facts.control.ends ≡ None
       → (handle count llid : ℕ) (body : List ℕ) → sent_notes setup (facts_fixed facts) ≡ Sent handle count llid (record { items = body }) ∷ []
       → (llid ≡ 3) × (body ≡ written (TerminateInd code.0))
-  sent_ending facts none ends lasts handle count llid body sent = by (is_acked facts.acknowledgement) refl
+  sent_ending facts plain none ends lasts handle count llid body sent = by (is_acked facts.acknowledgement) refl
     where
       notes : sent_notes setup (fixed_anew facts) ≡ Sent handle count llid (record { items = body }) ∷ []
       notes = ap (sent_notes setup) (sym (ap (λ (b : Bool). if b then facts else fixed_anew facts) none)) ∙ sent
@@ -300,8 +313,9 @@ module _ (code : ErrCode) (setup : Setup) (is_central : setup.link.role ≡ Cent
 
       by : (acked : Bool) → is_acked facts.acknowledgement ≡ acked → (llid ≡ 3) × (body ≡ written (TerminateInd code.0))
       by true acked =
-          let fixes = ap (λ (c : Option Ctrl). is_some c) (control_next facts ends goes) in
-          let out = goes_out_so (fixed_anew facts) ends goes (λ i. acked i && fixes i) in
+          let fixes = ap (λ (c : Option Ctrl). is_some c) (control_next facts plain ends goes) in
+          let plain_anew : IsPlain setup.link.role (fixed_anew facts) = record { encryption = plain.encryption; control = plain.control } in
+          let out = goes_out_so (fixed_anew facts) plain_anew ends goes (λ i. acked i && fixes i) in
           same_pdu setup.link.handle (numbered facts.acknowledgement.sent + 1) handle count llid body (written (TerminateInd code.0)) (sym out ∙ notes)
       by false acked =
           absurd (let h : [] ≡ Sent handle count llid (record { items = body }) ∷ [] =
@@ -319,27 +333,32 @@ module _ (setup : Setup) (is_central : setup.link.role ≡ Central) where
 
   none_next : (facts : Facts) → EndsWith None facts.control.table → goes_out true facts.control ≡ false
   none_next facts ends =
-      ap (λ (o : Outgoing). is_some (ctrl_of_outgoing o (event_of facts.control.track) facts.control.track.params.latency)) (next_by_end None facts ends)
+      ap (λ (o : Outgoing). is_some (ctrl_of_outgoing o (event_of facts.control.track) facts.control.track.params.latency)) (next_at None facts.control ends)
 
-  end_any : (step : Step) (facts : Facts) → EndsWith None facts.control.table → EndsWith None (facts_after setup facts step).control.table
-  end_any (PacketSent slot) facts ends =
-      subst (λ (c : Control). EndsWith None c.table) (sym (one_step setup facts (PacketSent slot))) (by (takes_leave facts))
+  end_any : (step : Step) (facts : Facts) → IsPlain setup.link.role facts → EndsWith None facts.control.table → EndsWith None (facts_after setup facts step).control.table
+  end_any (PacketSent slot) facts plain ends =
+      subst (λ (c : Control). EndsWith None c.table) (sym (one_step setup facts (PacketSent slot) plain)) (by (takes_leave facts))
     where
       by : (leaves : Bool) → EndsWith None (after_all (step_if leaves (Sends slot true)) facts.control).table
       by true = sends_none slot facts.control (none_next facts ends) ends
       by false = ends
-  end_any (DataGiven start body) facts ends = end_step None setup is_central (DataGiven start body) facts refl ends
-  end_any (ProcedureAsked ask) facts ends = end_step None setup is_central (ProcedureAsked ask) facts refl ends
-  end_any (RequestAnswered answer) facts ends = end_step None setup is_central (RequestAnswered answer) facts refl ends
-  end_any (Disconnected reason slot) facts ends = end_step None setup is_central (Disconnected reason slot) facts refl ends
-  end_any (EventEntered slot) facts ends = end_step None setup is_central (EventEntered slot) facts refl ends
-  end_any PduFixed facts ends = end_step None setup is_central PduFixed facts refl ends
-  end_any (PacketReceived slot octets room) facts ends = end_step None setup is_central (PacketReceived slot octets room) facts refl ends
-  end_any DataReported facts ends = end_step None setup is_central DataReported facts refl ends
+  end_any (DataGiven start body) facts plain ends = end_step None setup is_central (DataGiven start body) facts plain refl ends
+  end_any (ProcedureAsked ask) facts plain ends = end_step None setup is_central (ProcedureAsked ask) facts plain refl ends
+  end_any (RequestAnswered answer) facts plain ends = end_step None setup is_central (RequestAnswered answer) facts plain refl ends
+  end_any (KeyAnswered key slot) facts plain ends = end_step None setup is_central (KeyAnswered key slot) facts plain refl ends
+  end_any (Disconnected reason slot) facts plain ends = end_step None setup is_central (Disconnected reason slot) facts plain refl ends
+  end_any (EventEntered slot) facts plain ends = end_step None setup is_central (EventEntered slot) facts plain refl ends
+  end_any PduFixed facts plain ends = end_step None setup is_central PduFixed facts plain refl ends
+  end_any (WordsGiven skd_s iv_s) facts plain ends = end_step None setup is_central (WordsGiven skd_s iv_s) facts plain refl ends
+  end_any (PacketReceived slot octets room) facts plain ends =
+      end_step None setup is_central (PacketReceived slot octets room) facts plain refl ends
+  end_any DataReported facts plain ends = end_step None setup is_central DataReported facts plain refl ends
 
-  pub nothing_still : (steps : List Step) (facts : Facts) → EndsWith None facts.control.table → EndsWith None (facts_from setup facts steps).control.table
-  nothing_still [] facts ends = ends
-  nothing_still (step ∷ steps) facts ends = nothing_still steps (facts_after setup facts step) (end_any step facts ends)
+  pub nothing_still : (steps : List Step) (facts : Facts) → IsPlain setup.link.role facts → EndsWith None facts.control.table
+      → EndsWith None (facts_from setup facts steps).control.table
+  nothing_still [] facts plain ends = ends
+  nothing_still (step ∷ steps) facts plain ends =
+      nothing_still steps (facts_after setup facts step) (step_plain setup facts step plain) (end_any step facts plain ends)
 
   if_none : (b : Bool) → ◌≡◌ {A = Option Ctrl} (if b then None else None) None
   if_none true = refl
@@ -349,16 +368,16 @@ module _ (setup : Setup) (is_central : setup.link.role ≡ Central) where
   none_noted true handle number = refl
   none_noted false handle number = refl
 
-  pub sent_nothing : (X : Type 0) (facts : Facts) → is_control facts.outgoing.fixed ≡ false → EndsWith None facts.control.table
+  pub sent_nothing : (X : Type 0) (facts : Facts) → IsPlain setup.link.role facts → is_control facts.outgoing.fixed ≡ false → EndsWith None facts.control.table
       → (handle count llid : ℕ) (body : List ℕ) → sent_notes setup (facts_fixed facts) ≡ Sent handle count llid (record { items = body }) ∷ [] → X
-  sent_nothing X facts none ends handle count llid body sent =
+  sent_nothing X facts plain none ends handle count llid body sent =
       let next : next_control facts ≡ None =
       ap (λ (o : Outgoing). if goes_on facts then ctrl_of_outgoing o (event_of facts.control.track) facts.control.track.params.latency else None)
-      (next_by_end None facts ends) ∙ if_none (goes_on facts) in
-      let stays : data_goes facts ≡ false = ap not ends.closing in
+      (next_by_end None setup.link.role facts plain ends) ∙ if_none (goes_on facts) in
+      let stays : data_goes facts ≡ false = (λ i. quiet_plain setup.link.role facts plain i && not (ends.closing i)) in
       let fixed : pdu_fixed (fixed_anew facts) ≡ empty_pdu =
       (λ i. if is_some (next i) then pdu_of_control (next_control facts)
-      else (data_fixed_by (is_some (next i)) (waiting_in facts.control.table.queue) (stays i) (data_cut facts)).fixed) in
+      else (data_fixed_by (is_some (next i)) (waiting_in facts.control.table.queue) (is_quiet_now facts) (stays i) (data_cut facts)).fixed) in
       absurd (let h : [] ≡ Sent handle count llid (record { items = body }) ∷ [] =
       sym (none_noted (is_acked facts.acknowledgement) setup.link.handle (numbered facts.acknowledgement.sent))
       ∙ sym (λ i. sent_notes_if (is_acked facts.acknowledgement && not (is_empty (fixed i))) setup.link.handle (numbered facts.acknowledgement.sent) (fixed i))
@@ -441,12 +460,12 @@ received_heard slot room None facts = tt
 received_heard slot room (Some octets) facts =
     let header = header_in octets in
     let pdu = pdu_of octets in
-    let now = facts_before_taking Central slot header facts in
+    let now = plain_before_taking Central slot header facts in
     let acks = acks_control (has_acknowledged facts header) facts in
     let takes = accepts room header pdu now && is_procedure_pdu pdu in
-    both_heard (step_if acks SeesAcknowledged ++ []) (step_if takes (Takes (read_of pdu) slot (is_quiet_now now)))
+    both_heard (step_if acks SeesAcknowledged ++ []) (step_if takes (Takes (read_of pdu) slot true))
     (both_heard (step_if acks SeesAcknowledged) [] (one_heard acks SeesAcknowledged tt) tt)
-    (one_heard takes (Takes (read_of pdu) slot (is_quiet_now now)) refl)
+    (one_heard takes (Takes (read_of pdu) slot true) refl)
 
 no_rejection : (rejections : List TheRejection) (d : Option ErrCode) → next_by rejections (next_disconnect d) ≡ next_disconnect d → rejections ≡ []
 no_rejection [] d is = refl
@@ -454,23 +473,23 @@ no_rejection (rejection ∷ rejections) None is = absurd (cc)
 no_rejection (rejection ∷ rejections) (Some code) is = absurd (cc)
 
 -- a central whose host ended the link, and that sends only LL_TERMINATE_IND next or nothing
-pub ends_now : (setup : Setup) → setup.link.role ≡ Central → (slot : ℕ) (octets : List ℕ) (room : Bool) (facts : Facts) (d : Option ErrCode)
-    → is_disconnecting facts.control.table.closing ≡ true
+pub ends_now : (setup : Setup) → setup.link.role ≡ Central → (slot : ℕ) (octets : List ℕ) (room : Bool) (facts : Facts) → IsPlain setup.link.role facts
+    → (d : Option ErrCode) → is_disconnecting facts.control.table.closing ≡ true
     → (facts_after setup facts (PacketReceived slot octets room)).control.table.queue.disconnect ≡ d
     → next_outgoing (facts_after setup facts (PacketReceived slot octets room))
     ≡ next_disconnect (facts_after setup facts (PacketReceived slot octets room)).control.table.queue.disconnect
     → EndsWith d (facts_after setup facts (PacketReceived slot octets room)).control.table
-ends_now setup is_central slot octets room facts d is disconnect next =
+ends_now setup is_central slot octets room facts plain d is disconnect next =
     let now = facts_after setup facts (PacketReceived slot octets room) in
     let closing : is_disconnecting now.control.table.closing ≡ true =
-    ap (λ (c : Control). is_disconnecting c.table.closing) (one_step setup facts (PacketReceived slot octets room))
+    ap (λ (c : Control). is_disconnecting c.table.closing) (one_step setup facts (PacketReceived slot octets room) plain)
     ∙ all_kept (control_steps_in setup facts (PacketReceived slot octets room)) facts.control
     (subst (λ (role : Role). AllByRecursion IsHeard (steps_received role slot room (good_pdu setup facts octets) facts)) (sym is_central)
     (received_heard slot room (good_pdu setup facts octets) facts)) is in
     record {
       closing = closing;
       rejections = no_rejection now.control.table.queue.rejections now.control.table.queue.disconnect
-          (sym (λ i. next_by now.control.table.queue.rejections (next_after_rejections (closing i && true) now.control.table.progress
+          (sym (λ i. next_by now.control.table.queue.rejections (next_after_rejections (closing i && quiet_plain setup.link.role now (step_plain setup facts (PacketReceived slot octets room) plain) i) now.control.table.progress
           (event_of now.control.track) now.control.table.queue)) ∙ next);
       disconnect = disconnect;
     }

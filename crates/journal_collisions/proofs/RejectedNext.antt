@@ -70,6 +70,7 @@ use Rattle.journal_endings.proofs.journal_indications.journal_data.journal_packe
 use Rattle.journal_endings.proofs.journal_indications.journal_data.link_model.Hearing.{IsHeardWhole}
 use Rattle.journal_endings.proofs.journal_indications.journal_data.link_model.ControlSteps.{keeps_role}
 use Rattle.journal_endings.proofs.journal_indications.journal_data.link_model.Pasts.{grows}
+use Rattle.journal_endings.proofs.journal_indications.journal_data.link_model.Plain.{before_taking_plain, entered_control_plain, past_plain as end_plain, step_plain}
 use Rattle.journal_endings.proofs.journal_indications.journal_data.run_laws.DistinctAccess.{AreApart}
 use Rattle.journal_endings.proofs.journal_indications.journal_data.run_laws.InAgreement.{OpenedBefore}
 use Rattle.journal_endings.proofs.journal_indications.journal_data.run_laws.OpenSteps.{open_has}
@@ -93,7 +94,8 @@ use Rattle.journal_endings.specs.link_runs.link_pairs.procedures.Sending.{acked_
 use Rattle.procedure_values.specs.Drafts.{is_out}
 use Rattle.data_pdu.specs.Header.{header_in}
 use Rattle.journal_endings.specs.journal_indications.journal_data.link_model.Packets.{good_pdu}
-use Rattle.journal_endings.specs.journal_indications.journal_data.link_model.Receiving.{acks_control, control_acked_if, facts_before_taking, has_acknowledged}
+use Rattle.journal_endings.specs.journal_indications.journal_data.link_model.Plain.{IsPlain, control_acked_if}
+use Rattle.journal_endings.specs.journal_indications.journal_data.link_model.Receiving.{acks_control, facts_before_taking, has_acknowledged}
 use Rattle.journal_ends.proofs.StandingLinks.{older_at}
 use Rattle.journal_endings.proofs.journal_indications.InTime.{role_of_end}
 use Rattle.journal_endings.proofs.journal_indications.LineEnds.{IsEndOfLine, end_of_line, in_it, none as none_open}
@@ -170,22 +172,24 @@ module _ (setup : EndSetup) where
   enters_ends true slot c = refl
   enters_ends false slot c = refl
 
-  entered_goes : (facts : EndFacts) (slot : ℕ) → facts.control.ends ≡ None → (end_facts_after setup facts (EventEntered slot)).control.ends ≡ None
-  entered_goes facts slot goes = by (goes_on facts)
+  entered_goes : (facts : EndFacts) (slot : ℕ) → IsPlain setup.link.role facts → facts.control.ends ≡ None → (end_facts_after setup facts (EventEntered slot)).control.ends ≡ None
+  entered_goes facts slot plain goes = by (goes_on facts)
     where
       by : (on : Bool) → (facts_entered_if on setup slot facts).control.ends ≡ None
-      by true = enters_ends (is_none facts.control.ends) slot facts.control ∙ goes
+      by true =
+          ap (λ (c : Control). c.ends) (entered_control_plain setup.link.role slot facts plain)
+          ∙ enters_ends (is_none facts.control.ends) slot facts.control ∙ goes
       by false = goes
 
 -- an end that enters its event, or does not
 module _ (setup : EndSetup) (x : TheRejection) (is_central : setup.link.role ≡ Central) (facts : EndFacts) (slot : ℕ)
-    (waiting : next_outgoing facts ≡ Rejection x) (goes : facts.control.ends ≡ None) where
+    (plain : IsPlain setup.link.role facts) (waiting : next_outgoing facts ≡ Rejection x) (goes : facts.control.ends ≡ None) where
   still_next : (enters : Bool) → next_outgoing (facts_from setup facts (entered_steps enters slot)) ≡ Rejection x
   still_next true = waits x setup is_central facts (EventEntered slot ∷ []) waiting refl
   still_next false = waiting
 
   still_goes : (enters : Bool) → (facts_from setup facts (entered_steps enters slot)).control.ends ≡ None
-  still_goes true = entered_goes setup facts slot goes
+  still_goes true = entered_goes setup facts slot plain goes
   still_goes false = goes
 
 entered_past : (enters : Bool) (slot : ℕ) (link : OpenLink) → (entered_if enters slot link).past ≡ link.past ++ entered_steps enters slot
@@ -218,11 +222,12 @@ closing_acked : (acked : Bool) (c : Control) → (control_acked_if acked c).tabl
 closing_acked true c = closing_if (is_none c.ends) (is_out c.table.out) c
 closing_acked false c = refl
 
-closing_by : (setup : EndSetup) → setup.link.role ≡ Central → (slot : ℕ) (facts : EndFacts) (may : Option (List ℕ))
+closing_by : (setup : EndSetup) → setup.link.role ≡ Central → (slot : ℕ) (facts : EndFacts) → IsPlain setup.link.role facts → (may : Option (List ℕ))
     → (seen_by setup slot may facts).control.table.closing ≡ facts.control.table.closing
-closing_by setup is_central slot facts None = refl
-closing_by setup is_central slot facts (Some pdu) =
+closing_by setup is_central slot facts plain None = refl
+closing_by setup is_central slot facts plain (Some pdu) =
     ap (λ (role : Role). (facts_before_taking role slot (header_in pdu) facts).control.table.closing) is_central
+    ∙ ap (λ (f : EndFacts). f.control.table.closing) (before_taking_plain setup.link.role Central slot (header_in pdu) facts plain)
     ∙ closing_acked (acks_control (has_acknowledged facts (header_in pdu)) facts) facts.control
 
 -- ---- numbers and stations
@@ -290,6 +295,13 @@ module _ (whole_heard : IsHeardWhole) (understood : IsUnderstood) (taken : AreTa
 
   abbrev now : EndFacts
   now = received heard.link.setup facts.turn.slot heard.octets room (facts_in heard.link)
+
+  -- its end encrypts nothing
+  heard_plain : IsPlain end_setup.link.role (facts_in heard.link)
+  heard_plain = end_plain end_setup heard.link.past
+
+  now_plain : IsPlain end_setup.link.role now
+  now_plain = step_plain end_setup (facts_in heard.link) step heard_plain
 
   distinct : AreDistinct given.stations
   distinct = are_distinct given are_pair
@@ -481,6 +493,12 @@ module _ (whole_heard : IsHeardWhole) (understood : IsUnderstood) (taken : AreTa
             ap (end_facts_of later.setup) (entered_past enters begins.slot later)
             ∙ facts_more later.setup later.past (entered_steps enters begins.slot)
 
+        later_plain : IsPlain later.setup.link.role (facts_in later)
+        later_plain = end_plain later.setup later.past
+
+        last_plain : IsPlain later.setup.link.role last
+        last_plain = subst (IsPlain later.setup.link.role) entered_is (end_plain later.setup (link_entered begins.slot later).past)
+
         none_now : is_control last.outgoing.fixed ≡ false
         none_now =
             ap (λ (f : EndFacts). is_control f.outgoing.fixed) (sym entered_is) ∙ none_fixed later.setup later_central (link_entered begins.slot later).past
@@ -493,24 +511,24 @@ module _ (whole_heard : IsHeardWhole) (understood : IsUnderstood) (taken : AreTa
         -- so what it sends is the rejection
         module _ (none : SendsNothing link.central number between) (x : TheRejection) (waiting : next_outgoing now ≡ Rejection x) where
           waiting_later : next_outgoing (facts_in later) ≡ Rejection x
-          waiting_later = ap next_outgoing facts_later ∙ waits_still x end_setup is_central since.steps now waiting goes (unsent none)
+          waiting_later = ap next_outgoing facts_later ∙ waits_still x end_setup is_central since.steps now now_plain waiting goes (unsent none)
 
           pub sent_now : IsSentNow x later.setup later_central next_llid next
           sent_now =
               sent_next x later.setup later_central last none_now
-              (still_next later.setup x later_central (facts_in later) begins.slot waiting_later goes_later enters)
-              (still_goes later.setup x later_central (facts_in later) begins.slot waiting_later goes_later enters)
+              (still_next later.setup x later_central (facts_in later) begins.slot later_plain waiting_later goes_later enters)
+              (still_goes later.setup x later_central (facts_in later) begins.slot later_plain waiting_later goes_later enters)
               next_call.handle next_count next_llid next
               (sym (λ i. sent_notes (begins.setup_is i) (base_facts i)) ∙ begins.notes)
 
         -- a central whose host ended the link sends LL_TERMINATE_IND, or nothing
         last_goes : (entering : Bool) → (facts_from later.setup (facts_in later) (entered_steps entering begins.slot)).control.ends ≡ None
-        last_goes true = entered_goes later.setup (facts_in later) begins.slot goes_later
+        last_goes true = entered_goes later.setup (facts_in later) begins.slot later_plain goes_later
         last_goes false = goes_later
 
         last_ends : (d : Option ErrCode) (entering : Bool) → EndsWith d (facts_in later).control.table
             → EndsWith d (facts_from later.setup (facts_in later) (entered_steps entering begins.slot)).control.table
-        last_ends d true ends = end_step d later.setup later_central (EventEntered begins.slot) (facts_in later) refl ends
+        last_ends d true ends = end_step d later.setup later_central (EventEntered begins.slot) (facts_in later) later_plain refl ends
         last_ends d false ends = ends
 
         notes_now : sent_notes later.setup (facts_fixed last) ≡ SentNote next_call.handle next_count next_llid (record { items = next }) ∷ []
@@ -519,14 +537,14 @@ module _ (whole_heard : IsHeardWhole) (understood : IsUnderstood) (taken : AreTa
         pub ended_now : SendsNothing link.central number between → (d : Option ErrCode) → EndsWith d now.control.table → IsTermination next_llid next
         ended_now none (Some code) ends =
             let later_ends = subst (λ (f : EndFacts). EndsWith (Some code) f.control.table) (sym facts_later)
-            (ending_still code end_setup is_central since.steps now ends goes (unsent none)) in
-            let sent = sent_ending code later.setup later_central last none_now (last_ends (Some code) enters later_ends) (last_goes enters)
+            (ending_still code end_setup is_central since.steps now now_plain ends goes (unsent none)) in
+            let sent = sent_ending code later.setup later_central last last_plain none_now (last_ends (Some code) enters later_ends) (last_goes enters)
             next_call.handle next_count next_llid next notes_now in
             record { code = code.0 % 256; is = (λ i. control_in (sent.0 i) (sent.1 i)) ∙ ap Some (terminate_read code.0) }
         ended_now none None ends =
             let later_ends = subst (λ (f : EndFacts). EndsWith None f.control.table) (sym facts_later)
-            (nothing_still end_setup is_central since.steps now ends) in
-            sent_nothing later.setup later_central _ last none_now (last_ends None enters later_ends) next_call.handle next_count next_llid next notes_now
+            (nothing_still end_setup is_central since.steps now now_plain ends) in
+            sent_nothing later.setup later_central _ last last_plain none_now (last_ends None enters later_ends) next_call.handle next_count next_llid next notes_now
 
         -- ---- which indication it may send
 
@@ -596,7 +614,7 @@ module _ (whole_heard : IsHeardWhole) (understood : IsUnderstood) (taken : AreTa
           owes_last =
               let all = prevails whole_heard understood taken nth apart given are_pair six prevail front link number count llid body call heard far p q collides in
               subst (λ (f : EndFacts). Owes kind (central_of f.control.table)) (sym last_is)
-              (steps_owe end_setup now more_steps kind is_central
+              (steps_owe end_setup now more_steps kind now_plain is_central
               (ap (λ (f : EndFacts). role_of f.control.table.progress) now_is ∙ keeps_role end_setup (heard.link.past ++ step ∷ []) ∙ is_central)
               (all.owes kind) none_opened_since)
 
@@ -630,17 +648,17 @@ module _ (whole_heard : IsHeardWhole) (understood : IsUnderstood) (taken : AreTa
         let first = begun whole_heard understood taken nth apart given are_pair six prevail front link number count llid body call heard far p q collides in
         let own = excludes whole_heard understood taken nth apart given are_pair six prevail front link number count llid body call heard far p q collides in
         let all = prevails whole_heard understood taken nth apart given are_pair six prevail front link number count llid body call heard far p q collides in
-        let rejects = all.rejected (ap is_open (closing_by heard.link.setup is_central facts.turn.slot (facts_in heard.link)
+        let rejects = all.rejected (ap is_open (closing_by heard.link.setup is_central facts.turn.slot (facts_in heard.link) heard_plain
         (good_pdu heard.link.setup (facts_in heard.link) heard.octets)) ∙ opened) in
         inl (written_now rejects.rejection later.setup later_central own.kind first.kind p q next_llid next own.kind_is first.kind_is first.opcode
         rejects.opcode rejects.code (sent_now begins mid base_is none rejects.rejection rejects.next))
     by_closing none begins mid base_is false closed =
         let all = prevails whole_heard understood taken nth apart given are_pair six prevail front link number count llid body call heard far p q collides in
-        let same = closing_by heard.link.setup is_central facts.turn.slot (facts_in heard.link)
+        let same = closing_by heard.link.setup is_central facts.turn.slot (facts_in heard.link) heard_plain
         (good_pdu heard.link.setup (facts_in heard.link) heard.octets) in
         let shut = ap is_open same ∙ closed in
         inr (ended_now begins mid base_is none now.control.table.queue.disconnect
-        (ends_now heard.link.setup is_central facts.turn.slot heard.octets room (facts_in heard.link) now.control.table.queue.disconnect
+        (ends_now heard.link.setup is_central facts.turn.slot heard.octets room (facts_in heard.link) heard_plain now.control.table.queue.disconnect
         (ap is_disconnecting (sym same) ∙ all.ending shut) refl (all.closing shut)))
 
     by_order : SendsNothing link.central number between → (begins : IsSentAtBegin (setup_at given next_call.station) (facts_at given next_call.station next_call.base) next_call.later

@@ -20,7 +20,8 @@ use Rattle.journal_endings.specs.journal_indications.journal_data.link_model.End
 use Rattle.journal_endings.specs.journal_indications.journal_data.link_model.Entering.{done_notes}
 use Rattle.journal_endings.specs.journal_indications.journal_data.link_model.Facts.{Facts}
 use Rattle.journal_endings.specs.journal_indications.journal_data.link_model.Packets.{good_pdu}
-use Rattle.journal_endings.specs.journal_indications.journal_data.link_model.Receiving.{accepts, acked_kind, acks_control, control_acked_if, facts_before_taking, given_if, given_notes, has_acknowledged, notes_hearing, received_notes, refused_notes, took_notes_if}
+use Rattle.journal_endings.specs.journal_indications.journal_data.link_model.Plain.{IsPlain, control_acked_if, plain_before_taking, plain_given_if, plain_notes_hearing}
+use Rattle.journal_endings.specs.journal_indications.journal_data.link_model.Receiving.{accepts, acked_kind, acks_control, facts_before_taking, given_notes, has_acknowledged, notes_hearing, received_notes, refused_notes, took_notes_if}
 use Rattle.journal_endings.specs.journal_indications.journal_data.link_model.Setup.{Setup}
 use Rattle.journal_endings.specs.journal_indications.journal_data.link_model.Step.{Step, PacketReceived}
 use Rattle.journal_endings.specs.journal_indications.journal_data.link_model.Verdicts.{pdu_of}
@@ -32,6 +33,7 @@ use Rattle.collision_steps.specs.CentralPart.{central_of}
 use Rattle.journal_endings.specs.journal_indications.journal_data.link_model.ControlSteps.{control_steps_of}
 use Rattle.journal_endings.specs.journal_indications.journal_data.link_model.Setup.{first_anchor, first_params}
 use Rattle.journal_endings.proofs.journal_indications.journal_data.link_model.ControlSteps.{keeps_role, past_goes as control_goes}
+use Rattle.journal_endings.proofs.journal_indications.journal_data.link_model.Plain.{before_taking_plain, notes_hearing_plain, past_plain}
 use Rattle.journal_endings.proofs.link_calls.control_model.Moving.{role_after}
 use Rattle.link_procedures.proofs.Seen.{at_central, same_kind}
 use Rattle.journal_endings.specs.link_runs.link_pairs.control_model.Control.{Control, SeesAcknowledged, Step as ControlStep, after, after_all, first_control}
@@ -110,19 +112,23 @@ module _ (earlier later : List Note) (handle count llid : ℕ) (body : List ℕ)
       λ i. sym head i ∷ after_none noted own pdu facts given before none rest i
 
   -- the procedures that run as the central looks at the PDU
-  module _ (setup : Setup) (is_central : setup.link.role ≡ Central) (slot : ℕ) (room : Bool) (facts : Facts) where
+  module _ (setup : Setup) (is_central : setup.link.role ≡ Central) (slot : ℕ) (room : Bool) (facts : Facts) (plain : IsPlain setup.link.role facts) where
     acked_control : (acked : Bool) (header : DataHeader) → acks_control (has_acknowledged facts header) facts ≡ acked
         → (facts_before_taking Central slot header facts).control ≡ control_acked_if acked facts.control
-    acked_control acked header is = ap (λ (b : Bool). control_acked_if b facts.control) is
+    acked_control acked header is =
+        ap (λ (f : Facts). f.control) (before_taking_plain setup.link.role Central slot header facts plain)
+        ∙ ap (λ (b : Bool). control_acked_if b facts.control) is
 
     runs_heard : (header : DataHeader) (pdu : Pdu) (kind : Kind) → notes_hearing setup slot room header pdu facts ≡ earlier ++ note ∷ later
         → fold (note_runs kind) (runs_at kind facts) earlier ≡ runs_at kind (facts_before_taking Central slot header facts)
     runs_heard header pdu kind is =
         let acks = acks_control (has_acknowledged facts header) facts in
-        let now = facts_before_taking setup.link.role slot header facts in
-        let given : Taken = given_if (accepts room header pdu now && is_procedure_pdu pdu) pdu slot now in
+        let now = plain_before_taking setup.link.role slot header facts in
+        let given : Taken = plain_given_if (accepts room header pdu now && is_procedure_pdu pdu) pdu slot now in
+        let noted : plain_notes_hearing setup slot room header pdu facts ≡ earlier ++ note ∷ later =
+        sym (notes_hearing_plain setup slot room header pdu facts plain) ∙ is in
         let done = after_done (acked_kind acks facts) (accepts room header pdu now && not (is_empty pdu)) setup.link.handle pdu now
-        (given_notes setup.link.handle given) earlier (given_none setup.link.handle given.refused given.done) is in
+        (given_notes setup.link.handle given) earlier (given_none setup.link.handle given.refused given.done) noted in
         ap (λ xs. fold (note_runs kind) (runs_at kind facts) xs) done
         ∙ acked_goes setup.link.handle acks facts kind
         ∙ ap (λ (c : Control). is_kind (own_kind c.table.progress) kind) (sym (acked_control acks header refl))
@@ -161,6 +167,8 @@ module _ (setup : Setup) (is_central : setup.link.role ≡ Central) (past : List
   role_seen slot None = keeps_role setup past
   role_seen slot (Some pdu) =
       ap (λ (role : Role). role_of (facts_before_taking role slot (header_in pdu) held).control.table.progress) is_central
+      ∙ ap (λ (f : Facts). role_of f.control.table.progress)
+      (before_taking_plain setup.link.role Central slot (header_in pdu) held (past_plain setup past))
       ∙ role_acked (acks_control (has_acknowledged held (header_in pdu)) held)
 
   pub own_seen : (slot : ℕ) (octets : List ℕ) (kind : Exclusive) → runs_at (kind_of kind) (seen setup slot octets held) ≡ true

@@ -26,20 +26,23 @@ use Rattle.journal_endings.specs.link_runs.link_pairs.procedure_values.declared.
 use Rattle.journal_endings.specs.link_runs.link_pairs.procedure_values.declared.drafts.Rejection.{Rejection as TheRejection}
 use Rattle.journal_endings.specs.journal_indications.journal_data.link_model.Acknowledgement.{Pdu, is_acked}
 use Rattle.journal_endings.specs.journal_indications.journal_data.link_model.ControlSteps.{control_steps_in}
-use Rattle.journal_endings.specs.journal_indications.journal_data.link_model.Controls.{goes_on, is_procedure_pdu, next_control, pdu_fixed}
-use Rattle.journal_endings.specs.journal_indications.journal_data.link_model.Data.{Data, data_acked_if, data_given, data_sent_if, is_control, is_data, is_empty, numbered, pdu_with, llid_of}
+use Rattle.journal_endings.specs.journal_indications.journal_data.link_model.Controls.{goes_on, is_procedure_pdu, is_quiet_now, next_control, pdu_fixed}
+use Rattle.journal_endings.specs.journal_indications.journal_data.link_model.Data.{Data, data_acked_if, data_given, is_control, is_data, is_empty, numbered, pdu_with, llid_of}
 use Rattle.journal_endings.specs.journal_indications.journal_data.link_model.End.{facts_after, facts_of, notes_after, notes_from}
 use Rattle.journal_endings.specs.journal_indications.journal_data.link_model.Entering.{facts_entered_if}
 use Rattle.journal_endings.specs.journal_indications.journal_data.link_model.Facts.{Facts, first_facts}
 use Rattle.journal_endings.specs.journal_indications.journal_data.link_model.Fixing.{data_cut, data_fixed_by, data_goes, facts_fixed, fixed_anew}
 use Rattle.journal_endings.specs.journal_indications.journal_data.link_model.Hosts.{asked_unless, is_to_come}
-use Rattle.journal_endings.specs.journal_indications.journal_data.link_model.Packets.{good_pdu}
-use Rattle.journal_endings.specs.journal_indications.journal_data.link_model.Receiving.{accepted_if, accepts, facts_before_taking, facts_hearing, facts_received, has_acknowledged, procedures_take_if}
-use Rattle.journal_endings.specs.journal_indications.journal_data.link_model.Sending.{control_gone_if, sent_notes, sent_notes_if, takes_leave}
+use Rattle.journal_endings.specs.journal_indications.journal_data.link_model.Packets.{good_pdu, is_forged}
+use Rattle.journal_endings.specs.journal_indications.journal_data.link_model.Payload.{payload_made}
+use Rattle.journal_endings.specs.journal_indications.journal_data.link_model.Plain.{IsPlain}
+use Rattle.journal_endings.specs.journal_indications.journal_data.link_model.Receiving.{accepted_if, accepts, data_taken_if, facts_before_taking, facts_forged_if, facts_hearing, facts_received, has_acknowledged, procedures_take_if}
+use Rattle.journal_endings.specs.journal_indications.journal_data.link_model.Sending.{control_gone_if, data_sent_as, sent_notes, sent_notes_if, takes_leave}
 use Rattle.journal_endings.specs.journal_indications.journal_data.link_model.Setup.{Setup}
-use Rattle.journal_endings.specs.journal_indications.journal_data.link_model.Step.{Step, DataGiven, DataReported, Disconnected, EventEntered, PacketReceived, PacketSent, PduFixed, ProcedureAsked, RequestAnswered}
+use Rattle.journal_endings.specs.journal_indications.journal_data.link_model.Step.{Step, DataGiven, DataReported, Disconnected, EventEntered, KeyAnswered, PacketReceived, PacketSent, PduFixed, ProcedureAsked, RequestAnswered, WordsGiven}
 use Rattle.journal_endings.specs.journal_indications.journal_data.link_model.Verdicts.{pdu_of}
 use Rattle.journal_endings.proofs.journal_indications.journal_data.link_model.ControlSteps.{one_step}
+use Rattle.journal_endings.proofs.journal_indications.journal_data.link_model.Plain.{step_plain}
 use Rattle.link_indications.proofs.Controls.{goes_before}
 use Rattle.run_collisions.specs.Prevailing.{next_outgoing}
 use Rattle.run_collisions.specs.Waiting.{facts_from, sends_control, sends_no_control}
@@ -51,13 +54,16 @@ control_goes : (steps : List ControlStep) (c : Control) → (after_all steps c).
 control_goes [] c is = is
 control_goes (step ∷ steps) c is = goes_before step c (control_goes steps (after step c) is)
 
-end_goes : (setup : Setup) (facts : Facts) (step : Step) → (facts_after setup facts step).control.ends ≡ None → facts.control.ends ≡ None
-end_goes setup facts step is =
-    control_goes (control_steps_in setup facts step) facts.control (ap (λ (c : Control). c.ends) (sym (one_step setup facts step)) ∙ is)
+end_goes : (setup : Setup) (facts : Facts) (step : Step) → IsPlain setup.link.role facts → (facts_after setup facts step).control.ends ≡ None
+    → facts.control.ends ≡ None
+end_goes setup facts step plain is =
+    control_goes (control_steps_in setup facts step) facts.control (ap (λ (c : Control). c.ends) (sym (one_step setup facts step plain)) ∙ is)
 
-pub ends_go : (setup : Setup) (facts : Facts) (steps : List Step) → (facts_from setup facts steps).control.ends ≡ None → facts.control.ends ≡ None
-ends_go setup facts [] is = is
-ends_go setup facts (step ∷ steps) is = end_goes setup facts step (ends_go setup (facts_after setup facts step) steps is)
+pub ends_go : (setup : Setup) (facts : Facts) (steps : List Step) → IsPlain setup.link.role facts → (facts_from setup facts steps).control.ends ≡ None
+    → facts.control.ends ≡ None
+ends_go setup facts [] plain is = is
+ends_go setup facts (step ∷ steps) plain is =
+    end_goes setup facts step plain (ends_go setup (facts_after setup facts step) steps (step_plain setup facts step plain) is)
 
 still_goes : (ends : Option ErrCode) → ends ≡ None → is_none ends ≡ true
 still_goes ends is = ap (λ (e : Option ErrCode). is_none e) is
@@ -89,26 +95,29 @@ module _ (x : TheRejection) (setup : Setup) (is_central : setup.link.role ≡ Ce
   one_unsent (DataGiven start body) facts is goes none = refl
   one_unsent (ProcedureAsked ask) facts is goes none = refl
   one_unsent (RequestAnswered answer) facts is goes none = refl
+  one_unsent (KeyAnswered key slot) facts is goes none = refl
   one_unsent (Disconnected reason slot) facts is goes none = refl
   one_unsent (EventEntered slot) facts is goes none = refl
   one_unsent PduFixed facts is goes none = refl
+  one_unsent (WordsGiven skd_s iv_s) facts is goes none = refl
   one_unsent (PacketReceived slot octets room) facts is goes none = refl
   one_unsent DataReported facts is goes none = refl
 
-  all_unsent : (steps : List Step) (facts : Facts) → next_outgoing facts ≡ Rejection x → (facts_from setup facts steps).control.ends ≡ None
+  all_unsent : (steps : List Step) (facts : Facts) → IsPlain setup.link.role facts → next_outgoing facts ≡ Rejection x → (facts_from setup facts steps).control.ends ≡ None
       → list_any is_sending (notes_from setup facts steps) ≡ false → sends_no_control setup facts steps ≡ true
-  all_unsent [] facts is goes none = refl
-  all_unsent (step ∷ steps) facts is goes none =
+  all_unsent [] facts plain is goes none = refl
+  all_unsent (step ∷ steps) facts plain is goes none =
       let next = facts_after setup facts step in
       let parts = or_parts (list_any is_sending (notes_after setup facts step)) (list_any is_sending (notes_from setup next steps))
       (sym (list_any-append is_sending (notes_after setup facts step) (notes_from setup next steps)) ∙ none) in
-      let first = one_unsent step facts is (ends_go setup facts (step ∷ steps) goes) parts.0 in
+      let first = one_unsent step facts is (ends_go setup facts (step ∷ steps) plain goes) parts.0 in
       let then_on = waits x setup is_central facts (step ∷ []) is (and_from (not (sends_control facts step)) true first refl) in
-      and_from (not (sends_control facts step)) (sends_no_control setup next steps) first (all_unsent steps next then_on goes parts.1)
+      and_from (not (sends_control facts step)) (sends_no_control setup next steps) first
+      (all_unsent steps next (step_plain setup facts step plain) then_on goes parts.1)
 
-  pub waits_still : (steps : List Step) (facts : Facts) → next_outgoing facts ≡ Rejection x → (facts_from setup facts steps).control.ends ≡ None
+  pub waits_still : (steps : List Step) (facts : Facts) → IsPlain setup.link.role facts → next_outgoing facts ≡ Rejection x → (facts_from setup facts steps).control.ends ≡ None
       → list_any is_sending (notes_from setup facts steps) ≡ false → next_outgoing (facts_from setup facts steps) ≡ Rejection x
-  waits_still steps facts is goes none = waits x setup is_central facts steps is (all_unsent steps facts is goes none)
+  waits_still steps facts plain is goes none = waits x setup is_central facts steps is (all_unsent steps facts plain is goes none)
 
   -- ---- then it fixes its PDU and sends
 
@@ -181,14 +190,14 @@ piece_none (Some piece) = by piece.start
     by true = refl
     by false = refl
 
-anew_none : (control : Bool) (waiting : ℕ) (goes : Bool) (outgoing : Data) → is_control (data_fixed_by control waiting goes outgoing).fixed ≡ false
-anew_none true waiting goes outgoing = refl
-anew_none false waiting true outgoing = piece_none _
-anew_none false waiting false outgoing = refl
+anew_none : (control : Bool) (waiting : ℕ) (quiet goes : Bool) (outgoing : Data) → is_control (data_fixed_by control waiting quiet goes outgoing).fixed ≡ false
+anew_none true waiting quiet goes outgoing = refl
+anew_none false waiting quiet true outgoing = piece_none _
+anew_none false waiting quiet false outgoing = refl
 
 fixed_none : (same : Bool) (facts : Facts) → HasNone facts → HasNone (if same then facts else fixed_anew facts)
 fixed_none true facts none = none
-fixed_none false facts none = anew_none (is_some (next_control facts)) (waiting_in facts.control.table.queue) (data_goes facts) (data_cut facts)
+fixed_none false facts none = anew_none (is_some (next_control facts)) (waiting_in facts.control.table.queue) (is_quiet_now facts) (data_goes facts) (data_cut facts)
 
 asked_none : (comes : Bool) (ask : Ask) (facts : Facts) → HasNone facts → HasNone (asked_unless comes ask facts)
 asked_none true ask facts none = none
@@ -198,10 +207,10 @@ entered_none : (goes : Bool) (setup : Setup) (slot : ℕ) (facts : Facts) → Ha
 entered_none true setup slot facts none = none
 entered_none false setup slot facts none = none
 
-sent_none : (acked fixes : Bool) (slot : ℕ) (facts : Facts) → HasNone facts
-    → is_control (data_sent_if acked (control_gone_if (acked && fixes) slot facts).outgoing).fixed ≡ false
-sent_none true fixes slot facts none = refl
-sent_none false fixes slot facts none = none
+sent_none : (payload : List ℕ) (acked fixes : Bool) (slot : ℕ) (facts : Facts) → HasNone facts
+    → is_control (data_sent_as payload acked (control_gone_if (acked && fixes) slot facts).outgoing).fixed ≡ false
+sent_none payload true fixes slot facts none = refl
+sent_none payload false fixes slot facts none = none
 
 gone_acked : (leaves : Bool) (slot : ℕ) (facts : Facts) → is_acked (control_gone_if leaves slot facts).acknowledgement ≡ is_acked facts.acknowledgement
 gone_acked true slot facts = refl
@@ -210,6 +219,14 @@ gone_acked false slot facts = refl
 taken_none : (takes : Bool) (pdu : Pdu) (slot : ℕ) (facts : Facts) → HasNone facts → HasNone (procedures_take_if takes pdu slot facts)
 taken_none true pdu slot facts none = none
 taken_none false pdu slot facts none = none
+
+data_none : (takes : Bool) (facts : Facts) → HasNone facts → HasNone (data_taken_if takes facts)
+data_none true facts none = none
+data_none false facts none = none
+
+forged_none : (forged : Bool) (facts : Facts) → HasNone facts → HasNone (facts_forged_if forged facts)
+forged_none true facts none = none
+forged_none false facts none = none
 
 acked_same : (acked : Bool) (outgoing : Data) → (data_acked_if acked outgoing).fixed ≡ outgoing.fixed
 acked_same true outgoing = refl
@@ -221,8 +238,10 @@ heard_none slot room header pdu facts none =
     let acks = has_acknowledged facts header in
     let now = facts_before_taking Central slot header facts in
     let accepted = accepts room header pdu now in
-    taken_none (accepted && is_procedure_pdu pdu) pdu slot (accepted_if accepted pdu now)
-    (ap is_control (acked_same (acks && is_data facts.acknowledgement.last) facts.outgoing) ∙ none)
+    let takes = accepted && is_procedure_pdu pdu in
+    data_none (accepted && is_data pdu) (procedures_take_if takes pdu slot (accepted_if accepted pdu now))
+    (taken_none takes pdu slot (accepted_if accepted pdu now)
+    (ap is_control (acked_same (acks && is_data facts.acknowledgement.last) facts.outgoing) ∙ none))
 
 received_none : (slot : ℕ) (room : Bool) (pdu : Option (List ℕ)) (facts : Facts) → HasNone facts → HasNone (facts_received Central slot room pdu facts)
 received_none slot room None facts none = none
@@ -233,15 +252,20 @@ module _ (setup : Setup) (is_central : setup.link.role ≡ Central) where
   step_none (DataGiven start body) facts none = ap is_control (given_none setup.link.handle start body facts.outgoing) ∙ none
   step_none (ProcedureAsked ask) facts none = asked_none (is_to_come ask facts) ask facts none
   step_none (RequestAnswered answer) facts none = none
+  step_none (KeyAnswered key slot) facts none = none
   step_none (Disconnected reason slot) facts none = none
   step_none (EventEntered slot) facts none = entered_none (goes_on facts) setup slot facts none
   step_none PduFixed facts none = fixed_none (is_control facts.outgoing.fixed) facts none
   step_none (PacketSent slot) facts none =
-      ap (λ (b : Bool). is_control (data_sent_if b (control_gone_if (takes_leave facts) slot facts).outgoing).fixed) (gone_acked (takes_leave facts) slot facts)
-      ∙ sent_none (is_acked facts.acknowledgement) facts.fixes_control slot facts none
+      let gone = control_gone_if (takes_leave facts) slot facts in
+      let payload = payload_made gone.encryption.end gone.outgoing.fixed in
+      ap (λ (b : Bool). is_control (data_sent_as payload b gone.outgoing).fixed) (gone_acked (takes_leave facts) slot facts)
+      ∙ sent_none payload (is_acked facts.acknowledgement) facts.fixes_control slot facts none
+  step_none (WordsGiven skd_s iv_s) facts none = none
   step_none (PacketReceived slot octets room) facts none =
-      subst (λ (role : Role). HasNone (facts_received role slot room (good_pdu setup facts octets) facts)) (sym is_central)
-      (received_none slot room (good_pdu setup facts octets) facts none)
+      let pdu = good_pdu setup facts octets in
+      forged_none (is_forged setup facts octets) (facts_received setup.link.role slot room pdu facts)
+      (subst (λ (role : Role). HasNone (facts_received role slot room pdu facts)) (sym is_central) (received_none slot room pdu facts none))
   step_none DataReported facts none = none
 
   steps_none : (steps : List Step) (facts : Facts) → HasNone facts → HasNone (facts_from setup facts steps)

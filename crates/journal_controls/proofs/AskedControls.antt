@@ -14,14 +14,16 @@ use Rattle.journal_ends.specs.link_model.Hosts.{is_to_come}
 use Rattle.journal_ends.specs.link_model.Step.{Step, Disconnected, ProcedureAsked, RequestAnswered}
 use Rattle.journal_ends.specs.link_model.control_model.Control.{Answers, Asks as AsksFor, Control, after_all}
 use Rattle.journal_ends.specs.link_model.procedure_values.declared.asks.Ask.{Ask}
-use Rattle.journal_ends.specs.link_model.procedure_values.declared.asks.Ask.TheVariants.{Map}
+use Rattle.journal_ends.specs.link_model.procedure_values.declared.asks.Ask.TheVariants.{Encrypt, Map}
 use Rattle.journal_ends.specs.open_links.OpenLinks.{OpenLink, facts_in}
 use Rattle.journal_ends.specs.run_model.History.{Event}
 use Rattle.journal_ends.specs.run_model.Journal.{journal_of}
 use Rattle.journal_ends.specs.run_model.Run.{Given, after_call}
 use Rattle.journal_ends.proofs.AskedCalls.{call_journal}
 use Rattle.journal_ends.proofs.HostedLinks.{IfHostStep, IsHostStep, control_asked}
+use Rattle.journal_ends.specs.link_model.Plain.{IsPlain}
 use Rattle.journal_ends.proofs.link_model.ControlSteps.{one_step}
+use Rattle.journal_ends.proofs.link_model.Plain.{past_plain}
 use Rattle.journal_controls.specs.LineSteps.{control_after, control_from, control_on, is_coming, steps_asking}
 use Rattle.journal_controls.specs.SaidLines.{after_asking}
 use Rattle.journal_controls.proofs.EventMoves.{control_at}
@@ -128,19 +130,23 @@ call_asks given side number station step history asked c seen answers was =
 -- ---- the end
 
 -- a map that it is to have already
-same_coming : (ask : Ask) (facts : EndFacts) → is_coming ask facts.control ≡ is_to_come ask facts
-same_coming (Map map) facts = refl
-same_coming other facts = refl
+same_coming : (ask : Ask) (facts : EndFacts) → IsHostStep (ProcedureAsked ask) → is_coming ask facts.control ≡ is_to_come ask facts
+same_coming (Map map) facts by_host = refl
+same_coming (Encrypt rand ediv ltk skd_m iv_m) facts by_host = absurd by_host
+same_coming other facts by_host = refl
 
 -- it holds that control part
 pub end_asked : (base : OpenLink) (asked : Option Step) → IfHostStep asked → after_asking asked (facts_in base).control ≡ control_asked base asked
 end_asked base None by_host = refl
 end_asked base (Some step) by_host = by step by_host
   where
+    plain : IsPlain base.setup.link.role (facts_in base)
+    plain = past_plain base.setup base.past
+
     by : (step : Step) → IsHostStep step → after_asking (Some step) (facts_in base).control ≡ control_asked base (Some step)
     by (ProcedureAsked ask) by_host =
-        ap (λ b. after_all (step_if (not b) (AsksFor ask)) (facts_in base).control) (same_coming ask (facts_in base))
-        ∙ sym (one_step base.setup (facts_in base) (ProcedureAsked ask))
-    by (RequestAnswered answer) by_host = sym (one_step base.setup (facts_in base) (RequestAnswered answer))
-    by (Disconnected reason slot) by_host = sym (one_step base.setup (facts_in base) (Disconnected reason slot))
+        ap (λ b. after_all (step_if (not b) (AsksFor ask)) (facts_in base).control) (same_coming ask (facts_in base) by_host)
+        ∙ sym (one_step base.setup (facts_in base) (ProcedureAsked ask) plain)
+    by (RequestAnswered answer) by_host = sym (one_step base.setup (facts_in base) (RequestAnswered answer) plain)
+    by (Disconnected reason slot) by_host = sym (one_step base.setup (facts_in base) (Disconnected reason slot) plain)
     by other by_host = absurd by_host

@@ -1,11 +1,11 @@
 -- A packet on the air moves the control part of the end that hears it, by what the lines say of that end.
-use Rattle.std.proofs.Common.{◌≡◌, ℕ, ◌&&◌, Bool, true, false, Option, Some, None, List, [], ◌∷◌, ◌++◌, length, if◌then◌else◌, refl, sym, ap, subst, ◌∙◌}
+use Rattle.std.proofs.Common.{◌≡◌, ℕ, ◌&&◌, Bool, true, false, Option, Some, None, is_none, List, [], ◌∷◌, ◌++◌, length, if◌then◌else◌, refl, sym, ap, subst, ◌∙◌}
 use Rattle.std.proofs.lemmas.List.{append_cancel_left}
 use Rattle.air_frame.specs.declared.Heard.{Heard}
 use Rattle.air_frame.specs.declared.Heard.TheVariants.{NotOurs, Broken as Faulty, Whole}
 use Rattle.ble_base.specs.declared.roles.Role.TheVariants.{Peripheral}
 use Rattle.ble_base.specs.declared.roles.Side.{Side}
-use Rattle.ble_base.specs.declared.verdicts.Verdict.TheVariants.{Broken, Good}
+use Rattle.ble_base.specs.declared.verdicts.Verdict.TheVariants.{Broken, Forged, Good}
 use Rattle.journal_ends.specs.controller_model.declared.doing.Turn.{Turn}
 use Rattle.journal_ends.specs.Seen.{heard_in_line, heard_where}
 use Rattle.journal_ends.specs.journal_acks.Carried.{pdu_carried}
@@ -13,10 +13,11 @@ use Rattle.journal_ends.specs.journal_acks.Counted.{IsCounted}
 use Rattle.journal_ends.specs.journal_acks.Exchange.{Exchanged}
 use Rattle.journal_ends.specs.journal_acks.link_calls.Uses.{listens_under}
 use Rattle.journal_ends.specs.link_model.Facts.{Facts as EndFacts}
-use Rattle.journal_ends.specs.link_model.Packets.{good_pdu, heard_of, verdict_of}
+use Rattle.journal_ends.specs.link_model.Packets.{good_pdu, heard_of, is_forged_pdu, pdu_read, pdu_read_in, verdict_of, whole_pdu}
+use Rattle.journal_ends.specs.link_model.Payload.{opens_now}
 use Rattle.journal_ends.specs.link_model.Setup.{Setup}
 use Rattle.journal_ends.specs.link_model.Step.{PacketReceived}
-use Rattle.journal_ends.specs.link_model.Verdicts.{good_in, has_room_for, pdu_by, verdict_by}
+use Rattle.journal_ends.specs.link_model.Verdicts.{has_room_for, pdu_by, verdict_by, whole_in}
 use Rattle.journal_ends.specs.link_model.control_model.Control.{after_all}
 use Rattle.journal_ends.specs.open_links.OpenLinks.{OpenLink, facts_in}
 use Rattle.journal_ends.specs.run_model.History.{Event, Hearing, is_good}
@@ -28,6 +29,7 @@ use Rattle.journal_ends.proofs.journal_acks.Exchanging.{exchange_at}
 use Rattle.journal_ends.proofs.journal_acks.KeptLines.{IsLined}
 use Rattle.journal_ends.proofs.journal_acks.SentLines.{sent_line_at}
 use Rattle.journal_ends.proofs.journal_acks.Standing.{listener_sends}
+use Rattle.journal_ends.proofs.link_model.Plain.{past_plain}
 use Rattle.journal_ends.proofs.run_laws.Agreed.{ack_of, step_facts}
 use Rattle.journal_controls.specs.Hearing.{control_hearing, control_if}
 use Rattle.journal_controls.specs.LineSteps.{has_next, steps_heard}
@@ -45,23 +47,38 @@ data IsPacket (setup : Setup) (facts : EndFacts) (octets : List ℕ) : Type 0 wh
   HasPdu : (pdu : List ℕ) → is_good (verdict_of setup facts octets) ≡ true → good_pdu setup facts octets ≡ Some pdu → IsPacket setup facts octets
 
 packet_of : (setup : Setup) (facts : EndFacts) (octets : List ℕ) → IsPacket setup facts octets
-unfolding good_pdu verdict_of
+unfolding good_pdu verdict_of whole_pdu
 packet_of setup facts octets = by (heard_of setup facts octets) refl
   where
+    opens : Bool
+    opens = opens_now facts.encryption.end
+
+    judged : Heard → Bool
+    judged heard = is_good (verdict_by setup.link.max_rx opens (is_forged_pdu facts) heard)
+
+    read : Heard → Option (List ℕ)
+    read heard = pdu_read_in facts (whole_in setup.link.max_rx opens heard)
+
     by : (heard : Heard) → heard_of setup facts octets ≡ heard → IsPacket setup facts octets
     by NotOurs is =
-        Bad (ap (λ h. is_good (verdict_by setup.link.max_rx h)) is) (ap (good_in setup.link.max_rx) is)
+        Bad (ap judged is) (ap read is)
     by Faulty is =
-        Bad (ap (λ h. is_good (verdict_by setup.link.max_rx h)) is) (ap (good_in setup.link.max_rx) is)
-    by (Whole pdu) is = fits (has_room_for setup.link.max_rx pdu.items) refl
+        Bad (ap judged is) (ap read is)
+    by (Whole pdu) is = fits (has_room_for setup.link.max_rx opens pdu.items) refl
       where
-        fits : (room : Bool) → has_room_for setup.link.max_rx pdu.items ≡ room → IsPacket setup facts octets
-        fits true room =
-            HasPdu pdu.items (ap (λ h. is_good (verdict_by setup.link.max_rx h)) is ∙ ap (λ b. is_good (if b then Good else Broken)) room)
-            (ap (good_in setup.link.max_rx) is ∙ ap (λ b. pdu_by b pdu.items) room)
+        readable : (found : Option (List ℕ)) → pdu_read facts pdu.items ≡ found → has_room_for setup.link.max_rx opens pdu.items ≡ true → IsPacket setup facts octets
+        readable (Some other) found room =
+            HasPdu other (ap judged is ∙ (λ i. is_good (if room i then (if is_none (found i) then Forged else Good) else Broken)))
+            (ap read is ∙ ap (λ b. pdu_read_in facts (pdu_by b pdu.items)) room ∙ found)
+        readable None found room =
+            Bad (ap judged is ∙ (λ i. is_good (if room i then (if is_none (found i) then Forged else Good) else Broken)))
+            (ap read is ∙ ap (λ b. pdu_read_in facts (pdu_by b pdu.items)) room ∙ found)
+
+        fits : (room : Bool) → has_room_for setup.link.max_rx opens pdu.items ≡ room → IsPacket setup facts octets
+        fits true room = readable (pdu_read facts pdu.items) refl room
         fits false room =
-            Bad (ap (λ h. is_good (verdict_by setup.link.max_rx h)) is ∙ ap (λ b. is_good (if b then Good else Broken)) room)
-            (ap (good_in setup.link.max_rx) is ∙ ap (λ b. pdu_by b pdu.items) room)
+            Bad (ap judged is ∙ ap (λ b. is_good (if b then (if is_forged_pdu facts pdu.items then Forged else Good) else Broken)) room)
+            (ap read is ∙ ap (λ b. pdu_read_in facts (pdu_by b pdu.items)) room)
 
 -- ---- the counts of an end that is to take it
 
@@ -126,7 +143,7 @@ module _ (number : ℕ) (side : Side) (history : List Event) (station channel : 
         lined.last (fixes on) in
         heard_moves number side history station channel octets hearing turn.slot got c (heard_is ∙ hears ∙ ap (λ b. heard_where b turn.slot got) is) was
         ∙ ap (λ role. Some (after_all (steps_heard role turn.slot before then_on (pdu_carried line before.acked) (has_next c)) c)) (past_keeps setup link.past [])
-        ∙ ap Some (hearing_told turn.slot setup facts before then_on (pdu_carried line before.acked) pdu told)
+        ∙ ap Some (hearing_told turn.slot setup facts before then_on (pdu_carried line before.acked) pdu (past_plain setup link.past) told)
 
     taken_then : control_at number side after ≡ Some (control_if true turn.slot got link)
     taken_then = by (packet_of link.setup (facts_in link) got)

@@ -8,12 +8,12 @@ use Rattle.journal_ends.specs.journal_acks.Exchange.{Exchanged}
 use Rattle.journal_ends.specs.link_model.Acknowledgement.{Acknowledgement}
 use Rattle.journal_ends.specs.link_model.End.{facts_after, facts_of}
 use Rattle.journal_ends.specs.link_model.Facts.{Facts}
-use Rattle.journal_ends.specs.link_model.Packets.{good_pdu}
+use Rattle.journal_ends.specs.link_model.Packets.{good_pdu, is_forged}
 use Rattle.journal_ends.specs.link_model.Receiving.{facts_received}
 use Rattle.journal_ends.specs.link_model.Setup.{Setup}
 use Rattle.journal_ends.specs.link_model.Step.{Step, PacketReceived}
 use Rattle.journal_ends.specs.link_model.Verdicts.{pdu_of}
-use Rattle.journal_ends.proofs.link_model.Acknowledging.{ack_heard}
+use Rattle.journal_ends.proofs.link_model.Acknowledging.{ack_heard, forged_leaves}
 use Rattle.journal_ends.proofs.link_model.Counts.{past_counts}
 use Rattle.journal_controls.specs.LineSteps.{has_next}
 use Rattle.journal_controls.specs.OneEnd.{IsToldOf}
@@ -31,7 +31,8 @@ module _ (setup : Setup) (past : List Step) (slot : ℕ) (octets pdu : List ℕ)
       → IsToldOf setup.link.role facts (header_in pdu) before after (pdu_carried line before.acked)
   told_by good acked acked_now sent_now carried fixes =
       let ack = facts.acknowledgement in
-      let heard = ap (λ one. (facts_received setup.link.role slot room one facts).acknowledgement) good ∙ ack_heard setup.link.role slot room (header_in pdu) (pdu_of pdu) facts in
+      let heard = forged_leaves (is_forged setup facts octets) (facts_received setup.link.role slot room (good_pdu setup facts octets) facts)
+      ∙ ap (λ one. (facts_received setup.link.role slot room one facts).acknowledgement) good ∙ ack_heard setup.link.role slot room (header_in pdu) (pdu_of pdu) facts in
       let counts = past_counts setup past in record {
         acked_before = acked;
         acked_after = acked_now ∙ ap (λ (a : Acknowledgement). a.acked) heard;

@@ -13,14 +13,14 @@ use Rattle.journal.specs.declared.entries.Entry.TheVariants.{Took}
 use Rattle.journal_ends.specs.journal_acks.link_calls.Phases.{refusal}
 use Rattle.journal_ends.specs.journal_links.LinkLines.{line_of}
 use Rattle.journal_ends.specs.link_model.Acknowledgement.{Pdu, is_acked}
-use Rattle.journal_ends.specs.link_model.Controls.{goes_on, is_procedure_pdu, pdu_fixed}
+use Rattle.journal_ends.specs.link_model.Controls.{goes_on, is_procedure_pdu, is_quiet_now, pdu_fixed}
 use Rattle.journal_ends.specs.link_model.Data.{is_empty, numbered}
 use Rattle.journal_ends.specs.link_model.End.{facts_after, facts_of, notes_after, notes_from}
 use Rattle.journal_ends.specs.link_model.Entering.{began_notes, done_notes, event_notes, facts_entered}
 use Rattle.journal_ends.specs.link_model.Events.{applied_notes}
 use Rattle.journal_ends.specs.link_model.Facts.{Facts}
 use Rattle.journal_ends.specs.link_model.Packets.{good_pdu}
-use Rattle.journal_ends.specs.link_model.Receiving.{accepts, acked_kind, acks_control, facts_before_taking, given_if, has_acknowledged, given_notes, received_notes, refused_notes, taken_notes, took_notes_if}
+use Rattle.journal_ends.specs.link_model.Receiving.{accepts, acked_kind, acks_control, facts_before_taking, given_if, has_acknowledged, given_notes, kept_given_if, received_notes, refused_notes, taken_notes, took_notes_if}
 use Rattle.journal_ends.specs.link_model.Sending.{sent_notes_if}
 use Rattle.journal_ends.specs.link_model.Setup.{Setup, first_anchor, first_params}
 use Rattle.journal_ends.specs.link_model.Step.{Step, EventEntered, PacketReceived, PacketSent}
@@ -140,8 +140,10 @@ module _ (side : Side) (number : ℕ) where
   taken_later : (handle : ℕ) (accepted : Bool) (pdu : Pdu) (slot : ℕ) (facts : Facts) → AreLater side number (taken_notes handle accepted pdu slot facts)
   taken_later handle accepted pdu slot facts =
       let given = given_if (accepted && is_procedure_pdu pdu) pdu slot facts in
-      later_both (took_notes_if (accepted && not (is_empty pdu)) handle pdu facts) (given_notes handle given)
-      (took_later (accepted && not (is_empty pdu)) handle pdu facts) (given_later handle given)
+      let kept = kept_given_if (accepted && is_procedure_pdu pdu) pdu slot facts in
+      later_both (took_notes_if (accepted && not (is_empty pdu)) handle pdu facts) (given_notes handle given ++ given_notes handle kept)
+      (took_later (accepted && not (is_empty pdu)) handle pdu facts)
+      (later_both (given_notes handle given) (given_notes handle kept) (given_later handle given) (given_later handle kept))
 
   received_later : (setup : Setup) (slot : ℕ) (room : Bool) (pdu : Option (List ℕ)) (facts : Facts) → AreLater side number (received_notes setup slot room pdu facts)
   received_later setup slot room None facts = tt
@@ -155,7 +157,7 @@ module _ (side : Side) (number : ℕ) where
 
   step_later : (setup : Setup) (facts : Facts) (step : Step) → AreLater side number (notes_after setup facts step)
   step_later setup facts (EventEntered slot) =
-      event_later (goes_on facts) setup.link.handle (facts_entered setup slot facts).event (entry_of slot true (held_of facts.control))
+      event_later (goes_on facts) setup.link.handle (facts_entered setup slot facts).event (entry_of slot (is_quiet_now facts) (held_of facts.control))
   step_later setup facts (PacketSent slot) =
       sent_later (is_acked facts.acknowledgement && not (is_empty (pdu_fixed facts))) setup.link.handle (numbered facts.acknowledgement.sent) (pdu_fixed facts)
   step_later setup facts (PacketReceived slot octets room) = received_later setup slot room (good_pdu setup facts octets) facts

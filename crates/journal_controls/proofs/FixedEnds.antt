@@ -20,6 +20,7 @@ use Rattle.journal_ends.specs.link_model.Data.{Data, is_control}
 use Rattle.journal_ends.specs.link_model.Controls.{goes_on}
 use Rattle.journal_ends.specs.link_model.End.{facts_after as end_after, facts_of as end_facts}
 use Rattle.journal_ends.specs.link_model.Facts.{Facts as EndFacts, first_facts as first_end}
+use Rattle.journal_ends.specs.link_model.Plain.{IsPlain}
 use Rattle.journal_ends.specs.link_model.Receiving.{has_ended, replies_of}
 use Rattle.journal_ends.specs.link_model.Setup.{Setup as EndSetup}
 use Rattle.journal_ends.specs.link_model.Step.{Step, DataGiven, DataReported, EventEntered, PacketReceived, PacketSent, PduFixed}
@@ -44,6 +45,7 @@ use Rattle.journal_ends.proofs.journal_acks.link_calls.LinkPhases.{IsPhased, pha
 use Rattle.journal_ends.proofs.journal_acks.link_calls.RadioUses.{no_link}
 use Rattle.journal_ends.proofs.journal_acks.link_calls.Refusals.{only_central_refuses}
 use Rattle.journal_ends.proofs.journal_acks.link_calls.UnderHandles.{ended_under, host_under, reported_ends}
+use Rattle.journal_ends.proofs.link_model.Plain.{past_plain, step_plain}
 use Rattle.journal_ends.proofs.run_laws.Agreed.{step_facts}
 use Rattle.journal_ends.proofs.run_laws.LinkPhases.{IsInPhase}
 use Rattle.journal_ends.proofs.run_laws.TurnPlaces.{Between, IsTurned, Stage, Within, stands_in_run, turned}
@@ -162,10 +164,11 @@ begins_free true false slot setup facts is = entered_free (goes_on facts) setup 
 begins_free false true slot setup facts is = fixed_free (is_control facts.outgoing.fixed) facts is
 begins_free false false slot setup facts is = is
 
-begins_fixes : (enters : Bool) (slot : ℕ) (setup : EndSetup) (facts : EndFacts) → IsFree facts
+begins_fixes : (enters : Bool) (slot : ℕ) (setup : EndSetup) (facts : EndFacts) → IsPlain setup.link.role facts → IsFree facts
     → let now = fold (end_after setup) facts (steps_begun enters true false slot) in now.fixes_control ≡ has_next now.control
-begins_fixes true slot setup facts is = fixes_next setup (end_after setup facts (EventEntered slot)) (entered_free (goes_on facts) setup slot facts is)
-begins_fixes false slot setup facts is = fixes_next setup facts is
+begins_fixes true slot setup facts plain is =
+    fixes_next setup (end_after setup facts (EventEntered slot)) (step_plain setup facts (EventEntered slot) plain) (entered_free (goes_on facts) setup slot facts is)
+begins_fixes false slot setup facts plain is = fixes_next setup facts plain is
 
 listener_fixes : (handle : ℕ) (links : Links) (doing : Doing) → IsInPhase 0 links doing → listens_under handle doing ≡ true → fixes_under handle doing ≡ true
 listener_fixes handle links (PeripheralListens other) is on = on
@@ -343,7 +346,7 @@ fixed_kept setup = record {
             let facts_are = grown_facts has.link link _ has.setup_is (has.past_is ∙ begun_past begun handle doing has.link) in
             let same = facts_are ∙ (λ i. fold (end_after has.link.setup) (facts_in has.link) (steps_begun (enters_in begun has.link) (fixes i) (none i) begun)) in
             subst (λ (f : EndFacts). f.fixes_control ≡ has_next f.control) (sym same)
-            (begins_fixes (enters_in begun has.link) begun has.link.setup (facts_in has.link) (is.free handle has.link has.was));
+            (begins_fixes (enters_in begun has.link) begun has.link.setup (facts_in has.link) (past_plain has.link.setup has.link.past) (is.free handle has.link has.was));
       };
   passes = λ phases begun received facts is.
       let phased = (phased_kept setup).passes phases begun received facts is.phased in record {

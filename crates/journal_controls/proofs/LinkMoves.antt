@@ -20,12 +20,13 @@ use Rattle.journal_ends.specs.journal_acks.link_calls.Uses.{fixes_under, sends_u
 use Rattle.journal_ends.specs.journal_links.LinkLines.{line_of}
 use Rattle.journal_ends.specs.link_model.Acknowledgement.{Pdu}
 use Rattle.journal_ends.specs.link_model.ControlSteps.{step_if}
-use Rattle.journal_ends.specs.link_model.Controls.{goes_on}
+use Rattle.journal_ends.specs.link_model.Controls.{goes_on, is_quiet_now}
 use Rattle.journal_ends.specs.link_model.End.{facts_after as end_after, notes_after, notes_from}
 use Rattle.journal_ends.specs.link_model.Entering.{began_notes, done_notes, event_notes, facts_entered}
 use Rattle.journal_ends.specs.link_model.Events.{applied_notes}
 use Rattle.journal_ends.specs.link_model.Facts.{Facts as EndFacts}
 use Rattle.journal_ends.specs.link_model.Packets.{good_pdu}
+use Rattle.journal_ends.specs.link_model.Plain.{IsPlain}
 use Rattle.journal_ends.specs.link_model.Receiving.{accepts, facts_before_taking, facts_received, has_ended, received_notes, replies_by, replies_of}
 use Rattle.journal_ends.specs.link_model.Sending.{sent_notes_if}
 use Rattle.journal_ends.specs.link_model.Setup.{Setup as EndSetup}
@@ -43,6 +44,7 @@ use Rattle.journal_ends.proofs.journal_acks.link_calls.LinkCalls.{turn_begun_und
 use Rattle.journal_ends.proofs.journal_acks.link_calls.Refusals.{only_central_refuses}
 use Rattle.journal_ends.proofs.journal_acks.link_calls.UnderHandles.{ended_under}
 use Rattle.journal_ends.proofs.link_model.ControlSteps.{one_step}
+use Rattle.journal_ends.proofs.link_model.Plain.{past_plain, received_plain, step_plain}
 use Rattle.journal_ends.proofs.run_laws.Agreed.{step_facts}
 use Rattle.journal_controls.specs.Hearing.{control_hearing}
 use Rattle.journal_controls.specs.LineSteps.{asks_by}
@@ -137,7 +139,7 @@ module _ (side : Side) (number : ℕ) (withheld : Bool) (slot : ℕ) where
   begun_none : (enters fixes sends : Bool) (now : ℕ) (setup : EndSetup) (facts : EndFacts) → NoneIn (notes_from setup facts (steps_begun enters fixes sends now))
   begun_none true fixes sends now setup facts =
       refuse_both side number withheld slot (notes_after setup facts (EventEntered now)) _
-      (event_none (goes_on facts) setup.link.handle (facts_entered setup now facts).event (entry_of now true (held_of facts.control)))
+      (event_none (goes_on facts) setup.link.handle (facts_entered setup now facts).event (entry_of now (is_quiet_now facts) (held_of facts.control)))
       (fixing_none fixes sends now setup (end_after setup facts (EventEntered now)))
   begun_none false fixes sends now setup facts = fixing_none fixes sends now setup facts
 
@@ -218,6 +220,12 @@ module _ (side : Side) (number : ℕ) (facts : Facts) (handle : ℕ) (room : Boo
   abbrev later : Bool → Bool → List Step
   later refuses sends = first_if refuses (RequestAnswered refusal) (first_if sends (PacketSent slot) [])
 
+  plain : IsPlain setup.link.role end
+  plain = past_plain base.setup base.past
+
+  received_is : now ≡ facts_received setup.link.role slot room (good_pdu setup end octets) end
+  received_is = received_plain setup end slot octets room plain
+
   now_keeps : KeepsRole setup.link.role now.control
   now_keeps = subst (λ (f : EndFacts). KeepsRole setup.link.role f.control) (step_facts base took) (past_keeps setup (base.past ++ took ∷ []))
 
@@ -228,7 +236,7 @@ module _ (side : Side) (number : ℕ) (facts : Facts) (handle : ℕ) (room : Boo
   bad_moves : good_pdu setup end octets ≡ None → moved (notes_from setup end (took ∷ later false false)) end.control ≡ now.control
   bad_moves bad =
       (λ i. moved (received_notes setup slot room (bad i) end ++ []) end.control)
-      ∙ sym (ap (λ one. (facts_received setup.link.role slot room one end).control) bad)
+      ∙ sym (ap (λ (f : EndFacts). f.control) received_is ∙ ap (λ one. (facts_received setup.link.role slot room one end).control) bad)
 
   module _ (pdu : List ℕ) (good : good_pdu setup end octets ≡ Some pdu) where
     abbrev from : Control
@@ -239,16 +247,17 @@ module _ (side : Side) (number : ℕ) (facts : Facts) (handle : ℕ) (room : Boo
     first_moves refuses is =
         let before = facts_before_taking setup.link.role slot (header_in pdu) end in
         let same : (accepts room (header_in pdu) (pdu_of pdu) before && (asks_by slot before.control (pdu_of pdu) && withheld)) ≡ refuses =
-        sym (asked facts.view handle slot room setup end octets pdu good) ∙ sym refusal_is ∙ is in
+        sym (asked facts.view handle slot room setup end octets pdu plain good) ∙ sym refusal_is ∙ is in
         ap (λ one. moved (received_notes setup slot room one end) from) good
-        ∙ received_by_lines side number withheld slot room setup end pdu
+        ∙ received_by_lines side number withheld slot room setup end pdu plain
         ∙ (λ i. after_all (step_if (same i) (Answers refusal)) (facts_received setup.link.role slot room (sym good i) end).control)
+        ∙ ap (λ (f : EndFacts). after_all (step_if refuses (Answers refusal)) f.control) (sym received_is)
 
     later_moves : (refuses sends : Bool) → (refuses ≡ true → setup.link.role ≡ Central) → (sends ≡ true → setup.link.role ≡ Peripheral)
         → moved (notes_from setup now (later refuses sends)) (after_all (step_if refuses (Answers refusal)) now.control)
         ≡ (fold (end_after setup) now (later refuses sends)).control
     later_moves true true central peripheral = absurd (let h : Central ≡ Peripheral = sym (central refl) ∙ peripheral refl in absurd cc)
-    later_moves true false central peripheral = sym (one_step setup now (RequestAnswered refusal))
+    later_moves true false central peripheral = sym (one_step setup now (RequestAnswered refusal) (step_plain setup end took plain))
     later_moves false sends central peripheral =
         moved_noted side number withheld slot setup.link.role (notes_from setup now (first_if sends (PacketSent slot) [])) now.control now_keeps
         (sending_none side number withheld slot sends slot setup now)

@@ -18,7 +18,7 @@ use Rattle.journal_ends.specs.link_model.Data.{is_control, is_empty}
 use Rattle.journal_ends.specs.link_model.Entering.{began_notes, done_notes, event_notes}
 use Rattle.journal_ends.specs.link_model.Events.{applied_notes}
 use Rattle.journal_ends.specs.link_model.Facts.{Facts}
-use Rattle.journal_ends.specs.link_model.Receiving.{given_notes, refused_notes, taken_notes, given_if, took_notes_if}
+use Rattle.journal_ends.specs.link_model.Receiving.{given_if, given_notes, kept_given_if, refused_notes, taken_notes, took_notes_if}
 use Rattle.journal_ends.specs.link_model.Sending.{sent_notes_if}
 use Rattle.journal_ends.specs.link_model.control_end.declared.answers.Entry.{Entry}
 use Rattle.journal_ends.specs.link_model.control_end.declared.answers.Taken.{Taken}
@@ -95,8 +95,10 @@ module _ (side : Side) (number : ℕ) (role : Role) (slot : ℕ) where
       → noted (taken_notes handle accepted pdu slot now) ≡ step_if (accepted && is_procedure_pdu pdu) (Takes (read_of pdu) slot true)
   taken_steps accepted handle pdu now =
       let given = given_if (accepted && is_procedure_pdu pdu) pdu slot now in
-      noted_both (took_notes_if (accepted && not (is_empty pdu)) handle pdu now) (given_notes handle given)
-      ∙ (λ i. took_steps accepted (is_empty pdu) (is_control pdu) handle pdu now refl refl i ++ given_none handle given i)
+      let kept = kept_given_if (accepted && is_procedure_pdu pdu) pdu slot now in
+      let none = noted_both (given_notes handle given) (given_notes handle kept) ∙ (λ i. given_none handle given i ++ given_none handle kept i) in
+      noted_both (took_notes_if (accepted && not (is_empty pdu)) handle pdu now) (given_notes handle given ++ given_notes handle kept)
+      ∙ (λ i. took_steps accepted (is_empty pdu) (is_control pdu) handle pdu now refl refl i ++ none i)
       ∙ append-nil (step_if (accepted && is_procedure_pdu pdu) (Takes (read_of pdu) slot true))
 
   -- a procedure that is done, and a PDU that is taken

@@ -15,12 +15,13 @@ use Rattle.journal_ends.specs.journal_acks.link_calls.Phases.{refusal}
 use Rattle.journal_ends.specs.journal_links.LinkLines.{line_of}
 use Rattle.journal_ends.specs.link_model.Acknowledgement.{Pdu}
 use Rattle.journal_ends.specs.link_model.ControlSteps.{step_if}
-use Rattle.journal_ends.specs.link_model.Controls.{is_procedure_pdu, read_of}
+use Rattle.journal_ends.specs.link_model.Controls.{is_procedure_pdu, is_quiet_now, read_of}
 use Rattle.journal_ends.specs.link_model.Data.{is_control, is_empty}
 use Rattle.journal_ends.specs.link_model.Entering.{done_notes}
 use Rattle.journal_ends.specs.link_model.Facts.{Facts}
 use Rattle.journal_ends.specs.link_model.Packets.{good_pdu}
-use Rattle.journal_ends.specs.link_model.Receiving.{accepted_if, accepts, acked_kind, acknowledged_if, acks_control, answers_with_control, control_acked_if, effect_of, effect_received, effect_unless_known, facts_before_taking, facts_received, given_if, given_notes, has_acknowledged, heard_in_slot, procedures_give, procedures_take_if, received_notes, refused_notes, taken_notes, took_notes_if}
+use Rattle.journal_ends.specs.link_model.Plain.{IsPlain, control_acked_if, plain_accepted_if, plain_acknowledged_if, plain_before_taking, plain_takes_if}
+use Rattle.journal_ends.specs.link_model.Receiving.{accepts, acked_kind, acks_control, answers_with_control, effect_of, effect_received, effect_unless_known, facts_before_taking, facts_hearing, facts_received, given_if, given_notes, has_acknowledged, heard_in_slot, kept_given_if, procedures_give, received_notes, refused_notes, taken_notes, took_notes_if}
 use Rattle.journal_ends.specs.link_model.Sending.{control_gone_if}
 use Rattle.journal_ends.specs.link_model.Setup.{Setup}
 use Rattle.journal_ends.specs.link_model.Verdicts.{pdu_of}
@@ -32,6 +33,7 @@ use Rattle.journal_ends.specs.link_model.declared.state.KnownLengths.{KnownLengt
 use Rattle.journal_ends.specs.link_model.procedure_stages.Steps.{asks_host}
 use Rattle.journal_ends.specs.link_model.procedure_stages.declared.steps.Effect.{Effect}
 use Rattle.journal_ends.specs.link_model.procedure_stages.declared.steps.Effect.TheVariants.{AskHost, Lengths as new_lengths, Nothing}
+use Rattle.journal_ends.proofs.link_model.Plain.{before_taking_plain, before_taking_stays, gives_plain, hearing_plain, quiet_plain}
 use Rattle.journal_controls.specs.Hearing.{control_hearing}
 use Rattle.journal_controls.specs.LineSteps.{asks_by, has_next, steps_heard}
 use Rattle.journal_controls.specs.OneEnd.{IsToldOf}
@@ -42,22 +44,24 @@ use Rattle.journal_controls.proofs.NotedSteps.{joined}
 
 -- ---- as the packet reaches it
 
-gone_by : (acks goes : Bool) (slot : ℕ) (own : Facts) (control : Control) → own.control ≡ control_acked_if acks control
+gone_by : (acks goes : Bool) (slot : ℕ) (own : Facts) (control : Control) → own.control ≡ control_acked_if acks control → is_quiet_now own ≡ true
     → after_all (step_if acks SeesAcknowledged ++ step_if goes (Sends slot true)) control ≡ (control_gone_if goes slot own).control
-gone_by true true slot own control is = ap (after (Sends slot true)) (sym is)
-gone_by true false slot own control is = sym is
-gone_by false true slot own control is = ap (after (Sends slot true)) (sym is)
-gone_by false false slot own control is = sym is
+gone_by true true slot own control is quiet = λ i. after (Sends slot (sym quiet i)) (sym is i)
+gone_by true false slot own control is quiet = sym is
+gone_by false true slot own control is quiet = λ i. after (Sends slot (sym quiet i)) (sym is i)
+gone_by false false slot own control is quiet = sym is
 
 -- the lines say what it is then
-pub hearing_told : (slot : ℕ) (setup : Setup) (facts : Facts) (before after : Exchanged) (last : Pdu) (pdu : List ℕ) → IsToldOf setup.link.role facts (header_in pdu) before after last
+pub hearing_told : (slot : ℕ) (setup : Setup) (facts : Facts) (before after : Exchanged) (last : Pdu) (pdu : List ℕ) → IsPlain setup.link.role facts → IsToldOf setup.link.role facts (header_in pdu) before after last
     → after_all (steps_heard setup.link.role slot before after last (has_next facts.control)) facts.control ≡ control_hearing setup.link.role slot (Some pdu) facts
-hearing_told slot setup facts before after last pdu told =
+hearing_told slot setup facts before after last pdu plain told =
     let header = header_in pdu in
     let acks = has_acknowledged facts header in
-    let own = acknowledged_if acks (heard_in_slot slot header.md facts) in
+    let role = setup.link.role in
+    let own = plain_acknowledged_if acks (heard_in_slot slot header.md facts) in
     told_steps slot setup facts before after last header told
-    ∙ gone_by (acks_control acks facts) (answers_with_control setup.link.role own) slot own facts.control refl
+    ∙ gone_by (acks_control acks facts) (answers_with_control role own) slot own facts.control refl (quiet_plain role facts plain)
+    ∙ ap (λ (f : Facts). f.control) (sym (before_taking_plain role role slot header facts plain))
 
 -- ---- the lines of its notes
 
@@ -114,16 +118,19 @@ module _ (side : Side) (number : ℕ) (withheld : Bool) (slot : ℕ) where
       let done = done_notes handle (acked_kind (acks_control (has_acknowledged facts header) facts) facts) in
       let took = took_notes_if (accepted && not (is_empty pdu)) handle pdu now in
       let given = given_if (accepted && is_procedure_pdu pdu) pdu slot now in
+      let kept = kept_given_if (accepted && is_procedure_pdu pdu) pdu slot now in
       moved_more done (taken_notes handle accepted pdu slot now) now.control
       ∙ ap (moved (taken_notes handle accepted pdu slot now)) (done_still handle (acked_kind (acks_control (has_acknowledged facts header) facts) facts) now.control)
-      ∙ moved_more took (given_notes handle given) now.control
+      ∙ moved_more took (given_notes handle given ++ given_notes handle kept) now.control
+      ∙ moved_more (given_notes handle given) (given_notes handle kept) (moved took now.control)
+      ∙ given_still handle kept (moved (given_notes handle given) (moved took now.control))
       ∙ given_still handle given (moved took now.control)
       ∙ took_moved accepted (is_empty pdu) handle pdu now now.control refl
 
 -- ---- what the end holds then
 
 taken_control : (takes : Bool) (pdu : Pdu) (slot : ℕ) (facts : Facts)
-    → (procedures_take_if takes pdu slot facts).control ≡ after_all (step_if takes (Takes (read_of pdu) slot true)) facts.control
+    → (plain_takes_if takes pdu slot facts).control ≡ after_all (step_if takes (Takes (read_of pdu) slot true)) facts.control
 taken_control true pdu slot facts = refl
 taken_control false pdu slot facts = refl
 
@@ -156,11 +163,11 @@ module _ (view : View) (handle slot : ℕ) (room : Bool) (setup : Setup) (facts 
   unfolding effect_of
   unasked bad = ap (λ one. is_refused view handle (effect_received setup.link.role slot room one facts)) bad
 
-  pub asked : (pdu : List ℕ) → good_pdu setup facts octets ≡ Some pdu → let now = facts_before_taking setup.link.role slot (header_in pdu) facts in
+  pub asked : (pdu : List ℕ) → IsPlain setup.link.role facts → good_pdu setup facts octets ≡ Some pdu → let now = facts_before_taking setup.link.role slot (header_in pdu) facts in
       is_refused view handle (effect_of setup facts slot octets room)
       ≡ (accepts room (header_in pdu) (pdu_of pdu) now && (asks_by slot now.control (pdu_of pdu) && withholds_requests (view_masks view)))
   unfolding effect_of
-  asked octets_heard good =
+  asked octets_heard plain good =
       let header = header_in octets_heard in
       let pdu = pdu_of octets_heard in
       let now = facts_before_taking setup.link.role slot header facts in
@@ -168,23 +175,32 @@ module _ (view : View) (handle slot : ℕ) (room : Bool) (setup : Setup) (facts 
       let withheld = withholds_requests (view_masks view) in
       ap (λ one. is_refused view handle (effect_received setup.link.role slot room one facts)) good
       ∙ asked_by view handle (effect_received setup.link.role slot room (Some octets_heard) facts)
-      ∙ ap (λ b. b && withheld) (known_asks facts.lengths (given_if (accepted && is_procedure_pdu pdu) pdu slot now).effect ∙ given_asks accepted (is_procedure_pdu pdu) pdu slot now)
+      ∙ ap (λ b. b && withheld) (known_asks facts.lengths (given_if (accepted && is_procedure_pdu pdu) pdu slot now).effect ∙ given_asks accepted (is_procedure_pdu pdu) pdu slot now
+      ∙ ap (λ (given : Taken). accepted && (is_procedure_pdu pdu && asks_host given.effect))
+      (gives_plain setup.link.role pdu slot now (before_taking_stays setup.link.role setup.link.role slot header facts plain)))
       ∙ both_with accepted (asks_by slot now.control pdu) withheld
 
 -- ---- all of it
 
 module _ (side : Side) (number : ℕ) (withheld : Bool) (slot : ℕ) (room : Bool) (setup : Setup) (facts : Facts) where
   -- what its lines say, with the refusal that they do not say
-  pub received_by_lines : (pdu : List ℕ) → let now = facts_before_taking setup.link.role slot (header_in pdu) facts in
+  pub received_by_lines : (pdu : List ℕ) → IsPlain setup.link.role facts → let now = facts_before_taking setup.link.role slot (header_in pdu) facts in
       let refuses = (accepts room (header_in pdu) (pdu_of pdu) now && (asks_by slot now.control (pdu_of pdu) && withheld)) in
       moved_by withheld slot (map (line_of side number) (received_notes setup slot room (Some pdu) facts)) now.control
       ≡ after_all (step_if refuses (Answers refusal)) (facts_received setup.link.role slot room (Some pdu) facts).control
-  received_by_lines octets =
+  received_by_lines octets plain =
+      let role = setup.link.role in
       let header = header_in octets in
       let pdu = pdu_of octets in
       let now = facts_before_taking setup.link.role slot header facts in
       let accepted = accepts room header pdu now in
       let refuses = step_if (accepted && (asks_by slot now.control pdu && withheld)) (Answers refusal) in
+      let before = plain_before_taking role slot header facts in
+      let taken : (facts_hearing role slot room header pdu facts).control ≡ after_all (step_if (accepted && is_procedure_pdu pdu) (Takes (read_of pdu) slot true)) now.control =
+      ap (λ (f : Facts). f.control) (hearing_plain role role slot room header pdu facts plain)
+      ∙ taken_control (accepts room header pdu before && is_procedure_pdu pdu) pdu slot (plain_accepted_if (accepts room header pdu before) pdu before)
+      ∙ ap (λ (f : Facts). after_all (step_if (accepts room header pdu f && is_procedure_pdu pdu) (Takes (read_of pdu) slot true)) f.control)
+      (sym (before_taking_plain role role slot header facts plain)) in
       received_moved side number withheld slot setup room octets facts
       ∙ joined (step_if (accepted && is_procedure_pdu pdu) (Takes (read_of pdu) slot true)) refuses now.control
-      ∙ ap (after_all refuses) (sym (taken_control (accepted && is_procedure_pdu pdu) pdu slot (accepted_if accepted pdu now)))
+      ∙ ap (after_all refuses) (sym taken)

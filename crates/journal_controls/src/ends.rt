@@ -23,8 +23,9 @@ ghost use Rattle.journal_controls.specs.OneEnd.{IsToldOf, steps_noted};
 /// As an end enters an event, its control part goes by the steps of the lines that it says then
 /// (Core 5.2, volume 6 part B, sections 4.5.1, 5.1 and 5.5).
 pub fn an_entry_moves_the_control_part_by_its_lines()
-    ensures { (side : Side) (number slot : ℕ) (setup : Setup) (facts : Facts)
-        → (facts_after setup facts (EventEntered slot)).control
+    ensures { (side : Side) (number slot : ℕ) (setup : Setup) (past : List Step)
+        → let facts = facts_of setup past in
+        (facts_after setup facts (EventEntered slot)).control
         ≡ after_all (steps_noted side number setup.link.role slot
         (notes_after setup facts (EventEntered slot))) facts.control }
 {}
@@ -52,8 +53,8 @@ pub fn a_sending_moves_the_control_part_by_its_lines()
 /// volume 6 part B, sections 4.5.9 and 5.1).
 pub fn a_good_packet_moves_the_control_part_by_its_lines()
     ensures { (side : Side) (number slot : ℕ) (octets pdu : List ℕ) (room : Bool) (setup : Setup)
-        (facts : Facts) (before after : Exchanged) (last : Pdu)
-        → good_pdu setup facts octets ≡ Some pdu
+        (past : List Step) (before after : Exchanged) (last : Pdu)
+        → let facts = facts_of setup past in good_pdu setup facts octets ≡ Some pdu
         → IsToldOf setup.link.role facts (header_in pdu) before after last
         → (facts_after setup facts (PacketReceived slot octets room)).control
         ≡ after_all (steps_noted side number setup.link.role slot

@@ -21,8 +21,8 @@ ghost use Rattle.journal_controls.specs.LineSteps.{has_next};
 /// packet reaches it is one once it has answered; where it does not answer, it is one, or it ended
 /// the link (Core 5.2, volume 6 part B, section 4.5.9; when a PDU is fixed is our choice).
 pub fn a_control_pdu_is_fixed_where_one_waits()
-    ensures fixes { (setup : Setup) (facts : Facts) → is_control facts.outgoing.fixed ≡ false
-        → let now = facts_after setup facts PduFixed in
+    ensures fixes { (setup : Setup) (past : List Step) → let facts = facts_of setup past in
+        is_control facts.outgoing.fixed ≡ false → let now = facts_after setup facts PduFixed in
         now.fixes_control ≡ has_next now.control }
     ensures central { (setup : Setup) (past : List Step) → setup.link.role ≡ Role.Central
         → is_control (facts_of setup past).outgoing.fixed ≡ false }

@@ -7,7 +7,6 @@ ghost use Rattle.data_pdu.specs.Header.{header_in};
 ghost use Rattle.journal_ends.specs.journal_acks.Exchange.{Exchanged};
 ghost use Rattle.journal_ends.specs.link_model.Acknowledgement.{Pdu};
 ghost use Rattle.journal_ends.specs.link_model.End.{facts_after, facts_of, notes_from};
-ghost use Rattle.journal_ends.specs.link_model.Facts.{Facts};
 ghost use Rattle.journal_ends.specs.link_model.Packets.{good_pdu};
 ghost use Rattle.journal_ends.specs.link_model.Setup.{Setup};
 ghost use Rattle.journal_ends.specs.link_model.Step.{Step};
@@ -34,9 +33,9 @@ pub fn a_turn_that_begins_moves_the_control_part_by_its_lines()
 /// that the end says (Core 5.2, volume 6 part B, sections 4.5.1 and 4.5.9).
 pub fn a_packet_that_is_taken_moves_the_control_part_by_its_lines()
     ensures { (side : Side) (number slot : ℕ) (octets pdu : List ℕ) (room answers : Bool)
-        (setup : Setup) (facts : Facts) (before after : Exchanged) (last : Pdu)
+        (setup : Setup) (past : List Step) (before after : Exchanged) (last : Pdu)
         → (answers ≡ true → setup.link.role ≡ Role.Peripheral)
-        → good_pdu setup facts octets ≡ Some pdu
+        → let facts = facts_of setup past in good_pdu setup facts octets ≡ Some pdu
         → IsToldOf setup.link.role facts (header_in pdu) before after last
         → let steps = steps_taken slot octets room answers in
         (fold (facts_after setup) facts steps).control

@@ -13,7 +13,7 @@ use Rattle.journal_collisions.specs.journal_data.link_model.Data.{is_empty}
 use Rattle.journal_collisions.specs.journal_data.link_model.Entering.{done_notes}
 use Rattle.journal_collisions.specs.journal_data.link_model.Facts.{Facts}
 use Rattle.journal_collisions.specs.journal_data.link_model.Numbers.{is_took_note}
-use Rattle.journal_collisions.specs.journal_data.link_model.Receiving.{accepts, acked_kind, acks_control, facts_before_taking, given_if, given_notes, has_acknowledged, received_notes, refused_notes, took_notes_if}
+use Rattle.journal_collisions.specs.journal_data.link_model.Receiving.{accepts, acked_kind, acks_control, facts_before_taking, given_if, given_notes, has_acknowledged, kept_given_if, received_notes, refused_notes, took_notes_if}
 use Rattle.journal_collisions.specs.journal_data.link_model.Setup.{Setup}
 use Rattle.journal_collisions.specs.journal_data.link_model.Verdicts.{pdu_of}
 
@@ -53,9 +53,12 @@ received_tooks setup slot room (Some octets) facts =
     let now = facts_before_taking setup.link.role slot header facts in
     let accepted = accepts room header pdu now in
     let given = given_if (accepted && is_procedure_pdu pdu) pdu slot now in
+    let kept = kept_given_if (accepted && is_procedure_pdu pdu) pdu slot now in
     let done = acked_kind (acks_control (has_acknowledged facts header) facts) facts in
-    three_parts (done_notes own done) (took_notes_if (accepted && not (is_empty pdu)) own pdu now) (given_notes own given)
-    (done_tooks own done) (took_tooks (accepted && not (is_empty pdu)) own pdu now) (given_tooks own given.refused given.done)
+    let none = tooks_more (given_notes own given) (given_notes own kept)
+    ∙ (λ i. given_tooks own given.refused given.done i + given_tooks own kept.refused kept.done i) in
+    three_parts (done_notes own done) (took_notes_if (accepted && not (is_empty pdu)) own pdu now) (given_notes own given ++ given_notes own kept)
+    (done_tooks own done) (took_tooks (accepted && not (is_empty pdu)) own pdu now) none
 
 pub same_tooks : (notes others : List Note) → notes ≡ others → tooks notes ≤ 1 → tooks others ≤ 1
 same_tooks notes others same few = let count = ap tooks same in omega (arith, count, few)

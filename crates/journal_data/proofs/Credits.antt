@@ -12,10 +12,10 @@ use Rattle.hci_evt.specs.Event.{written}
 use Rattle.hci_evt.specs.declared.event.Event.TheVariants.{CompletedPackets}
 use Rattle.host_view.specs.Noted.{two_octets}
 use Rattle.wire_fields.specs.Field.{little_endian}
-use Rattle.journal_acks.specs.link_model.Data.{Data, data_acked_if, data_given, data_sent_if}
+use Rattle.journal_acks.specs.link_model.Data.{Data, data_acked_if, data_given}
 use Rattle.journal_acks.specs.link_model.End.{facts_after as end_after, facts_of as end_facts, notes_after as end_notes}
 use Rattle.journal_acks.specs.link_model.Receiving.{received_notes}
-use Rattle.journal_acks.specs.link_model.Sending.{sent_notes}
+use Rattle.journal_acks.specs.link_model.Sending.{data_sent_as, sent_notes}
 use Rattle.journal_acks.specs.link_model.Facts.{Facts as EndFacts}
 use Rattle.journal_acks.specs.link_model.Packets.{good_pdu}
 use Rattle.journal_acks.specs.link_model.Setup.{Setup as EndSetup}
@@ -90,9 +90,9 @@ reported_given : (handle : ℕ) (start : Bool) (octets : List ℕ) (outgoing : D
 reported_given handle start [] outgoing = refl
 reported_given handle start (octet ∷ octets) outgoing = refl
 
-reported_sent : (is_new : Bool) (outgoing : Data) → (data_sent_if is_new outgoing).reported ≡ outgoing.reported
-reported_sent true outgoing = refl
-reported_sent false outgoing = refl
+reported_sent : (payload : List ℕ) (is_new : Bool) (outgoing : Data) → (data_sent_as payload is_new outgoing).reported ≡ outgoing.reported
+reported_sent payload true outgoing = refl
+reported_sent payload false outgoing = refl
 
 reported_acked : (acked : Bool) (outgoing : Data) → (data_acked_if acked outgoing).reported ≡ outgoing.reported
 reported_acked true outgoing = refl
@@ -102,7 +102,7 @@ reported_kept : (reported : ℕ) → IsKeptByEnd (λ outgoing. outgoing.reported
 reported_kept reported = record {
   sending = record {
     fixed = λ limit pdu more outgoing same. same;
-    sent = λ is_new outgoing same. reported_sent is_new outgoing ∙ same;
+    sent = λ payload is_new outgoing same. reported_sent payload is_new outgoing ∙ same;
   };
   acked = λ acked outgoing same. reported_acked acked outgoing ∙ same;
 }

@@ -5,7 +5,8 @@ use Rattle.std.specs.Prelude.{◌&&◌, fold, is_some, nat_lt, ⊤}
 use Rattle.std.specs.List.{find}
 use Rattle.std.proofs.lemmas.List.Sums.{fold-append, sum_by-cons}
 use Rattle.acl_banks.specs.Packets.{DataPacket, packet_after_acked, packet_after_went, with_first, without_first}
-use Rattle.journal_acks.specs.link_model.Data.{Data, data_acked_if, data_completed, data_given, data_sent_if, is_completed, is_data, is_out, is_unsent}
+use Rattle.journal_acks.specs.link_model.Data.{Data, data_acked_if, data_completed, data_given, is_completed, is_data, is_out, is_unsent}
+use Rattle.journal_acks.specs.link_model.Sending.{data_sent_as}
 use Rattle.journal_acks.specs.link_model.End.{facts_after as end_after, facts_of as end_facts}
 use Rattle.journal_acks.specs.link_model.Facts.{Facts as EndFacts, first_facts as first_end}
 use Rattle.journal_acks.specs.link_model.Setup.{Setup as EndSetup}
@@ -87,15 +88,15 @@ sent_as : (is_piece : Bool) (outgoing : Data)
 sent_as true outgoing = length-with is_unsent (packet_after_went (length outgoing.fixed.body)) outgoing.packets
 sent_as false outgoing = refl
 
-sent_load : (is_new : Bool) (outgoing : Data) → load_in (data_sent_if is_new outgoing) ≤ load_in outgoing
-sent_load true outgoing = let same = sent_as (is_data outgoing.fixed) outgoing in omega (arith, same)
-sent_load false outgoing = omega arith
+sent_load : (payload : List ℕ) (is_new : Bool) (outgoing : Data) → load_in (data_sent_as payload is_new outgoing) ≤ load_in outgoing
+sent_load payload true outgoing = let same = sent_as (is_data outgoing.fixed) outgoing in omega (arith, same)
+sent_load payload false outgoing = omega arith
 
 load_kept : (most : ℕ) → IsKeptByEnd (λ outgoing. load_in outgoing ≤ most)
 load_kept most = record {
   sending = record {
     fixed = λ limit pdu more outgoing few. few;
-    sent = λ is_new outgoing few. let less = sent_load is_new outgoing in omega (arith, less, few);
+    sent = λ payload is_new outgoing few. let less = sent_load payload is_new outgoing in omega (arith, less, few);
   };
   acked = λ acked outgoing few. let less = acked_load acked outgoing in omega (arith, less, few);
 }

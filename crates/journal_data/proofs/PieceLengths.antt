@@ -1,5 +1,5 @@
 -- What a host receives of data is the payload of a PDU, so its length fits into the length of an ACL packet.
-use Rattle.std.proofs.Common.{◌≡◌, ℕ, ◌≤◌, ◌%◌, ◌==◌, Bool, true, false, Option, Some, None, List, [], ◌∷◌, ◌++◌, length, cond, refl, ◌∙◌, arith, ◌*◌, ◌/◌, ◌+◌}
+use Rattle.std.proofs.Common.{◌≡◌, ℕ, ◌≤◌, ◌%◌, ◌==◌, Bool, true, false, Option, Some, None, List, [], ◌∷◌, ◌++◌, length, cond, refl, sym, subst, ◌∙◌, arith, ◌*◌, ◌/◌, ◌+◌}
 use Rattle.std.specs.Prelude.{IfSome, not, take, if◌then◌else◌}
 use Rattle.std.specs.List.{AllByRecursion}
 use Rattle.std.specs.Str.{bytes_eq}
@@ -17,9 +17,13 @@ use Rattle.journal_acks.specs.link_model.Acknowledgement.{Pdu}
 use Rattle.journal_acks.specs.link_model.Facts.{Facts as EndFacts}
 use Rattle.journal_acks.specs.link_model.Kept.{kept_from}
 use Rattle.journal_acks.specs.link_model.Pieces.{kept_if}
-use Rattle.journal_acks.specs.link_model.Verdicts.{good_in, has_room_for, pdu_by, pdu_of}
-use Rattle.journal_acks.specs.link_model.Packets.{good_pdu}
+use Rattle.journal_acks.specs.link_model.Verdicts.{has_room_for, pdu_by, pdu_of, whole_in}
+use Rattle.journal_acks.specs.link_model.Packets.{good_pdu, whole_pdu}
+use Rattle.journal_acks.specs.link_model.Payload.{opens_now}
 use Rattle.journal_acks.specs.link_model.Setup.{Setup as EndSetup}
+use Rattle.journal_acks.specs.link_model.Step.{Step as EndStep}
+use Rattle.journal_acks.specs.link_model.End.{facts_of as end_facts}
+use Rattle.journal_acks.proofs.link_model.Plain.{good_plain, past_plain}
 use Rattle.journal_acks.specs.open_links.declared.ended.LinkEnded.{LinkEnded}
 use Rattle.journal_acks.specs.open_links.Data.{received_past}
 use Rattle.journal_acks.specs.open_links.Ended.{received_without}
@@ -65,10 +69,10 @@ commanded_short other received are = are
 
 -- ---- what is taken
 
--- a good PDU has at most 257 octets
-good_short : (setup : EndSetup) (facts : EndFacts) (octets : List ℕ) → IfSome (good_pdu setup facts octets) (λ pdu. length pdu ≤ 257)
-unfolding good_pdu heard_in
-good_short setup facts octets =
+-- a whole PDU has at most 257 octets
+whole_short : (setup : EndSetup) (facts : EndFacts) (octets : List ℕ) → IfSome (whole_pdu setup facts octets) (λ pdu. length pdu ≤ 257)
+unfolding whole_pdu heard_in
+whole_short setup facts octets =
     heard (bytes_eq (take 4 octets) (access_octets setup.link.fields.access))
     (is_packet facts.event.channel setup.link.fields.access setup.link.fields.crc_init octets) refl
   where
@@ -77,15 +81,21 @@ good_short setup facts octets =
     fits false pdu short = tt
 
     heard : (ours packet : Bool) → is_packet facts.event.channel setup.link.fields.access setup.link.fields.crc_init octets ≡ packet
-        → IfSome (good_in setup.link.max_rx (if ours then (if packet then Whole (record { items = pdu_in facts.event.channel octets }) else Broken) else NotOurs))
+        → IfSome (whole_in setup.link.max_rx (opens_now facts.encryption.end) (if ours then (if packet then Whole (record { items = pdu_in facts.event.channel octets }) else Broken) else NotOurs))
         (λ pdu. length pdu ≤ 257)
     heard false packet is = tt
     heard true false is = tt
     heard true true is =
         let pdu = pdu_in facts.event.channel octets in
-        fits (has_room_for setup.link.max_rx pdu) pdu
+        fits (has_room_for setup.link.max_rx (opens_now facts.encryption.end) pdu) pdu
         (form-fits pdu (and_parts (is_pdu pdu)
         (bytes_eq octets (on_air facts.event.channel setup.link.fields.access setup.link.fields.crc_init pdu)) is).0)
+
+-- so has a good one: no end encrypts yet
+good_short : (setup : EndSetup) (past : List EndStep) (octets : List ℕ) → IfSome (good_pdu setup (end_facts setup past) octets) (λ pdu. length pdu ≤ 257)
+good_short setup past octets =
+    let facts = end_facts setup past in
+    subst (λ found. IfSome found (λ pdu. length pdu ≤ 257)) (sym (good_plain setup facts octets (past_plain setup past))) (whole_short setup facts octets)
 
 piece_short : (keeps : Bool) (handle : ℕ) (pdu : Pdu) → length pdu.body ≤ 255 → AreShort (kept_if keeps handle pdu)
 piece_short true handle pdu short = (short, tt)
@@ -100,7 +110,7 @@ found_short setup slot room (Some pdu) facts short =
 taken_short : (slot : ℕ) (room : Bool) (octets : List ℕ) (place : Option OpenLink) → AreShort (piece_taken slot room place octets)
 taken_short slot room octets None = tt
 taken_short slot room octets (Some link) =
-    found_short link.setup slot room (good_pdu link.setup (facts_in link) octets) (facts_in link) (good_short link.setup (facts_in link) octets)
+    found_short link.setup slot room (good_pdu link.setup (facts_in link) octets) (facts_in link) (good_short link.setup link.past octets)
 
 -- ---- at any time
 

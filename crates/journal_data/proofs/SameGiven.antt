@@ -4,7 +4,8 @@ use Rattle.std.specs.Prelude.{◌&&◌, nat_lt, ⊤}
 use Rattle.ble_base.specs.declared.notes.Note.{Note}
 use Rattle.std.specs.Option.{option_map}
 use Rattle.acl_banks.specs.History.{HostData}
-use Rattle.journal_acks.specs.link_model.Data.{Data, data_acked_if, data_sent_if}
+use Rattle.journal_acks.specs.link_model.Data.{Data, data_acked_if}
+use Rattle.journal_acks.specs.link_model.Sending.{data_sent_as}
 use Rattle.journal_acks.specs.link_model.Facts.{Facts as EndFacts}
 use Rattle.journal_acks.specs.link_model.Setup.{Setup as EndSetup}
 use Rattle.journal_acks.specs.link_model.Step.{Step as EndStep, EventEntered, PduFixed, PacketSent, PacketReceived, DataReported, RequestAnswered}
@@ -48,9 +49,9 @@ after_step : (link : OpenLink) (step : EndStep) (facts : EndFacts) → facts_in 
     → given_in (link_after step link) ≡ given_in link
 after_step link step facts is same = ap (λ (f : EndFacts). f.outgoing.given) is ∙ same
 
-pub sent_same : (new : Bool) (outgoing : Data) → (data_sent_if new outgoing).given ≡ outgoing.given
-sent_same true outgoing = refl
-sent_same false outgoing = refl
+pub sent_same : (payload : List ℕ) (new : Bool) (outgoing : Data) → (data_sent_as payload new outgoing).given ≡ outgoing.given
+sent_same payload true outgoing = refl
+sent_same payload false outgoing = refl
 
 acked_same : (acked : Bool) (outgoing : Data) → (data_acked_if acked outgoing).given ≡ outgoing.given
 acked_same true outgoing = refl
@@ -60,7 +61,7 @@ given_kept : (given : List HostData) → IsKeptByEnd (λ outgoing. outgoing.give
 given_kept given = record {
   sending = record {
     fixed = λ limit pdu more outgoing same. same;
-    sent = λ is_new outgoing same. sent_same is_new outgoing ∙ same;
+    sent = λ payload is_new outgoing same. sent_same payload is_new outgoing ∙ same;
   };
   acked = λ acked outgoing same. acked_same acked outgoing ∙ same;
 }

@@ -1,11 +1,11 @@
 -- What is due to a side of which an end hears a packet: the line of the procedure that the packet completes.
-use Rattle.std.proofs.Common.{◌≡◌, ℕ, ◌+◌, ◌&&◌, not, Bool, true, false, Option, Some, None, List, length, refl, sym, ap, subst, ◌∙◌, arith}
+use Rattle.std.proofs.Common.{◌≡◌, ℕ, ◌+◌, ◌&&◌, not, Bool, true, false, Option, Some, None, is_none, List, length, refl, sym, ap, subst, ◌∙◌, arith}
 use Rattle.std.specs.Prelude.{nat_lt, if◌then◌else◌}
 use Rattle.std.proofs.lemmas.Bool.{eqb-false}
 use Rattle.ack_bit.specs.AckBits.{acknowledges}
 use Rattle.air_frame.specs.declared.Heard.{Heard}
 use Rattle.air_frame.specs.declared.Heard.TheVariants.{NotOurs, Broken as Faulty, Whole}
-use Rattle.ble_base.specs.declared.verdicts.Verdict.TheVariants.{Broken, Good}
+use Rattle.ble_base.specs.declared.verdicts.Verdict.TheVariants.{Broken, Forged, Good}
 use Rattle.data_pdu.specs.Header.{header_in}
 use Rattle.journal_controls.specs.LineSteps.{is_more_acked}
 use Rattle.journal_controls.specs.LinesDue.{due_hearing}
@@ -16,11 +16,12 @@ use Rattle.journal_controls.specs.journal_acks.link_calls.Uses.{listens_under}
 use Rattle.journal_controls.specs.link_model.Acknowledgement.{Acknowledgement, Pdu, bits_of, is_acked}
 use Rattle.journal_controls.specs.link_model.Data.{is_control}
 use Rattle.journal_controls.specs.link_model.Facts.{Facts as EndFacts}
-use Rattle.journal_controls.specs.link_model.Packets.{good_pdu, heard_of, verdict_of}
+use Rattle.journal_controls.specs.link_model.Packets.{good_pdu, heard_of, is_forged, is_forged_pdu, pdu_read, pdu_read_in, verdict_of, whole_pdu}
+use Rattle.journal_controls.specs.link_model.Payload.{opens_now}
 use Rattle.journal_controls.specs.link_model.Receiving.{acks_control, facts_received, has_acknowledged}
 use Rattle.journal_controls.specs.link_model.Setup.{Setup as EndSetup}
 use Rattle.journal_controls.specs.link_model.Step.{PacketReceived}
-use Rattle.journal_controls.specs.link_model.Verdicts.{good_in, has_room_for, pdu_by, pdu_of, verdict_by}
+use Rattle.journal_controls.specs.link_model.Verdicts.{has_room_for, pdu_by, pdu_of, verdict_by, whole_in}
 use Rattle.journal_controls.specs.run_model.History.{Event, is_good}
 use Rattle.journal_controls.specs.run_model.Journal.{journal_of, side_of}
 use Rattle.journal_controls.specs.run_model.Run.{Given, facts_at}
@@ -31,7 +32,7 @@ use Rattle.journal_controls.proofs.journal_acks.Exchanging.{number_at}
 use Rattle.journal_controls.proofs.journal_acks.KeptLines.{IsLined}
 use Rattle.journal_controls.proofs.journal_acks.Standing.{listener_sends}
 use Rattle.journal_controls.proofs.journal_acks.run_laws.Agreed.{ack_of, step_facts}
-use Rattle.journal_controls.proofs.link_model.Acknowledging.{ack_heard}
+use Rattle.journal_controls.proofs.link_model.Acknowledging.{ack_heard, forged_leaves}
 use Rattle.journal_controls.proofs.link_model.Counts.{past_counts}
 use Rattle.journal_due.specs.EachLine.{IsDueOn}
 use Rattle.journal_due.specs.ProcedureLines.{RestsAt}
@@ -68,16 +69,28 @@ pub record HasPdu (setup : EndSetup) (facts : EndFacts) (octets : List ℕ) : Ty
   pub is : good_pdu setup facts octets ≡ Some pdu
 
 pub good_has : (setup : EndSetup) (facts : EndFacts) (octets : List ℕ) → is_good (verdict_of setup facts octets) ≡ true → HasPdu setup facts octets
-unfolding good_pdu verdict_of
+unfolding good_pdu verdict_of whole_pdu
 good_has setup facts octets good = by (heard_of setup facts octets) refl good
   where
-    by : (heard : Heard) → heard_of setup facts octets ≡ heard → is_good (verdict_by setup.link.max_rx heard) ≡ true → HasPdu setup facts octets
+    opens : Bool
+    opens = opens_now facts.encryption.end
+
+    by : (heard : Heard) → heard_of setup facts octets ≡ heard → is_good (verdict_by setup.link.max_rx opens (is_forged_pdu facts) heard) ≡ true → HasPdu setup facts octets
     by NotOurs is good = absurd cc
     by Faulty is good = absurd cc
-    by (Whole pdu) is good = fits (has_room_for setup.link.max_rx pdu.items) refl good
+    by (Whole pdu) is good = fits (has_room_for setup.link.max_rx opens pdu.items) refl good
       where
-        fits : (room : Bool) → has_room_for setup.link.max_rx pdu.items ≡ room → is_good (if room then Good else Broken) ≡ true → HasPdu setup facts octets
-        fits true room good = record { pdu = pdu.items; is = ap (good_in setup.link.max_rx) is ∙ ap (λ b. pdu_by b pdu.items) room }
+        readable : (found : Option (List ℕ)) → pdu_read facts pdu.items ≡ found → has_room_for setup.link.max_rx opens pdu.items ≡ true
+            → is_good (if is_none found then Forged else Good) ≡ true → HasPdu setup facts octets
+        readable (Some other) found room good = record {
+          pdu = other;
+          is = ap (λ heard. pdu_read_in facts (whole_in setup.link.max_rx opens heard)) is ∙ ap (λ b. pdu_read_in facts (pdu_by b pdu.items)) room ∙ found;
+        }
+        readable None found room good = absurd cc
+
+        fits : (room : Bool) → has_room_for setup.link.max_rx opens pdu.items ≡ room
+            → is_good (if room then (if is_forged_pdu facts pdu.items then Forged else Good) else Broken) ≡ true → HasPdu setup facts octets
+        fits true room good = readable (pdu_read facts pdu.items) refl room good
         fits false room good = absurd cc
 
 -- ---- it acknowledges a control PDU where the counts say so
@@ -127,6 +140,7 @@ acks_told link slot octets pdu before after line good counts counts_too lined =
     let role = link.setup.link.role in
     let own = past_counts link.setup link.past in
     let heard = ap (λ (f : EndFacts). f.acknowledgement.acked) (step_facts link (PacketReceived slot octets false))
+    ∙ ap (λ (a : Acknowledgement). a.acked) (forged_leaves (is_forged link.setup facts octets) (facts_received role slot false (good_pdu link.setup facts octets) facts))
     ∙ ap (λ one. (facts_received role slot false one facts).acknowledgement.acked) good
     ∙ ap (λ (a : Acknowledgement). a.acked) (ack_heard role slot false header (pdu_of pdu) facts) in
     acks_by acks before.acked after.acked ack.acked (pdu_carried line before.acked) ack.last counts.acked (counts_too.acked ∙ heard) (λ is.

@@ -37,6 +37,7 @@ use Rattle.journal_controls.specs.LineSteps.{control_on, turn_now}
 use Rattle.journal_controls.specs.LinesDue.{due_hearing}
 use Rattle.journal_due.specs.EachLine.{IsDueOn}
 use Rattle.journal_due.specs.ProcedureLines.{RestsAt}
+use Rattle.journal_controls.proofs.link_model.Plain.{past_plain}
 use Rattle.journal_due.proofs.DueEntries.{AreAllTold, told_both}
 use Rattle.journal_due.proofs.DuePhases.{plain_feeds}
 use Rattle.journal_due.proofs.DuePlain.{IsPlain, plain_told}
@@ -163,7 +164,7 @@ module _ (side : Side) (link_of : ℕ → ℕ) (last : ℕ) where
       let doing = reply_if (replies_in slot room (link_at handle facts.links) octets) handle in
       let sends = notes_doing doing (link_received handle room octets facts) in
       let one = subst (λ lines. AreAllTold side front lines) (sym (received_lines handle slot octets room link own))
-      (receiving_told side (link_of handle) front link.setup (facts_in link) octets pdu room slot now good control on) in
+      (receiving_told side (link_of handle) front link.setup (facts_in link) octets pdu room slot (past_plain link.setup link.past) now good control on) in
       let mid = front ++ map line taken in
       let two = events_told side link_of last facts.view events mid one.left in
       let next = mid ++ map line ups in

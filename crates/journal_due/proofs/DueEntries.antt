@@ -14,6 +14,7 @@ use Rattle.journal_controls.specs.link_model.End.{notes_after}
 use Rattle.journal_controls.specs.link_model.Entering.{began_notes, done_notes, event_notes, facts_entered}
 use Rattle.journal_controls.specs.link_model.Events.{applied_notes}
 use Rattle.journal_controls.specs.link_model.Facts.{Facts}
+use Rattle.journal_controls.specs.link_model.Plain.{IsPlain}
 use Rattle.journal_controls.specs.link_model.Setup.{Setup}
 use Rattle.journal_controls.specs.link_model.Step.{EventEntered}
 use Rattle.journal_controls.specs.link_model.control_end.Answers.{entry_of}
@@ -23,6 +24,7 @@ use Rattle.journal_controls.specs.link_model.control_model.Control.{Control}
 use Rattle.journal_controls.specs.LineSteps.{control_after, control_moved, control_on, turn_now}
 use Rattle.journal_controls.specs.LinesDue.{applied_due, applied_with, due_entering, lines_due}
 use Rattle.journal_controls.proofs.LineFolds.{control_more}
+use Rattle.journal_controls.proofs.link_model.Plain.{quiet_plain}
 use Rattle.journal_due.specs.EachLine.{AreDueLines}
 use Rattle.journal_due.specs.ProcedureLines.{RestsAt, applied_last, applied_line, first_of}
 use Rattle.journal_due.proofs.DueLines.{own_applied, said_due}
@@ -122,9 +124,12 @@ module _ (side : Side) (number : ℕ) where
       line_then side front lines line (λ mine. record { procedures = λ other. ap first_of (sym (rests.procedures other)); indication = rests.indication }, tt) turn rest
 
 -- an end enters an event, or does not
-pub entering_told : (side : Side) (number : ℕ) (setup : Setup) (facts : Facts) (front : List Entry) → control_on side number front ≡ Some facts.control → RestsAt side front
+pub entering_told : (side : Side) (number : ℕ) (setup : Setup) (facts : Facts) (front : List Entry) → IsPlain setup.link.role facts → control_on side number front ≡ Some facts.control → RestsAt side front
     → AreAllTold side front (map (line_of side number) (notes_after setup facts (EventEntered (turn_now front))))
-entering_told side number setup facts front is rests = by (goes_on facts)
+entering_told side number setup facts front plain is rests =
+    subst (λ quiet. AreAllTold side front (map (line_of side number) (if goes_on facts
+    then event_notes setup.link.handle (facts_entered setup (turn_now front) facts).event (entry_of (turn_now front) quiet (held_of facts.control)) else [])))
+    (sym (quiet_plain setup.link.role facts plain)) (by (goes_on facts))
   where
     by : (goes : Bool) → AreAllTold side front (map (line_of side number) (if goes then event_notes setup.link.handle (facts_entered setup (turn_now front) facts).event (entry_of (turn_now front) true (held_of facts.control)) else []))
     by false = no_lines side front rests

@@ -1,9 +1,10 @@
 -- The lines of an end that takes a packet come where they are due.
-use Rattle.std.proofs.Common.{◌≡◌, ℕ, ◌+◌, ◌&&◌, not, Bool, true, false, Option, Some, None, List, [], ◌∷◌, ◌++◌, map, refl, sym, ap, subst, ◌∙◌}
+use Rattle.std.proofs.Common.{◌≡◌, ℕ, ◌+◌, ◌&&◌, not, Bool, true, false, Option, Some, None, List, [], ◌∷◌, ◌++◌, map, refl, sym, ap, subst, ◌∙◌, append-nil}
 use Rattle.std.specs.Prelude.{if◌then◌else◌}
 use Rattle.std.proofs.lemmas.List.{map-append}
 use Rattle.ble_base.specs.declared.error_codes.ErrCode.{ErrCode}
 use Rattle.ble_base.specs.declared.procedure_kinds.Kind.{Kind}
+use Rattle.ble_base.specs.declared.roles.Role.{Role}
 use Rattle.ble_base.specs.declared.roles.Side.{Side}
 use Rattle.data_pdu.specs.Header.{header_in}
 use Rattle.journal.specs.declared.entries.Entry.{Entry}
@@ -16,7 +17,8 @@ use Rattle.journal_controls.specs.link_model.End.{notes_after}
 use Rattle.journal_controls.specs.link_model.Entering.{done_notes}
 use Rattle.journal_controls.specs.link_model.Facts.{Facts}
 use Rattle.journal_controls.specs.link_model.Packets.{good_pdu}
-use Rattle.journal_controls.specs.link_model.Receiving.{accepts, acked_kind, acks_control, facts_before_taking, given_if, given_notes, has_acknowledged, received_notes, refused_notes, taken_notes, took_notes_if}
+use Rattle.journal_controls.specs.link_model.Receiving.{accepts, acked_kind, acks_control, facts_before_taking, given_if, given_notes, has_acknowledged, kept_given_if, received_notes, refused_notes, taken_notes, took_notes_if}
+use Rattle.journal_controls.specs.link_model.Plain.{IsPlain}
 use Rattle.journal_controls.specs.link_model.Setup.{Setup}
 use Rattle.journal_controls.specs.link_model.Step.{PacketReceived}
 use Rattle.journal_controls.specs.link_model.Verdicts.{pdu_of}
@@ -27,6 +29,7 @@ use Rattle.journal_controls.specs.link_model.control_model.Control.{Control}
 use Rattle.journal_controls.specs.LineSteps.{control_after, control_moved, control_on, turn_now}
 use Rattle.journal_controls.specs.LinesDue.{due_hearing, due_taking}
 use Rattle.journal_controls.proofs.LineFolds.{control_more}
+use Rattle.journal_controls.proofs.link_model.Plain.{before_taking_stays, gives_plain, kept_gives_nothing}
 use Rattle.journal_due.specs.EachLine.{IsDueOn}
 use Rattle.journal_due.specs.ProcedureLines.{RestsAt, first_of}
 use Rattle.journal_due.proofs.DueEntries.{AreAllTold, line_then, no_lines, told_both}
@@ -78,30 +81,40 @@ module _ (side : Side) (number : ℕ) where
           by true = given_lines side number number (taken_of (read_of pdu) slot true (held_of c))
           by false = tt
 
-  taking_is : (handle slot : ℕ) (takes : Bool) (pdu : Pdu) (facts : Facts) → is_procedure_pdu pdu ≡ takes
+  taking_is : (role : Role) (handle slot : ℕ) (takes : Bool) (pdu : Pdu) (facts : Facts) → IsPlain role facts → is_procedure_pdu pdu ≡ takes
       → due_taking side number slot pdu facts.control ≡ map (line_of side number) (given_notes handle (given_if takes pdu slot facts))
-  taking_is handle slot true pdu facts is =
+  taking_is role handle slot true pdu facts plain is =
       let given = taken_of (read_of pdu) slot true (held_of facts.control) in
       ap (λ b. if b then map (line_of side number) (given_notes number given) else []) is ∙ same_given handle given
-  taking_is handle slot false pdu facts is =
+      ∙ ap (λ given. map (line_of side number) (given_notes handle given)) (sym (gives_plain role pdu slot facts plain))
+  taking_is role handle slot false pdu facts plain is =
       ap (λ b. if b then map (line_of side number) (given_notes number (taken_of (read_of pdu) slot true (held_of facts.control))) else []) is
 
   -- a PDU that is accepted, or is not
-  noted_told : (front : List Entry) (handle : ℕ) (noted takes : Bool) (pdu : Pdu) (facts : Facts) → control_on side number front ≡ Some facts.control → RestsAt side front
+  noted_told : (role : Role) (front : List Entry) (handle : ℕ) (noted takes : Bool) (pdu : Pdu) (facts : Facts) → IsPlain role facts → control_on side number front ≡ Some facts.control → RestsAt side front
       → (noted ≡ false → takes ≡ false) → (noted ≡ true → is_procedure_pdu pdu ≡ takes)
       → AreAllTold side front (map (line_of side number) (took_notes_if noted handle pdu facts ++ given_notes handle (given_if takes pdu (turn_now front) facts)))
-  noted_told front handle false false pdu facts is rests none some = no_lines side front rests
-  noted_told front handle false true pdu facts is rests none some = absurd (let h : true ≡ false = none refl in absurd cc)
-  noted_told front handle true takes pdu facts is rests none some =
+  noted_told role front handle false false pdu facts plain is rests none some = no_lines side front rests
+  noted_told role front handle false true pdu facts plain is rests none some = absurd (let h : true ≡ false = none refl in absurd cc)
+  noted_told role front handle true takes pdu facts plain is rests none some =
       let count = numbered facts.acknowledgement.accepted + 1 in
-      subst (λ xs. AreAllTold side front (Took side number count pdu.llid pdu.body ∷ xs)) (taking_is handle (turn_now front) takes pdu facts (some refl))
+      subst (λ xs. AreAllTold side front (Took side number count pdu.llid pdu.body ∷ xs)) (taking_is role handle (turn_now front) takes pdu facts plain (some refl))
       (took_told front facts.control count pdu.llid pdu.body is rests)
 
-  taken_told : (front : List Entry) (handle : ℕ) (accepted : Bool) (pdu : Pdu) (facts : Facts) → control_on side number front ≡ Some facts.control → RestsAt side front
+  -- nothing was kept until then
+  kept_none : (role : Role) (handle slot : ℕ) (takes : Bool) (pdu : Pdu) (facts : Facts) → IsPlain role facts → given_notes handle (kept_given_if takes pdu slot facts) ≡ []
+  kept_none role handle slot true pdu facts plain = ap (given_notes handle) (kept_gives_nothing role pdu slot facts plain)
+  kept_none role handle slot false pdu facts plain = refl
+
+  taken_told : (role : Role) (front : List Entry) (handle : ℕ) (accepted : Bool) (pdu : Pdu) (facts : Facts) → IsPlain role facts → control_on side number front ≡ Some facts.control → RestsAt side front
       → AreAllTold side front (map (line_of side number) (taken_notes handle accepted pdu (turn_now front) facts))
-  taken_told front handle accepted pdu facts is rests =
-      noted_told front handle (accepted && not (is_empty pdu)) (accepted && is_procedure_pdu pdu) pdu facts is rests
-      (none_taken accepted (is_empty pdu) (is_control pdu)) (all_taken accepted (is_empty pdu) (is_control pdu))
+  taken_told role front handle accepted pdu facts plain is rests =
+      let takes = accepted && is_procedure_pdu pdu in
+      let given = given_notes handle (given_if takes pdu (turn_now front) facts) in
+      subst (λ notes. AreAllTold side front (map (line_of side number) (took_notes_if (accepted && not (is_empty pdu)) handle pdu facts ++ notes)))
+      (sym (ap (λ kept. given ++ kept) (kept_none role handle (turn_now front) takes pdu facts plain) ∙ append-nil given))
+      (noted_told role front handle (accepted && not (is_empty pdu)) takes pdu facts plain is rests
+      (none_taken accepted (is_empty pdu) (is_control pdu)) (all_taken accepted (is_empty pdu) (is_control pdu)))
     where
       none_taken : (accepted empty control : Bool) → (accepted && not empty) ≡ false → (accepted && (control && not empty)) ≡ false
       none_taken false empty control is = refl
@@ -119,11 +132,12 @@ module _ (side : Side) (number : ℕ) where
   hearing_is handle true facts = same_done handle (done_by_acknowledgement (held_of facts.control))
   hearing_is handle false facts = refl
 
-  heard_told : (front : List Entry) (setup : Setup) (facts : Facts) (octets : List ℕ) (room : Bool) (slot : ℕ) → turn_now front ≡ slot
+  heard_told : (front : List Entry) (setup : Setup) (facts : Facts) (octets : List ℕ) (room : Bool) (slot : ℕ) → IsPlain setup.link.role facts → turn_now front ≡ slot
       → control_on side number front ≡ Some (facts_before_taking setup.link.role slot (header_in octets) facts).control
       → IsDueOn side number (due_hearing side number (acks_control (has_acknowledged facts (header_in octets)) facts) facts.control) front
       → AreAllTold side front (map (line_of side number) (received_notes setup slot room (Some octets) facts))
-  heard_told front setup facts octets room slot turn is on =
+  heard_told front setup facts octets room slot plain turn is on =
+      let role = setup.link.role in
       let header = header_in octets in
       let handle = setup.link.handle in
       let pdu = pdu_of octets in
@@ -138,13 +152,13 @@ module _ (side : Side) (number : ℕ) where
       (told_both side front (map (line_of side number) done) (map (line_of side number) taken)
       (record { each = first.each; left = on_rests side number next first.left; turn_is = first.turn_is })
       (subst (λ one. AreAllTold side next (map (line_of side number) (taken_notes handle (accepts room header pdu now) pdu one now))) (first.turn_is ∙ turn)
-      (taken_told next handle (accepts room header pdu now) pdu now first.control_is (on_rests side number next first.left))))
+      (taken_told role next handle (accepts room header pdu now) pdu now (before_taking_stays role role slot header facts plain) first.control_is (on_rests side number next first.left))))
 
   -- an end takes a packet
-  pub receiving_told : (front : List Entry) (setup : Setup) (facts : Facts) (octets pdu : List ℕ) (room : Bool) (slot : ℕ) → turn_now front ≡ slot
+  pub receiving_told : (front : List Entry) (setup : Setup) (facts : Facts) (octets pdu : List ℕ) (room : Bool) (slot : ℕ) → IsPlain setup.link.role facts → turn_now front ≡ slot
       → good_pdu setup facts octets ≡ Some pdu
       → control_on side number front ≡ Some (facts_before_taking setup.link.role slot (header_in pdu) facts).control
       → IsDueOn side number (due_hearing side number (acks_control (has_acknowledged facts (header_in pdu)) facts) facts.control) front
       → AreAllTold side front (map (line_of side number) (notes_after setup facts (PacketReceived slot octets room)))
-  receiving_told front setup facts octets pdu room slot turn good is on =
-      subst (λ one. AreAllTold side front (map (line_of side number) (received_notes setup slot room one facts))) (sym good) (heard_told front setup facts pdu room slot turn is on)
+  receiving_told front setup facts octets pdu room slot plain turn good is on =
+      subst (λ one. AreAllTold side front (map (line_of side number) (received_notes setup slot room one facts))) (sym good) (heard_told front setup facts pdu room slot plain turn is on)

@@ -30,6 +30,7 @@ use Rattle.journal_controls.specs.journal_links.LinkLines.{line_of}
 use Rattle.journal_controls.specs.link_model.End.{notes_after}
 use Rattle.journal_controls.specs.link_model.Entering.{facts_entered}
 use Rattle.journal_controls.specs.link_model.Step.{EventEntered}
+use Rattle.journal_controls.proofs.link_model.Plain.{past_plain}
 use Rattle.journal_controls.specs.journal_ends.open_links.OpenLinks.{Links, OpenLink, facts_in, link_from}
 use Rattle.journal_controls.specs.journal_ends.open_links.Turns.{enters_in, notes_if}
 use Rattle.journal_controls.specs.run_model.Journal.{entry_of}
@@ -185,7 +186,7 @@ module _ (side : Side) (link_of : ℕ → ℕ) (last : ℕ) where
   entry_told handle slot true link front now is control rests =
       subst (λ lines. AreAllTold side front lines) (sym (entry_of_link handle slot true link is).lines_are)
       (subst (λ one. AreAllTold side front (map (line_of side (link_of handle)) (notes_after link.setup (facts_in link) (EventEntered one)))) now
-      (entering_told side (link_of handle) link.setup (facts_in link) front control rests))
+      (entering_told side (link_of handle) link.setup (facts_in link) front (past_plain link.setup link.past) control rests))
 
   -- ---- all links enter their events
 

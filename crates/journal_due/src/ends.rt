@@ -7,7 +7,7 @@ ghost use Rattle.journal.specs.declared.entries.Entry.{Entry};
 ghost use Rattle.journal_controls.specs.LineSteps.{control_on, turn_now};
 ghost use Rattle.journal_controls.specs.LinesDue.{due_hearing};
 ghost use Rattle.journal_controls.specs.journal_links.LinkLines.{line_of};
-ghost use Rattle.journal_controls.specs.link_model.End.{notes_after};
+ghost use Rattle.journal_controls.specs.link_model.End.{facts_of, notes_after};
 ghost use Rattle.journal_controls.specs.link_model.Facts.{Facts};
 ghost use Rattle.journal_controls.specs.link_model.Packets.{good_pdu};
 ghost use Rattle.journal_controls.specs.link_model.Receiving.{acks_control, facts_before_taking};
@@ -22,14 +22,14 @@ ghost use Rattle.journal_due.specs.ProcedureLines.{RestsAt};
 /// the event, and those of the procedure that is done, and of the one that begins, just after it.
 /// Then nothing is due again (Core 5.2, volume 6 part B, sections 4.5.1, 5.1 and 5.5).
 pub fn an_end_that_enters_an_event_says_what_is_due()
-    ensures each { (side : Side) (number : ℕ) (setup : Setup) (facts : Facts)
-        (journal : List Entry) → control_on side number journal ≡ Some facts.control
-        → RestsAt side journal
+    ensures each { (side : Side) (number : ℕ) (setup : Setup) (past : List Step)
+        (journal : List Entry) → let facts = facts_of setup past in
+        control_on side number journal ≡ Some facts.control → RestsAt side journal
         → let notes = notes_after setup facts (EventEntered (turn_now journal)) in
         AreDueLines side journal (map (line_of side number) notes) }
-    ensures left { (side : Side) (number : ℕ) (setup : Setup) (facts : Facts)
-        (journal : List Entry) → control_on side number journal ≡ Some facts.control
-        → RestsAt side journal
+    ensures left { (side : Side) (number : ℕ) (setup : Setup) (past : List Step)
+        (journal : List Entry) → let facts = facts_of setup past in
+        control_on side number journal ≡ Some facts.control → RestsAt side journal
         → let notes = notes_after setup facts (EventEntered (turn_now journal)) in
         RestsAt side (journal ++ map (line_of side number) notes) }
 {}
@@ -40,18 +40,20 @@ pub fn an_end_that_enters_an_event_says_what_is_due()
 /// after the line of a PDU that is taken those of the procedure that it refuses and of the one that
 /// it completes. Then nothing is due (Core 5.2, volume 6 part B, sections 4.5.9 and 5.1).
 pub fn an_end_that_takes_a_packet_says_what_is_due()
-    ensures each { (side : Side) (number : ℕ) (setup : Setup) (facts : Facts)
+    ensures each { (side : Side) (number : ℕ) (setup : Setup) (past : List Step)
         (octets pdu : List ℕ) (room : Bool) (journal : List Entry)
-        → let slot = turn_now journal in good_pdu setup facts octets ≡ Some pdu
+        → let facts = facts_of setup past in let slot = turn_now journal in
+        good_pdu setup facts octets ≡ Some pdu
         → control_on side number journal
         ≡ Some (facts_before_taking setup.link.role slot (header_in pdu) facts).control
         → IsDueOn side number (due_hearing side number
         (acks_control (has_acknowledged facts (header_in pdu)) facts) facts.control) journal
         → let notes = notes_after setup facts (PacketReceived slot octets room) in
         AreDueLines side journal (map (line_of side number) notes) }
-    ensures left { (side : Side) (number : ℕ) (setup : Setup) (facts : Facts)
+    ensures left { (side : Side) (number : ℕ) (setup : Setup) (past : List Step)
         (octets pdu : List ℕ) (room : Bool) (journal : List Entry)
-        → let slot = turn_now journal in good_pdu setup facts octets ≡ Some pdu
+        → let facts = facts_of setup past in let slot = turn_now journal in
+        good_pdu setup facts octets ≡ Some pdu
         → control_on side number journal
         ≡ Some (facts_before_taking setup.link.role slot (header_in pdu) facts).control
         → IsDueOn side number (due_hearing side number

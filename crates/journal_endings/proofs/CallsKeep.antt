@@ -6,7 +6,7 @@ use Rattle.ble_base.specs.ErrorCodes.{command_disallowed, instant_passed, invali
 use Rattle.ble_base.specs.declared.error_codes.ErrCode.{ErrCode}
 use Rattle.ble_base.specs.declared.roles.Role.{Role}
 use Rattle.ble_base.specs.declared.roles.Role.TheVariants.{Central, Peripheral}
-use Rattle.ble_base.specs.declared.verdicts.Verdict.TheVariants.{Broken as BrokenPacket, Good}
+use Rattle.ble_base.specs.declared.verdicts.Verdict.TheVariants.{Broken as BrokenPacket, Forged, Good}
 use Rattle.air_frame.specs.declared.Heard.{Heard}
 use Rattle.air_frame.specs.declared.Heard.TheVariants.{Broken, NotOurs, Whole}
 use Rattle.controller_model.specs.Facts.{Facts, Setup}
@@ -28,13 +28,14 @@ use Rattle.link_calls.specs.Turns.{fixed_if, sent_if}
 use Rattle.link_calls.specs.Uses.{listens_under, sends_under}
 use Rattle.link_calls.specs.link_model.End.{facts_of as end_facts_of}
 use Rattle.link_calls.specs.link_model.Facts.{Facts as EndFacts}
-use Rattle.link_calls.specs.link_model.Packets.{good_pdu, heard_of, verdict_of}
+use Rattle.link_calls.specs.link_model.Packets.{good_pdu, heard_of, is_forged_pdu, pdu_read, pdu_read_in, verdict_of, whole_pdu}
+use Rattle.link_calls.specs.link_model.Payload.{opens_now}
 use Rattle.link_calls.specs.link_model.Receiving.{facts_received}
 use Rattle.link_calls.specs.link_model.Setup.{Setup as EndSetup}
 use Rattle.link_calls.specs.link_model.Step.{DataGiven, DataReported, Disconnected, EventEntered, PacketReceived, PacketSent, PduFixed, ProcedureAsked, RequestAnswered, Step as EndStep}
 use Rattle.link_calls.specs.link_model.procedure_values.declared.asks.Ask.{Ask}
 use Rattle.link_calls.specs.link_model.procedure_values.declared.asks.Ask.TheVariants.{Features, Version}
-use Rattle.link_calls.specs.link_model.Verdicts.{good_in, has_room_for, pdu_by, pdu_of, verdict_by}
+use Rattle.link_calls.specs.link_model.Verdicts.{has_room_for, pdu_by, pdu_of, verdict_by, whole_in}
 use Rattle.link_calls.specs.link_model.declared.state.PeerFacts.{PeerFacts}
 use Rattle.link_calls.specs.open_links.Data.{complete_in, link_reported}
 use Rattle.link_calls.specs.open_links.OpenLinks.{Links, OpenLink, facts_in, link_after, link_at, new_link}
@@ -44,6 +45,7 @@ use Rattle.link_calls.specs.run_model.Run.{step_of}
 use Rattle.link_calls.proofs.HostSteps.{accepted_status, asked_is_well}
 use Rattle.link_calls.proofs.LinkCalls.{HasBegun, begins_under, phase_under}
 use Rattle.link_calls.proofs.UnderHandles.{ended_under, host_under}
+use Rattle.link_calls.proofs.link_model.Plain.{past_plain, received_plain}
 use Rattle.link_calls.proofs.open_links.Unmoved.{entered_setup}
 use Rattle.link_calls.proofs.run_laws.Agreed.{step_facts}
 use Rattle.run_pairs.proofs.OneSide.{taken_setup}
@@ -68,9 +70,10 @@ IsKept link = KeepsRules (facts_in link)
 kept_after : (link : OpenLink) (step : EndStep) → is_receiving step ≡ false → MayStep link.setup (facts_in link) step → IsKept link
     → IsKept (link_after step link)
 kept_after link step off may kept =
+    let plain = past_plain link.setup link.past in
     subst KeepsRules (sym (step_facts link step)) (record {
-      reasons = step_gives link.setup (facts_in link) step may kept.reasons;
-      late = subst EndsLate (sym (same_ends link.setup (facts_in link) step off)) kept.late;
+      reasons = step_gives link.setup (facts_in link) step plain may kept.reasons;
+      late = subst EndsLate (sym (same_ends link.setup (facts_in link) step plain off)) kept.late;
     })
 
 kept_same : (one other : OpenLink) → other.setup ≡ one.setup → other.past ≡ one.past → IsKept one → IsKept other
@@ -178,17 +181,22 @@ begun_kept facts slot on handle doing after kept has =
 
 -- a packet is good, or nothing is received of it
 good_or_none : (setup : EndSetup) (facts : EndFacts) (octets : List ℕ) → (verdict_of setup facts octets ≡ Good) ⊎ (good_pdu setup facts octets ≡ None)
-unfolding good_pdu verdict_of
+unfolding good_pdu verdict_of whole_pdu
 good_or_none setup facts octets = of (heard_of setup facts octets)
   where
-    at : (fits : Bool) (pdu : List ℕ) → ((if fits then Good else BrokenPacket) ≡ Good) ⊎ (pdu_by fits pdu ≡ None)
-    at true pdu = inl refl
-    at false pdu = inr refl
+    opens : Bool
+    opens = opens_now facts.encryption.end
 
-    of : (heard : Heard) → (verdict_by setup.link.max_rx heard ≡ Good) ⊎ (good_in setup.link.max_rx heard ≡ None)
+    at : (fits : Bool) (pdu : List ℕ) (read : Option (List ℕ)) → pdu_read facts pdu ≡ read
+        → ((if fits then (if is_forged_pdu facts pdu then Forged else Good) else BrokenPacket) ≡ Good) ⊎ (pdu_read_in facts (pdu_by fits pdu) ≡ None)
+    at true pdu (Some opened) is = inl (ap (λ (found : Option (List ℕ)). if is_none found then Forged else Good) is)
+    at true pdu None is = inr is
+    at false pdu read is = inr refl
+
+    of : (heard : Heard) → (verdict_by setup.link.max_rx opens (is_forged_pdu facts) heard ≡ Good) ⊎ (pdu_read_in facts (whole_in setup.link.max_rx opens heard) ≡ None)
     of NotOurs = inr refl
     of Broken = inr refl
-    of (Whole pdu) = at (has_room_for setup.link.max_rx pdu.items) pdu.items
+    of (Whole pdu) = at (has_room_for setup.link.max_rx opens pdu.items) pdu.items (pdu_read facts pdu.items) refl
 
 -- what is known of a good packet that a link receives: the PDU in it, and how the end is after the call
 pub record IsSound (facts : Facts) (octets : List ℕ) (link after : OpenLink) : Type 0 where
@@ -204,7 +212,7 @@ abbrev Reasons : OpenLink → Type 0
 Reasons link = GivesReasons (facts_in link)
 
 reasons_after : (link : OpenLink) (step : EndStep) → MayStep link.setup (facts_in link) step → Reasons link → Reasons (link_after step link)
-reasons_after link step may reasons = subst GivesReasons (sym (step_facts link step)) (step_gives link.setup (facts_in link) step may reasons)
+reasons_after link step may reasons = subst GivesReasons (sym (step_facts link step)) (step_gives link.setup (facts_in link) step (past_plain link.setup link.past) may reasons)
 
 reasons_refused : (refuses : Bool) (link : OpenLink) → Reasons link → Reasons (refused_if refuses link)
 reasons_refused true link reasons = reasons_after link (RequestAnswered refusal) tt reasons
@@ -223,7 +231,8 @@ module _ (facts : Facts) (room : Bool) (octets : List ℕ) (handle : ℕ) (sends
   unheard_kept : good_pdu link.setup (facts_in link) octets ≡ None → IsKept after
   unheard_kept none =
       let same : facts_in (link_after heard_step link) ≡ facts_in link =
-      step_facts link heard_step ∙ ap (λ (pdu : Option (List ℕ)). facts_received link.setup.link.role facts.turn.slot room pdu (facts_in link)) none in
+      step_facts link heard_step ∙ received_plain link.setup (facts_in link) facts.turn.slot octets room (past_plain link.setup link.past)
+      ∙ ap (λ (pdu : Option (List ℕ)). facts_received link.setup.link.role facts.turn.slot room pdu (facts_in link)) none in
       subst IsKept (sym is)
       (sent_kept sends facts.turn.slot (link_receiving handle room octets facts link)
       (refused_kept (refuses_at handle room octets facts) (link_after heard_step link) (subst KeepsRules (sym same) kept)))

@@ -20,17 +20,19 @@ use Rattle.link_runs.specs.link_pairs.link_model.control_end.Held.{held_after, h
 use Rattle.link_runs.specs.link_pairs.link_model.Acknowledgement.{Acknowledgement, Pdu, empty_pdu, is_acked, next_sent, with_acked}
 use Rattle.link_runs.specs.link_pairs.link_model.ControlSteps.{control_steps_in, step_if, steps_received}
 use Rattle.link_runs.specs.link_pairs.link_model.Controls.{goes_on, is_procedure_pdu, is_quiet_now, next_control, pdu_fixed, pdu_of_control, read_of}
-use Rattle.link_runs.specs.link_pairs.link_model.Data.{Data, data_acked_if, data_given, data_sent_if, is_control, is_data, is_empty, llid_of, next_piece, pdu_with}
+use Rattle.link_runs.specs.link_pairs.link_model.Data.{Data, data_acked_if, data_given, is_control, is_data, is_empty, llid_of, next_piece, pdu_with}
 use Rattle.link_runs.specs.link_pairs.link_model.End.{facts_after}
 use Rattle.link_runs.specs.link_pairs.link_model.Entering.{facts_entered_if}
 use Rattle.link_runs.specs.link_pairs.link_model.Facts.{Facts, first_facts}
 use Rattle.link_runs.specs.link_pairs.link_model.Fixing.{data_cut, data_fixed_by, data_goes, fixed_anew}
-use Rattle.link_runs.specs.link_pairs.link_model.Hosts.{asked_unless, is_to_come}
+use Rattle.link_runs.specs.link_pairs.link_model.Hosts.{asked_unless, ends_without_key, is_to_come, leaving_from_if}
 use Rattle.link_runs.specs.link_pairs.link_model.Packets.{good_pdu}
-use Rattle.link_runs.specs.link_pairs.link_model.Receiving.{accepted_if, accepts, acknowledged_if, acks_control, answers_with_control, code_of, control_acked_if, facts_before_taking, facts_hearing, facts_received, has_acknowledged, heard_in_slot, leaving_by, procedures_give, procedures_take_if}
-use Rattle.link_runs.specs.link_pairs.link_model.Sending.{control_gone_if, facts_sent, takes_leave}
+use Rattle.link_runs.specs.link_pairs.link_model.Payload.{payload_made}
+use Rattle.link_runs.specs.link_pairs.link_model.Plain.{IsPlain, control_acked_if, plain_accepted_if, plain_acknowledged_if, plain_before_taking, plain_gives, plain_hearing, plain_takes_if}
+use Rattle.link_runs.specs.link_pairs.link_model.Receiving.{accepts, acks_control, answers_with_control, code_of, facts_received, has_acknowledged, heard_in_slot, leaving_by}
+use Rattle.link_runs.specs.link_pairs.link_model.Sending.{control_gone_if, data_sent_as, facts_sent, takes_leave}
 use Rattle.link_runs.specs.link_pairs.link_model.Setup.{Setup}
-use Rattle.link_runs.specs.link_pairs.link_model.Step.{DataGiven, DataReported, Disconnected, EventEntered, PacketReceived, PacketSent, PduFixed, ProcedureAsked, RequestAnswered, Step}
+use Rattle.link_runs.specs.link_pairs.link_model.Step.{DataGiven, DataReported, Disconnected, EventEntered, KeyAnswered, PacketReceived, PacketSent, PduFixed, ProcedureAsked, RequestAnswered, Step, WordsGiven}
 use Rattle.link_runs.specs.link_pairs.link_model.Verdicts.{pdu_of}
 use Rattle.link_runs.specs.link_pairs.link_model.declared.state.Leaving.{Leaving}
 use Rattle.link_runs.specs.link_pairs.procedure_stages.Queue.{waiting_in}
@@ -45,6 +47,7 @@ use Rattle.link_runs.specs.link_pairs.procedures.declared.outcome.Outcome.{Outco
 use Rattle.link_runs.proofs.link_pairs.control_model.Calls.{settled_as}
 use Rattle.link_runs.proofs.link_pairs.TerminatingPdus.{outcome_ends}
 use Rattle.link_runs.proofs.link_pairs.link_model.ControlSteps.{one_step}
+use Rattle.link_runs.proofs.link_pairs.link_model.Plain.{hearing_plain, received_plain}
 use Rattle.joint_laws.proofs.joint_phases.Outcomes.{keeps_open}
 use Rattle.journal_endings.proofs.HostReasons.{EndsWithReason, HoldsReasons, IsReason, QueuesReasons, ReadsReason, SaysReason, next_says, reads_reason, steps_hold}
 
@@ -106,15 +109,15 @@ given_carries : (handle : ℕ) (start : Bool) (body : List ℕ) (ack : Acknowled
 given_carries handle start [] ack outgoing carry = carry
 given_carries handle start (octet ∷ octets) ack outgoing carry = carry
 
-anew_carries : (control : Bool) (waiting : ℕ) (goes : Bool) (outgoing : Data) → CarriesReason (data_fixed_by control waiting goes outgoing).fixed
-anew_carries true waiting goes outgoing = empty_carries
-anew_carries false waiting true outgoing = piece_carries (next_piece outgoing)
-anew_carries false waiting false outgoing = empty_carries
+anew_carries : (control : Bool) (waiting : ℕ) (quiet goes : Bool) (outgoing : Data) → CarriesReason (data_fixed_by control waiting quiet goes outgoing).fixed
+anew_carries true waiting quiet goes outgoing = empty_carries
+anew_carries false waiting quiet true outgoing = piece_carries (next_piece outgoing)
+anew_carries false waiting quiet false outgoing = empty_carries
 
-sent_carries : (is_new : Bool) (ack : Acknowledgement) (outgoing : Data) → PdusCarry ack outgoing
-    → PdusCarry (next_sent is_new outgoing.fixed ack) (data_sent_if is_new outgoing)
-sent_carries true ack outgoing carry = (carry.1, empty_carries)
-sent_carries false ack outgoing carry = carry
+sent_carries : (payload : List ℕ) (is_new : Bool) (ack : Acknowledgement) (outgoing : Data) → PdusCarry ack outgoing
+    → PdusCarry (next_sent is_new outgoing.fixed ack) (data_sent_as payload is_new outgoing)
+sent_carries payload true ack outgoing carry = (carry.1, empty_carries)
+sent_carries payload false ack outgoing carry = carry
 
 acked_carries : (acked : Bool) (ack : Acknowledgement) (outgoing : Data) → PdusCarry ack outgoing → PdusCarry ack (data_acked_if acked outgoing)
 acked_carries true ack outgoing carry = carry
@@ -172,16 +175,16 @@ left_by None leaving is before = before
 left_by (Some code) leaving is before = is
 
 taken_peer : (takes : Bool) (pdu : Pdu) (slot : ℕ) (facts : Facts) → (takes ≡ true → is_control pdu ≡ true) → CarriesReason pdu
-    → IfSome facts.leaving.ended_by_peer IsReason → IfSome (procedures_take_if takes pdu slot facts).leaving.ended_by_peer IsReason
+    → IfSome facts.leaving.ended_by_peer IsReason → IfSome (plain_takes_if takes pdu slot facts).leaving.ended_by_peer IsReason
 taken_peer false pdu slot facts control carries before = before
 taken_peer true pdu slot facts control carries before =
-    left_by (code_of (procedures_give pdu slot facts).effect) facts.leaving
-    (took_gives facts.control.table slot (is_quiet_now facts) (read_of pdu) (supported (ctrl_of pdu.body) (carries (control refl)))
-    (goes_on_held (held_after (Takes (read_of pdu) slot (is_quiet_now facts)) (held_of facts.control))))
+    left_by (code_of (plain_gives pdu slot facts).effect) facts.leaving
+    (took_gives facts.control.table slot true (read_of pdu) (supported (ctrl_of pdu.body) (carries (control refl)))
+    (goes_on_held (held_after (Takes (read_of pdu) slot true) (held_of facts.control))))
     before
 
 taken_pdus : (takes : Bool) (pdu : Pdu) (slot : ℕ) (facts : Facts) → PdusCarry facts.acknowledgement facts.outgoing
-    → PdusCarry (procedures_take_if takes pdu slot facts).acknowledgement (procedures_take_if takes pdu slot facts).outgoing
+    → PdusCarry (plain_takes_if takes pdu slot facts).acknowledgement (plain_takes_if takes pdu slot facts).outgoing
 taken_pdus true pdu slot facts carry = carry
 taken_pdus false pdu slot facts carry = carry
 
@@ -206,31 +209,33 @@ received_ends role slot room None facts = tt
 received_ends role slot room (Some octets) facts =
     let header = header_in octets in
     let pdu = pdu_of octets in
-    let own = acknowledged_if (has_acknowledged facts header) (heard_in_slot slot header.md facts) in
-    let now = facts_before_taking role slot header facts in
+    let own = plain_acknowledged_if (has_acknowledged facts header) (heard_in_slot slot header.md facts) in
+    let now = plain_before_taking role slot header facts in
     let sees = step_if (acks_control (has_acknowledged facts header) facts) SeesAcknowledged in
-    let sends = step_if (answers_with_control role own) (Sends slot (is_quiet_now own)) in
-    let takes = step_if (accepts room header pdu now && is_procedure_pdu pdu) (Takes (read_of pdu) slot (is_quiet_now now)) in
+    let sends = step_if (answers_with_control role own) (Sends slot true) in
+    let takes = step_if (accepts room header pdu now && is_procedure_pdu pdu) (Takes (read_of pdu) slot true) in
     both (sees ++ sends) takes
     (both sees sends (perhaps (acks_control (has_acknowledged facts header) facts) SeesAcknowledged tt)
-    (perhaps (answers_with_control role own) (Sends slot (is_quiet_now own)) tt))
-    (perhaps (accepts room header pdu now && is_procedure_pdu pdu) (Takes (read_of pdu) slot (is_quiet_now now)) tt)
+    (perhaps (answers_with_control role own) (Sends slot true) tt))
+    (perhaps (accepts room header pdu now && is_procedure_pdu pdu) (Takes (read_of pdu) slot true) tt)
 
 steps_end : (setup : Setup) (facts : Facts) (step : Step) → MayStep setup facts step → AllByRecursion EndsWithReason (control_steps_in setup facts step)
 steps_end setup facts (DataGiven start body) may = tt
 steps_end setup facts (ProcedureAsked ask) may = perhaps (not (is_to_come ask facts)) (Asks ask) tt
 steps_end setup facts (RequestAnswered answer) may = (tt, tt)
+steps_end setup facts (KeyAnswered key slot) may = tt
 steps_end setup facts (Disconnected reason slot) may = (may, tt)
-steps_end setup facts (EventEntered slot) may = perhaps (goes_on facts) (Enters slot (is_quiet_now facts)) tt
+steps_end setup facts (EventEntered slot) may = perhaps (goes_on facts) (Enters slot true) tt
 steps_end setup facts PduFixed may = tt
-steps_end setup facts (PacketSent slot) may = perhaps (takes_leave facts) (Sends slot (is_quiet_now facts)) tt
+steps_end setup facts (PacketSent slot) may = perhaps (takes_leave facts) (Sends slot true) tt
+steps_end setup facts (WordsGiven skd_s iv_s) may = tt
 steps_end setup facts (PacketReceived slot octets room) may = received_ends setup.link.role slot room (good_pdu setup facts octets) facts
 steps_end setup facts DataReported may = tt
 
-queue_after : (setup : Setup) (facts : Facts) (step : Step) → MayStep setup facts step → GivesReasons facts
+queue_after : (setup : Setup) (facts : Facts) (step : Step) → IsPlain setup.link.role facts → MayStep setup facts step → GivesReasons facts
     → QueuesReasons (facts_after setup facts step).control.table.queue
-queue_after setup facts step may gives =
-    subst HoldsReasons (sym (one_step setup facts step)) (steps_hold (control_steps_in setup facts step) facts.control (steps_end setup facts step may) gives.queue)
+queue_after setup facts step plain may gives =
+    subst HoldsReasons (sym (one_step setup facts step plain)) (steps_hold (control_steps_in setup facts step) facts.control (steps_end setup facts step may) gives.queue)
 
 -- ---- each step
 
@@ -251,7 +256,7 @@ entered_parts false setup slot facts gives = same_parts facts gives
 fixed_parts : (stays : Bool) (facts : Facts) → GivesReasons facts → PartsGive (if stays then facts else fixed_anew facts)
 fixed_parts true facts gives = same_parts facts gives
 fixed_parts false facts gives =
-    ((gives.pdus.0, anew_carries (is_some (next_control facts)) (waiting_in facts.control.table.queue) (data_goes facts) (data_cut facts)), gives.peer)
+    ((gives.pdus.0, anew_carries (is_some (next_control facts)) (waiting_in facts.control.table.queue) (is_quiet_now facts) (data_goes facts) (data_cut facts)), gives.peer)
 
 gone_peer : (goes : Bool) (slot : ℕ) (facts : Facts) → GivesReasons facts → IfSome (control_gone_if goes slot facts).leaving.ended_by_peer IsReason
 gone_peer true slot facts gives = gives.peer
@@ -260,7 +265,8 @@ gone_peer false slot facts gives = gives.peer
 sent_parts : (slot : ℕ) (facts : Facts) → GivesReasons facts → PartsGive (facts_sent slot facts)
 sent_parts slot facts gives =
     let now = control_gone_if (takes_leave facts) slot facts in
-    (sent_carries (is_acked now.acknowledgement) now.acknowledgement now.outgoing (gone_carries (takes_leave facts) slot facts gives), gone_peer (takes_leave facts) slot facts gives)
+    let payload = payload_made now.encryption.end now.outgoing.fixed in
+    (sent_carries payload (is_acked now.acknowledgement) now.acknowledgement now.outgoing (gone_carries (takes_leave facts) slot facts gives), gone_peer (takes_leave facts) slot facts gives)
 
 control_of : (accepted control empty : Bool) → (accepted && (control && not empty)) ≡ true → control ≡ true
 control_of true true empty is = refl
@@ -268,49 +274,59 @@ control_of true false empty is = absurd (cc)
 control_of false control empty is = absurd (cc)
 
 heard_parts : (role : Role) (slot : ℕ) (room : Bool) (header : DataHeader) (pdu : Pdu) (facts : Facts) → CarriesReason pdu
-    → GivesReasons (acknowledged_if (has_acknowledged facts header) (heard_in_slot slot header.md facts)) → PartsGive (facts_hearing role slot room header pdu facts)
+    → GivesReasons (plain_acknowledged_if (has_acknowledged facts header) (heard_in_slot slot header.md facts)) → PartsGive (plain_hearing role slot room header pdu facts)
 heard_parts role slot room header pdu facts carries gives =
-    let own = acknowledged_if (has_acknowledged facts header) (heard_in_slot slot header.md facts) in
+    let own = plain_acknowledged_if (has_acknowledged facts header) (heard_in_slot slot header.md facts) in
     let goes = answers_with_control role own in
-    let now = facts_before_taking role slot header facts in
+    let now = plain_before_taking role slot header facts in
     let accepted = accepts room header pdu now in
     let takes = accepted && is_procedure_pdu pdu in (
-      taken_pdus takes pdu slot (accepted_if accepted pdu now) (gone_carries goes slot own gives),
-      taken_peer takes pdu slot (accepted_if accepted pdu now) (control_of accepted (is_control pdu) (is_empty pdu)) carries (gone_peer goes slot own gives),
+      taken_pdus takes pdu slot (plain_accepted_if accepted pdu now) (gone_carries goes slot own gives),
+      taken_peer takes pdu slot (plain_accepted_if accepted pdu now) (control_of accepted (is_control pdu) (is_empty pdu)) carries (gone_peer goes slot own gives),
     )
 
 acked_queue : (acked : Bool) (c : Control) → HoldsReasons c → HoldsReasons (control_acked_if acked c)
 acked_queue true c has = steps_hold (SeesAcknowledged ∷ []) c (tt, tt) has
 acked_queue false c has = has
 
-acked_gives : (acked : Bool) (slot : ℕ) (more : Bool) (facts : Facts) → GivesReasons facts → GivesReasons (acknowledged_if acked (heard_in_slot slot more facts))
+acked_gives : (acked : Bool) (slot : ℕ) (more : Bool) (facts : Facts) → GivesReasons facts → GivesReasons (plain_acknowledged_if acked (heard_in_slot slot more facts))
 acked_gives acked slot more facts gives = record {
   queue = acked_queue (acks_control acked facts) facts.control gives.queue;
   pdus = acked_carries (acked && is_data facts.acknowledgement.last) (with_acked acked facts.acknowledgement) facts.outgoing gives.pdus;
   peer = gives.peer;
 }
 
-received_parts : (role : Role) (slot : ℕ) (room : Bool) (pdu : Option (List ℕ)) (facts : Facts) → IfSome pdu (λ octets. CarriesReason (pdu_of octets))
+received_parts : (role : Role) (slot : ℕ) (room : Bool) (pdu : Option (List ℕ)) (facts : Facts) → IsPlain role facts → IfSome pdu (λ octets. CarriesReason (pdu_of octets))
     → GivesReasons facts → PartsGive (facts_received role slot room pdu facts)
-received_parts role slot room None facts carries gives = same_parts facts gives
-received_parts role slot room (Some octets) facts carries gives =
+received_parts role slot room None facts plain carries gives = same_parts facts gives
+received_parts role slot room (Some octets) facts plain carries gives =
     let header = header_in octets in
-    heard_parts role slot room header (pdu_of octets) facts carries (acked_gives (has_acknowledged facts header) slot header.md facts gives)
+    subst PartsGive (sym (hearing_plain role role slot room header (pdu_of octets) facts plain))
+    (heard_parts role slot room header (pdu_of octets) facts carries (acked_gives (has_acknowledged facts header) slot header.md facts gives))
 
-parts_after : (setup : Setup) (facts : Facts) (step : Step) → MayStep setup facts step → GivesReasons facts → PartsGive (facts_after setup facts step)
-parts_after setup facts (DataGiven start body) may gives =
+-- the end without a key may end the link, as a host does
+left_from : (leaves : Bool) (slot : ℕ) (leaving : Leaving) → IfSome leaving.ended_by_peer IsReason → IfSome (leaving_from_if leaves slot leaving).ended_by_peer IsReason
+left_from true slot leaving before = before
+left_from false slot leaving before = before
+
+parts_after : (setup : Setup) (facts : Facts) (step : Step) → IsPlain setup.link.role facts → MayStep setup facts step → GivesReasons facts → PartsGive (facts_after setup facts step)
+parts_after setup facts (DataGiven start body) plain may gives =
     (given_carries setup.link.handle start body facts.acknowledgement facts.outgoing gives.pdus, gives.peer)
-parts_after setup facts (ProcedureAsked ask) may gives = asked_parts (is_to_come ask facts) ask facts gives
-parts_after setup facts (RequestAnswered answer) may gives = same_parts facts gives
-parts_after setup facts (Disconnected reason slot) may gives = same_parts facts gives
-parts_after setup facts (EventEntered slot) may gives = entered_parts (goes_on facts) setup slot facts gives
-parts_after setup facts PduFixed may gives = fixed_parts (is_control facts.outgoing.fixed) facts gives
-parts_after setup facts (PacketSent slot) may gives = sent_parts slot facts gives
-parts_after setup facts (PacketReceived slot octets room) may gives =
-    received_parts setup.link.role slot room (good_pdu setup facts octets) facts may gives
-parts_after setup facts DataReported may gives = same_parts facts gives
+parts_after setup facts (ProcedureAsked ask) plain may gives = asked_parts (is_to_come ask facts) ask facts gives
+parts_after setup facts (RequestAnswered answer) plain may gives = same_parts facts gives
+parts_after setup facts (KeyAnswered key slot) plain may gives = (gives.pdus, left_from (ends_without_key key facts) slot facts.leaving gives.peer)
+parts_after setup facts (Disconnected reason slot) plain may gives = same_parts facts gives
+parts_after setup facts (EventEntered slot) plain may gives = entered_parts (goes_on facts) setup slot facts gives
+parts_after setup facts PduFixed plain may gives = fixed_parts (is_control facts.outgoing.fixed) facts gives
+parts_after setup facts (PacketSent slot) plain may gives = sent_parts slot facts gives
+parts_after setup facts (WordsGiven skd_s iv_s) plain may gives = same_parts facts gives
+parts_after setup facts (PacketReceived slot octets room) plain may gives =
+    subst PartsGive (sym (received_plain setup facts slot octets room plain))
+    (received_parts setup.link.role slot room (good_pdu setup facts octets) facts plain may gives)
+parts_after setup facts DataReported plain may gives = same_parts facts gives
 
-pub step_gives : (setup : Setup) (facts : Facts) (step : Step) → MayStep setup facts step → GivesReasons facts → GivesReasons (facts_after setup facts step)
-step_gives setup facts step may gives =
-    let parts = parts_after setup facts step may gives in
-    record { queue = queue_after setup facts step may gives; pdus = parts.0; peer = parts.1 }
+pub step_gives : (setup : Setup) (facts : Facts) (step : Step) → IsPlain setup.link.role facts → MayStep setup facts step → GivesReasons facts
+    → GivesReasons (facts_after setup facts step)
+step_gives setup facts step plain may gives =
+    let parts = parts_after setup facts step plain may gives in
+    record { queue = queue_after setup facts step plain may gives; pdus = parts.0; peer = parts.1 }

@@ -1,6 +1,6 @@
 -- Where a station of two takes a good packet on a link, the PDU in it has a reason that a host may give if it ends the link, and
 -- a procedure of the end ends the link only for an Instant that has passed.
-use Rattle.std.proofs.Common.{◌≡◌, ◌⊎◌, inl, inr, ℕ, ◌+◌, true, List, [], ◌∷◌, ◌++◌, append_assoc, Option, Some, None, refl, sym, ap, subst, ◌∙◌, arith}
+use Rattle.std.proofs.Common.{◌≡◌, ◌⊎◌, inl, inr, ℕ, ◌+◌, Bool, true, false, List, [], ◌∷◌, ◌++◌, append_assoc, Option, Some, None, refl, sym, ap, subst, ◌∙◌, arith, if◌then◌else◌}
 use Rattle.std.specs.Prelude.{IfSome}
 use Rattle.std.specs.List.{Contains}
 use Rattle.ble_base.specs.Side.{other_side}
@@ -15,8 +15,8 @@ use Rattle.controller_model.specs.Side.{facts_after}
 use Rattle.controller_model.specs.Step.{PacketHeard}
 use Rattle.link_calls.specs.Uses.{listens_under}
 use Rattle.link_calls.specs.link_model.Facts.{Facts as EndFacts}
-use Rattle.link_calls.specs.link_model.Hearing.{IsUnderstood as IsEndUnderstood, pdu_octets}
-use Rattle.link_calls.specs.link_model.Packets.{good_pdu, pdu_sent, verdict_of}
+use Rattle.link_calls.specs.link_model.Hearing.{IsUnderstood as IsEndUnderstood, body_read, pdu_octets}
+use Rattle.link_calls.specs.link_model.Packets.{good_pdu, has_new_pdu, header_sent, pdu_sent, verdict_of}
 use Rattle.link_calls.specs.link_model.Setup.{Setup as EndSetup}
 use Rattle.link_calls.specs.link_model.Step.{PacketSent}
 use Rattle.link_calls.specs.link_model.Verdicts.{pdu_of}
@@ -30,7 +30,7 @@ use Rattle.link_calls.specs.run_model.LinkEnds.{HasConnectInd, HaveAddresses, Is
 use Rattle.link_calls.specs.run_model.Numbers.{AreNumbered}
 use Rattle.link_calls.specs.run_model.Run.{Given, facts_at, history_of, run_of, setup_at}
 use Rattle.link_calls.proofs.link_model.Hearing.{IsHeardWhole}
-use Rattle.link_calls.proofs.link_model.Received.{heard_good, pdu_read}
+use Rattle.link_calls.proofs.link_model.Received.{body_heard, heard_good}
 use Rattle.link_calls.proofs.run_laws.Agreed.{step_facts}
 use Rattle.link_calls.proofs.run_laws.DistinctAccess.{AreApart}
 use Rattle.link_calls.proofs.run_laws.EachCall.{facts_called, facts_others}
@@ -137,6 +137,11 @@ LateAlone given =
     → AreEnds before central peripheral → HearEachInTurn given before central peripheral → IsOpen given before central
     → IsOpen given before peripheral
     → GoOnUnlessLate (record { central = Some (facts_in central.link); peripheral = Some (facts_in peripheral.link) })
+
+-- a payload that is the body of its PDU is read so, whether or not the PDU is new
+either_body : (new : Bool) (body payload : List ℕ) → payload ≡ body → (if new then body else payload) ≡ body
+either_body true body payload is = refl
+either_body false body payload is = is
 
 goes_late : (ends : Option ErrCode) → ends ≡ None → EndsLate ends
 goes_late ends is = subst EndsLate (sym is) tt
@@ -257,15 +262,18 @@ module _ (heard_whole : IsHeardWhole) (understood : IsUnderstood) (taken : AreTa
             ranged_understand sender link from_ranges ranges (sent_now.sent.is_end.fields ∙ sym (both_one before own there both).fields)
             (sym sent_now.sent.channel_is)
 
-        brings : good_pdu link.setup (facts_in link) octets ≡ Some (pdu_octets (facts_in sender))
+        brings : good_pdu link.setup (facts_in link) octets ≡ Some (pdu_octets (facts_in sender) (facts_in link))
         brings =
             ap (good_pdu link.setup (facts_in link)) sent_now.sent.packet
             ∙ heard_good heard_whole sender.setup link.setup (facts_in sender) (facts_in link) hears
 
-        pdu_is : pdu_of (pdu_octets (facts_in sender)) ≡ (facts_in sent_link).acknowledgement.last
+        body_is : body_read (facts_in sender) (facts_in link) ≡ (pdu_sent (facts_in sender)).body
+        body_is = either_body (has_new_pdu (facts_in link) (header_sent (facts_in sender))) _ _ (sent_readable sender from_ranges).opened
+
+        pdu_is : pdu_of (pdu_octets (facts_in sender) (facts_in link)) ≡ (facts_in sent_link).acknowledgement.last
         pdu_is =
-            pdu_read (facts_in sender) hears.llid
-            ∙ (λ i. record { llid = (pdu_sent (facts_in sender)).llid; body = (sent_readable sender from_ranges).opened i })
+            body_heard (facts_in sender) (facts_in link) hears.llid
+            ∙ (λ i. record { llid = (pdu_sent (facts_in sender)).llid; body = body_is i })
             ∙ sym (has_sent slot (facts_in sender)).last
             ∙ ap (λ (f : EndFacts). f.acknowledgement.last) (sym (step_facts sender (PacketSent slot)))
 

@@ -22,7 +22,7 @@ use Rattle.journal_acks.specs.controller_model.Facts.{Setup, Facts}
 use Rattle.journal_acks.specs.controller_model.Host.{commands_accepted_by, commands_accepted_in}
 use Rattle.journal_acks.specs.controller_model.Side.{facts_after, facts_fed, result_of}
 use Rattle.journal_acks.specs.controller_model.Step.{HostOctet}
-use Rattle.journal_acks.specs.controller_model.link_commands.Commands.{ask_unless, host_step_of, is_about, map_by, step_if_about, step_on}
+use Rattle.journal_acks.specs.controller_model.link_commands.Commands.{ask_unless, host_step_of, is_about, map_by, step_if_about, step_on, update_by}
 use Rattle.journal_acks.specs.controller_model.link_commands.LinksCommanded.{link_after_if, links_commanded, links_commanded_from, place_commanded}
 use Rattle.host_answers.specs.Calls.{answered_after, answered_commands}
 use Rattle.journal_acks.specs.link_model.End.{facts_after as end_after, notes_from}
@@ -37,7 +37,7 @@ use Rattle.journal_acks.specs.link_model.procedure_stages.InProgress.{is_host_as
 use Rattle.journal_acks.specs.link_model.procedures.Going.{host_answer_step, is_answer, terminate_step}
 use Rattle.journal_acks.specs.link_model.procedures.Table.{TableFacts}
 use Rattle.journal_acks.specs.link_model.procedure_values.declared.asks.Ask.{Ask}
-use Rattle.journal_acks.specs.link_model.procedure_values.declared.asks.Ask.TheVariants.{Features, Version}
+use Rattle.journal_acks.specs.link_model.procedure_values.declared.asks.Ask.TheVariants.{Encrypt, Features, Version}
 use Rattle.journal_acks.specs.open_links.OpenLinks.{Links, OpenLink, facts_in, link_after, link_at, link_from, without_links}
 use Rattle.journal_acks.specs.open_links.declared.offers.Offer.{Offer}
 use Rattle.journal_acks.specs.open_links.declared.offers.Offer.TheVariants.{NoLink, Empty, Overflow, Kept}
@@ -62,8 +62,9 @@ asked_of handle slot link command = asked_if (step_of handle slot link command)
 abbrev pub answers_of : ℕ → ℕ → OpenLink → Command → List (Result Ask ErrCode)
 answers_of handle slot link command = answers_if (step_of handle slot link command)
 
--- a step that a host asks
+-- a step that a host asks: no command asks for an encryption yet
 abbrev pub IsHostStep : Step → Type 0
+IsHostStep (ProcedureAsked (Encrypt rand ediv ltk skd_m iv_m)) = ⊥
 IsHostStep (ProcedureAsked ask) = ⊤
 IsHostStep (RequestAnswered answer) = ⊤
 IsHostStep (Disconnected reason slot) = ⊤
@@ -175,17 +176,22 @@ asked_goes_on base (Some step) by_host = host_ends base.setup (facts_in base) st
 
 -- ---- which commands ask
 
-unless_known : (known : Bool) (ask : Ask) → IfHostStep (ask_unless known ask)
-unless_known true ask = tt
-unless_known false ask = tt
+unless_known : (known : Bool) (ask : Ask) → IsHostStep (ProcedureAsked ask) → IfHostStep (ask_unless known ask)
+unless_known true ask by_host = tt
+unless_known false ask by_host = by_host
+
+update_by_host : (role : Role) (min max latency timeout : ℕ) → IsHostStep (ProcedureAsked (update_by role min max latency timeout))
+update_by_host Central min max latency timeout = tt
+update_by_host Peripheral min max latency timeout = tt
 
 map_by_host : (role : Role) (map : ℕ) → IfHostStep (map_by role map)
 map_by_host Central map = tt
 map_by_host Peripheral map = tt
 
 step_of_host : (command : Command) (slot : ℕ) (role : Role) (peer : PeerFacts) → IfHostStep (host_step_of command slot role peer)
-step_of_host (ReadRemoteVersion handle) slot role peer = unless_known (is_some peer.version) Version
-step_of_host (LeReadRemoteFeatures handle) slot role peer = unless_known (is_some peer.features) Features
+step_of_host (ReadRemoteVersion handle) slot role peer = unless_known (is_some peer.version) Version tt
+step_of_host (LeReadRemoteFeatures handle) slot role peer = unless_known (is_some peer.features) Features tt
+step_of_host (LeConnectionUpdate handle min max latency timeout lengths) slot role peer = update_by_host role min max latency timeout
 step_of_host (LeSetChannels map) slot role peer = map_by_host role map
 step_of_host other slot role peer = tt
 

@@ -1,6 +1,6 @@
 -- What is seen of an end, by its past: as the past grows, and in steps in which it hears nothing and is asked nothing.
-use Rattle.std.proofs.Common.{◌≡◌, ℕ, Bool, true, false, None, List, [], ◌∷◌, ◌++◌, map, refl, sym, ap, ◌∙◌, append_assoc}
-use Rattle.std.specs.Prelude.{fold, if◌then◌else◌}
+use Rattle.std.proofs.Common.{◌≡◌, ℕ, Bool, true, false, Option, Some, None, List, [], ◌∷◌, ◌++◌, map, refl, sym, ap, ◌∙◌, append_assoc}
+use Rattle.std.specs.Prelude.{fold, is_none, if◌then◌else◌}
 use Rattle.std.proofs.lemmas.Grind.{flat_map-append}
 use Rattle.std.proofs.lemmas.List.{map-append}
 use Rattle.std.proofs.lemmas.List.Sums.{fold-append}
@@ -9,18 +9,19 @@ use Rattle.air_frame.specs.declared.Heard.TheVariants.{NotOurs, Broken as Faulty
 use Rattle.ble_base.specs.declared.notes.Note.{Note}
 use Rattle.ble_base.specs.declared.roles.Role.{Role}
 use Rattle.ble_base.specs.declared.roles.Side.{Side}
-use Rattle.ble_base.specs.declared.verdicts.Verdict.TheVariants.{Broken, Good}
+use Rattle.ble_base.specs.declared.verdicts.Verdict.TheVariants.{Broken, Forged, Good}
 use Rattle.journal_acks.specs.controller_model.Links.{note_opened}
 use Rattle.journal_acks.specs.controller_model.Since.{notes_opened_on}
 use Rattle.journal_acks.specs.journal_links.LinkLines.{line_of}
 use Rattle.journal_acks.specs.link_model.End.{facts_after, facts_of, notes_after, notes_from, notes_of}
 use Rattle.journal_acks.specs.link_model.Facts.{Facts, first_facts}
 use Rattle.journal_acks.specs.link_model.Hosts.{asked_unless, is_to_come}
-use Rattle.journal_acks.specs.link_model.Packets.{good_pdu, heard_of, verdict_of}
-use Rattle.journal_acks.specs.link_model.Receiving.{facts_received}
+use Rattle.journal_acks.specs.link_model.Packets.{good_pdu, heard_of, is_forged, is_forged_in, is_forged_pdu, pdu_read, pdu_read_in, verdict_of, whole_pdu}
+use Rattle.journal_acks.specs.link_model.Payload.{opens_now}
+use Rattle.journal_acks.specs.link_model.Receiving.{facts_forged_if, facts_received}
 use Rattle.journal_acks.specs.link_model.Setup.{Setup}
-use Rattle.journal_acks.specs.link_model.Step.{Step, DataGiven, ProcedureAsked, RequestAnswered, Disconnected, EventEntered, PduFixed, PacketSent, PacketReceived, DataReported}
-use Rattle.journal_acks.specs.link_model.Verdicts.{good_in, has_room_for, pdu_by, verdict_by}
+use Rattle.journal_acks.specs.link_model.Step.{Step, DataGiven, ProcedureAsked, RequestAnswered, KeyAnswered, Disconnected, EventEntered, PduFixed, PacketSent, WordsGiven, PacketReceived, DataReported}
+use Rattle.journal_acks.specs.link_model.Verdicts.{has_room_for, pdu_by, verdict_by, whole_in}
 use Rattle.journal_acks.specs.run_model.History.{is_good}
 use Rattle.journal_acks.proofs.GoodLinks.{slot_of}
 use Rattle.journal_acks.proofs.link_calls.HeardSteps.{entered_good, fixed_same, received_same, sent_in}
@@ -76,23 +77,34 @@ module _ (side : Side) (number : ℕ) (setup : Setup) where
 
   -- ---- the slot of what it heard last
 
-  heard_slot : (role : Role) (slot : ℕ) (octets : List ℕ) (room : Bool) (max_rx : ℕ) (heard : Heard) (facts : Facts)
-      → slot_of (facts_received role slot room (good_in max_rx heard) facts).last_good
-      ≡ fold slot_after (slot_of facts.last_good) (heard_where (is_good (verdict_by max_rx heard)) slot octets)
-  heard_slot role slot octets room max_rx NotOurs facts = refl
-  heard_slot role slot octets room max_rx Faulty facts = refl
-  heard_slot role slot octets room max_rx (Whole pdu) facts = by (has_room_for max_rx pdu.items)
+  -- a packet that is forged is heard of in no slot
+  read_slot : (role : Role) (slot : ℕ) (octets : List ℕ) (room : Bool) (facts : Facts) (read : Option (List ℕ))
+      → slot_of (facts_forged_if (is_none read) (facts_received role slot room read facts)).last_good
+      ≡ fold slot_after (slot_of facts.last_good) (heard_where (is_good (if is_none read then Forged else Good)) slot octets)
+  read_slot role slot octets room facts (Some pdu) = ap slot_of (received_same role slot room pdu facts).good
+  read_slot role slot octets room facts None = refl
+
+  heard_slot : (role : Role) (slot : ℕ) (octets : List ℕ) (room : Bool) (max_rx : ℕ) (opens : Bool) (heard : Heard) (facts : Facts)
+      → slot_of (facts_forged_if (is_forged_in facts (whole_in max_rx opens heard))
+      (facts_received role slot room (pdu_read_in facts (whole_in max_rx opens heard)) facts)).last_good
+      ≡ fold slot_after (slot_of facts.last_good) (heard_where (is_good (verdict_by max_rx opens (is_forged_pdu facts) heard)) slot octets)
+  heard_slot role slot octets room max_rx opens NotOurs facts = refl
+  heard_slot role slot octets room max_rx opens Faulty facts = refl
+  heard_slot role slot octets room max_rx opens (Whole pdu) facts = by (has_room_for max_rx opens pdu.items)
     where
-      by : (fits : Bool) → slot_of (facts_received role slot room (pdu_by fits pdu.items) facts).last_good
-          ≡ fold slot_after (slot_of facts.last_good) (heard_where (is_good (if fits then Good else Broken)) slot octets)
-      by true = ap slot_of (received_same role slot room pdu.items facts).good
+      by : (fits : Bool) → slot_of (facts_forged_if (is_forged_in facts (pdu_by fits pdu.items))
+          (facts_received role slot room (pdu_read_in facts (pdu_by fits pdu.items)) facts)).last_good
+          ≡ fold slot_after (slot_of facts.last_good)
+          (heard_where (is_good (if fits then (if is_forged_pdu facts pdu.items then Forged else Good) else Broken)) slot octets)
+      by true = read_slot role slot octets room facts (pdu_read facts pdu.items)
       by false = refl
 
   received_slot : (slot : ℕ) (octets : List ℕ) (room : Bool) (facts : Facts)
-      → slot_of (facts_received setup.link.role slot room (good_pdu setup facts octets) facts).last_good
+      → slot_of (facts_after setup facts (PacketReceived slot octets room)).last_good
       ≡ fold slot_after (slot_of facts.last_good) (heard_where (is_good (verdict_of setup facts octets)) slot octets)
-  unfolding good_pdu verdict_of
-  received_slot slot octets room facts = heard_slot setup.link.role slot octets room setup.link.max_rx (heard_of setup facts octets) facts
+  unfolding good_pdu is_forged verdict_of whole_pdu
+  received_slot slot octets room facts =
+      heard_slot setup.link.role slot octets room setup.link.max_rx (opens_now facts.encryption.end) (heard_of setup facts octets) facts
 
   step_heard : (facts : Facts) (step : Step) → slot_of (facts_after setup facts step).last_good ≡ fold slot_after (slot_of facts.last_good) (heard_in_step setup facts step)
   step_heard facts (DataGiven start body) = refl
@@ -102,10 +114,12 @@ module _ (side : Side) (number : ℕ) (setup : Setup) where
       by true = refl
       by false = refl
   step_heard facts (RequestAnswered answer) = refl
+  step_heard facts (KeyAnswered key slot) = refl
   step_heard facts (Disconnected reason slot) = refl
   step_heard facts (EventEntered slot) = ap slot_of (entered_good setup slot facts)
   step_heard facts PduFixed = ap slot_of (fixed_same facts).good
   step_heard facts (PacketSent slot) = ap slot_of (sent_in slot facts).good
+  step_heard facts (WordsGiven skd_s iv_s) = refl
   step_heard facts (PacketReceived slot octets room) = received_slot slot octets room facts
   step_heard facts DataReported = refl
 

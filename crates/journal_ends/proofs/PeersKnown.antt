@@ -10,6 +10,7 @@ use Rattle.ble_base.specs.declared.procedure_kinds.Kind.{Kind}
 use Rattle.ble_base.specs.declared.roles.Role.{Role}
 use Rattle.ble_base.specs.declared.roles.Side.{Side}
 use Rattle.data_pdu.specs.Header.{header_in}
+use Rattle.data_pdu.specs.declared.header.DataHeader.{DataHeader}
 use Rattle.journal_acks.specs.controller_model.Since.{notes_opened_on}
 use Rattle.journal_acks.proofs.controller_model.EndNotes.{entered_each, received_each, sent_each}
 use Rattle.journal.specs.declared.entries.Entry.{Entry}
@@ -23,10 +24,11 @@ use Rattle.journal_acks.specs.link_model.Facts.{Facts, first_facts}
 use Rattle.journal_acks.specs.link_model.Fixing.{fixed_anew}
 use Rattle.journal_acks.specs.link_model.Hosts.{asked_unless, is_to_come}
 use Rattle.journal_acks.specs.link_model.Packets.{good_pdu}
-use Rattle.journal_acks.specs.link_model.Receiving.{accepted_if, accepts, acked_kind, acknowledged_if, acks_control, answers_with_control, facts_before_taking, facts_received, given_if, given_notes, has_acknowledged, heard_in_slot, peer_from, peer_from_if, procedures_take_if, received_notes, refused_notes, took_notes_if}
+use Rattle.journal_acks.specs.link_model.Plain.{IsPlain, plain_accepted_if as accepted_if, plain_acknowledged_if as acknowledged_if, plain_before_taking as facts_before_taking, plain_given_if as given_if, plain_hearing, plain_notes_hearing, plain_takes_if as procedures_take_if}
+use Rattle.journal_acks.specs.link_model.Receiving.{accepts, acked_kind, acks_control, answers_with_control, facts_received, given_notes, has_acknowledged, heard_in_slot, peer_from, peer_from_if, received_notes, refused_notes, took_notes_if}
 use Rattle.journal_acks.specs.link_model.Sending.{control_gone_if, takes_leave}
 use Rattle.journal_acks.specs.link_model.Setup.{Setup}
-use Rattle.journal_acks.specs.link_model.Step.{Step, DataGiven, ProcedureAsked, RequestAnswered, Disconnected, EventEntered, PduFixed, PacketSent, PacketReceived, DataReported}
+use Rattle.journal_acks.specs.link_model.Step.{Step, DataGiven, ProcedureAsked, RequestAnswered, KeyAnswered, Disconnected, EventEntered, PduFixed, PacketSent, WordsGiven, PacketReceived, DataReported}
 use Rattle.journal_acks.specs.link_model.Verdicts.{pdu_of}
 use Rattle.journal_acks.specs.link_model.control_end.declared.answers.Taken.{Taken}
 use Rattle.journal_acks.specs.link_model.control_model.Control.{Control, Step as ControlStep, after_all, moved}
@@ -34,6 +36,7 @@ use Rattle.journal_acks.specs.link_model.ControlSteps.{control_steps_in}
 use Rattle.journal_acks.specs.link_model.procedure_values.declared.asks.Ask.{Ask}
 use Rattle.journal_acks.specs.link_model.declared.state.PeerFacts.{PeerFacts}
 use Rattle.journal_acks.proofs.link_model.ControlSteps.{one_step}
+use Rattle.journal_acks.proofs.link_model.Plain.{hearing_plain, notes_hearing_plain, past_plain, received_plain, step_plain}
 use Rattle.journal_ends.specs.Asked.{opened_after, opened_by, peer_after, peer_by}
 
 module _ (side : Side) (number : ℕ) where
@@ -95,14 +98,14 @@ module _ (side : Side) (number : ℕ) where
   ended_all (step ∷ steps) c code is =
       ap (after_all steps) (ap (λ ends. if is_none ends then moved step c else c) is) ∙ ended_all steps c code is
 
-  went_on : (setup : Setup) (facts : Facts) (step : Step) → (facts_after setup facts step).control.ends ≡ None → facts.control.ends ≡ None
-  went_on setup facts step none = by facts.control.ends refl
+  went_on : (setup : Setup) (facts : Facts) (step : Step) → IsPlain setup.link.role facts → (facts_after setup facts step).control.ends ≡ None → facts.control.ends ≡ None
+  went_on setup facts step plain none = by facts.control.ends refl
     where
       by : (ends : Option ErrCode) → facts.control.ends ≡ ends → ends ≡ None
       by None is = refl
       by (Some code) is =
           absurd (let h : Some code ≡ None =
-          sym is ∙ ap (λ (c : Control). c.ends) (sym (one_step setup facts step ∙ ended_all (control_steps_in setup facts step) facts.control code is)) ∙ none in absurd cc)
+          sym is ∙ ap (λ (c : Control). c.ends) (sym (one_step setup facts step plain ∙ ended_all (control_steps_in setup facts step) facts.control code is)) ∙ none in absurd cc)
 
   -- a step whose notes say nothing of the peer
   abbrev Tells : Setup → Facts → Step → Type 0
@@ -165,15 +168,12 @@ module _ (side : Side) (number : ℕ) where
       by true true is = absurd cc
       by false empty is = absurd cc
 
-  heard_peer : (setup : Setup) (slot : ℕ) (room : Bool) (found : Option (List ℕ)) (facts : Facts)
-      → (facts_received setup.link.role slot room found facts).control.ends ≡ None
-      → fold peer_after facts.peer (lines (received_notes setup slot room found facts)) ≡ (facts_received setup.link.role slot room found facts).peer
-  heard_peer setup slot room None facts none = refl
-  heard_peer setup slot room (Some octets) facts none =
+  plain_peer : (setup : Setup) (slot : ℕ) (room : Bool) (header : DataHeader) (pdu : Pdu) (facts : Facts)
+      → (plain_hearing setup.link.role slot room header pdu facts).control.ends ≡ None
+      → fold peer_after facts.peer (lines (plain_notes_hearing setup slot room header pdu facts)) ≡ (plain_hearing setup.link.role slot room header pdu facts).peer
+  plain_peer setup slot room header pdu facts none =
       let handle = setup.link.handle in
       let role = setup.link.role in
-      let header = header_in octets in
-      let pdu = pdu_of octets in
       let acked = acknowledged_if (has_acknowledged facts header) (heard_in_slot slot header.md facts) in
       let now = facts_before_taking role slot header facts in
       let accepted = accepts room header pdu now in
@@ -189,41 +189,61 @@ module _ (side : Side) (number : ℕ) where
       ∙ ap (λ peer. fold peer_after peer (lines took)) (sym (gone_peer (answers_with_control role acked) slot acked))
       ∙ took_peer accepted (is_procedure_pdu pdu) (is_empty pdu) handle pdu slot now refl refl (not_empty pdu) none
 
-  step_tells : (setup : Setup) (facts : Facts) (step : Step) → Tells setup facts step
-  step_tells setup facts (DataGiven start body) none = refl
-  step_tells setup facts (ProcedureAsked ask) none = sym (asked_peer (is_to_come ask facts) ask facts)
-  step_tells setup facts (RequestAnswered answer) none = refl
-  step_tells setup facts (Disconnected reason slot) none = refl
-  step_tells setup facts (EventEntered slot) none =
+  heard_peer : (setup : Setup) (slot : ℕ) (room : Bool) (found : Option (List ℕ)) (facts : Facts) → IsPlain setup.link.role facts
+      → (facts_received setup.link.role slot room found facts).control.ends ≡ None
+      → fold peer_after facts.peer (lines (received_notes setup slot room found facts)) ≡ (facts_received setup.link.role slot room found facts).peer
+  heard_peer setup slot room None facts plain none = refl
+  heard_peer setup slot room (Some octets) facts plain none =
+      let role = setup.link.role in
+      let header = header_in octets in
+      let pdu = pdu_of octets in
+      let hearing = hearing_plain role role slot room header pdu facts plain in
+      ap (λ notes. fold peer_after facts.peer (lines notes)) (notes_hearing_plain setup slot room header pdu facts plain)
+      ∙ plain_peer setup slot room header pdu facts (ap (λ (f : Facts). f.control.ends) (sym hearing) ∙ none)
+      ∙ ap (λ (f : Facts). f.peer) (sym hearing)
+
+  step_tells : (setup : Setup) (facts : Facts) (step : Step) → IsPlain setup.link.role facts → Tells setup facts step
+  step_tells setup facts (DataGiven start body) plain none = refl
+  step_tells setup facts (ProcedureAsked ask) plain none = sym (asked_peer (is_to_come ask facts) ask facts)
+  step_tells setup facts (RequestAnswered answer) plain none = refl
+  step_tells setup facts (KeyAnswered key slot) plain none = refl
+  step_tells setup facts (Disconnected reason slot) plain none = refl
+  step_tells setup facts (EventEntered slot) plain none =
       says_none (notes_after setup facts (EventEntered slot))
       (entered_each SaysNone setup slot facts (record { applied = λ count peer. refl; enter = λ peer. refl; done = λ kind peer. refl; began = λ kind peer. refl }))
       facts.peer
       ∙ sym (entered_peer (goes_on facts) setup slot facts)
-  step_tells setup facts PduFixed none = sym (fixed_peer (is_control facts.outgoing.fixed) facts)
-  step_tells setup facts (PacketSent slot) none =
+  step_tells setup facts PduFixed plain none = sym (fixed_peer (is_control facts.outgoing.fixed) facts)
+  step_tells setup facts (PacketSent slot) plain none =
       says_none (notes_after setup facts (PacketSent slot)) (sent_each SaysNone setup facts (λ count llid octets peer. refl)) facts.peer
       ∙ sym (gone_peer (takes_leave facts) slot facts)
-  step_tells setup facts (PacketReceived slot octets room) none = heard_peer setup slot room (good_pdu setup facts octets) facts none
-  step_tells setup facts DataReported none = refl
+  step_tells setup facts (WordsGiven skd_s iv_s) plain none = refl
+  step_tells setup facts (PacketReceived slot octets room) plain none =
+      let is = received_plain setup facts slot octets room plain in
+      heard_peer setup slot room (good_pdu setup facts octets) facts plain (ap (λ (f : Facts). f.control.ends) (sym is) ∙ none)
+      ∙ ap (λ (f : Facts). f.peer) (sym is)
+  step_tells setup facts DataReported plain none = refl
 
-  all_went_on : (setup : Setup) (facts : Facts) (steps : List Step) → (fold (facts_after setup) facts steps).control.ends ≡ None → facts.control.ends ≡ None
-  all_went_on setup facts [] none = none
-  all_went_on setup facts (step ∷ steps) none = went_on setup facts step (all_went_on setup (facts_after setup facts step) steps none)
+  all_went_on : (setup : Setup) (facts : Facts) (steps : List Step) → IsPlain setup.link.role facts → (fold (facts_after setup) facts steps).control.ends ≡ None → facts.control.ends ≡ None
+  all_went_on setup facts [] plain none = none
+  all_went_on setup facts (step ∷ steps) plain none =
+      went_on setup facts step plain (all_went_on setup (facts_after setup facts step) steps (step_plain setup facts step plain) none)
 
   -- all steps, from the last one on back
-  steps_tell : (setup : Setup) (facts : Facts) (steps : List Step) → (fold (facts_after setup) facts steps).control.ends ≡ None
+  steps_tell : (setup : Setup) (facts : Facts) (steps : List Step) → IsPlain setup.link.role facts → (fold (facts_after setup) facts steps).control.ends ≡ None
       → fold peer_after facts.peer (lines (notes_from setup facts steps)) ≡ (fold (facts_after setup) facts steps).peer
-  steps_tell setup facts [] none = refl
-  steps_tell setup facts (step ∷ steps) none =
+  steps_tell setup facts [] plain none = refl
+  steps_tell setup facts (step ∷ steps) plain none =
+      let after = step_plain setup facts step plain in
       let next = facts_after setup facts step in
       let notes = notes_after setup facts step in
       let later = notes_from setup next steps in
       ap (fold peer_after facts.peer) (map-append (line_of side number) notes later)
       ∙ fold-append peer_after facts.peer (lines notes) (lines later)
-      ∙ ap (λ peer. fold peer_after peer (lines later)) (step_tells setup facts step (all_went_on setup next steps none))
-      ∙ steps_tell setup next steps none
+      ∙ ap (λ peer. fold peer_after peer (lines later)) (step_tells setup facts step plain (all_went_on setup next steps after none))
+      ∙ steps_tell setup next steps after none
 
   pub end_knows : (setup : Setup) (past : List Step) → (facts_of setup past).control.ends ≡ None
       → peer_by (lines (notes_opened_on setup past)) ≡ (facts_of setup past).peer
   unfolding notes_of facts_of
-  end_knows setup past none = steps_tell setup (first_facts setup) past none
+  end_knows setup past none = steps_tell setup (first_facts setup) past (past_plain setup []) none

@@ -9,18 +9,20 @@ use Rattle.journal_controls.specs.LineSteps.{is_more_acked}
 use Rattle.journal_controls.specs.OneEnd.{IsToldOf}
 use Rattle.journal_controls.specs.journal_acks.Exchange.{Exchanged}
 use Rattle.journal_controls.specs.link_model.Acknowledgement.{Pdu, bits_of, is_acked}
-use Rattle.journal_controls.specs.link_model.Controls.{is_procedure_pdu, next_control, pdu_fixed, pdu_of_control}
+use Rattle.journal_controls.specs.link_model.Controls.{is_procedure_pdu, is_quiet_now, next_control, pdu_fixed, pdu_of_control}
 use Rattle.journal_controls.specs.link_model.Data.{Data, data_acked_if, is_control, is_data, is_empty, next_piece}
 use Rattle.journal_controls.specs.link_model.End.{facts_after}
 use Rattle.journal_controls.specs.link_model.Facts.{Facts}
 use Rattle.journal_controls.specs.link_model.Packets.{good_pdu, more_sent, pdu_sent}
-use Rattle.journal_controls.specs.link_model.Receiving.{accepted_if, accepts, acknowledged_if, acks_control, control_acked_if, facts_before_taking, facts_hearing, facts_received, has_acknowledged, heard_in_slot, procedures_take_if}
+use Rattle.journal_controls.specs.link_model.Plain.{IsPlain, control_acked_if, plain_accepted_if as accepted_if, plain_acknowledged_if as acknowledged_if, plain_before_taking as facts_before_taking, plain_hearing as facts_hearing, plain_takes_if as procedures_take_if}
+use Rattle.journal_controls.specs.link_model.Receiving.{accepts, acks_control, facts_received, has_acknowledged, heard_in_slot}
 use Rattle.journal_controls.specs.link_model.Sending.{control_gone_if, takes_leave}
 use Rattle.journal_controls.specs.link_model.Setup.{Setup}
 use Rattle.journal_controls.specs.link_model.Step.{PacketReceived}
 use Rattle.journal_controls.specs.link_model.Verdicts.{pdu_of}
 use Rattle.journal_controls.specs.link_model.control_model.Control.{Control}
-use Rattle.journal_controls.proofs.CentralFixed.{acked_free, gone_acked, taking_free}
+use Rattle.journal_controls.proofs.CentralFixed.{acked_free, gone_acked}
+use Rattle.journal_controls.proofs.link_model.Plain.{hearing_plain, quiet_plain, received_plain, step_plain}
 use Rattle.journal_fixing.specs.NextPdu.{IsFixedBy, data_waits, data_waits_after, more_with_new, more_with_old, pdu_next}
 use Rattle.journal_fixing.proofs.FixedPdus.{fixed_next, more_fixed, more_old}
 
@@ -42,6 +44,10 @@ taken_fixes : (takes : Bool) (pdu : Pdu) (slot : ℕ) (facts : Facts) → (proce
 taken_fixes true pdu slot facts = refl
 taken_fixes false pdu slot facts = refl
 
+taken_outgoing : (takes : Bool) (pdu : Pdu) (slot : ℕ) (facts : Facts) → (procedures_take_if takes pdu slot facts).outgoing ≡ facts.outgoing
+taken_outgoing true pdu slot facts = refl
+taken_outgoing false pdu slot facts = refl
+
 -- where the last PDU is acknowledged, the fixed one is a PDU from then on
 gone_fixes : (fixes : Bool) (slot : ℕ) (facts : Facts) → facts.fixes_control ≡ fixes → (control_gone_if fixes slot facts).fixes_control ≡ false
 gone_fixes true slot facts is = refl
@@ -51,7 +57,8 @@ gone_fixed : (fixes : Bool) (slot : ℕ) (facts : Facts) → facts.fixes_control
 gone_fixed true slot facts is = refl
 gone_fixed false slot facts is = sym (ap (λ b. if b then pdu_of_control (next_control facts) else facts.outgoing.fixed) is)
 
-module _ (fixing : Control) (outgoing : Data) (facts : Facts) (is : IsFixedBy fixing outgoing facts) (slot : ℕ) (room : Bool) (header : DataHeader) (pdu : Pdu) where
+module _ (fixing : Control) (outgoing : Data) (facts : Facts) (is : IsFixedBy fixing outgoing facts) (quiet : is_quiet_now facts ≡ true)
+    (slot : ℕ) (room : Bool) (header : DataHeader) (pdu : Pdu) where
   abbrev acks : Bool
   acks = has_acknowledged facts header
 
@@ -83,7 +90,7 @@ module _ (fixing : Control) (outgoing : Data) (facts : Facts) (is : IsFixedBy fi
   heard_acked = taken_acked takes pdu slot (accepted_if accepted pdu untaken) ∙ gone_acked (takes_leave own) slot own
 
   heard_outgoing : heard.outgoing ≡ untaken.outgoing
-  heard_outgoing = taking_free takes pdu slot (accepted_if accepted pdu untaken)
+  heard_outgoing = taken_outgoing takes pdu slot (accepted_if accepted pdu untaken)
 
   heard_fixes : heard.fixes_control ≡ untaken.fixes_control
   heard_fixes = taken_fixes takes pdu slot (accepted_if accepted pdu untaken)
@@ -103,13 +110,13 @@ module _ (fixing : Control) (outgoing : Data) (facts : Facts) (is : IsFixedBy fi
 
   new_heard : is_acked heard.acknowledgement ≡ true → pdu_sent heard ≡ pdu_next fixing own.control (next_piece outgoing)
   new_heard acked =
-      ap (λ b. if b then pdu_fixed heard else heard.acknowledgement.last) acked ∙ heard_pdu acked ∙ fixed_next fixing outgoing own own_fixed
+      ap (λ b. if b then pdu_fixed heard else heard.acknowledgement.last) acked ∙ heard_pdu acked ∙ fixed_next fixing outgoing own own_fixed quiet
 
   more_heard : is_acked heard.acknowledgement ≡ true → more_sent heard ≡ more_with_new fixing (data_waits_after (pdu_sent heard) outgoing)
   more_heard acked =
       ap (λ b. if b then heard.outgoing.more else not (is_empty (pdu_fixed heard))) acked
       ∙ ap (λ (o : Data). o.more) heard_outgoing ∙ gone_more (takes_leave own) slot own
-      ∙ more_fixed fixing outgoing own own_fixed own.control
+      ∙ more_fixed fixing outgoing own own_fixed quiet own.control
       ∙ ap (λ one. more_with_new fixing (data_waits_after one outgoing)) (sym (new_heard acked))
 
   -- it is not
@@ -126,12 +133,17 @@ module _ (fixing : Control) (outgoing : Data) (facts : Facts) (is : IsFixedBy fi
 -- ---- a good packet
 
 module _ (setup : Setup) (facts : Facts) (slot : ℕ) (octets pdu : List ℕ) (room : Bool) (fixing : Control) (outgoing : Data)
-    (role : setup.link.role ≡ Peripheral) (is : IsFixedBy fixing outgoing facts) (good : good_pdu setup facts octets ≡ Some pdu) where
+    (role : setup.link.role ≡ Peripheral) (is : IsFixedBy fixing outgoing facts) (good : good_pdu setup facts octets ≡ Some pdu) (plain : IsPlain setup.link.role facts) where
   abbrev answering : Facts
   answering = facts_after setup facts (PacketReceived slot octets room)
 
   answering_is : answering ≡ facts_hearing Peripheral slot room (header_in pdu) (pdu_of pdu) facts
-  answering_is = λ i. facts_received (role i) slot room (good i) facts
+  answering_is =
+      received_plain setup facts slot octets room plain ∙ (λ i. facts_received (role i) slot room (good i) facts)
+      ∙ hearing_plain setup.link.role Peripheral slot room (header_in pdu) (pdu_of pdu) facts plain
+
+  quiet : is_quiet_now facts ≡ true
+  quiet = quiet_plain setup.link.role facts plain
 
   abbrev going : Control
   going = control_acked_if (acks_control (has_acknowledged facts (header_in pdu)) facts) facts.control
@@ -141,20 +153,21 @@ module _ (setup : Setup) (facts : Facts) (slot : ℕ) (octets pdu : List ℕ) (r
   acked_heard value acked = sym (ap (λ (f : Facts). is_acked f.acknowledgement) answering_is) ∙ acked
 
   pub answer_new : is_acked answering.acknowledgement ≡ true → pdu_sent answering ≡ pdu_next fixing going (next_piece outgoing)
-  answer_new acked = ap pdu_sent answering_is ∙ new_heard fixing outgoing facts is slot room (header_in pdu) (pdu_of pdu) (acked_heard true acked)
+  answer_new acked = ap pdu_sent answering_is ∙ new_heard fixing outgoing facts is quiet slot room (header_in pdu) (pdu_of pdu) (acked_heard true acked)
 
   pub answer_more : is_acked answering.acknowledgement ≡ true → more_sent answering ≡ more_with_new fixing (data_waits_after (pdu_sent answering) outgoing)
   answer_more acked =
       ap more_sent answering_is
-      ∙ more_heard fixing outgoing facts is slot room (header_in pdu) (pdu_of pdu) (acked_heard true acked)
+      ∙ more_heard fixing outgoing facts is quiet slot room (header_in pdu) (pdu_of pdu) (acked_heard true acked)
       ∙ ap (λ f. more_with_new fixing (data_waits_after (pdu_sent f) outgoing)) (sym answering_is)
 
   pub answer_old : 1 ≤ outgoing.limit → is_acked answering.acknowledgement ≡ false → more_sent answering ≡ more_with_old fixing answering.control (data_waits outgoing)
   answer_old some unacked =
       let heard = facts_hearing Peripheral slot room (header_in pdu) (pdu_of pdu) facts in
-      let kept = heard_fixed fixing outgoing facts is slot room (header_in pdu) (pdu_of pdu) (acked_heard false unacked) in
+      let kept = heard_fixed fixing outgoing facts is quiet slot room (header_in pdu) (pdu_of pdu) (acked_heard false unacked) in
       ap more_sent answering_is
-      ∙ more_old fixing outgoing heard kept some (acked_heard false unacked)
+      ∙ more_old fixing outgoing heard kept
+      (ap is_quiet_now (sym answering_is) ∙ quiet_plain setup.link.role answering (step_plain setup facts (PacketReceived slot octets room) plain)) some (acked_heard false unacked)
       ∙ ap (λ (f : Facts). more_with_old fixing f.control (data_waits outgoing)) (sym answering_is)
 
 -- ---- what the lines tell of it

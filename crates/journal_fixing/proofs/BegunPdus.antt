@@ -42,13 +42,14 @@ use Rattle.journal_controls.proofs.journal_ends.run_laws.LinkPhases.{begins_in}
 use Rattle.journal_controls.proofs.journal_links.OfTwo.{are_distinct}
 use Rattle.journal_controls.proofs.journal_packets.AccessOrder.{AreNth}
 use Rattle.journal_controls.proofs.link_model.Hearing.{IsHeardWhole}
+use Rattle.journal_controls.proofs.link_model.Plain.{past_plain, quiet_plain, step_plain}
 use Rattle.journal_controls.proofs.run_model.Calls.{past_own}
 use Rattle.journal_controls.proofs.run_model.LinkEnds.{AreTaken, IsUnderstood}
 use Rattle.journal_controls.proofs.run_model.Parts.{journal_more, notes_noted}
 use Rattle.journal_controls.proofs.run_model.Stations.{is_in}
 use Rattle.journal_fixing.specs.NextPdu.{pdu_next}
 use Rattle.journal_fixing.specs.OnLines.{control_fixing, control_going, has_heard, is_fixed}
-use Rattle.journal_fixing.specs.PastFixing.{facts_fixing}
+use Rattle.journal_fixing.specs.PastFixing.{facts_fixing, past_fixing}
 use Rattle.journal_fixing.proofs.ControlKept.{fixing_now, going_now}
 use Rattle.journal_fixing.proofs.FirstNotes.{notes_unfixed, sends_last}
 use Rattle.journal_fixing.proofs.FixedPasts.{facts_begun}
@@ -208,5 +209,6 @@ module _ (heard_whole : IsHeardWhole) (understood : IsUnderstood) (taken : AreTa
   pdu_in_begin fixing going fixing_is going_is =
       let same = same_some held.control fixing (sym fixing_in_begin ∙ fixing_is) in
       let goes = same_some held.control going (sym going_in_begin ∙ going_is) in
-      of_line.new.is ∙ fixed_next held.control (data_cut held) sent (fixed_by link.setup held free)
+      let plain = past_plain link.setup (past_fixing link.past) in
+      of_line.new.is ∙ fixed_next held.control (data_cut held) sent (fixed_by link.setup held plain free) (quiet_plain link.setup.link.role sent (step_plain link.setup held PduFixed plain))
       ∙ (λ i. pdu_next (same i) ((fixing_stays link.setup held ∙ goes) i) (next_piece (data_cut held)))

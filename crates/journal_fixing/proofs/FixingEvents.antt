@@ -19,7 +19,7 @@ use Rattle.journal_controls.specs.journal_acks.Exchange.{exchange_of}
 use Rattle.journal_controls.specs.journal_ends.Seen.{Hears, heard_in_line}
 use Rattle.journal_controls.specs.journal_links.LinkLines.{lines_of}
 use Rattle.journal_controls.specs.link_model.Data.{is_control}
-use Rattle.journal_controls.specs.link_model.Receiving.{control_acked_if}
+use Rattle.journal_controls.specs.link_model.Plain.{control_acked_if}
 use Rattle.journal_controls.specs.link_model.control_model.Control.{Control}
 use Rattle.journal_controls.specs.run_model.Feeding.{is_octet}
 use Rattle.journal_controls.specs.run_model.Links.{Links, links_after, links_of}

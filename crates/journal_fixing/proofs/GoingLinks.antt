@@ -11,7 +11,8 @@ use Rattle.journal_controls.specs.journal_acks.link_calls.Phases.{link_receiving
 use Rattle.journal_controls.specs.journal_acks.link_calls.Turns.{sent_if}
 use Rattle.journal_controls.specs.journal_acks.link_calls.Uses.{listens_under, sends_under, uses_under}
 use Rattle.journal_controls.specs.link_model.Facts.{Facts as EndFacts}
-use Rattle.journal_controls.specs.link_model.Receiving.{acks_control, control_acked_if, has_acknowledged}
+use Rattle.journal_controls.specs.link_model.Plain.{control_acked_if}
+use Rattle.journal_controls.specs.link_model.Receiving.{acks_control, has_acknowledged}
 use Rattle.journal_controls.specs.link_model.Step.{PacketReceived}
 use Rattle.journal_controls.specs.link_model.control_model.Control.{Control}
 use Rattle.journal_controls.specs.journal_ends.open_links.OpenLinks.{Links, OpenLink, link_after}

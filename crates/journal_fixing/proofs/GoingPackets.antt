@@ -1,12 +1,12 @@
 -- A packet on the air keeps the control part with which the answer of the end goes that hears it, as it has acknowledged
 -- the last control PDU of that end.
-use Rattle.std.proofs.Common.{◌≡◌, ℕ, ◌&&◌, Bool, true, false, Option, Some, None, List, [], ◌∷◌, ◌++◌, length, refl, sym, ap, subst, ◌∙◌, if◌then◌else◌}
+use Rattle.std.proofs.Common.{◌≡◌, ℕ, ◌&&◌, Bool, true, false, Option, Some, None, is_none, List, [], ◌∷◌, ◌++◌, length, refl, sym, ap, subst, ◌∙◌, if◌then◌else◌}
 use Rattle.std.proofs.lemmas.List.{append_cancel_left}
 use Rattle.air_frame.specs.declared.Heard.{Heard}
 use Rattle.air_frame.specs.declared.Heard.TheVariants.{NotOurs, Broken as Faulty, Whole}
 use Rattle.ble_base.specs.declared.roles.Role.TheVariants.{Peripheral}
 use Rattle.ble_base.specs.declared.roles.Side.{Side}
-use Rattle.ble_base.specs.declared.verdicts.Verdict.TheVariants.{Broken, Good}
+use Rattle.ble_base.specs.declared.verdicts.Verdict.TheVariants.{Broken, Forged, Good}
 use Rattle.journal_controls.specs.controller_model.declared.doing.Turn.{Turn}
 use Rattle.data_pdu.specs.Header.{header_in}
 use Rattle.journal_controls.specs.LineSteps.{has_next}
@@ -17,11 +17,12 @@ use Rattle.journal_controls.specs.journal_acks.link_calls.Uses.{listens_under}
 use Rattle.journal_controls.specs.journal_ends.Seen.{heard_in_line, heard_where}
 use Rattle.journal_controls.specs.journal_ends.open_links.OpenLinks.{OpenLink, facts_in}
 use Rattle.journal_controls.specs.link_model.Facts.{Facts as EndFacts}
-use Rattle.journal_controls.specs.link_model.Packets.{good_pdu, heard_of, verdict_of}
-use Rattle.journal_controls.specs.link_model.Receiving.{control_acked_if}
+use Rattle.journal_controls.specs.link_model.Packets.{good_pdu, heard_of, is_forged_pdu, pdu_read_in, verdict_of, whole_pdu}
+use Rattle.journal_controls.specs.link_model.Payload.{opens_now}
+use Rattle.journal_controls.specs.link_model.Plain.{control_acked_if}
 use Rattle.journal_controls.specs.link_model.Setup.{Setup}
 use Rattle.journal_controls.specs.link_model.Step.{PacketReceived}
-use Rattle.journal_controls.specs.link_model.Verdicts.{good_in, has_room_for, pdu_by, verdict_by}
+use Rattle.journal_controls.specs.link_model.Verdicts.{has_room_for, pdu_by, verdict_by, whole_in}
 use Rattle.journal_controls.specs.run_model.History.{Event, Hearing, is_good}
 use Rattle.journal_controls.specs.run_model.Journal.{journal_of}
 use Rattle.journal_controls.proofs.Counted.{told_by}
@@ -41,18 +42,21 @@ use Rattle.journal_fixing.proofs.GoingLinks.{IsGoing, awaits_under, control_acki
 
 -- ---- a packet with a PDU is good
 
-good_fits : (room : Bool) (octets pdu : List ℕ) → pdu_by room octets ≡ Some pdu → is_good (if room then Good else Broken) ≡ true
-good_fits true octets pdu is = refl
-good_fits false octets pdu is = absurd (let h : None ≡ Some pdu = is in absurd cc)
+good_fits : (room : Bool) (facts : EndFacts) (octets pdu : List ℕ) → pdu_read_in facts (pdu_by room octets) ≡ Some pdu
+    → is_good (if room then (if is_forged_pdu facts octets then Forged else Good) else Broken) ≡ true
+good_fits true facts octets pdu is = ap (λ (found : Option (List ℕ)). is_good (if is_none found then Forged else Good)) is
+good_fits false facts octets pdu is = absurd (let h : None ≡ Some pdu = is in absurd cc)
 
-good_verdict : (max : ℕ) (heard : Heard) (pdu : List ℕ) → good_in max heard ≡ Some pdu → is_good (verdict_by max heard) ≡ true
-good_verdict max NotOurs pdu is = absurd (let h : None ≡ Some pdu = is in absurd cc)
-good_verdict max Faulty pdu is = absurd (let h : None ≡ Some pdu = is in absurd cc)
-good_verdict max (Whole got) pdu is = good_fits (has_room_for max got.items) got.items pdu is
+good_verdict : (max : ℕ) (opens : Bool) (facts : EndFacts) (heard : Heard) (pdu : List ℕ) → pdu_read_in facts (whole_in max opens heard) ≡ Some pdu
+    → is_good (verdict_by max opens (is_forged_pdu facts) heard) ≡ true
+good_verdict max opens facts NotOurs pdu is = absurd (let h : None ≡ Some pdu = is in absurd cc)
+good_verdict max opens facts Faulty pdu is = absurd (let h : None ≡ Some pdu = is in absurd cc)
+good_verdict max opens facts (Whole got) pdu is = good_fits (has_room_for max opens got.items) facts got.items pdu is
 
 good_packet : (setup : Setup) (facts : EndFacts) (octets pdu : List ℕ) → good_pdu setup facts octets ≡ Some pdu → is_good (verdict_of setup facts octets) ≡ true
-unfolding good_pdu verdict_of
-good_packet setup facts octets pdu is = good_verdict setup.link.max_rx (heard_of setup facts octets) pdu is
+unfolding good_pdu verdict_of whole_pdu
+good_packet setup facts octets pdu is =
+    good_verdict setup.link.max_rx (opens_now facts.encryption.end) facts (heard_of setup facts octets) pdu is
 
 -- ---- the counts of an end that is to take it
 

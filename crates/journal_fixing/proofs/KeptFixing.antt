@@ -20,6 +20,7 @@ use Rattle.journal_controls.specs.link_model.End.{notes_from}
 use Rattle.journal_controls.specs.link_model.Step.{Step}
 use Rattle.journal_controls.specs.link_model.Facts.{Facts as EndFacts}
 use Rattle.journal_controls.specs.link_model.control_model.Control.{Control}
+use Rattle.journal_controls.proofs.link_model.Plain.{past_plain}
 use Rattle.journal_controls.specs.journal_ends.open_links.OpenLinks.{OpenLink, facts_in, link_at}
 use Rattle.journal_controls.specs.journal_ends.open_links.Turns.{enters_in}
 use Rattle.journal_controls.specs.run_model.Due.{Each}
@@ -233,7 +234,7 @@ module _ (given : Given) (station slot : ℕ) (on : Bool) (history : List Event)
       let number = number_called given station call history handle (begin_noted (OpensNone handle) (opening_none handle) setup slot on facts) in
       let steps = steps_begun enters true sends slot in
       ap (λ n. fixing_at n side after) number
-      ∙ begun_fixes side own slot given station call history base.setup (facts_in base) enters true sends refl
+      ∙ begun_fixes side own slot given station call history base.setup (facts_in base) (past_plain base.setup base.past) enters true sends refl
       (own_lines given station call refl history lined lined_after in_it handle link at number base has.was steps has.setup_is past) turn (unfixed own) (controls handle base has.was)
       ∙ ap (λ (f : EndFacts). Some f.control) (sym (facts_begun base.setup base.past enters sends slot))
       ∙ (λ i. Some (facts_fixing (sym has.setup_is i) (sym past i)).control)

@@ -10,6 +10,7 @@ use Rattle.journal_controls.specs.LineSteps.{control_on}
 use Rattle.journal_controls.specs.journal_acks.link_calls.Uses.{listens_under, sends_under}
 use Rattle.journal_controls.specs.journal_ends.open_links.OpenLinks.{OpenLink, facts_in, link_at}
 use Rattle.journal_controls.specs.link_model.Acknowledgement.{is_acked}
+use Rattle.journal_controls.specs.link_model.Controls.{is_quiet_now}
 use Rattle.journal_controls.specs.link_model.Data.{next_piece}
 use Rattle.journal_controls.specs.link_model.End.{facts_after}
 use Rattle.journal_controls.specs.link_model.Facts.{Facts as EndFacts}
@@ -29,12 +30,13 @@ use Rattle.journal_controls.proofs.journal_ends.run_laws.DistinctAccess.{AreApar
 use Rattle.journal_controls.proofs.journal_links.OfTwo.{are_distinct}
 use Rattle.journal_controls.proofs.journal_packets.AccessOrder.{AreNth}
 use Rattle.journal_controls.proofs.link_model.Hearing.{IsHeardWhole}
+use Rattle.journal_controls.proofs.link_model.Plain.{past_plain, quiet_plain, step_plain}
 use Rattle.journal_controls.proofs.run_model.LinkEnds.{AreTaken, IsUnderstood}
 use Rattle.journal_controls.proofs.run_model.Parts.{journal_more, notes_noted}
 use Rattle.journal_controls.proofs.run_model.Stations.{is_in}
 use Rattle.journal_fixing.specs.NextPdu.{IsFixedBy, data_waits, data_waits_after, more_with_new, more_with_old, pdu_next}
 use Rattle.journal_fixing.specs.OnLines.{control_answering, control_fixing, control_going, fixing_kept, going_kept, has_heard, is_fixed, is_fixed_from, is_heard_at}
-use Rattle.journal_fixing.specs.PastFixing.{facts_fixing}
+use Rattle.journal_fixing.specs.PastFixing.{facts_fixing, past_fixing}
 use Rattle.journal_fixing.proofs.AnsweredPdus.{answer_more, answer_new, answer_old}
 use Rattle.journal_fixing.proofs.FixedPdus.{fixed_by, fixing_stays, more_new, more_old, new_sent}
 use Rattle.journal_fixing.proofs.FixedSince.{since_in}
@@ -93,7 +95,7 @@ module _ (heard_whole : IsHeardWhole) (understood : IsUnderstood) (taken : AreTa
     answer_fixed : IsFixedBy held.control (data_cut held) (facts_in link)
     answer_fixed =
         let since = (since_in given before (Called station (PacketHeard octets) ∷ (map (Noted station) notes ++ rest)) station handle link (are_distinct given are_two) in_it at is_open).listens on role in
-        subst (IsFixedBy held.control (data_cut held)) (sym since.1) (fixed_by link.setup held since.0)
+        subst (IsFixedBy held.control (data_cut held)) (sym since.1) (fixed_by link.setup held (past_plain link.setup (past_fixing link.past)) since.0)
 
     module _ (fixing : Control) (fixing_is : control_fixing side number (journal_of now) ≡ Some fixing) (slot : ℕ) (room : Bool) where
       abbrev heard : EndFacts
@@ -107,12 +109,12 @@ module _ (heard_whole : IsHeardWhole) (understood : IsUnderstood) (taken : AreTa
       answer_by_lines going going_is acked =
           let goes = going_in_call heard_whole understood taken nth apart given are_two six before rest octets pdu notes station handle link in_it at is_open on good in
           let same = same_some (control_acking (facts_in link) pdu) going (sym goes ∙ going_is) in
-          answer_new link.setup (facts_in link) slot octets pdu room held.control (data_cut held) role answer_fixed good acked
+          answer_new link.setup (facts_in link) slot octets pdu room held.control (data_cut held) role answer_fixed good (past_plain link.setup link.past) acked
           ∙ (λ i. pdu_next (fixing_same i) (same i) (next_piece (data_cut held)))
 
       pub answer_more_by_lines : is_acked heard.acknowledgement ≡ true → more_sent heard ≡ more_with_new fixing (data_waits_after (pdu_sent heard) (data_cut held))
       answer_more_by_lines acked =
-          answer_more link.setup (facts_in link) slot octets pdu room held.control (data_cut held) role answer_fixed good acked
+          answer_more link.setup (facts_in link) slot octets pdu room held.control (data_cut held) role answer_fixed good (past_plain link.setup link.past) acked
           ∙ ap (λ c. more_with_new c (data_waits_after (pdu_sent heard) (data_cut held))) fixing_same
 
       pub answer_again_by_lines : is_acked heard.acknowledgement ≡ false
@@ -120,7 +122,7 @@ module _ (heard_whole : IsHeardWhole) (understood : IsUnderstood) (taken : AreTa
       answer_again_by_lines unacked =
           let ranges = ranges_in given before (Called station (PacketHeard octets) ∷ (map (Noted station) notes ++ rest)) station handle link (are_distinct given are_two) in_it at is_open in
           let some = room_for_piece link ranges in
-          answer_old link.setup (facts_in link) slot octets pdu room held.control (data_cut held) role answer_fixed good some unacked
+          answer_old link.setup (facts_in link) slot octets pdu room held.control (data_cut held) role answer_fixed good (past_plain link.setup link.past) some unacked
           ∙ ap (λ c. more_with_old c heard.control (data_waits (data_cut held))) fixing_same
 
   -- ---- a central, before its packet
@@ -144,17 +146,20 @@ module _ (heard_whole : IsHeardWhole) (understood : IsUnderstood) (taken : AreTa
 
     sent_fixed : IsFixedBy held_then.control (data_cut held_then) sent
     sent_fixed =
-        fixed_by link.setup held_then
+        fixed_by link.setup held_then (past_plain link.setup (past_fixing link.past))
         ((since_in given before (Transmitted sender channel octets hearings ∷ rest) station handle link (are_distinct given are_two) in_it at is_open).sends on role).0
+
+    quiet : is_quiet_now sent ≡ true
+    quiet = quiet_plain link.setup.link.role sent (step_plain link.setup held_then PduFixed (past_plain link.setup (past_fixing link.past)))
 
     pub sent_by_lines : is_acked sent.acknowledgement ≡ true → pdu_sent sent ≡ pdu_next fixing fixing (next_piece (data_cut held_then))
     sent_by_lines acked =
-        new_sent held_then.control (data_cut held_then) sent sent_fixed acked
+        new_sent held_then.control (data_cut held_then) sent sent_fixed quiet acked
         ∙ (λ i. pdu_next (sent_fixing i) ((fixing_stays link.setup held_then ∙ sent_fixing) i) (next_piece (data_cut held_then)))
 
     pub sent_more_by_lines : is_acked sent.acknowledgement ≡ true → more_sent sent ≡ more_with_new fixing (data_waits_after (pdu_sent sent) (data_cut held_then))
     sent_more_by_lines acked =
-        more_new held_then.control (data_cut held_then) sent sent_fixed acked
+        more_new held_then.control (data_cut held_then) sent sent_fixed quiet acked
         ∙ ap (λ c. more_with_new c (data_waits_after (pdu_sent sent) (data_cut held_then))) sent_fixing
 
     pub sent_again_by_lines : is_acked sent.acknowledgement ≡ false
@@ -162,5 +167,5 @@ module _ (heard_whole : IsHeardWhole) (understood : IsUnderstood) (taken : AreTa
     sent_again_by_lines unacked =
         let ranges = ranges_in given before (Transmitted sender channel octets hearings ∷ rest) station handle link (are_distinct given are_two) in_it at is_open in
         let some = room_for_piece link ranges in
-        more_old held_then.control (data_cut held_then) sent sent_fixed some unacked
+        more_old held_then.control (data_cut held_then) sent sent_fixed quiet some unacked
         ∙ (λ i. more_with_old (sent_fixing i) ((fixing_stays link.setup held_then ∙ sent_fixing) i) (data_waits (data_cut held_then)))

@@ -13,12 +13,13 @@ use Rattle.journal_controls.specs.SaidLines.{moved_by}
 use Rattle.journal_controls.specs.TurnSteps.{first_if, steps_begun}
 use Rattle.journal_controls.specs.journal_links.LinkLines.{line_of, lines_of}
 use Rattle.journal_controls.specs.link_model.Acknowledgement.{Pdu, is_acked}
-use Rattle.journal_controls.specs.link_model.Controls.{goes_on, pdu_fixed}
+use Rattle.journal_controls.specs.link_model.Controls.{goes_on, is_quiet_now, pdu_fixed}
 use Rattle.journal_controls.specs.link_model.Data.{is_empty, numbered}
 use Rattle.journal_controls.specs.link_model.End.{facts_after, notes_after, notes_from}
 use Rattle.journal_controls.specs.link_model.Entering.{began_notes, done_notes, event_notes, facts_entered}
 use Rattle.journal_controls.specs.link_model.Events.{applied_notes}
 use Rattle.journal_controls.specs.link_model.Facts.{Facts}
+use Rattle.journal_controls.specs.link_model.Plain.{IsPlain}
 use Rattle.journal_controls.specs.link_model.Sending.{sent_notes_if}
 use Rattle.journal_controls.specs.link_model.Setup.{Setup}
 use Rattle.journal_controls.specs.link_model.Step.{EventEntered, PacketSent, PduFixed}
@@ -32,6 +33,7 @@ use Rattle.journal_controls.specs.run_model.History.{Event}
 use Rattle.journal_controls.specs.run_model.Journal.{journal_of}
 use Rattle.journal_controls.specs.run_model.Run.{Given, after_call}
 use Rattle.journal_controls.proofs.EndMoves.{steps_later}
+use Rattle.journal_controls.proofs.link_model.Plain.{entered_control_plain}
 use Rattle.journal_controls.proofs.LineFolds.{moved_both}
 use Rattle.journal_fixing.specs.OnLines.{before_sending, control_fixing, is_fixed, is_sending}
 use Rattle.journal_fixing.proofs.FixingEvents.{call_fixes}
@@ -115,15 +117,17 @@ module _ (side : Side) (number : ℕ) (withheld : Bool) (slot : ℕ) where
       ∙ moved_both withheld slot (applied ++ enter) done c ∙ done_still handle entry.done (moved_by withheld slot (applied ++ enter) c)
       ∙ moved_both withheld slot applied enter c ∙ ap (moved_by withheld slot enter) (applied_still handle event.number entry.applied c)
 
-  entry_if_unsent : (goes : Bool) (setup : Setup) (facts : Facts) → AreUnsent (said (if goes then event_notes setup.link.handle (facts_entered setup slot facts).event (entry_of slot true (held_of facts.control)) else []))
+  entry_if_unsent : (goes : Bool) (setup : Setup) (facts : Facts) → AreUnsent (said (if goes then event_notes setup.link.handle (facts_entered setup slot facts).event (entry_of slot (is_quiet_now facts) (held_of facts.control)) else []))
   entry_if_unsent false setup facts = tt
-  entry_if_unsent true setup facts = event_unsent setup.link.handle (facts_entered setup slot facts).event (entry_of slot true (held_of facts.control))
+  entry_if_unsent true setup facts = event_unsent setup.link.handle (facts_entered setup slot facts).event (entry_of slot (is_quiet_now facts) (held_of facts.control))
 
-  entry_if_moves : (goes : Bool) (setup : Setup) (facts : Facts)
-      → moved_by withheld slot (said (if goes then event_notes setup.link.handle (facts_entered setup slot facts).event (entry_of slot true (held_of facts.control)) else [])) facts.control
+  entry_if_moves : (goes : Bool) (setup : Setup) (facts : Facts) → IsPlain setup.link.role facts
+      → moved_by withheld slot (said (if goes then event_notes setup.link.handle (facts_entered setup slot facts).event (entry_of slot (is_quiet_now facts) (held_of facts.control)) else [])) facts.control
       ≡ (if goes then facts_entered setup slot facts else facts).control
-  entry_if_moves false setup facts = refl
-  entry_if_moves true setup facts = event_moves setup.link.handle (facts_entered setup slot facts).event (entry_of slot true (held_of facts.control)) facts.control
+  entry_if_moves false setup facts plain = refl
+  entry_if_moves true setup facts plain =
+      event_moves setup.link.handle (facts_entered setup slot facts).event (entry_of slot (is_quiet_now facts) (held_of facts.control)) facts.control
+      ∙ sym (entered_control_plain setup.link.role slot facts plain)
 
   -- ---- the PDU is fixed, and the packet sent
 
@@ -143,18 +147,18 @@ module _ (side : Side) (number : ℕ) (withheld : Bool) (slot : ℕ) where
 
   -- ---- all of it
 
-  pub begun_before : (setup : Setup) (facts : Facts) (enters fixes sends : Bool)
+  pub begun_before : (setup : Setup) (facts : Facts) → IsPlain setup.link.role facts → (enters fixes sends : Bool)
       → moved_by withheld slot (before_sending (said (notes_from setup facts (steps_begun enters fixes sends slot)))) facts.control
       ≡ (fold (facts_after setup) facts (first_if enters (EventEntered slot) [])).control
-  begun_before setup facts false fixes sends = ap (λ xs. moved_by withheld slot xs facts.control) (fixed_before setup facts fixes sends)
-  begun_before setup facts true fixes sends =
+  begun_before setup facts plain false fixes sends = ap (λ xs. moved_by withheld slot xs facts.control) (fixed_before setup facts fixes sends)
+  begun_before setup facts plain true fixes sends =
       let now = facts_after setup facts (EventEntered slot) in
       let here = notes_after setup facts (EventEntered slot) in
       let later = notes_from setup now (first_if fixes PduFixed (first_if sends (PacketSent slot) [])) in
       ap (λ xs. moved_by withheld slot (before_sending xs) facts.control) (said_both here later)
       ∙ ap (λ xs. moved_by withheld slot xs facts.control)
       (before_unsent (said here) (said later) (entry_if_unsent (goes_on facts) setup facts) ∙ ap (λ xs. said here ++ xs) (fixed_before setup now fixes sends) ∙ append-nil (said here))
-      ∙ entry_if_moves (goes_on facts) setup facts
+      ∙ entry_if_moves (goes_on facts) setup facts plain
 
   -- ---- the line of a new PDU
 
@@ -180,16 +184,16 @@ module _ (side : Side) (number : ℕ) (withheld : Bool) (slot : ℕ) where
       (all_both (IsSaidBy sends sent) (said here) (said later) (unsent_said sends sent (said here) (entry_if_unsent (goes_on facts) setup facts)) (fixed_said setup now fixes sends))
 
 -- a call on the controller of its station
-pub begun_fixes : (side : Side) (number slot : ℕ) (given : Given) (station : ℕ) (call : Call) (history : List Event) (setup : Setup) (facts : Facts) (enters fixes sends : Bool)
-    → is_octet call ≡ false → lines_of side number (journal_of (after_call given station call history))
+pub begun_fixes : (side : Side) (number slot : ℕ) (given : Given) (station : ℕ) (call : Call) (history : List Event) (setup : Setup) (facts : Facts) → IsPlain setup.link.role facts
+    → (enters fixes sends : Bool) → is_octet call ≡ false → lines_of side number (journal_of (after_call given station call history))
     ≡ lines_of side number (journal_of history) ++ map (line_of side number) (notes_from setup facts (steps_begun enters fixes sends slot))
     → turn_now (journal_of history) ≡ slot → is_fixed side number (journal_of history) ≡ false → control_on side number (journal_of history) ≡ Some facts.control
     → control_fixing side number (journal_of (after_call given station call history))
     ≡ Some (fold (facts_after setup) facts (first_if enters (EventEntered slot) [])).control
-begun_fixes side number slot given station call history setup facts enters fixes sends in_turn lines turn none was =
+begun_fixes side number slot given station call history setup facts plain enters fixes sends in_turn lines turn none was =
     let held = withholds side (journal_of history) in
     let steps = steps_begun enters fixes sends slot in
     let more = map (line_of side number) (notes_from setup facts steps) in
     call_fixes side number history given station call in_turn more facts.control lines (steps_later side number setup facts steps) none was
     ∙ ap (λ now. Some (moved_by held now (before_sending more) facts.control)) turn
-    ∙ ap Some (begun_before side number held slot setup facts enters fixes sends)
+    ∙ ap Some (begun_before side number held slot setup facts plain enters fixes sends)

@@ -11,7 +11,7 @@ use Rattle.journal_controls.specs.journal_acks.Exchange.{exchange_of}
 use Rattle.journal_controls.specs.journal_ends.Seen.{Seen, heard_in_line}
 use Rattle.journal_controls.specs.journal_packets.Belonging.{is_side}
 use Rattle.journal_controls.specs.link_model.Data.{is_control}
-use Rattle.journal_controls.specs.link_model.Receiving.{control_acked_if}
+use Rattle.journal_controls.specs.link_model.Plain.{control_acked_if}
 use Rattle.journal_controls.specs.link_model.control_model.Control.{Control}
 
 -- ---- what is read at the first line of a turn that passes a test, by that line and the entries before it

@@ -13,7 +13,7 @@ ghost use Rattle.journal_controls.specs.journal_acks.Exchange.{exchange_of};
 ghost use Rattle.journal_controls.specs.journal_ends.Seen.{Hears, heard_in_line};
 ghost use Rattle.journal_controls.specs.journal_links.LinkLines.{lines_of};
 ghost use Rattle.journal_controls.specs.link_model.Data.{is_control};
-ghost use Rattle.journal_controls.specs.link_model.Receiving.{control_acked_if};
+ghost use Rattle.journal_controls.specs.link_model.Plain.{control_acked_if};
 ghost use Rattle.journal_controls.specs.link_model.control_model.Control.{Control};
 ghost use Rattle.journal_controls.specs.run_model.Feeding.{is_octet};
 ghost use Rattle.journal_controls.specs.run_model.History.{Event, Hearing, HostFed, Transmitted};

@@ -10,14 +10,15 @@ ghost use Rattle.journal_controls.specs.journal_acks.Exchange.{Exchanged};
 ghost use Rattle.journal_controls.specs.link_model.Acknowledgement.{Pdu, is_acked};
 ghost use Rattle.journal_controls.specs.link_model.Data.{Data, is_control, is_empty, next_piece};
 ghost use Rattle.journal_controls.specs.link_model.Data.{pdu_with};
-ghost use Rattle.journal_controls.specs.link_model.End.{facts_after};
+ghost use Rattle.journal_controls.specs.link_model.End.{facts_after, facts_of};
 ghost use Rattle.journal_controls.specs.link_model.Facts.{Facts};
 ghost use Rattle.journal_controls.specs.link_model.Fixing.{data_cut};
 ghost use Rattle.journal_controls.specs.link_model.Packets.{good_pdu, more_sent, pdu_sent};
-ghost use Rattle.journal_controls.specs.link_model.Receiving.{acks_control, control_acked_if};
+ghost use Rattle.journal_controls.specs.link_model.Plain.{control_acked_if};
+ghost use Rattle.journal_controls.specs.link_model.Receiving.{acks_control};
 ghost use Rattle.journal_controls.specs.link_model.Receiving.{has_acknowledged};
 ghost use Rattle.journal_controls.specs.link_model.Setup.{Setup};
-ghost use Rattle.journal_controls.specs.link_model.Step.{PacketReceived, PduFixed};
+ghost use Rattle.journal_controls.specs.link_model.Step.{Step, PacketReceived, PduFixed};
 ghost use Rattle.journal_controls.specs.link_model.control_model.Control.{Control};
 ghost use Rattle.journal_fixing.specs.NextPdu.{IsFixedBy, data_waits, data_waits_after};
 ghost use Rattle.journal_fixing.specs.NextPdu.{more_with_new, more_with_old, pdu_next};
@@ -29,7 +30,8 @@ ghost use Rattle.journal_fixing.specs.NextPdu.{more_with_new, more_with_old, pdu
 pub fn a_pdu_is_fixed_by_the_control_part()
     ensures stays { (setup : Setup) (facts : Facts)
         → (facts_after setup facts PduFixed).control ≡ facts.control }
-    ensures fixed { (setup : Setup) (facts : Facts) → is_control facts.outgoing.fixed ≡ false
+    ensures fixed { (setup : Setup) (past : List Step) → let facts = facts_of setup past in
+        is_control facts.outgoing.fixed ≡ false
         → IsFixedBy facts.control (data_cut facts) (facts_after setup facts PduFixed) }
 {}
 
@@ -37,14 +39,16 @@ pub fn a_pdu_is_fixed_by_the_control_part()
 /// waits after it. Otherwise it sends the last one again, and MD says whether the fixed one is not
 /// empty (Core 5.2, volume 6 part B, sections 4.5.6 and 4.5.9).
 pub fn an_end_sends_the_pdu_that_it_fixed()
-    ensures pdu { (fixing : Control) (outgoing : Data) (facts : Facts)
-        → IsFixedBy fixing outgoing facts → is_acked facts.acknowledgement ≡ true
+    ensures pdu { (fixing : Control) (outgoing : Data) (setup : Setup) (past : List Step)
+        → let facts = facts_of setup past in IsFixedBy fixing outgoing facts
+        → is_acked facts.acknowledgement ≡ true
         → pdu_sent facts ≡ pdu_next fixing facts.control (next_piece outgoing) }
-    ensures more_new { (fixing : Control) (outgoing : Data) (facts : Facts)
-        → IsFixedBy fixing outgoing facts → is_acked facts.acknowledgement ≡ true
+    ensures more_new { (fixing : Control) (outgoing : Data) (setup : Setup) (past : List Step)
+        → let facts = facts_of setup past in IsFixedBy fixing outgoing facts
+        → is_acked facts.acknowledgement ≡ true
         → more_sent facts ≡ more_with_new fixing (data_waits_after (pdu_sent facts) outgoing) }
-    ensures more_old { (fixing : Control) (outgoing : Data) (facts : Facts)
-        → IsFixedBy fixing outgoing facts → 1 ≤ outgoing.limit
+    ensures more_old { (fixing : Control) (outgoing : Data) (setup : Setup) (past : List Step)
+        → let facts = facts_of setup past in IsFixedBy fixing outgoing facts → 1 ≤ outgoing.limit
         → is_acked facts.acknowledgement ≡ false
         → more_sent facts ≡ more_with_old fixing facts.control (data_waits outgoing) }
 {}
@@ -56,25 +60,25 @@ pub fn an_end_sends_the_pdu_that_it_fixed()
 /// is taken, is not empty (Core 5.2, volume 6 part B, sections 4.5.6 and 4.5.9; the order is our
 /// choice).
 pub fn a_peripheral_answers_with_the_pdu_that_it_fixed()
-    ensures pdu { (setup : Setup) (facts : Facts) (slot : ℕ) (octets pdu : List ℕ) (room : Bool)
-        (fixing : Control) (outgoing : Data)
-        → setup.link.role ≡ Role.Peripheral → IsFixedBy fixing outgoing facts
+    ensures pdu { (setup : Setup) (past : List Step) (slot : ℕ) (octets pdu : List ℕ)
+        (room : Bool) (fixing : Control) (outgoing : Data) → let facts = facts_of setup past in
+        setup.link.role ≡ Role.Peripheral → IsFixedBy fixing outgoing facts
         → good_pdu setup facts octets ≡ Some pdu
         → let heard = facts_after setup facts (PacketReceived slot octets room) in
         is_acked heard.acknowledgement ≡ true
         → pdu_sent heard ≡ pdu_next fixing
         (control_acked_if (acks_control (has_acknowledged facts (header_in pdu)) facts)
         facts.control) (next_piece outgoing) }
-    ensures more_new { (setup : Setup) (facts : Facts) (slot : ℕ) (octets pdu : List ℕ)
-        (room : Bool) (fixing : Control) (outgoing : Data)
-        → setup.link.role ≡ Role.Peripheral → IsFixedBy fixing outgoing facts
+    ensures more_new { (setup : Setup) (past : List Step) (slot : ℕ) (octets pdu : List ℕ)
+        (room : Bool) (fixing : Control) (outgoing : Data) → let facts = facts_of setup past in
+        setup.link.role ≡ Role.Peripheral → IsFixedBy fixing outgoing facts
         → good_pdu setup facts octets ≡ Some pdu
         → let heard = facts_after setup facts (PacketReceived slot octets room) in
         is_acked heard.acknowledgement ≡ true
         → more_sent heard ≡ more_with_new fixing (data_waits_after (pdu_sent heard) outgoing) }
-    ensures more_old { (setup : Setup) (facts : Facts) (slot : ℕ) (octets pdu : List ℕ)
-        (room : Bool) (fixing : Control) (outgoing : Data)
-        → setup.link.role ≡ Role.Peripheral → IsFixedBy fixing outgoing facts
+    ensures more_old { (setup : Setup) (past : List Step) (slot : ℕ) (octets pdu : List ℕ)
+        (room : Bool) (fixing : Control) (outgoing : Data) → let facts = facts_of setup past in
+        setup.link.role ≡ Role.Peripheral → IsFixedBy fixing outgoing facts
         → good_pdu setup facts octets ≡ Some pdu → 1 ≤ outgoing.limit
         → let heard = facts_after setup facts (PacketReceived slot octets room) in
         is_acked heard.acknowledgement ≡ false

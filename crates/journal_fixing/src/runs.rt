@@ -14,7 +14,8 @@ ghost use Rattle.journal_controls.specs.journal_acks.link_calls.Uses.{uses_under
 ghost use Rattle.journal_controls.specs.link_model.Data.{is_control};
 ghost use Rattle.journal_controls.specs.link_model.End.{facts_after};
 ghost use Rattle.journal_controls.specs.link_model.Packets.{good_pdu};
-ghost use Rattle.journal_controls.specs.link_model.Receiving.{acks_control, control_acked_if};
+ghost use Rattle.journal_controls.specs.link_model.Plain.{control_acked_if};
+ghost use Rattle.journal_controls.specs.link_model.Receiving.{acks_control};
 ghost use Rattle.journal_controls.specs.link_model.Receiving.{has_acknowledged};
 ghost use Rattle.journal_controls.specs.link_model.Step.{PacketSent, PduFixed};
 ghost use Rattle.journal_controls.specs.run_model.Feeding.{AreDistinct};

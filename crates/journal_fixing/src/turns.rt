@@ -7,10 +7,9 @@ ghost use Rattle.journal_controls.specs.LineSteps.{control_on, turn_now};
 ghost use Rattle.journal_controls.specs.SaidLines.{moved_by};
 ghost use Rattle.journal_controls.specs.TurnSteps.{first_if, steps_begun};
 ghost use Rattle.journal_controls.specs.journal_links.LinkLines.{line_of, lines_of};
-ghost use Rattle.journal_controls.specs.link_model.End.{facts_after, notes_from};
-ghost use Rattle.journal_controls.specs.link_model.Facts.{Facts};
+ghost use Rattle.journal_controls.specs.link_model.End.{facts_after, facts_of, notes_from};
 ghost use Rattle.journal_controls.specs.link_model.Setup.{Setup};
-ghost use Rattle.journal_controls.specs.link_model.Step.{EventEntered};
+ghost use Rattle.journal_controls.specs.link_model.Step.{Step, EventEntered};
 ghost use Rattle.journal_controls.specs.run_model.Feeding.{is_octet};
 ghost use Rattle.journal_controls.specs.run_model.History.{Event};
 ghost use Rattle.journal_controls.specs.run_model.Journal.{journal_of};
@@ -21,9 +20,9 @@ ghost use Rattle.journal_fixing.specs.OnLines.{before_sending, control_fixing, i
 /// of these it does, the lines that it says before that of a new PDU move its control part to the
 /// one that it has as it fixes its PDU (Core 5.2, volume 6 part B, sections 4.5.1 and 4.5.9).
 pub fn the_lines_before_a_new_pdu_move_the_control_part_that_fixes_it()
-    ensures { (side : Side) (number slot : ℕ) (withheld : Bool) (setup : Setup) (facts : Facts)
-        (enters fixes sends : Bool)
-        → moved_by withheld slot (before_sending (map (line_of side number)
+    ensures { (side : Side) (number slot : ℕ) (withheld : Bool) (setup : Setup)
+        (past : List Step) (enters fixes sends : Bool) → let facts = facts_of setup past in
+        moved_by withheld slot (before_sending (map (line_of side number)
         (notes_from setup facts (steps_begun enters fixes sends slot)))) facts.control
         ≡ (fold (facts_after setup) facts (first_if enters (EventEntered slot) [])).control }
 {}
@@ -33,8 +32,8 @@ pub fn the_lines_before_a_new_pdu_move_the_control_part_that_fixes_it()
 /// the control part by which it fixed its next PDU in the lines.
 pub fn a_call_that_begins_a_turn_keeps_the_control_part_that_fixes()
     ensures { (given : Given) (side : Side) (number station slot : ℕ) (call : Call)
-        (history : List Event) (setup : Setup) (facts : Facts) (enters fixes sends : Bool)
-        → is_octet call ≡ false
+        (history : List Event) (setup : Setup) (past : List Step) (enters fixes sends : Bool)
+        → let facts = facts_of setup past in is_octet call ≡ false
         → lines_of side number (journal_of (after_call given station call history))
         ≡ lines_of side number (journal_of history) ++ map (line_of side number)
         (notes_from setup facts (steps_begun enters fixes sends slot))

@@ -1,9 +1,10 @@
 -- While a controller hears no packet in a turn, no piece of data waits for its host, and each complete packet is reported.
 use Rattle.std.proofs.Common.{◌≡◌, ℕ, ◌+◌, Bool, true, false, Option, Some, None, List, [], ◌∷◌, ◌++◌, map, refl, ap, ◌∙◌}
 use Rattle.acl_banks.specs.declared.pieces.Piece.{Piece}
-use Rattle.journal_data.specs.link_model.Data.{Data, data_sent_if}
+use Rattle.journal_data.specs.link_model.Data.{Data}
 use Rattle.journal_data.specs.link_model.End.{facts_of as end_of}
 use Rattle.journal_data.specs.link_model.Facts.{Facts as EndFacts}
+use Rattle.journal_data.specs.link_model.Sending.{data_sent_as}
 use Rattle.journal_data.specs.link_model.Setup.{Setup as EndSetup}
 use Rattle.journal_data.specs.link_model.Step.{DataGiven, DataReported, EventEntered, PacketSent, PduFixed, Step as EndStep}
 use Rattle.journal_data.proofs.link_model.Pasts.{grows}
@@ -48,12 +49,12 @@ calm_between setup past is = record {
 
 -- ---- one link
 
-sent_same : (new : Bool) (outgoing : Data) → (data_sent_if new outgoing).complete ≡ outgoing.complete
-sent_same true outgoing = refl
-sent_same false outgoing = refl
+sent_same : (payload : List ℕ) (new : Bool) (outgoing : Data) → (data_sent_as payload new outgoing).complete ≡ outgoing.complete
+sent_same payload true outgoing = refl
+sent_same payload false outgoing = refl
 
 kept_complete : IsKeptBySending (λ outgoing. outgoing.complete ≡ 0)
-kept_complete = record { fixed = λ limit pdu more outgoing is. is; sent = λ is_new outgoing is. sent_same is_new outgoing ∙ is }
+kept_complete = record { fixed = λ limit pdu more outgoing is. is; sent = λ payload is_new outgoing is. sent_same payload is_new outgoing ∙ is }
 
 deaf_reported : (step : EndStep) (link : OpenLink) → IsDeafStep step → IsReported link → IsReported (link_after step link)
 deaf_reported step link deaf is = deaf_link_keeps (λ outgoing. outgoing.complete ≡ 0) kept_complete step link deaf is

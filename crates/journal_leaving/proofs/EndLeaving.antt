@@ -16,14 +16,15 @@ use Rattle.journal_controls.specs.OneEnd.{IsToldOf}
 use Rattle.journal_controls.specs.journal_acks.Exchange.{Exchanged}
 use Rattle.journal_controls.specs.journal_links.LinkLines.{line_of}
 use Rattle.journal_controls.specs.link_model.Acknowledgement.{Pdu, bits_of, is_acked}
-use Rattle.journal_controls.specs.link_model.Controls.{goes_on, is_procedure_pdu, is_terminate, pdu_fixed, read_of}
+use Rattle.journal_controls.specs.link_model.Controls.{goes_on, is_procedure_pdu, is_quiet_now, is_terminate, pdu_fixed, read_of}
 use Rattle.journal_controls.specs.link_model.Data.{is_control, is_empty, numbered}
 use Rattle.journal_controls.specs.link_model.End.{facts_after, notes_after}
 use Rattle.journal_controls.specs.link_model.Entering.{began_notes, done_notes, event_notes, facts_entered, facts_entered_if}
 use Rattle.journal_controls.specs.link_model.Events.{applied_notes}
 use Rattle.journal_controls.specs.link_model.Facts.{Facts}
 use Rattle.journal_controls.specs.link_model.Packets.{good_pdu}
-use Rattle.journal_controls.specs.link_model.Receiving.{accepted_if, accepts, acked_kind, acknowledged_if, acks_control, answers_with_control, code_of, facts_before_taking, facts_received, given_if, given_notes, has_acknowledged, heard_in_slot, leaving_acked_if, leaving_by, procedures_take_if, received_notes, refused_notes, took_notes_if}
+use Rattle.journal_controls.specs.link_model.Plain.{IsPlain, plain_accepted_if, plain_before_taking, plain_given_if, plain_hearing, plain_notes_hearing, plain_takes_if}
+use Rattle.journal_controls.specs.link_model.Receiving.{accepts, acked_kind, acknowledged_if, acks_control, answers_with_control, code_of, facts_received, given_notes, has_acknowledged, heard_in_slot, leaving_acked_if, leaving_by, received_notes, refused_notes, took_notes_if}
 use Rattle.journal_controls.specs.link_model.Sending.{control_gone_if, leaving_sent, sent_notes_if, takes_leave}
 use Rattle.journal_controls.specs.link_model.Setup.{Setup}
 use Rattle.journal_controls.specs.link_model.Step.{EventEntered, PacketReceived, PacketSent}
@@ -35,6 +36,7 @@ use Rattle.journal_controls.specs.link_model.control_end.declared.answers.Taken.
 use Rattle.journal_controls.specs.link_model.control_model.Control.{Control, after_all}
 use Rattle.journal_controls.specs.link_model.declared.events.ConnectionEvent.{ConnectionEvent}
 use Rattle.journal_controls.specs.link_model.declared.state.Leaving.{Leaving}
+use Rattle.journal_controls.proofs.link_model.Plain.{before_taking_plain, hearing_plain, notes_hearing_plain, received_plain}
 use Rattle.journal_leaving.specs.Leaving.{acks_terminate, leaving_saying}
 use Rattle.journal_controls.specs.Hearing.{control_hearing}
 use Rattle.journal_leaving.specs.Hearing.{leaving_hearing}
@@ -103,7 +105,7 @@ module _ (side : Side) (number : ℕ) where
   pub entry_noted : (withheld : Bool) (slot : ℕ) (setup : Setup) (facts : Facts) (l : Leaving) (c : Control) → leaving_noted side number withheld slot (notes_after setup facts (EventEntered slot)) c l ≡ l
   entry_noted withheld slot setup facts l c =
       none_noted withheld slot (notes_after setup facts (EventEntered slot)) c l
-      (entered_none (goes_on facts) setup.link.handle (facts_entered setup slot facts).event (entry_of slot true (held_of facts.control)))
+      (entered_none (goes_on facts) setup.link.handle (facts_entered setup slot facts).event (entry_of slot (is_quiet_now facts) (held_of facts.control)))
 
   pub sent_noted : (withheld : Bool) (slot : ℕ) (setup : Setup) (facts : Facts) (l : Leaving) (c : Control) → leaving_noted side number withheld slot (notes_after setup facts (PacketSent slot)) c l ≡ l
   sent_noted withheld slot setup facts l c =
@@ -138,33 +140,48 @@ gone_leaving true slot facts = refl
 gone_leaving false slot facts = refl
 
 taken_leaving : (side : Side) (number : ℕ) (takes : Bool) (pdu : Pdu) (slot : ℕ) (facts : Facts)
-    → (procedures_take_if takes pdu slot facts).leaving ≡ left_by side number takes slot pdu facts.control facts.leaving
+    → (plain_takes_if takes pdu slot facts).leaving ≡ left_by side number takes slot pdu facts.control facts.leaving
 taken_leaving side number true pdu slot facts = refl
 taken_leaving side number false pdu slot facts = refl
 
 -- what it says of the packet moves it, from what it was as the packet reached it
-module _ (side : Side) (number : ℕ) (withheld : Bool) (slot : ℕ) (room : Bool) (setup : Setup) (facts : Facts) where
-  received_leaves : (may : Option (List ℕ)) → let role = setup.link.role in
-      (facts_received role slot room may facts).leaving
-      ≡ leaving_noted side number withheld slot (received_notes setup slot room may facts) (control_hearing role slot may facts) (leaving_hearing role slot may facts)
-  received_leaves None = refl
-  received_leaves (Some octets) =
+module _ (side : Side) (number : ℕ) (withheld : Bool) (slot : ℕ) (room : Bool) (setup : Setup) (facts : Facts) (plain : IsPlain setup.link.role facts) where
+  hearing_leaves : (octets : List ℕ) → let header = header_in octets in
+      let now = plain_before_taking setup.link.role slot header facts in
+      (plain_hearing setup.link.role slot room header (pdu_of octets) facts).leaving
+      ≡ leaving_noted side number withheld slot (plain_notes_hearing setup slot room header (pdu_of octets) facts) now.control now.leaving
+  hearing_leaves octets =
       let handle = setup.link.handle in
       let header = header_in octets in
       let pdu = pdu_of octets in
-      let now = facts_before_taking setup.link.role slot header facts in
+      let now = plain_before_taking setup.link.role slot header facts in
       let accepted = accepts room header pdu now in
-      let given = given_if (accepted && is_procedure_pdu pdu) pdu slot now in
-      taken_leaving side number (accepted && is_procedure_pdu pdu) pdu slot (accepted_if accepted pdu now)
+      let given = plain_given_if (accepted && is_procedure_pdu pdu) pdu slot now in
+      taken_leaving side number (accepted && is_procedure_pdu pdu) pdu slot (plain_accepted_if accepted pdu now)
       ∙ sym (done_first side number withheld slot handle (acked_kind (acks_control (has_acknowledged facts header) facts) facts)
       (took_notes_if (accepted && not (is_empty pdu)) handle pdu now ++ given_notes handle given) now.control now.leaving
       ∙ took_first side number withheld accepted (is_empty pdu) (is_control pdu) slot handle pdu now (given_notes handle given) now.control now.leaving refl refl
       (given_none side number handle given))
 
+  received_leaves : (may : Option (List ℕ)) → let role = setup.link.role in
+      (facts_received role slot room may facts).leaving
+      ≡ leaving_noted side number withheld slot (received_notes setup slot room may facts) (control_hearing role slot may facts) (leaving_hearing role slot may facts)
+  received_leaves None = refl
+  received_leaves (Some octets) =
+      let role = setup.link.role in
+      let header = header_in octets in
+      let pdu = pdu_of octets in
+      ap (λ (f : Facts). f.leaving) (hearing_plain role role slot room header pdu facts plain)
+      ∙ hearing_leaves octets
+      ∙ (λ i.
+      let now = sym (before_taking_plain role role slot header facts plain) i in
+      leaving_noted side number withheld slot (sym (notes_hearing_plain setup slot room header pdu facts plain) i) now.control now.leaving)
+
   pub packet_leaves : (octets : List ℕ) → let role = setup.link.role in let may = good_pdu setup facts octets in
       (facts_after setup facts (PacketReceived slot octets room)).leaving
       ≡ leaving_noted side number withheld slot (notes_after setup facts (PacketReceived slot octets room)) (control_hearing role slot may facts) (leaving_hearing role slot may facts)
-  packet_leaves octets = received_leaves (good_pdu setup facts octets)
+  packet_leaves octets =
+      ap (λ (f : Facts). f.leaving) (received_plain setup facts slot octets room plain) ∙ received_leaves (good_pdu setup facts octets)
 
 -- ---- what the lines tell of an end that hears
 

@@ -30,6 +30,7 @@ use Rattle.journal_controls.proofs.journal_ends.run_laws.Agreed.{step_facts}
 use Rattle.journal_leaving.specs.Hearing.{leaving_hearing}
 use Rattle.journal_leaving.specs.Leaving.{leaving_sent_if}
 use Rattle.journal_leaving.specs.Said.{leaving_noted}
+use Rattle.journal_controls.proofs.link_model.Plain.{past_plain}
 use Rattle.journal_leaving.proofs.EndLeaving.{packet_leaves}
 use Rattle.journal_leaving.proofs.TurnLeaving.{begins_by, noted_both, sends_by}
 
@@ -154,7 +155,7 @@ module _ (side : Side) (number : ℕ) (withheld : Bool) (facts : Facts) (handle 
       let more = notes_from setup now (later refuses sends) in
       let c = moved_by withheld slot (map (line_of side number) here) from in
       ap (leaving_sent_if sends) (noted_both side number withheld slot here more from was)
-      ∙ ap (λ l. leaving_sent_if sends (leaving_noted side number withheld slot more c l)) (sym (packet_leaves side number withheld slot room setup end octets))
+      ∙ ap (λ l. leaving_sent_if sends (leaving_noted side number withheld slot more c l)) (sym (packet_leaves side number withheld slot room setup end (past_plain base.setup base.past) octets))
       ∙ sym (later_leaves refuses sends c)
 
   pub taken_leaves : (sends : Bool) (after : OpenLink) → after ≡ sent_if sends slot (link_receiving handle room octets facts base)

@@ -11,6 +11,7 @@ use Rattle.journal_controls.specs.link_model.End.{facts_after, notes_after, note
 use Rattle.journal_controls.specs.link_model.Facts.{Facts}
 use Rattle.journal_controls.specs.link_model.Fixing.{fixed_anew}
 use Rattle.journal_controls.specs.link_model.Packets.{good_pdu}
+use Rattle.journal_controls.specs.link_model.Plain.{IsPlain}
 use Rattle.journal_controls.specs.link_model.Sending.{leaving_sent}
 use Rattle.journal_controls.specs.link_model.Setup.{Setup}
 use Rattle.journal_controls.specs.link_model.Step.{Step, EventEntered, PacketReceived, PacketSent, PduFixed}
@@ -75,12 +76,12 @@ module _ (side : Side) (number : ℕ) (withheld : Bool) (slot : ℕ) where
         ≡ leaving_sent_if answers (leaving_noted side number withheld slot (notes_from setup now (first_if answers (PacketSent slot) [])) c l)
     answers_by answers now c l is = sends_by answers now c ∙ ap (λ one. leaving_sent_if answers (leaving_noted side number withheld slot (notes_from setup now (first_if answers (PacketSent slot) [])) c one)) is
 
-    pub taking_leaves : (octets : List ℕ) (room answers : Bool) (facts : Facts) → let steps = steps_taken slot octets room answers in
+    pub taking_leaves : (octets : List ℕ) (room answers : Bool) (facts : Facts) → IsPlain setup.link.role facts → let steps = steps_taken slot octets room answers in
         let may = good_pdu setup facts octets in
         (fold (facts_after setup) facts steps).leaving
         ≡ leaving_sent_if answers
         (leaving_noted side number withheld slot (notes_from setup facts steps) (control_hearing setup.link.role slot may facts) (leaving_hearing setup.link.role slot may facts))
-    taking_leaves octets room answers facts =
+    taking_leaves octets room answers facts plain =
         let now = facts_after setup facts (PacketReceived slot octets room) in
         let here = notes_after setup facts (PacketReceived slot octets room) in
         let later = notes_from setup now (first_if answers (PacketSent slot) []) in
@@ -88,5 +89,5 @@ module _ (side : Side) (number : ℕ) (withheld : Bool) (slot : ℕ) where
         let c = control_hearing setup.link.role slot may facts in
         let l = leaving_hearing setup.link.role slot may facts in
         answers_by answers now (moved_by withheld slot (map (line_of side number) here) c) (leaving_noted side number withheld slot here c l)
-        (packet_leaves side number withheld slot room setup facts octets)
+        (packet_leaves side number withheld slot room setup facts plain octets)
         ∙ ap (leaving_sent_if answers) (sym (noted_both here later c l))

@@ -7,13 +7,13 @@ ghost use Rattle.journal_controls.specs.LineSteps.{is_more_acked};
 ghost use Rattle.journal_controls.specs.OneEnd.{IsToldOf};
 ghost use Rattle.journal_controls.specs.journal_acks.Exchange.{Exchanged};
 ghost use Rattle.journal_controls.specs.link_model.Acknowledgement.{Pdu};
-ghost use Rattle.journal_controls.specs.link_model.End.{facts_after, notes_after};
+ghost use Rattle.journal_controls.specs.link_model.End.{facts_after, facts_of, notes_after};
 ghost use Rattle.journal_controls.specs.link_model.Facts.{Facts};
 ghost use Rattle.journal_controls.specs.link_model.Packets.{good_pdu};
 ghost use Rattle.journal_controls.specs.link_model.Receiving.{leaving_acked_if};
 ghost use Rattle.journal_controls.specs.link_model.Sending.{leaving_sent};
 ghost use Rattle.journal_controls.specs.link_model.Setup.{Setup};
-ghost use Rattle.journal_controls.specs.link_model.Step.{PacketReceived, PacketSent};
+ghost use Rattle.journal_controls.specs.link_model.Step.{Step, PacketReceived, PacketSent};
 ghost use Rattle.journal_controls.specs.Hearing.{control_hearing};
 ghost use Rattle.journal_leaving.specs.Hearing.{leaving_hearing};
 ghost use Rattle.journal_leaving.specs.Leaving.{acks_terminate};
@@ -30,9 +30,9 @@ pub fn lines_tell_how_an_end_that_hears_leaves()
 
 /// Then the end moves by the lines that it says (Core 5.2, volume 6 part B, section 5.1.6).
 pub fn a_packet_moves_how_an_end_leaves_by_its_lines()
-    ensures { (side : Side) (number slot : ℕ) (withheld room : Bool) (setup : Setup) (facts : Facts)
-        (octets : List ℕ)
-        → let heard = good_pdu setup facts octets in
+    ensures { (side : Side) (number slot : ℕ) (withheld room : Bool) (setup : Setup)
+        (past : List Step) (octets : List ℕ)
+        → let facts = facts_of setup past in let heard = good_pdu setup facts octets in
         (facts_after setup facts (PacketReceived slot octets room)).leaving
         ≡ leaving_noted side number withheld slot
         (notes_after setup facts (PacketReceived slot octets room))

@@ -2,10 +2,11 @@
 ghost use Rattle.std.specs.Prelude.{◌≡◌, ℕ, Bool, List, fold};
 ghost use Rattle.ble_base.specs.declared.roles.Side.{Side};
 ghost use Rattle.journal_controls.specs.TurnSteps.{steps_begun, steps_taken};
-ghost use Rattle.journal_controls.specs.link_model.End.{facts_after, notes_from};
+ghost use Rattle.journal_controls.specs.link_model.End.{facts_after, facts_of, notes_from};
 ghost use Rattle.journal_controls.specs.link_model.Facts.{Facts};
 ghost use Rattle.journal_controls.specs.link_model.Packets.{good_pdu};
 ghost use Rattle.journal_controls.specs.link_model.Setup.{Setup};
+ghost use Rattle.journal_controls.specs.link_model.Step.{Step};
 ghost use Rattle.journal_controls.specs.link_model.control_model.Control.{Control};
 ghost use Rattle.journal_controls.specs.Hearing.{control_hearing};
 ghost use Rattle.journal_leaving.specs.Hearing.{leaving_hearing};
@@ -29,8 +30,8 @@ pub fn a_turn_that_begins_moves_how_an_end_leaves_by_its_lines()
 /// part B, sections 4.5.9 and 5.1.6).
 pub fn a_packet_that_is_taken_moves_how_an_end_leaves_by_its_lines()
     ensures { (side : Side) (number slot : ℕ) (octets : List ℕ) (withheld room answers : Bool)
-        (setup : Setup) (facts : Facts)
-        → let steps = steps_taken slot octets room answers in
+        (setup : Setup) (past : List Step)
+        → let facts = facts_of setup past in let steps = steps_taken slot octets room answers in
         let heard = good_pdu setup facts octets in
         (fold (facts_after setup) facts steps).leaving
         ≡ leaving_sent_if answers

@@ -23,20 +23,20 @@ use Rattle.run_laws.specs.open_links.OpenLinks.{HasHandle, HaveHandles, Links, O
 use Rattle.run_laws.specs.open_links.Turns.{due_in, enters_in, links_without, notes_entering, notes_if, place_without, staying_by}
 use Rattle.run_laws.specs.open_links.declared.ended.LinkEnded.{LinkEnded}
 use Rattle.run_laws.proofs.open_links.Ends.{stays_where_not_due}
-use Rattle.controller_model.specs.Entering.{events_entering, notes_all_entering}
-use Rattle.controller_model.specs.Events.{notes_of_events, passes}
-use Rattle.controller_model.specs.Facts.{Setup, Facts}
-use Rattle.controller_model.specs.Packets.{notes_doing}
-use Rattle.controller_model.specs.Since.{is_under}
-use Rattle.controller_model.specs.Links.{ends_for, facts_ending, notes_ended, notes_ending}
-use Rattle.controller_model.specs.Radio.{outcome_begun}
-use Rattle.controller_model.specs.Side.{facts_of, notes_after}
-use Rattle.controller_model.specs.Step.{Step, TurnBegins}
-use Rattle.controller_model.proofs.Always.{ending_is, facts_ended}
-use Rattle.controller_model.proofs.Books.{is_not}
-use Rattle.controller_model.proofs.EndNotes.{entered_each}
-use Rattle.controller_model.proofs.Handles.{own_handles}
-use Rattle.controller_model.proofs.LinkNotes.{IsOfOthers, doing_too}
+use Rattle.run_laws.specs.controller_model.Entering.{events_entering, notes_all_entering}
+use Rattle.run_laws.specs.controller_model.Events.{notes_of_events, passes}
+use Rattle.run_laws.specs.controller_model.Facts.{Setup, Facts}
+use Rattle.run_laws.specs.controller_model.Packets.{notes_doing}
+use Rattle.run_laws.specs.controller_model.Since.{is_under}
+use Rattle.run_laws.specs.controller_model.Links.{ends_for, facts_ending, notes_ended, notes_ending}
+use Rattle.run_laws.specs.controller_model.Radio.{outcome_begun}
+use Rattle.run_laws.specs.controller_model.Side.{facts_of, notes_after}
+use Rattle.run_laws.specs.controller_model.Step.{Step, TurnBegins}
+use Rattle.run_laws.proofs.controller_model.Always.{ending_is, facts_ended}
+use Rattle.run_laws.proofs.controller_model.Books.{is_not}
+use Rattle.run_laws.proofs.controller_model.EndNotes.{entered_each}
+use Rattle.run_laws.proofs.controller_model.Handles.{own_handles}
+use Rattle.run_laws.proofs.controller_model.LinkNotes.{IsOfOthers, doing_too}
 use Rattle.link_changes.proofs.Entries.{is_enter}
 use Rattle.journal_links.proofs.SaidLines.{kind_or_none, kind_said, said_under}
 

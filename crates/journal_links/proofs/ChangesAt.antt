@@ -13,8 +13,8 @@ use Rattle.ble_base.specs.declared.roles.Role.TheVariants.{Central, Peripheral}
 use Rattle.ble_base.specs.declared.roles.Side.{Side}
 use Rattle.ble_base.specs.declared.roles.Side.TheVariants.{A, B}
 use Rattle.journal.specs.declared.entries.Entry.{Entry}
-use Rattle.controller_model.specs.Links.{note_opened}
-use Rattle.controller_model.specs.Since.{note_under, notes_opened_on, notes_under, opens_under, was_opened}
+use Rattle.run_laws.specs.controller_model.Links.{note_opened}
+use Rattle.run_laws.specs.controller_model.Since.{note_under, notes_opened_on, notes_under, opens_under, was_opened}
 use Rattle.run_laws.specs.link_model.End.{notes_of as end_notes_of}
 use Rattle.run_laws.specs.link_model.Setup.{Setup as EndSetup}
 use Rattle.run_laws.specs.link_model.Step.{Step as EndStep}

@@ -15,12 +15,12 @@ use Rattle.journal.specs.declared.entries.Entry.{Entry}
 use Rattle.journal.specs.declared.entries.Entry.TheVariants.{Enter}
 use Rattle.run_laws.specs.link_model.End.{notes_of as end_notes_of}
 use Rattle.run_laws.specs.link_model.Setup.{Setup, algorithm_of, first_anchor as first_of, first_params}
-use Rattle.controller_model.specs.Entering.{begins_turn}
-use Rattle.controller_model.specs.Side.{notes_after, notes_of}
-use Rattle.controller_model.specs.Since.{notes_under, opens_under, was_opened}
-use Rattle.controller_model.specs.Step.{Step, HostOctet, TurnBegins, PacketHeard, NothingHeard, TurnEnds}
-use Rattle.controller_model.proofs.Entries.{enters_as_turns_begin, enters_at_anchors}
-use Rattle.controller_model.proofs.UnderNotes.{open_noted}
+use Rattle.run_laws.specs.controller_model.Entering.{begins_turn}
+use Rattle.run_laws.specs.controller_model.Side.{notes_after, notes_of}
+use Rattle.run_laws.specs.controller_model.Since.{notes_under, opens_under, was_opened}
+use Rattle.run_laws.specs.controller_model.Step.{Step, HostOctet, TurnBegins, PacketHeard, NothingHeard, TurnEnds}
+use Rattle.run_laws.proofs.controller_model.Entries.{enters_as_turns_begin, enters_at_anchors}
+use Rattle.run_laws.proofs.controller_model.UnderNotes.{open_noted}
 use Rattle.radio_replay.specs.Script.{Script}
 use Rattle.run_laws.specs.run_model.Due.{IsCallDue, IsDue}
 use Rattle.run_laws.specs.run_model.History.{Called, Noted, noted_by, past_of, turns_begun}

@@ -15,11 +15,11 @@ use Rattle.run_laws.specs.link_model.Setup.{algorithm_of}
 use Rattle.run_laws.specs.open_links.OpenLinks.{HasHandle, OpenLink, facts_in}
 use Rattle.run_laws.specs.open_links.Turns.{enters_in, is_anchor}
 use Rattle.run_laws.proofs.open_links.Handles.{has_its_handle}
-use Rattle.controller_model.specs.Entering.{IsEntered}
-use Rattle.controller_model.specs.Facts.{Setup}
-use Rattle.controller_model.specs.Side.{facts_of, notes_after}
-use Rattle.controller_model.specs.Step.{Step, TurnBegins}
-use Rattle.controller_model.proofs.Handles.{own_handles}
+use Rattle.run_laws.specs.controller_model.Entering.{IsEntered}
+use Rattle.run_laws.specs.controller_model.Facts.{Setup}
+use Rattle.run_laws.specs.controller_model.Side.{facts_of, notes_after}
+use Rattle.run_laws.specs.controller_model.Step.{Step, TurnBegins}
+use Rattle.run_laws.proofs.controller_model.Handles.{own_handles}
 use Rattle.link_changes.specs.InForce.{HasRanges, IsEnteredBy}
 use Rattle.link_changes.proofs.Entries.{enters as enters_by_notes, entry_are, find_enter}
 use Rattle.link_changes.proofs.Steps.{entry_when}

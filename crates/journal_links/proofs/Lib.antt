@@ -18,4 +18,4 @@ pub use Rattle.run_laws.proofs.link_model as link_model
 pub use Rattle.run_laws.proofs.open_links as open_links
 pub use Rattle.run_laws.proofs as run_laws
 pub use Rattle.run_laws.proofs.run_model as run_model
-pub use Rattle.controller_model.proofs as controller_model
+pub use Rattle.run_laws.proofs.controller_model as controller_model

@@ -11,8 +11,8 @@ use Rattle.ble_base.specs.declared.roles.Side.{Side}
 use Rattle.journal.specs.declared.entries.Entry.{Entry}
 use Rattle.journal.specs.declared.entries.Entry.TheVariants.{Opened as OpenedLine}
 use Rattle.run_laws.specs.open_links.OpenLinks.{OpenLink, link_at}
-use Rattle.controller_model.specs.Since.{is_under, note_under, notes_opened_on, notes_under, opens_under, was_opened}
-use Rattle.controller_model.proofs.UnderNotes.{open_noted, opened_more, or_none, some_under, under_more}
+use Rattle.run_laws.specs.controller_model.Since.{is_under, note_under, notes_opened_on, notes_under, opens_under, was_opened}
+use Rattle.run_laws.proofs.controller_model.UnderNotes.{open_noted, opened_more, or_none, some_under, under_more}
 use Rattle.run_laws.specs.run_model.Feeding.{AreDistinct, HasNoted}
 use Rattle.run_laws.specs.run_model.History.{Event, TurnBegan, HostFed, Called, Noted, Transmitted, noted_by, notes_in, one_if, past_of}
 use Rattle.run_laws.specs.run_model.Journal.{entries_of, entry_of, journal_of, side_of}

@@ -11,7 +11,7 @@ use Rattle.adv_pdu.specs.declared.pdu.AdvPdu.TheVariants.{Connect}
 use Rattle.journal.specs.declared.entries.Entry.{Entry}
 use Rattle.journal.specs.declared.entries.Entry.TheVariants.{Air}
 use Rattle.journal.specs.declared.entries.Mark.{Mark}
-use Rattle.controller_model.specs.Packets.{pdu_heard}
+use Rattle.run_laws.specs.controller_model.Packets.{pdu_heard}
 use Rattle.radio_replay.specs.Script.{Script}
 use Rattle.run_laws.specs.run_model.Due.{Each}
 use Rattle.run_laws.specs.run_model.History.{Event, TurnBegan, HostFed, Called, Noted, Transmitted}

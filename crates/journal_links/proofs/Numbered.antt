@@ -12,7 +12,7 @@ use Rattle.journal.specs.declared.entries.Entry.{Entry}
 use Rattle.journal.specs.declared.entries.Entry.TheVariants.{Air}
 use Rattle.journal.specs.declared.entries.Mark.{Mark}
 use Rattle.run_laws.specs.link_model.Setup.{Setup}
-use Rattle.controller_model.specs.Packets.{pdu_heard}
+use Rattle.run_laws.specs.controller_model.Packets.{pdu_heard}
 use Rattle.radio_replay.specs.Script.{Script}
 use Rattle.run_laws.specs.run_model.History.{Event, Transmitted, Hearing}
 use Rattle.run_laws.specs.run_model.Journal.{air_entries, journal_from, journal_of, mark_of, side_of}

@@ -15,15 +15,15 @@ use Rattle.adv_pdu.specs.declared.pdu.AdvPdu.TheVariants.{Ind, Direct, Connect}
 use Rattle.adv_pdu.specs.declared.pdu.ConnectFields.{ConnectFields}
 use Rattle.adv_pdu.specs.Pdu.{sender_of}
 use Rattle.scan_init.specs.Initiating.{InitiatorFacts, is_accepted, is_connectable_to, is_sought}
-use Rattle.controller_model.specs.declared.doing.Doing.{Doing}
-use Rattle.controller_model.specs.declared.doing.Doing.TheVariants.{Advertises, Requests, Initiates, Connects, CentralSends, Rests}
-use Rattle.controller_model.specs.declared.doing.Turn.{Turn}
-use Rattle.controller_model.specs.Step.{Step, HostOctet, TurnBegins, PacketHeard, TurnEnds}
-use Rattle.controller_model.specs.Facts.{Setup, Facts, Sends, Listens}
-use Rattle.controller_model.specs.Heard.{answers_by_connecting, connects, heard, if_pdu, initiator_heard, is_new_between, link_wanted, unheard}
-use Rattle.controller_model.specs.Packets.{pdu_heard}
-use Rattle.controller_model.specs.Side.{facts_after, facts_of, notes_after}
-use Rattle.controller_model.proofs.DataChannels.{link_channel}
+use Rattle.run_laws.specs.controller_model.declared.doing.Doing.{Doing}
+use Rattle.run_laws.specs.controller_model.declared.doing.Doing.TheVariants.{Advertises, Requests, Initiates, Connects, CentralSends, Rests}
+use Rattle.run_laws.specs.controller_model.declared.doing.Turn.{Turn}
+use Rattle.run_laws.specs.controller_model.Step.{Step, HostOctet, TurnBegins, PacketHeard, TurnEnds}
+use Rattle.run_laws.specs.controller_model.Facts.{Setup, Facts, Sends, Listens}
+use Rattle.run_laws.specs.controller_model.Heard.{answers_by_connecting, connects, heard, if_pdu, initiator_heard, is_new_between, link_wanted, unheard}
+use Rattle.run_laws.specs.controller_model.Packets.{pdu_heard}
+use Rattle.run_laws.specs.controller_model.Side.{facts_after, facts_of, notes_after}
+use Rattle.run_laws.proofs.controller_model.DataChannels.{link_channel}
 use Rattle.run_laws.specs.run_model.Due.{Each}
 use Rattle.run_laws.specs.run_model.Feeding.{AreDistinct}
 use Rattle.run_laws.specs.run_model.History.{Event, TurnBegan, HostFed, Called, Noted, Transmitted, Hearing, has_received, packet_received, past_of, turns_begun}

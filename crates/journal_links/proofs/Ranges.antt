@@ -7,9 +7,9 @@ use Rattle.run_laws.specs.link_model.Step.{Step as EndStep, DataGiven, DataRepor
 use Rattle.run_laws.specs.link_model.procedure_values.declared.asks.Ask.TheVariants.{Map}
 use Rattle.run_laws.specs.open_links.OpenLinks.{OpenLink, link_after, link_at}
 use Rattle.run_laws.specs.open_links.Turns.{entered_if, enters_in, link_entered}
-use Rattle.controller_model.specs.Facts.{Setup, Facts}
-use Rattle.controller_model.specs.Side.{facts_of}
-use Rattle.controller_model.proofs.LinkFields.{range_of_test}
+use Rattle.run_laws.specs.controller_model.Facts.{Setup, Facts}
+use Rattle.run_laws.specs.controller_model.Side.{facts_of}
+use Rattle.run_laws.proofs.controller_model.LinkFields.{range_of_test}
 use Rattle.run_laws.specs.run_model.Feeding.{AreDistinct}
 use Rattle.run_laws.specs.run_model.History.{Event, past_of}
 use Rattle.run_laws.specs.run_model.Run.{Given, facts_at, history_of, run_of, setup_at}

@@ -8,7 +8,7 @@ use Rattle.ble_base.specs.declared.notes.Note.TheVariants.{Up, Opened, Shut, Sen
 use Rattle.ble_base.specs.declared.roles.Role.{Role}
 use Rattle.ble_base.specs.declared.roles.Role.TheVariants.{Central, Peripheral}
 use Rattle.ble_base.specs.declared.roles.Side.{Side}
-use Rattle.controller_model.specs.Since.{is_under, note_under, opens_under, was_opened}
+use Rattle.run_laws.specs.controller_model.Since.{is_under, note_under, opens_under, was_opened}
 use Rattle.link_changes.specs.Noted.{applied_noted, event_after, indication_noted, taking_if, takings_from}
 use Rattle.link_changes.proofs.Alike.{Alike, alike_more, alike_same, alike_silent, alike_then}
 use Rattle.instants.specs.Arrivals.{Taking}

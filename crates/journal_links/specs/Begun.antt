@@ -9,7 +9,7 @@ use Rattle.adv_pdu.specs.declared.pdu.AdvPdu.TheVariants.{Ind, Direct, Connect}
 use Rattle.adv_pdu.specs.declared.pdu.ConnectFields.{ConnectFields}
 use Rattle.journal.specs.declared.entries.Entry.{Entry}
 use Rattle.journal.specs.declared.entries.Entry.TheVariants.{Turn, Air}
-use Rattle.controller_model.specs.Packets.{pdu_heard}
+use Rattle.run_laws.specs.controller_model.Packets.{pdu_heard}
 use Rattle.run_laws.specs.run_model.Links.{is_advertising}
 use Rattle.run_laws.specs.run_model.Readers.{of_side, turns_of}
 

@@ -5,7 +5,7 @@ use Rattle.ble_base.specs.declared.notes.Note.{Note}
 use Rattle.ble_base.specs.declared.roles.Side.{Side}
 use Rattle.journal.specs.declared.entries.Entry.{Entry}
 use Rattle.journal.specs.declared.entries.Entry.TheVariants.{Opened, Shut, Sent, Took, Enter, Applied, Began, Refused, Done}
-use Rattle.controller_model.specs.Since.{notes_under}
+use Rattle.run_laws.specs.controller_model.Since.{notes_under}
 use Rattle.run_laws.specs.run_model.History.{Event, noted_by}
 use Rattle.run_laws.specs.run_model.Journal.{entry_of, journal_of, side_of}
 use Rattle.run_laws.specs.run_model.Links.{links_of}

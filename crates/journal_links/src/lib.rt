@@ -13,4 +13,4 @@ pub use crate::lines::{
 pub use crate::rows::{worked_algorithms, worked_changes, worked_links};
 
 // What the crates above call of those below.
-pub use controller_model::a_pdu_is_understood;
+pub use run_laws::a_pdu_is_understood;

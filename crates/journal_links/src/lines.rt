@@ -6,7 +6,7 @@ ghost use Rattle.ble_base.specs.declared.roles.Role.{Role};
 ghost use Rattle.ble_base.specs.declared.roles.Side.{Side};
 ghost use Rattle.chan_select.specs.Channel.{channel_of};
 ghost use Rattle.chan_select.specs.declared.selection.Algorithm.TheVariants.{One, Two};
-ghost use Rattle.controller_model.specs.Since.{notes_opened_on, was_opened};
+ghost use Rattle.run_laws.specs.controller_model.Since.{notes_opened_on, was_opened};
 ghost use Rattle.journal.specs.declared.entries.Entry.{Entry};
 ghost use Rattle.journal.specs.declared.entries.Entry.TheVariants.{Enter, Opened};
 ghost use Rattle.journal_links.specs.Begun.{LinkBegun, link_numbered};
@@ -38,7 +38,7 @@ pub fn each_enter_line_is_at_its_anchor()
         ≡ front ++ Enter side number event channel ∷ rest
         → IsEnteredInTime front side number event channel }
 {
-    controller_model::a_pdu_is_understood();
+    run_laws::a_pdu_is_understood();
     advertise::laws::connections_are_taken();
 }
 
@@ -80,7 +80,7 @@ pub fn both_ends_enter_an_event_in_one_turn()
         → changes_of number link side front ≡ changes_of number link other later)
         → channel ≡ too }
 {
-    controller_model::a_pdu_is_understood();
+    run_laws::a_pdu_is_understood();
     advertise::laws::connections_are_taken();
 }
 
@@ -95,7 +95,7 @@ pub fn each_opened_line_names_its_link()
         ≡ front ++ Opened side number handle role ∷ rest
         → IsOpenedInTime front side number role }
 {
-    controller_model::a_pdu_is_understood();
+    run_laws::a_pdu_is_understood();
     advertise::laws::connections_are_taken();
 }
 
@@ -134,6 +134,6 @@ pub fn lines_of_a_link_are_its_notes()
         ((links_of (history_of (run_of given))).link_of station handle)
         (notes_opened_on link.setup link.past) }
 {
-    controller_model::a_pdu_is_understood();
+    run_laws::a_pdu_is_understood();
     advertise::laws::connections_are_taken();
 }

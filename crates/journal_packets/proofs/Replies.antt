@@ -19,8 +19,9 @@ use Rattle.air_frame.specs.Hearing.{heard_in}
 use Rattle.air_frame.specs.Packet.{access_octets, is_packet, pdu_in}
 use Rattle.journal_links.specs.link_model.Receiving.{replies_by, replies_of}
 use Rattle.journal_links.specs.link_model.Facts.{Facts as EndFacts}
-use Rattle.journal_links.specs.link_model.Verdicts.{good_in}
-use Rattle.journal_links.specs.link_model.Packets.{good_pdu, packet_sent}
+use Rattle.journal_links.specs.link_model.Verdicts.{whole_in}
+use Rattle.journal_links.specs.link_model.Packets.{good_pdu, heard_of, packet_sent, pdu_read_in, whole_pdu}
+use Rattle.journal_links.specs.link_model.Payload.{opens_now}
 use Rattle.journal_links.specs.link_model.Setup.{Setup as EndSetup}
 use Rattle.journal_links.specs.link_model.Step.{PacketSent, PacketReceived}
 use Rattle.journal_links.specs.link_model.declared.setup.LinkSetup.{LinkSetup}
@@ -51,23 +52,32 @@ use Rattle.journal_links.proofs.run_laws.TurnSteps.{IsListening}
 
 -- ---- the access address of a packet
 
-good_begins : (max_rx channel access init : ℕ) (octets : List ℕ) → is_some (good_in max_rx (heard_in channel access init octets)) ≡ true → take 4 octets ≡ access_octets access
+whole_begins : (max_rx : ℕ) (opens : Bool) (channel access init : ℕ) (octets : List ℕ) → is_some (whole_in max_rx opens (heard_in channel access init octets)) ≡ true → take 4 octets ≡ access_octets access
 unfolding heard_in
-good_begins max_rx channel access init octets good = by (bytes_eq (take 4 octets) (access_octets access)) refl good
+whole_begins max_rx opens channel access init octets good = by (bytes_eq (take 4 octets) (access_octets access)) refl good
   where
     by : (same : Bool) → bytes_eq (take 4 octets) (access_octets access) ≡ same
-        → is_some (good_in max_rx (if same then (if is_packet channel access init octets then Whole (record { items = pdu_in channel octets }) else Broken) else NotOurs)) ≡ true
+        → is_some (whole_in max_rx opens (if same then (if is_packet channel access init octets then Whole (record { items = pdu_in channel octets }) else Broken) else NotOurs)) ≡ true
         → take 4 octets ≡ access_octets access
     by true same some = (bytes_eq-Decides (take 4 octets) (access_octets access)).0 same
     by false same some = absurd cc
 
+-- a good packet is a whole one
+good_is_whole : (facts : EndFacts) (found : Option (List ℕ)) → is_some (pdu_read_in facts found) ≡ true → is_some found ≡ true
+good_is_whole facts None is = absurd (let h : false ≡ true = is in absurd cc)
+good_is_whole facts (Some pdu) is = refl
+
 -- a peripheral answers packets that begin with the access address of its link
 replied_by : (role : Role) (ended : Bool) (setup : EndSetup) (facts : EndFacts) (octets : List ℕ) → setup.link.role ≡ role
     → replies_by role ended (good_pdu setup facts octets) ≡ true → (setup.link.role ≡ Peripheral) × (take 4 octets ≡ access_octets setup.link.fields.access)
-unfolding good_pdu
+unfolding good_pdu whole_pdu
 replied_by Central ended setup facts octets is replies = absurd cc
 replied_by Peripheral ended setup facts octets is replies =
-    (is, good_begins setup.link.max_rx facts.event.channel setup.link.fields.access setup.link.fields.crc_init octets (and_parts _ _ replies).0)
+    let opens = opens_now facts.encryption.end in (
+      is,
+      whole_begins setup.link.max_rx opens facts.event.channel setup.link.fields.access setup.link.fields.crc_init octets
+          (good_is_whole facts (whole_in setup.link.max_rx opens (heard_of setup facts octets)) (and_parts _ _ replies).0),
+    )
 
 replied : (setup : EndSetup) (facts : EndFacts) (slot : ℕ) (octets : List ℕ) (room : Bool) → replies_of setup facts slot octets room ≡ true
     → (setup.link.role ≡ Peripheral) × (take 4 octets ≡ access_octets setup.link.fields.access)

@@ -2,7 +2,7 @@
 use Rattle.std.proofs.Common.{◌≡◌, ℕ, ◌-◌, ◌&&◌, not, Bool, true, false, List, [], ◌∷◌, Option, Some, None, is_some, refl, ap, if◌then◌else◌}
 use Rattle.std.specs.Prelude.{is_none}
 use Rattle.journal_fixing.specs.journal_controls.LineSteps.{has_next}
-use Rattle.journal_fixing.specs.link_model.Receiving.{control_acked_if}
+use Rattle.journal_fixing.specs.link_model.Plain.{control_acked_if}
 use Rattle.journal_fixing.specs.link_model.control_model.Control.{Control, SeesAcknowledged, moved, table_if}
 use Rattle.journal_fixing.specs.link_model.procedures.Queue.{next_of}
 use Rattle.journal_fixing.specs.link_model.procedures.Sending.{acked_step}

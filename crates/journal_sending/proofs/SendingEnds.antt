@@ -25,6 +25,7 @@ use Rattle.journal_leaving.proofs.journal_acks.link_calls.RadioUses.{no_link}
 use Rattle.journal_leaving.proofs.journal_acks.link_calls.Refusals.{only_central_refuses}
 use Rattle.journal_leaving.proofs.journal_data.run_laws.Agreed.{step_facts}
 use Rattle.journal_leaving.proofs.journal_data.run_laws.TurnPlaces.{Between, IsTurned, Stage, stands_in_run, turned}
+use Rattle.journal_leaving.proofs.link_model.Plain.{past_plain}
 use Rattle.journal_leaving.proofs.run_model.Stations.{is_in}
 use Rattle.journal_fixing.specs.PastFixing.{facts_fixing, past_fixing}
 use Rattle.journal_fixing.specs.journal_controls.TurnSteps.{first_if, steps_begun}
@@ -112,7 +113,7 @@ module _ (setup : Setup) (facts : Facts) (received : Option (List ℕ)) (handle 
       let same_held : HasSameData (facts_in heard) held =
       same_then (facts_in heard) (facts_in base) held (received_same slot octets room base) (subst (λ f. HasSameData f held) (sym was_fixed.1) (same_fixed base)) in
       subst (λ f. SendsNext f (facts_in one)) (sym held_is)
-      (subst (SendsNext held) (sym facts_one) (answer_sends base.setup held was_fixed.0 role_is slot octets room (subst (λ f. HasSameData f held) facts_heard same_held)))
+      (subst (SendsNext held) (sym facts_one) (answer_sends base.setup held (past_plain base.setup (past_fixing base.past)) was_fixed.0 role_is slot octets room (subst (λ f. HasSameData f held) facts_heard same_held)))
 
 -- ---- each call
 
@@ -134,7 +135,7 @@ sending_kept setup = record {
             let facts_one = sent_then base link (enters_in begun base) (fixes_under handle doing) (sends_under handle doing) begun has.setup_is
             (has.past_is ∙ begun_past begun handle doing base) (user_fixes handle next.links doing phase (sends_uses handle doing sending)) sending one now is_one in
             subst (SendsNext (facts_fixing link.setup link.past)) (sym facts_one)
-            (fixed_sends link.setup (facts_fixing link.setup link.past) ((since.since handle link at).sends sending role).0 (same_fixed link));
+            (fixed_sends link.setup (facts_fixing link.setup link.past) (past_plain link.setup (past_fixing link.past)) ((since.since handle link at).sends sending role).0 (same_fixed link));
       };
   passes = λ phases begun received facts is.
       let since = (since_kept setup).passes phases begun received facts is.since in

@@ -17,9 +17,9 @@ use Rattle.journal_leaving.specs.link_model.Controls.{is_procedure_pdu}
 use Rattle.journal_leaving.specs.link_model.Data.{is_accepted, is_empty, numbered}
 use Rattle.journal_leaving.specs.link_model.Entering.{done_notes}
 use Rattle.journal_leaving.specs.link_model.Facts.{Facts}
-use Rattle.journal_leaving.specs.link_model.Packets.{good_pdu}
+use Rattle.journal_leaving.specs.link_model.Packets.{good_pdu, has_new_pdu}
 use Rattle.journal_leaving.specs.link_model.Receiving.{accepts, acked_kind, acknowledged_if, acks_control, answers_with_control, facts_before_taking, given_if}
-use Rattle.journal_leaving.specs.link_model.Receiving.{given_notes, has_acknowledged, has_new_pdu, heard_in_slot, notes_hearing, received_notes, refused_notes}
+use Rattle.journal_leaving.specs.link_model.Receiving.{given_notes, has_acknowledged, heard_in_slot, kept_given_if, notes_hearing, received_notes, refused_notes}
 use Rattle.journal_leaving.specs.link_model.Receiving.{taken_notes, took_notes_if}
 use Rattle.journal_leaving.specs.link_model.Sending.{control_gone_if}
 use Rattle.journal_leaving.specs.link_model.Setup.{Setup}
@@ -104,15 +104,25 @@ module _ (setup : Setup) (facts : Facts) (slot : ℕ) (room : Bool) (header : Da
   takes_is : (accepts room header pdu now && not (is_empty pdu)) ≡ takes
   takes_is = ap (λ (pdus : List Pdu). (is_accepted room (beq header.sn (is_odd (length pdus))) pdu && (is_empty pdu || not now.leaving.acknowledged)) && not (is_empty pdu)) accepted_is
 
+  abbrev takes_control : Bool
+  takes_control = accepts room header pdu now && is_procedure_pdu pdu
+
+  -- of the control PDU, and of one that was kept until now
   abbrev given : List Note
-  given = given_notes handle (given_if (accepts room header pdu now && is_procedure_pdu pdu) pdu slot now)
+  given = given_notes handle (given_if takes_control pdu slot now) ++ given_notes handle (kept_given_if takes_control pdu slot now)
+
+  all_given_none : All TakesNone given
+  all_given_none =
+      let one = given_if takes_control pdu slot now in
+      let kept = kept_given_if takes_control pdu slot now in
+      All-append TakesNone (given_notes handle one) (given_notes handle kept) (given_none handle one) (given_none handle kept)
 
   module _ (later : List Note) (none : All TakesNone later) where
     abbrev rest : List Note
     rest = given ++ later
 
     rest_none : All TakesNone rest
-    rest_none = All-append TakesNone given later (given_none handle (given_if (accepts room header pdu now && is_procedure_pdu pdu) pdu slot now)) none
+    rest_none = All-append TakesNone given later all_given_none none
 
     notes_parts : notes_hearing setup slot room header pdu facts ++ later ≡ done_notes handle done ++ (took_notes_if takes handle pdu now ++ rest)
     notes_parts =

@@ -1,6 +1,6 @@
 -- A link that receives a packet notes that it takes the PDU in it where that is new and not empty, and the end has not left
 -- the link: there is always room.
-use Rattle.std.proofs.Common.{◌≡◌, ℕ, ◌+◌, ◌≤◌, ◌==◌, ◌&&◌, ◌||◌, not, Bool, true, false, Option, Some, None, List, ◌++◌, length, refl, sym, ap, subst, ◌∙◌, nat_lt, append_assoc, arith}
+use Rattle.std.proofs.Common.{◌≡◌, ℕ, ◌+◌, ◌≤◌, ◌==◌, ◌&&◌, ◌||◌, not, Bool, true, false, Option, Some, None, List, ◌++◌, length, if◌then◌else◌, refl, sym, ap, subst, ◌∙◌, nat_lt, append_assoc, arith}
 use Rattle.std.specs.Prelude.{All}
 use Rattle.std.proofs.Math.Bool.{and-false}
 use Rattle.std.proofs.lemmas.Bool.{eqb-false, eqb-true}
@@ -24,10 +24,10 @@ use Rattle.journal_leaving.specs.link_model.Acknowledgement.{Acknowledgement, Pd
 use Rattle.journal_leaving.specs.link_model.Controls.{pdu_fixed}
 use Rattle.journal_leaving.specs.link_model.Data.{is_accepted, is_empty, numbered}
 use Rattle.journal_leaving.specs.link_model.Facts.{Facts as EndFacts}
-use Rattle.journal_leaving.specs.link_model.Hearing.{pdu_octets}
+use Rattle.journal_leaving.specs.link_model.Hearing.{body_read, pdu_octets}
 use Rattle.journal_leaving.specs.link_model.OneLink.{AreInAgreement}
-use Rattle.journal_leaving.specs.link_model.Packets.{good_pdu, header_sent, packet_sent, pdu_sent}
-use Rattle.journal_leaving.specs.link_model.Receiving.{has_new_pdu, received_notes}
+use Rattle.journal_leaving.specs.link_model.Packets.{good_pdu, has_new_pdu, header_sent, packet_sent, payload_sent, pdu_sent}
+use Rattle.journal_leaving.specs.link_model.Receiving.{received_notes}
 use Rattle.journal_leaving.specs.link_model.Verdicts.{pdu_of}
 use Rattle.journal_leaving.specs.journal_data.open_links.OpenLinks.{OpenLink, facts_in, link_at}
 use Rattle.journal_leaving.specs.journal_data.Lines.{PduLine}
@@ -39,7 +39,7 @@ use Rattle.journal_leaving.proofs.journal_acks.TwoStations.{same_number}
 use Rattle.journal_leaving.proofs.journal_acks.link_calls.CallNotes.{HasNoData, TakesNone, all_more, doing_noted, events_noted, no_data}
 use Rattle.journal_leaving.proofs.journal_acks.link_calls.Pieces.{ranged_understand, sent_readable}
 use Rattle.journal_leaving.proofs.link_model.Hearing.{IsHeardWhole}
-use Rattle.journal_leaving.proofs.link_model.Received.{header_read, heard_good, pdu_read}
+use Rattle.journal_leaving.proofs.link_model.Received.{body_heard, header_read, heard_good}
 use Rattle.journal_leaving.proofs.journal_data.run_laws.Agreed.{ack_of, out_after, packet_of, sent_ack}
 use Rattle.journal_fixing.specs.link_model.declared.state.Leaving.{Leaving}
 use Rattle.journal_leaving.specs.Hearing.{leaving_hearing}
@@ -154,16 +154,23 @@ module _ (whole : IsHeardWhole) (slot : ℕ) (link from : OpenLink) (octets : Li
   abbrev listener : EndFacts
   listener = facts_in link
 
-  good : good_pdu link.setup listener octets ≡ Some (pdu_octets sender)
+  good : good_pdu link.setup listener octets ≡ Some (pdu_octets sender listener)
   good = ap (good_pdu link.setup listener) packet ∙ heard_good whole from.setup link.setup sender listener (ranged_understand from link from_ranges ranges (sym fields) channel)
 
-  header : header_in (pdu_octets sender) ≡ header_sent sender
-  header = header_read sender (sent_readable from from_ranges).llid
+  header : header_in (pdu_octets sender listener) ≡ header_sent sender
+  header = header_read sender listener (sent_readable from from_ranges).llid
 
-  pdu_is : pdu_of (pdu_octets sender) ≡ pdu_sent sender
+  -- its payload is its body, whether or not it is new there
+  body_is : body_read sender listener ≡ (pdu_sent sender).body
+  body_is = by (has_new_pdu listener (header_sent sender))
+    where
+      by : (new : Bool) → (if new then (pdu_sent sender).body else payload_sent sender) ≡ (pdu_sent sender).body
+      by true = refl
+      by false = (sent_readable from from_ranges).opened
+
+  pdu_is : pdu_of (pdu_octets sender listener) ≡ pdu_sent sender
   pdu_is =
-      let form = sent_readable from from_ranges in
-      pdu_read sender form.llid ∙ (λ i. record { llid = (pdu_sent sender).llid; body = form.opened i })
+      body_heard sender listener (sent_readable from from_ranges).llid ∙ (λ i. record { llid = (pdu_sent sender).llid; body = body_is i })
 
   -- that it takes the PDU is the first of its notes that takes one
   took_as : (link_of : ℕ → ℕ) (later : List Note) → All TakesNone later → first_taken link_of (notes_taken slot true (Some link) octets ++ later)
@@ -173,7 +180,7 @@ module _ (whole : IsHeardWhole) (slot : ℕ) (link from : OpenLink) (octets : Li
       let role = setup.link.role in
       let count = numbered listener.acknowledgement.accepted + 1 in
       ap (λ found. first_taken link_of (received_notes setup slot true found listener ++ later)) good
-      ∙ hearing_first setup listener slot true (header_in (pdu_octets sender)) (pdu_of (pdu_octets sender)) later none link_of
+      ∙ hearing_first setup listener slot true (header_in (pdu_octets sender listener)) (pdu_of (pdu_octets sender listener)) later none link_of
       ∙ (λ i. pdu_line_if
       ((is_accepted true (has_new_pdu listener (header i)) (pdu_is i) && (is_empty (pdu_is i) || not (leaving_hearing role slot (sym good i) listener).acknowledged)) && not (is_empty (pdu_is i)))
       (link_of setup.link.handle) count (pdu_is i))

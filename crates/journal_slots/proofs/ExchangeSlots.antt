@@ -14,17 +14,19 @@ use Rattle.link_changes.specs.InForce.{AsksMap}
 use Rattle.journal_acks.specs.link_model.declared.events.ConnectionEvent.{ConnectionEvent}
 use Rattle.journal_acks.specs.link_model.Events.{event_heard, event_sent}
 use Rattle.journal_acks.specs.link_model.Setup.{Setup as EndSetup}
-use Rattle.journal_acks.specs.link_model.Controls.{goes_on, is_quiet_now}
+use Rattle.journal_acks.specs.link_model.Controls.{goes_on}
 use Rattle.journal_acks.specs.link_model.End.{facts_after as end_facts_after, facts_of as end_facts}
 use Rattle.journal_acks.specs.link_model.Entering.{facts_entered_if}
 use Rattle.journal_acks.specs.link_model.Facts.{Facts as EndFacts}
-use Rattle.journal_acks.specs.link_model.Packets.{good_pdu, more_sent}
-use Rattle.journal_acks.specs.link_model.Receiving.{facts_received}
+use Rattle.journal_acks.specs.link_model.Packets.{good_pdu, is_forged, more_sent}
+use Rattle.journal_acks.specs.link_model.Receiving.{facts_forged_if, facts_received}
 use Rattle.journal_acks.specs.link_model.Step.{Step as EndStep, DataGiven, DataReported, EventEntered, PacketReceived, PacketSent, PduFixed, ProcedureAsked, RequestAnswered}
 use Rattle.journal_acks.specs.link_model.Times.{has_second_exchange}
+use Rattle.journal_acks.specs.link_model.control_model.Control.{Control}
 use Rattle.journal_acks.specs.open_links.OpenLinks.{OpenLink, facts_in, in_event, link_after, link_at, new_link}
 use Rattle.journal_acks.specs.open_links.procedure_values.declared.asks.Ask.TheVariants.{Map}
 use Rattle.journal_acks.specs.open_links.Turns.{entered_if, enters_in, is_anchor, link_entered, wants_entering, wants_if}
+use Rattle.journal_acks.proofs.link_model.Plain.{entered_control_plain, past_plain}
 use Rattle.journal_acks.proofs.open_links.Anchors.{enters, stays_in_place}
 use Rattle.journal_acks.proofs.open_links.Unmoved.{entered_setup}
 use Rattle.journal_acks.proofs.link_calls.control_model.Moving.{enters_track}
@@ -90,6 +92,10 @@ received_event : (role : Role) (slot : ℕ) (room : Bool) (found : Option (List 
 received_event role slot room None facts = refl
 received_event role slot room (Some pdu) facts = (received_same role slot room pdu facts).event
 
+forged_event : (forged : Bool) (facts : EndFacts) → (facts_forged_if forged facts).event ≡ facts.event
+forged_event true facts = refl
+forged_event false facts = refl
+
 -- ---- it is in the same event later
 
 record IsLater (one other : OpenLink) : Type 0 where
@@ -137,8 +143,10 @@ pub event_after_receiving : (slot : ℕ) (octets : List ℕ) (room : Bool) (link
     → (facts_in (link_after (PacketReceived slot octets room) link)).event
     ≡ event_received slot (good_pdu link.setup (facts_in link) octets) (facts_in link).event
 event_after_receiving slot octets room link =
+    let pdu = good_pdu link.setup (facts_in link) octets in
     event_after link (PacketReceived slot octets room)
-    ∙ received_event link.setup.link.role slot room (good_pdu link.setup (facts_in link) octets) (facts_in link)
+    ∙ forged_event (is_forged link.setup (facts_in link) octets) (facts_received link.setup.link.role slot room pdu (facts_in link))
+    ∙ received_event link.setup.link.role slot room pdu (facts_in link)
 
 pub event_after_fixing : (link : OpenLink) → (facts_in (link_after PduFixed link)).event ≡ (facts_in link).event
 event_after_fixing link = event_after link PduFixed ∙ (fixed_same (facts_in link)).event
@@ -189,7 +197,7 @@ track_stays : (link : OpenLink) (step : EndStep) → enters step ≡ false → (
     → IsOnTrack link → IsOnTrack (link_after step link)
 track_stays link step none slot map is =
     let same = step_facts link step in
-    let place = stays_in_place link.setup (facts_in link) step none in record {
+    let place = stays_in_place link.setup (facts_in link) step (past_plain link.setup link.past) none in record {
       anchor = λ some.
           slot ∙ is.anchor (subst (λ n. 1 ≤ n) (ap (λ (f : EndFacts). f.control.track.entered) same ∙ place.entered) some)
           ∙ sym (ap (λ (f : EndFacts). f.control.track.anchor) same ∙ place.anchor);
@@ -271,7 +279,8 @@ module _ (slot : ℕ) (link : OpenLink) (goes : goes_on (facts_in link) ≡ true
   entry_anchor =
       let control = (facts_in link).control in
       ap (λ (f : EndFacts). f.control.track.anchor) entry_is
-      ∙ ap (λ (t : TrackFacts). t.anchor) (enters_track control slot (is_quiet_now (facts_in link)) (none_of control.ends goes))
+      ∙ ap (λ (c : Control). c.track.anchor) (entered_control_plain link.setup.link.role slot (facts_in link) (past_plain link.setup link.past))
+      ∙ ap (λ (t : TrackFacts). t.anchor) (enters_track control slot true (none_of control.ends goes))
       ∙ anchor_entered control.track
 
 entered_slot : (enters : Bool) (slot : ℕ) (link : OpenLink) → enters_in slot link ≡ enters → enters ≡ true → slot ≡ (facts_in (entered_if enters slot link)).event.slot

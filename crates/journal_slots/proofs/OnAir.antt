@@ -16,12 +16,15 @@ use Rattle.journal_acks.specs.link_model.declared.events.ConnectionEvent.{Connec
 use Rattle.journal_acks.specs.link_model.Controls.{goes_on}
 use Rattle.journal_acks.specs.link_model.Entering.{facts_entered_if}
 use Rattle.journal_acks.specs.link_model.Facts.{Facts as EndFacts}
-use Rattle.journal_acks.specs.link_model.Verdicts.{good_in, has_room_for, pdu_by}
-use Rattle.journal_acks.specs.link_model.Packets.{good_pdu, more_sent}
+use Rattle.journal_acks.specs.link_model.Verdicts.{has_room_for, pdu_by, whole_in}
+use Rattle.journal_acks.specs.link_model.Packets.{good_pdu, more_sent, whole_pdu}
+use Rattle.journal_acks.specs.link_model.Payload.{opens_now}
+use Rattle.journal_acks.specs.link_model.Plain.{IsPlain}
 use Rattle.journal_acks.specs.link_model.Setup.{Setup as EndSetup}
 use Rattle.journal_acks.specs.link_model.Step.{EventEntered, PacketReceived, PacketSent}
 use Rattle.journal_acks.specs.open_links.OpenLinks.{OpenLink, facts_in, link_after}
 use Rattle.journal_acks.specs.open_links.Turns.{entered_if, enters_in, link_entered}
+use Rattle.journal_acks.proofs.link_model.Plain.{good_plain, past_plain}
 use Rattle.journal_acks.proofs.open_links.Unmoved.{entered_setup}
 use Rattle.journal_acks.specs.controller_model.declared.doing.Doing.{Doing}
 use Rattle.journal_acks.specs.controller_model.declared.doing.Turn.{Turn}
@@ -165,21 +168,28 @@ sent_on_air number side journal slot link is packet says =
 abbrev IsPduIn : Option (List ℕ) → ℕ → List ℕ → Type 0
 IsPduIn found channel octets = (pdu : List ℕ) → found ≡ Some pdu → pdu ≡ pdu_in channel octets
 
-good_octets : (setup : EndSetup) (facts : EndFacts) (octets : List ℕ) → IsPduIn (good_pdu setup facts octets) facts.event.channel octets
-unfolding good_pdu heard_in
-good_octets setup facts octets =
+whole_octets : (setup : EndSetup) (facts : EndFacts) (octets : List ℕ) → IsPduIn (whole_pdu setup facts octets) facts.event.channel octets
+unfolding whole_pdu heard_in
+whole_octets setup facts octets =
     by (bytes_eq (take 4 octets) (access_octets setup.link.fields.access)) (is_packet facts.event.channel setup.link.fields.access setup.link.fields.crc_init octets)
-    (has_room_for setup.link.max_rx (pdu_in facts.event.channel octets)) refl
+    (has_room_for setup.link.max_rx opens (pdu_in facts.event.channel octets)) refl
   where
+    opens : Bool
+    opens = opens_now facts.encryption.end
+
     some : (fits : Bool) (found pdu : List ℕ) → pdu_by fits found ≡ Some pdu → pdu ≡ found
     some true found pdu is = let same : found ≡ pdu = cc in sym same
     some false found pdu is = absurd cc
 
-    by : (ours whole fits : Bool) → has_room_for setup.link.max_rx (pdu_in facts.event.channel octets) ≡ fits
-        → IsPduIn (good_in setup.link.max_rx (if ours then (if whole then Whole (record { items = pdu_in facts.event.channel octets }) else Broken) else NotOurs)) facts.event.channel octets
-    by true true fits is = λ pdu found. some (has_room_for setup.link.max_rx (pdu_in facts.event.channel octets)) (pdu_in facts.event.channel octets) pdu found
+    by : (ours whole fits : Bool) → has_room_for setup.link.max_rx opens (pdu_in facts.event.channel octets) ≡ fits
+        → IsPduIn (whole_in setup.link.max_rx opens (if ours then (if whole then Whole (record { items = pdu_in facts.event.channel octets }) else Broken) else NotOurs)) facts.event.channel octets
+    by true true fits is = λ pdu found. some (has_room_for setup.link.max_rx opens (pdu_in facts.event.channel octets)) (pdu_in facts.event.channel octets) pdu found
     by true false fits is = λ pdu found. absurd cc
     by false whole fits is = λ pdu found. absurd cc
+
+-- an end that encrypts nothing reads the PDU as it was on the air
+good_octets : (setup : EndSetup) (facts : EndFacts) (octets : List ℕ) → IsPlain setup.link.role facts → IsPduIn (good_pdu setup facts octets) facts.event.channel octets
+good_octets setup facts octets plain = λ pdu found. whole_octets setup facts octets pdu (sym (good_plain setup facts octets plain) ∙ found)
 
 module _ (number : ℕ) (side : Side) (journal : List Entry) (slot : ℕ) (event : ConnectionEvent) (is : IsOnAir number side journal event) (heard : IsHeardIn number slot side journal)
     (channel : heard.packet.channel ≡ event.channel) where
@@ -207,7 +217,7 @@ pub received_on_air : (number : ℕ) (side : Side) (journal : List Entry) (slot 
 received_on_air number side journal slot room link is heard channel =
     let octets = heard.packet.octets in
     subst (IsOnAir number side journal) (sym (event_after_receiving slot octets room link))
-    (received_by number side journal slot (facts_in link).event is heard channel (good_pdu link.setup (facts_in link) octets) (good_octets link.setup (facts_in link) octets))
+    (received_by number side journal slot (facts_in link).event is heard channel (good_pdu link.setup (facts_in link) octets) (good_octets link.setup (facts_in link) octets (past_plain link.setup link.past)))
 
 -- ---- one end
 

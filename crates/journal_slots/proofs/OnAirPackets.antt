@@ -19,7 +19,7 @@ use Rattle.journal_acks.specs.link_model.Packets.{header_sent, more_sent, packet
 use Rattle.journal_acks.specs.link_model.Setup.{Setup as EndSetup}
 use Rattle.journal_acks.specs.link_model.Step.{PacketReceived, PacketSent}
 use Rattle.journal_acks.proofs.link_model.Hearing.{IsHeardWhole}
-use Rattle.journal_acks.proofs.link_model.Received.{header_read}
+use Rattle.journal_acks.proofs.link_model.Received.{has_header}
 use Rattle.journal_acks.specs.open_links.OpenLinks.{OpenLink, facts_in, link_after, link_at}
 use Rattle.journal_acks.specs.controller_model.declared.doing.Turn.{Turn}
 use Rattle.journal_acks.specs.controller_model.Facts.{Facts, Sends}
@@ -82,7 +82,7 @@ packet_says_more whole setup facts form =
     ap (λ xs. (header_in xs).md)
     (whole_pdu facts.event.channel setup.link.fields.access setup.link.fields.crc_init (packet_sent setup facts) pdu
     (whole facts.event.channel setup.link.fields.access setup.link.fields.crc_init pdu (in_form (length (payload_sent facts)) form.short)))
-    ∙ ap (λ (h : DataHeader). h.md) (header_read facts form.llid)
+    ∙ ap (λ (h : DataHeader). h.md) (has_header facts facts form.llid (payload_sent facts)).read
 
 -- ---- the line of the packet
 

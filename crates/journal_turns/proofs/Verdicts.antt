@@ -1,9 +1,10 @@
 -- What a listener makes of a packet, by what the radio did to it.
 use Rattle.std.proofs.Common.{◌≡◌, ℕ, Bool, true, false, List, [], ◌∷◌, refl, sym, ap, subst, ◌∙◌}
-use Rattle.std.specs.Prelude.{Option, Some, None, if◌then◌else◌}
+use Rattle.std.specs.Prelude.{Option, Some, None, is_none, if◌then◌else◌}
 use Rattle.ble_base.specs.declared.verdicts.Verdict.{Verdict}
 use Rattle.ble_base.specs.declared.verdicts.Verdict.TheVariants.{Missed, Forged, Good}
 use Rattle.ble_base.specs.declared.verdicts.Verdict.TheVariants.{Broken as IsBroken}
+use Rattle.ble_base.specs.declared.roles.Role.{Role}
 use Rattle.ble_base.specs.declared.roles.Side.{Side}
 use Rattle.air_frame.specs.declared.Heard.{Heard}
 use Rattle.air_frame.specs.declared.Heard.TheVariants.{NotOurs, Broken, Whole}
@@ -13,7 +14,11 @@ use Rattle.journal.specs.declared.entries.Entry.{Entry}
 use Rattle.radio_replay.specs.Damage.{damaged_packet}
 use Rattle.radio_replay.specs.declared.fates.Fate.{Fate}
 use Rattle.radio_replay.specs.declared.fates.Fate.TheVariants.{Pass, Lost, Damage}
-use Rattle.run_model.specs.link_model.Packets.{heard_of, verdict_of as verdict_of_end}
+use Rattle.run_model.specs.link_model.Packets.{heard_of, is_forged_pdu, verdict_of as verdict_of_end}
+use Rattle.run_model.specs.link_model.Facts.{Facts as EndFacts}
+use Rattle.run_model.specs.link_model.Payload.{opens_now}
+use Rattle.run_model.specs.link_model.Plain.{IsPlain}
+use Rattle.run_model.proofs.link_model.Plain.{past_plain, read_plain}
 use Rattle.run_model.specs.link_model.Verdicts.{has_room_for, verdict_by as verdict_of_heard}
 use Rattle.run_model.specs.open_links.OpenLinks.{Links, OpenLink, facts_in, link_at}
 use Rattle.run_model.specs.controller_model.declared.doing.Doing.{Doing}
@@ -33,19 +38,24 @@ advertising_plain NotOurs is = absurd cc
 advertising_plain Broken is = absurd cc
 advertising_plain (Whole pdu) is = absurd cc
 
-room_plain : (has_room : Bool) → (if has_room then Good else IsBroken) ≡ Forged → ⊥
-room_plain true is = absurd cc
-room_plain false is = absurd cc
+room_plain : (has_room forged : Bool) → forged ≡ false → (if has_room then (if forged then Forged else Good) else IsBroken) ≡ Forged → ⊥
+room_plain true true right is = absurd cc
+room_plain true false right is = absurd cc
+room_plain false forged right is = absurd cc
 
-heard_plain : (max_rx : ℕ) (heard : Heard) → verdict_of_heard max_rx heard ≡ Forged → ⊥
-heard_plain max_rx NotOurs is = absurd cc
-heard_plain max_rx Broken is = absurd cc
-heard_plain max_rx (Whole pdu) is = room_plain (has_room_for max_rx pdu.items) is
+heard_plain : (role : Role) (max_rx : ℕ) (facts : EndFacts) → IsPlain role facts → (heard : Heard)
+    → verdict_of_heard max_rx (opens_now facts.encryption.end) (is_forged_pdu facts) heard ≡ Forged → ⊥
+heard_plain role max_rx facts plain NotOurs is = absurd cc
+heard_plain role max_rx facts plain Broken is = absurd cc
+heard_plain role max_rx facts plain (Whole pdu) is =
+    room_plain (has_room_for max_rx (opens_now facts.encryption.end) pdu.items) (is_forged_pdu facts pdu.items)
+    (ap (λ (read : Option (List ℕ)). is_none read) (read_plain role facts pdu.items plain)) is
 
 link_plain : (link : Option OpenLink) (octets : List ℕ) → verdict_of_link link octets ≡ Forged → ⊥
 unfolding verdict_of_end
 link_plain None octets is = absurd cc
-link_plain (Some link) octets is = heard_plain link.setup.link.max_rx (heard_of link.setup (facts_in link) octets) is
+link_plain (Some link) octets is =
+    heard_plain link.setup.link.role link.setup.link.max_rx (facts_in link) (past_plain link.setup link.past) (heard_of link.setup (facts_in link) octets) is
 
 doing_plain : (links : Links) (doing : Doing) (octets : List ℕ) → verdict_doing links doing octets ≡ Forged → ⊥
 doing_plain links (AwaitsRequest channel) octets is = advertising_plain (heard_on_channel channel octets) is

@@ -1,5 +1,5 @@
 -- What the steps of a central leave of the indications that it owes.
-use Rattle.std.proofs.Common.{◌≡◌, ℕ, ◌&&◌, not, Bool, true, false, List, [], ◌∷◌, ◌++◌, fold, Option, Some, None, if◌then◌else◌, refl, sym, subst, ◌∙◌}
+use Rattle.std.proofs.Common.{◌≡◌, ℕ, ◌&&◌, not, Bool, true, false, List, [], ◌∷◌, ◌++◌, fold, Option, Some, None, if◌then◌else◌, refl, ap, sym, subst, ◌∙◌}
 use Rattle.std.specs.Prelude.{◌==◌}
 use Rattle.std.specs.List.{AllByRecursion, list_any}
 use Rattle.std.proofs.lemmas.Bool.{and_parts, or_parts}
@@ -21,15 +21,17 @@ use Rattle.link_model.specs.Entering.{done_notes}
 use Rattle.link_model.specs.Facts.{Facts}
 use Rattle.link_model.specs.Hosts.{is_to_come}
 use Rattle.link_model.specs.Packets.{good_pdu}
-use Rattle.link_model.specs.Receiving.{accepts, acked_kind, acknowledged_if, acks_control, answers_with_control, facts_before_taking, given_if, given_notes, has_acknowledged, heard_in_slot, notes_hearing, received_notes, took_notes_if}
+use Rattle.link_model.specs.Plain.{IsPlain, plain_acknowledged_if as acknowledged_if, plain_before_taking as facts_before_taking, plain_given_if as given_if, plain_notes_hearing as notes_hearing}
+use Rattle.link_model.specs.Receiving.{accepts, acked_kind, acks_control, answers_with_control, given_notes, has_acknowledged, heard_in_slot, received_notes, took_notes_if}
 use Rattle.link_model.specs.Sending.{takes_leave}
 use Rattle.link_model.specs.Setup.{Setup}
-use Rattle.link_model.specs.Step.{Step, DataGiven, DataReported, Disconnected, EventEntered, PacketReceived, PacketSent, PduFixed, ProcedureAsked, RequestAnswered}
+use Rattle.link_model.specs.Step.{Step, DataGiven, DataReported, Disconnected, EventEntered, KeyAnswered, PacketReceived, PacketSent, PduFixed, ProcedureAsked, RequestAnswered, WordsGiven}
 use Rattle.link_model.specs.Verdicts.{pdu_of}
 use Rattle.link_model.specs.control_model.Control.{Control, Step as ControlStep, Asks, Enters, SeesAcknowledged, Sends, Takes, after, after_all}
 use Rattle.link_model.specs.control_model.Supported.{begins_encryption, read_supported}
 use Rattle.link_model.specs.procedure_stages.Kinds.{role_of}
 use Rattle.link_model.proofs.ControlSteps.{one_step}
+use Rattle.link_model.proofs.Plain.{notes_hearing_plain, step_plain}
 use Rattle.collision_steps.specs.CentralPart.{central_of}
 use Rattle.link_answers.specs.Owing.{Owes, is_opening, is_opening_read}
 use Rattle.link_answers.proofs.OwingControls.{Holds, MayCome, control_owes}
@@ -109,41 +111,48 @@ module _ (kind : Exclusive) (setup : Setup) where
       (one_may kind acks SeesAcknowledged (λ is. tt)) (one_may kind (answers_with_control role acked) (Sends slot true) (λ is. tt)))
       (one_may kind (accepted && is_procedure_pdu pdu) (Takes (read_of pdu) slot true) (taken_opens kind pdu handle now accepted two.0))
 
-  received_may : (slot : ℕ) (room : Bool) (octets : Option (List ℕ)) (facts : Facts)
+  received_may : (slot : ℕ) (room : Bool) (octets : Option (List ℕ)) (facts : Facts) → IsPlain setup.link.role facts
       → list_any (is_opening kind) (received_notes setup slot room octets facts) ≡ false
       → AllByRecursion (MayCome kind) (steps_received setup.link.role slot room octets facts)
-  received_may slot room None facts none = tt
-  received_may slot room (Some octets) facts none = heard_may slot room (header_in octets) (pdu_of octets) facts none
+  received_may slot room None facts plain none = tt
+  received_may slot room (Some octets) facts plain none =
+      heard_may slot room (header_in octets) (pdu_of octets) facts
+      (ap (list_any (is_opening kind)) (sym (notes_hearing_plain setup slot room (header_in octets) (pdu_of octets) facts plain)) ∙ none)
 
-  step_may : (step : Step) (facts : Facts) → list_any (is_opening kind) (notes_after setup facts step) ≡ false
+  step_may : (step : Step) (facts : Facts) → IsPlain setup.link.role facts → list_any (is_opening kind) (notes_after setup facts step) ≡ false
       → AllByRecursion (MayCome kind) (control_steps_in setup facts step)
-  step_may (DataGiven start body) facts none = tt
-  step_may (ProcedureAsked ask) facts none = one_may kind (not (is_to_come ask facts)) (Asks ask) (λ is. tt)
-  step_may (RequestAnswered answer) facts none = (tt, tt)
-  step_may (Disconnected reason slot) facts none = (tt, tt)
-  step_may (EventEntered slot) facts none = one_may kind (goes_on facts) (Enters slot true) (λ is. tt)
-  step_may PduFixed facts none = tt
-  step_may (PacketSent slot) facts none = one_may kind (takes_leave facts) (Sends slot true) (λ is. tt)
-  step_may (PacketReceived slot octets room) facts none = received_may slot room (good_pdu setup facts octets) facts none
-  step_may DataReported facts none = tt
+  step_may (DataGiven start body) facts plain none = tt
+  step_may (ProcedureAsked ask) facts plain none = one_may kind (not (is_to_come ask facts)) (Asks ask) (λ is. tt)
+  step_may (RequestAnswered answer) facts plain none = (tt, tt)
+  step_may (KeyAnswered key slot) facts plain none = tt
+  step_may (Disconnected reason slot) facts plain none = (tt, tt)
+  step_may (EventEntered slot) facts plain none = one_may kind (goes_on facts) (Enters slot true) (λ is. tt)
+  step_may PduFixed facts plain none = tt
+  step_may (PacketSent slot) facts plain none = one_may kind (takes_leave facts) (Sends slot true) (λ is. tt)
+  step_may (WordsGiven skd_s iv_s) facts plain none = tt
+  step_may (PacketReceived slot octets room) facts plain none = received_may slot room (good_pdu setup facts octets) facts plain none
+  step_may DataReported facts plain none = tt
 
   -- ---- the steps of the end
 
-  step_owes : (step : Step) (facts : Facts) → list_any (is_opening kind) (notes_after setup facts step) ≡ false → Holds kind facts.control
+  step_owes : (step : Step) (facts : Facts) → IsPlain setup.link.role facts → list_any (is_opening kind) (notes_after setup facts step) ≡ false
+      → Holds kind facts.control
       → Holds kind (facts_after setup facts step).control
-  step_owes step facts none h =
-      subst (Holds kind) (sym (one_step setup facts step)) (all_owe kind (control_steps_in setup facts step) facts.control (step_may step facts none) h)
+  step_owes step facts plain none h =
+      subst (Holds kind) (sym (one_step setup facts step plain))
+      (all_owe kind (control_steps_in setup facts step) facts.control (step_may step facts plain none) h)
 
-  pub hold_on : (steps : List Step) (facts : Facts) → list_any (is_opening kind) (notes_from setup facts steps) ≡ false → Holds kind facts.control
+  pub hold_on : (steps : List Step) (facts : Facts) → IsPlain setup.link.role facts → list_any (is_opening kind) (notes_from setup facts steps) ≡ false
+      → Holds kind facts.control
       → Holds kind (fold (facts_after setup) facts steps).control
-  hold_on [] facts none h = h
-  hold_on (step ∷ steps) facts none h =
+  hold_on [] facts plain none h = h
+  hold_on (step ∷ steps) facts plain none h =
       let next = facts_after setup facts step in
       let parts = or_parts (list_any (is_opening kind) (notes_after setup facts step)) (list_any (is_opening kind) (notes_from setup next steps))
       (sym (list_any-append (is_opening kind) (notes_after setup facts step) (notes_from setup next steps)) ∙ none) in
-      hold_on steps next parts.1 (step_owes step facts parts.0 h)
+      hold_on steps next (step_plain setup facts step plain) parts.1 (step_owes step facts plain parts.0 h)
 
-pub steps_owe : (setup : Setup) (facts : Facts) (steps : List Step) (kind : Exclusive) → setup.link.role ≡ Central
+pub steps_owe : (setup : Setup) (facts : Facts) (steps : List Step) (kind : Exclusive) → IsPlain setup.link.role facts → setup.link.role ≡ Central
     → role_of facts.control.table.progress ≡ Central → Owes kind (central_of facts.control.table)
     → list_any (is_opening kind) (notes_from setup facts steps) ≡ false → Owes kind (central_of (fold (facts_after setup) facts steps).control.table)
-steps_owe setup facts steps kind is_central role owes none = (hold_on kind setup steps facts none (record { role = role; owes = owes })).owes
+steps_owe setup facts steps kind plain is_central role owes none = (hold_on kind setup steps facts plain none (record { role = role; owes = owes })).owes

@@ -21,7 +21,7 @@ use Rattle.exclusive_stages.specs.declared.stages.CentralStage.{CentralStage}
 use Rattle.exclusive_stages.specs.declared.stages.CentralStage.TheVariants.{MapUnsent, PhyAnswered, UpdateUnsent}
 use Rattle.instants.specs.Track.{event_of}
 use Rattle.link_model.specs.Acknowledgement.{Pdu, is_acked}
-use Rattle.link_model.specs.Controls.{goes_on, next_control, pdu_fixed, pdu_of_control}
+use Rattle.link_model.specs.Controls.{goes_on, is_quiet_now, next_control, pdu_fixed, pdu_of_control}
 use Rattle.link_model.specs.Data.{Data, is_control, is_empty, numbered, pdu_with}
 use Rattle.link_model.specs.Facts.{Facts}
 use Rattle.link_model.specs.Fixing.{data_cut, data_fixed_by, data_goes, facts_fixed, fixed_anew}
@@ -214,9 +214,9 @@ piece_none (Some piece) = by piece.start
     by true = refl
     by false = refl
 
-data_none : (waiting : ℕ) (goes : Bool) (outgoing : Data) → is_control (data_fixed_by false waiting goes outgoing).fixed ≡ false
-data_none waiting true outgoing = piece_none _
-data_none waiting false outgoing = refl
+data_none : (waiting : ℕ) (quiet goes : Bool) (outgoing : Data) → is_control (data_fixed_by false waiting quiet goes outgoing).fixed ≡ false
+data_none waiting quiet true outgoing = piece_none _
+data_none waiting quiet false outgoing = refl
 
 -- a PDU that is noted as sent
 record IsThis (pdu : Pdu) (llid : ℕ) (body : List ℕ) : Type 0 where
@@ -234,12 +234,12 @@ noted_pdu false handle number pdu other count llid body is = absurd cc
 
 module _ (setup : Setup) (facts : Facts) (role : role_of facts.control.table.progress ≡ central_role) (plain : IsPlain facts.control.table)
     (none_fixed : is_control facts.outgoing.fixed ≡ false) (kind : Exclusive) (owes : Owes kind (central_of facts.control.table)) where
-  next_runs : (ctrl : Ctrl) (goes : Bool) → (if goes then ctrl_of_outgoing (next_of facts.control.table (event_of facts.control.track) true)
+  next_runs : (ctrl : Ctrl) (goes : Bool) → (if goes then ctrl_of_outgoing (next_of facts.control.table (event_of facts.control.track) (is_quiet_now facts))
       (event_of facts.control.track) facts.control.track.params.latency else None) ≡ Some ctrl
       → indicates (ctrl_of (written ctrl)) ≡ Some kind → central_kind (central_of facts.control.table).own ≡ Some kind
   next_runs ctrl true sent is =
-      out_runs facts.control.table role kind owes plain (event_of facts.control.track) facts.control.track.params.latency true ctrl
-      (next_of facts.control.table (event_of facts.control.track) true) refl sent is
+      out_runs facts.control.table role kind owes plain (event_of facts.control.track) facts.control.track.params.latency (is_quiet_now facts) ctrl
+      (next_of facts.control.table (event_of facts.control.track) (is_quiet_now facts)) refl sent is
   next_runs ctrl false sent is = absurd cc
 
   pub sent_runs : (handle count llid : ℕ) (body : List ℕ)
@@ -258,15 +258,15 @@ module _ (setup : Setup) (facts : Facts) (role : role_of facts.control.table.pro
       by : (next : Option Ctrl) → next_control facts ≡ next → central_kind (central_of facts.control.table).own ≡ Some kind
       by None none =
           let fixed : pdu_fixed (fixed_anew facts)
-          ≡ (data_fixed_by false (waiting_in facts.control.table.queue) (data_goes facts) (data_cut facts)).fixed =
+          ≡ (data_fixed_by false (waiting_in facts.control.table.queue) (is_quiet_now facts) (data_goes facts) (data_cut facts)).fixed =
           (λ i. if is_some (none i) then pdu_of_control (none i)
-          else (data_fixed_by (is_some (none i)) (waiting_in facts.control.table.queue) (data_goes facts) (data_cut facts)).fixed) in
-          let apart = ap is_control fixed ∙ data_none (waiting_in facts.control.table.queue) (data_goes facts) (data_cut facts) in
+          else (data_fixed_by (is_some (none i)) (waiting_in facts.control.table.queue) (is_quiet_now facts) (data_goes facts) (data_cut facts)).fixed) in
+          let apart = ap is_control fixed ∙ data_none (waiting_in facts.control.table.queue) (is_quiet_now facts) (data_goes facts) (data_cut facts) in
           let control = ap (λ (n : ℕ). n == 3) (pdu.llid_is ∙ three) in
           absurd (let no : true ≡ false = sym control ∙ apart in cc)
       by (Some ctrl) next =
           let fixed : pdu_fixed (fixed_anew facts) ≡ pdu_of_control (Some ctrl) =
           (λ i. if is_some (next i) then pdu_of_control (next i)
-          else (data_fixed_by (is_some (next i)) (waiting_in facts.control.table.queue) (data_goes facts) (data_cut facts)).fixed) in
+          else (data_fixed_by (is_some (next i)) (waiting_in facts.control.table.queue) (is_quiet_now facts) (data_goes facts) (data_cut facts)).fixed) in
           let body_is : body ≡ written ctrl = sym pdu.body_is ∙ ap (λ (p : Pdu). p.body) fixed in
           next_runs ctrl (goes_on facts) next (ap (λ (octets : List ℕ). indicates (ctrl_of octets)) (sym body_is) ∙ is)

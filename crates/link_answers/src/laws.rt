@@ -10,23 +10,20 @@ ghost use Rattle.exclusive_stages.specs.Kinds.{central_kind};
 ghost use Rattle.exclusive_stages.specs.declared.pdus.Exclusive.{Exclusive};
 ghost use Rattle.link_model.specs.Data.{is_control};
 ghost use Rattle.link_model.specs.End.{facts_after, facts_of, notes_from};
-ghost use Rattle.link_model.specs.Facts.{Facts};
 ghost use Rattle.link_model.specs.Fixing.{facts_fixed};
 ghost use Rattle.link_model.specs.Sending.{sent_notes};
 ghost use Rattle.link_model.specs.Setup.{Setup};
 ghost use Rattle.link_model.specs.Step.{Step};
 ghost use Rattle.link_answers.specs.Owing.{Owes, indicates, is_opening};
-ghost use Rattle.link_model.specs.procedure_stages.Kinds.{role_of};
 
 /// Where a central has no more indications of a kind queued than its own procedure owes, and no
 /// procedure of the peripheral is in progress there that such an indication would answer, this
 /// stays so in any steps, until it takes the first PDU of such a procedure, or a refusal of its own
 /// PHY update (Core 5.2, volume 6 part B, sections 5.1.1, 5.1.2, 5.1.7 and 5.1.10).
 pub fn a_central_sends_what_its_procedures_owe()
-    ensures { (setup : Setup) (facts : Facts) (steps : List Step) (kind : Exclusive)
+    ensures { (setup : Setup) (past steps : List Step) (kind : Exclusive)
         → setup.link.role ≡ Role.Central
-        → role_of facts.control.table.progress ≡ Role.Central
-        → Owes kind (central_of facts.control.table)
+        → let facts = facts_of setup past in Owes kind (central_of facts.control.table)
         → list_any (is_opening kind) (notes_from setup facts steps) ≡ false
         → Owes kind (central_of (fold (facts_after setup) facts steps).control.table) }
 {}

@@ -20,6 +20,7 @@ use Rattle.run_laws.specs.link_model.Step.{EventEntered, PacketReceived, PacketS
 use Rattle.run_laws.specs.link_model.Times.{has_second_exchange}
 use Rattle.run_laws.specs.open_links.OpenLinks.{Links, OpenLink, facts_in, has_entered, in_event, link_after, link_at, new_link}
 use Rattle.run_laws.specs.open_links.Turns.{entered_if, enters_in, is_anchor, link_entered, wants_entering, wants_if}
+use Rattle.run_laws.proofs.link_model.Plain.{past_plain, received_plain}
 use Rattle.run_laws.proofs.open_links.Unmoved.{entered_setup}
 use Rattle.run_laws.specs.controller_model.declared.doing.Doing.{Doing}
 use Rattle.run_laws.specs.controller_model.declared.doing.Doing.TheVariants.{Advertises, CentralListens, CentralSends, PeripheralListens, PeripheralSends, Rests}
@@ -422,7 +423,9 @@ module _ (handle : ℕ) (room : Bool) (octets : List ℕ) (facts : Facts) (link 
       ∙ ap (λ b. b || (slot == slot_of link)) heard
 
   taken_facts : facts_in (link_after (PacketReceived slot octets room) link) ≡ facts_received link.setup.link.role slot room found (facts_in link)
-  taken_facts = step_facts link (PacketReceived slot octets room)
+  taken_facts =
+      step_facts link (PacketReceived slot octets room)
+      ∙ received_plain link.setup (facts_in link) slot octets room (past_plain link.setup link.past)
 
   received_lengths : (facts_in received).lengths ≡ (facts_in (link_after (PacketReceived slot octets room) link)).lengths
   received_lengths = by (refuses_at handle room octets facts)

@@ -4,7 +4,7 @@ use Rattle.std.specs.Prelude.{◌&&◌, if◌then◌else◌}
 use Rattle.ble_base.specs.declared.roles.Role.{Role}
 use Rattle.data_pdu.specs.Header.{header_in}
 use Rattle.run_laws.specs.link_model.Acknowledgement.{Pdu}
-use Rattle.run_laws.specs.link_model.Data.{is_control}
+use Rattle.run_laws.specs.link_model.Data.{is_control, is_data}
 use Rattle.run_laws.specs.link_model.Events.{event_sent}
 use Rattle.run_laws.specs.link_model.Verdicts.{pdu_of}
 use Rattle.run_laws.specs.link_model.Setup.{Setup}
@@ -13,7 +13,7 @@ use Rattle.run_laws.specs.link_model.Entering.{facts_entered_if}
 use Rattle.run_laws.specs.link_model.Facts.{Facts}
 use Rattle.run_laws.specs.link_model.Fixing.{facts_fixed, fixed_anew}
 use Rattle.run_laws.specs.link_model.Packets.{more_sent}
-use Rattle.run_laws.specs.link_model.Receiving.{accepted_if, accepts, acknowledged_if, answers_with_control, facts_before_taking, facts_received, has_acknowledged, heard_in_slot, procedures_take_if}
+use Rattle.run_laws.specs.link_model.Receiving.{accepted_if, accepts, acknowledged_if, answers_with_control, data_taken_if, facts_before_taking, facts_received, has_acknowledged, heard_in_slot, procedures_take_if}
 use Rattle.run_laws.specs.link_model.Sending.{control_gone_if, facts_sent, fixed_sent, takes_leave}
 
 -- the event and the last good packet are the same
@@ -66,6 +66,10 @@ taken_same : (takes : Bool) (pdu : Pdu) (slot : ℕ) (facts : Facts) → HasHear
 taken_same true pdu slot facts = record { event = refl; good = refl }
 taken_same false pdu slot facts = record { event = refl; good = refl }
 
+data_same : (takes : Bool) (facts : Facts) → HasHeardSame (data_taken_if takes facts) facts
+data_same true facts = record { event = refl; good = refl }
+data_same false facts = record { event = refl; good = refl }
+
 -- a good one; what it does besides changes neither
 pub received_same : (role : Role) (slot : ℕ) (room : Bool) (pdu : List ℕ) (facts : Facts)
     → HasHeardSame (facts_received role slot room (Some pdu) facts) (heard_in_slot slot (header_in pdu).md facts)
@@ -77,4 +81,5 @@ received_same role slot room octets facts =
     let accepted = accepts room header pdu now in
     let gone = gone_same (answers_with_control role own) slot own in
     let taken = taken_same (accepted && is_procedure_pdu pdu) pdu slot (accepted_if accepted pdu now) in
-    record { event = taken.event ∙ gone.event; good = taken.good ∙ gone.good }
+    let after = data_same (accepted && is_data pdu) (procedures_take_if (accepted && is_procedure_pdu pdu) pdu slot (accepted_if accepted pdu now)) in
+    record { event = after.event ∙ taken.event ∙ gone.event; good = after.good ∙ taken.good ∙ gone.good }

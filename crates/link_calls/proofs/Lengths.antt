@@ -8,10 +8,10 @@ use Rattle.run_laws.specs.run_model.procedure_stages.declared.steps.Effect.TheVa
 use Rattle.run_laws.specs.link_model.declared.state.KnownLengths.{KnownLengths}
 use Rattle.run_laws.specs.link_model.Acknowledgement.{Pdu}
 use Rattle.run_laws.specs.link_model.Controls.{is_procedure_pdu}
-use Rattle.run_laws.specs.link_model.Data.{is_control}
+use Rattle.run_laws.specs.link_model.Data.{is_control, is_data}
 use Rattle.run_laws.specs.link_model.Facts.{Facts}
 use Rattle.run_laws.specs.link_model.Fixing.{facts_fixed, fixed_anew}
-use Rattle.run_laws.specs.link_model.Receiving.{accepted_if, accepts, acknowledged_if, answers_with_control, control_taken, facts_before_taking, facts_received, has_acknowledged, heard_in_slot, lengths_reported, lengths_seen, procedures_give, procedures_take_if}
+use Rattle.run_laws.specs.link_model.Receiving.{accepted_if, accepts, acknowledged_if, answers_with_control, control_taken, data_taken_if, facts_before_taking, facts_received, has_acknowledged, heard_in_slot, kept_give, lengths_reported, lengths_seen, procedures_give, procedures_take_if}
 use Rattle.run_laws.specs.link_model.Sending.{control_gone_if, facts_sent, takes_leave}
 use Rattle.run_laws.specs.link_model.Verdicts.{pdu_of}
 
@@ -46,8 +46,14 @@ seen_lengthened false false differ is = absurd cc
 taken_lengthened : (takes : Bool) (pdu : Pdu) (slot : ℕ) (facts : Facts) → is_lengthened facts.lengths ≡ true → is_lengthened (procedures_take_if takes pdu slot facts).lengths ≡ true
 taken_lengthened false pdu slot facts is = is
 taken_lengthened true pdu slot facts is =
-    reported_lengthened (procedures_give pdu slot facts).effect (lengths_seen facts.control.table.lengths (control_taken pdu slot facts).table.lengths facts.lengths)
+    let seen = lengths_seen facts.control.table.lengths (control_taken pdu slot facts).table.lengths facts.lengths in
+    reported_lengthened (kept_give pdu slot facts).effect (lengths_reported (procedures_give pdu slot facts).effect seen)
+    ∙ reported_lengthened (procedures_give pdu slot facts).effect seen
     ∙ seen_lengthened facts.lengths.long facts.lengths.changed _ is
+
+data_lengths : (takes : Bool) (facts : Facts) → (data_taken_if takes facts).lengths ≡ facts.lengths
+data_lengths true facts = refl
+data_lengths false facts = refl
 
 -- it stays so as it receives a packet
 pub received_lengthened : (role : Role) (slot : ℕ) (room : Bool) (found : Option (List ℕ)) (facts : Facts) → is_lengthened facts.lengths ≡ true
@@ -59,5 +65,6 @@ received_lengthened role slot room (Some octets) facts is =
     let own = acknowledged_if (has_acknowledged facts header) (heard_in_slot slot header.md facts) in
     let now = facts_before_taking role slot header facts in
     let accepted = accepts room header pdu now in
-    taken_lengthened (accepted && is_procedure_pdu pdu) pdu slot (accepted_if accepted pdu now)
+    ap is_lengthened (data_lengths (accepted && is_data pdu) (procedures_take_if (accepted && is_procedure_pdu pdu) pdu slot (accepted_if accepted pdu now)))
+    ∙ taken_lengthened (accepted && is_procedure_pdu pdu) pdu slot (accepted_if accepted pdu now)
     (ap is_lengthened (gone_lengths (answers_with_control role own) slot own) ∙ is)

@@ -21,3 +21,4 @@ pub use Rattle.run_laws.proofs as run_laws
 pub use Rattle.run_laws.proofs.InRange as InRange
 pub use Rattle.run_laws.proofs.Pieces as Pieces
 pub use Rattle.run_laws.proofs.run_model as run_model
+pub use Rattle.run_laws.proofs.controller_model as controller_model

@@ -28,11 +28,13 @@ use Rattle.run_laws.specs.link_model.Acknowledgement.{Pdu}
 use Rattle.run_laws.specs.link_model.Controls.{is_procedure_pdu, is_quiet_now, read_of}
 use Rattle.run_laws.specs.link_model.Facts.{Facts as EndFacts}
 use Rattle.run_laws.specs.link_model.Packets.{good_pdu}
-use Rattle.run_laws.specs.link_model.Receiving.{accepts, acknowledged_if, acks_control, answers_with_control, control_acked_if, effect_of, effect_received, effect_unless_known, facts_before_taking, given_if, has_acknowledged, heard_in_slot}
+use Rattle.run_laws.specs.link_model.Plain.{IsPlain, control_acked_if, plain_acknowledged_if, plain_before_taking, plain_given_if}
+use Rattle.run_laws.specs.link_model.Receiving.{accepts, acks_control, answers_with_control, effect_of, effect_received, effect_unless_known, has_acknowledged, heard_in_slot}
 use Rattle.run_laws.specs.link_model.Sending.{control_gone_if}
 use Rattle.run_laws.specs.link_model.Verdicts.{pdu_of}
 use Rattle.run_laws.specs.link_model.declared.state.KnownLengths.{KnownLengths}
 use Rattle.run_laws.proofs.link_model.ControlSteps.{keeps_role}
+use Rattle.run_laws.proofs.link_model.Plain.{effect_hearing_plain, past_plain}
 use Rattle.run_laws.specs.open_links.OpenLinks.{OpenLink, facts_in, link_at}
 use Rattle.run_laws.specs.controller_model.Facts.{Facts}
 use Rattle.run_laws.specs.controller_model.Heard.{effect_in, is_refused}
@@ -78,8 +80,8 @@ taken_asks h read slot quiet role = by (is_none (held_after (Takes read slot qui
     by true = shown_asks (took_step h.table read slot quiet).1.effect (role_asks h.table h.table.progress read slot quiet refl role)
     by false = refl
 
-given_asks : (takes : Bool) (pdu : Pdu) (slot : ℕ) (facts : EndFacts) → role_of facts.control.table.progress ≡ Peripheral → asks_host (given_if takes pdu slot facts).effect ≡ false
-given_asks true pdu slot facts role = taken_asks (held_of facts.control) (read_of pdu) slot (is_quiet_now facts) role
+given_asks : (takes : Bool) (pdu : Pdu) (slot : ℕ) (facts : EndFacts) → role_of facts.control.table.progress ≡ Peripheral → asks_host (plain_given_if takes pdu slot facts).effect ≡ false
+given_asks true pdu slot facts role = taken_asks (held_of facts.control) (read_of pdu) slot true role
 given_asks false pdu slot facts role = refl
 
 -- ---- its role as it looks at a new PDU
@@ -92,17 +94,18 @@ gone_role : (goes : Bool) (slot : ℕ) (facts : EndFacts) → role_of facts.cont
 gone_role true slot facts is = same_role Peripheral (Sends slot (is_quiet_now facts)) facts.control is
 gone_role false slot facts is = is
 
-effect_asks : (role : Role) (slot : ℕ) (room : Bool) (found : Option (List ℕ)) (facts : EndFacts) → role_of facts.control.table.progress ≡ Peripheral
+effect_asks : (role : Role) (slot : ℕ) (room : Bool) (found : Option (List ℕ)) (facts : EndFacts) → IsPlain role facts → role_of facts.control.table.progress ≡ Peripheral
     → asks_host (effect_received role slot room found facts) ≡ false
-effect_asks role slot room None facts is = refl
-effect_asks role slot room (Some octets) facts is =
+effect_asks role slot room None facts plain is = refl
+effect_asks role slot room (Some octets) facts plain is =
     let header = header_in octets in
     let pdu = pdu_of octets in
     let acks = has_acknowledged facts header in
-    let own = acknowledged_if acks (heard_in_slot slot header.md facts) in
-    let now = facts_before_taking role slot header facts in
+    let own = plain_acknowledged_if acks (heard_in_slot slot header.md facts) in
+    let now = plain_before_taking role slot header facts in
     let takes = accepts room header pdu now && is_procedure_pdu pdu in
-    known_asks facts.lengths (given_if takes pdu slot now).effect
+    ap asks_host (effect_hearing_plain role role slot room header pdu facts plain)
+    ∙ known_asks facts.lengths (plain_given_if takes pdu slot now).effect
     (given_asks takes pdu slot now (gone_role (answers_with_control role own) slot own (acked_role (acks_control acks facts) facts.control is)))
 
 -- ---- at its controller
@@ -121,5 +124,6 @@ only_central_refuses facts handle room octets link at refuses = by link.setup.li
     by Peripheral is =
         let asks = refused_asks facts.view handle (effect_in facts.turn.slot room (Some link) octets)
         (ap (λ found. is_refused facts.view handle (effect_in facts.turn.slot room found octets)) (sym at) ∙ refuses) in
-        let none = effect_asks link.setup.link.role facts.turn.slot room (good_pdu link.setup (facts_in link) octets) (facts_in link) (keeps_role link.setup link.past ∙ is) in
+        let none = effect_asks link.setup.link.role facts.turn.slot room (good_pdu link.setup (facts_in link) octets) (facts_in link) (past_plain link.setup link.past)
+        (keeps_role link.setup link.past ∙ is) in
         absurd (let h : true ≡ false = sym asks ∙ none in absurd cc)

@@ -12,3 +12,4 @@ pub use Rattle.run_laws.specs.open_links as open_links
 pub use Rattle.run_laws.specs as run_laws
 pub use Rattle.run_laws.specs.Ranges as Ranges
 pub use Rattle.run_laws.specs.run_model as run_model
+pub use Rattle.run_laws.specs.controller_model as controller_model

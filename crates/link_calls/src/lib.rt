@@ -12,3 +12,4 @@ pub use crate::calls::{
 };
 pub use crate::exchanges::each_end_exchanges_in_its_events;
 pub use crate::rows::worked_turns;
+pub use run_laws::{a_pdu_is_understood, each_packet_on_the_air_is_due};

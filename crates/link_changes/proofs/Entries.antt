@@ -22,6 +22,7 @@ use Rattle.link_model.specs.Events.{applied_notes}
 use Rattle.link_model.specs.Facts.{params_of}
 use Rattle.link_model.specs.Setup.{Setup, algorithm_of, first_anchor, first_params}
 use Rattle.link_model.specs.Step.{Step, EventEntered}
+use Rattle.link_model.proofs.Plain.{entry_notes_plain, past_plain}
 use Rattle.link_changes.specs.InForce.{HasRanges, IsAppliedInTime, IsEnteredBy}
 use Rattle.link_changes.specs.Noted.{applied_noted, changes_noted, event_noted, is_applied_note, taking_if, takings_noted}
 use Rattle.link_changes.proofs.Coming.{comes, entered_event, follows_now}
@@ -159,6 +160,10 @@ module _ (setup : Setup) (past : List Step) (slot : ℕ) (ranges : setup.link.ro
   abbrev own_event : EventNo
   own_event = record { 0 = event_of u }
 
+  -- its notes, as those of an end that encrypts nothing
+  plain_notes : notes_after setup (facts_of setup past) (EventEntered slot) ≡ notes_when setup slot skips c (is_none c.ends)
+  plain_notes = entry_notes_plain setup slot (facts_of setup past) (past_plain setup past)
+
   knows_before : is_none c.ends ≡ true → Knows setup.link.role (first_params setup.link.fields) (first_anchor setup) (notes_of setup past) true t
   knows_before is = subst (λ (b : Bool). Knows setup.link.role (first_params setup.link.fields) (first_anchor setup) (notes_of setup past) b t) is (past_known setup past ranges).part.knows
 
@@ -186,7 +191,7 @@ module _ (setup : Setup) (past : List Step) (slot : ℕ) (ranges : setup.link.ro
       let began = began_notes setup.link.handle entry.began in
       let applied = applied_notes setup.link.handle (event_of u) (next_number t) in
       let note = Enter setup.link.handle own_event own_channel in
-      ap (λ b. notes_when setup slot skips c b) is ∙ append_assoc (applied ++ note ∷ []) done began ∙ append_assoc applied (note ∷ []) (done ++ began)
+      plain_notes ∙ ap (λ b. notes_when setup slot skips c b) is ∙ append_assoc (applied ++ note ∷ []) done began ∙ append_assoc applied (note ∷ []) (done ++ began)
 
   entered_by : (b : Bool) → is_none c.ends ≡ b → (before later : List Note) (handle : ℕ) (event : EventNo) (channel : ℕ)
       → notes_when setup slot skips c b ≡ before ++ Enter handle event channel ∷ later → IsEnteredBy setup past (notes_of setup past ++ before) event.0 channel
@@ -213,7 +218,7 @@ module _ (setup : Setup) (past : List Step) (slot : ℕ) (ranges : setup.link.ro
   pub enters : (before later : List Note) (handle : ℕ) (event : EventNo) (channel : ℕ)
       → notes_after setup (facts_of setup past) (EventEntered slot) ≡ before ++ Enter handle event channel ∷ later
       → IsEnteredBy setup past (notes_of setup past ++ before) event.0 channel
-  enters before later handle event channel same = entered_by (is_none c.ends) refl before later handle event channel same
+  enters before later handle event channel same = entered_by (is_none c.ends) refl before later handle event channel (sym plain_notes ∙ same)
 
   applied_by : (b : Bool) → is_none c.ends ≡ b → (before later : List Note) (handle number : ℕ) (event : EventNo)
       → notes_when setup slot skips c b ≡ before ++ Applied handle number event ∷ later
@@ -240,7 +245,7 @@ module _ (setup : Setup) (past : List Step) (slot : ℕ) (ranges : setup.link.ro
   pub applies : (before later : List Note) (handle number : ℕ) (event : EventNo)
       → notes_after setup (facts_of setup past) (EventEntered slot) ≡ before ++ Applied handle number event ∷ later
       → IsAppliedInTime setup.link.role (notes_of setup past ++ before) handle number event later
-  applies before later handle number event same = applied_by (is_none c.ends) refl before later handle number event same
+  applies before later handle number event same = applied_by (is_none c.ends) refl before later handle number event (sym plain_notes ∙ same)
 
 -- ---- where an end is
 

@@ -14,7 +14,7 @@ use Rattle.link_model.specs.End.{notes_after}
 use Rattle.link_model.specs.Entering.{done_notes}
 use Rattle.link_model.specs.Facts.{Facts}
 use Rattle.link_model.specs.Packets.{good_pdu}
-use Rattle.link_model.specs.Receiving.{accepts, acked_kind, acks_control, facts_before_taking, given_if, given_notes, has_acknowledged, notes_hearing, received_notes, refused_notes, took_notes_if}
+use Rattle.link_model.specs.Receiving.{accepts, acked_kind, acks_control, facts_before_taking, given_if, given_notes, has_acknowledged, kept_given_if, notes_hearing, received_notes, refused_notes, took_notes_if}
 use Rattle.link_model.specs.Sending.{sent_notes_if}
 use Rattle.link_model.specs.Setup.{Setup}
 use Rattle.link_model.specs.Step.{Step, EventEntered, PacketReceived, PacketSent}
@@ -53,10 +53,13 @@ heard setup slot room header pdu facts =
     let now = facts_before_taking setup.link.role slot header facts in
     let accepted = accepts room header pdu now in
     let acked = acked_kind (acks_control (has_acknowledged facts header) facts) facts in
-    let taken = given_if (accepted && is_procedure_pdu pdu) pdu slot now in
+    let seen = given_notes handle (given_if (accepted && is_procedure_pdu pdu) pdu slot now) in
+    let kept = given_notes handle (kept_given_if (accepted && is_procedure_pdu pdu) pdu slot now) in
     let noted = took_notes_if (accepted && not (is_empty pdu)) handle pdu now in
-    both (done_notes handle acked) (noted ++ given_notes handle taken) (done handle acked)
-    (both noted (given_notes handle taken) (took (accepted && not (is_empty pdu)) handle pdu now) (given handle taken))
+    both (done_notes handle acked) (noted ++ (seen ++ kept)) (done handle acked)
+    (both noted (seen ++ kept) (took (accepted && not (is_empty pdu)) handle pdu now)
+    (both seen kept (given handle (given_if (accepted && is_procedure_pdu pdu) pdu slot now))
+    (given handle (kept_given_if (accepted && is_procedure_pdu pdu) pdu slot now))))
 
 received : (setup : Setup) (slot : ℕ) (room : Bool) (octets : Option (List ℕ)) (facts : Facts) → NameNone (received_notes setup slot room octets facts)
 received setup slot room None facts = tt

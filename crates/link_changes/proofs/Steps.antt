@@ -8,7 +8,6 @@ use Rattle.ble_base.specs.declared.notes.Note.TheVariants.{Began, Done, Enter, R
 use Rattle.ble_base.specs.declared.procedure_kinds.Kind.{Kind}
 use Rattle.ble_base.specs.declared.roles.Role.{Role}
 use Rattle.ble_base.specs.declared.roles.Role.TheVariants.{Central, Peripheral}
-use Rattle.data_pdu.specs.Header.{header_in}
 use Rattle.data_pdu.specs.Layouts.{written}
 use Rattle.data_pdu.specs.Reading.{ctrl_of}
 use Rattle.data_pdu.specs.declared.ctrl.Ctrl.{Ctrl}
@@ -30,26 +29,29 @@ use Rattle.link_model.specs.control_end.Held.{held_of}
 use Rattle.link_model.specs.control_end.declared.answers.Entry.{Entry}
 use Rattle.link_model.specs.control_end.declared.answers.Taken.{Taken}
 use Rattle.link_model.specs.Acknowledgement.{Pdu, is_acked}
-use Rattle.link_model.specs.Controls.{goes_on, is_procedure_pdu, next_control, pdu_fixed, pdu_of_control, read_of}
+use Rattle.link_model.specs.Controls.{goes_on, is_procedure_pdu, is_quiet_now, next_control, pdu_fixed, pdu_of_control, read_of}
 use Rattle.link_model.specs.ControlSteps.{IsAskInRange}
-use Rattle.link_model.specs.Data.{Data, data_acked_if, data_given, data_sent_if, is_control, is_data, is_empty, next_piece, numbered, pdu_with}
+use Rattle.link_model.specs.Data.{Data, data_acked_if, data_given, is_control, is_data, is_empty, next_piece, numbered, pdu_with}
 use Rattle.link_model.specs.End.{facts_after, facts_of, notes_after, notes_from, notes_of}
-use Rattle.link_model.specs.Entering.{began_notes, done_notes, event_notes, facts_entered_if}
+use Rattle.link_model.specs.Entering.{began_notes, done_notes, event_notes}
 use Rattle.link_model.specs.Events.{applied_notes, event_entered}
 use Rattle.link_model.specs.Facts.{Facts, first_facts, params_of}
 use Rattle.link_model.specs.Fixing.{data_cut, data_fixed_by, data_goes, fixed_anew}
 use Rattle.link_model.specs.Hosts.{asked_unless, is_to_come}
-use Rattle.link_model.specs.Packets.{good_pdu}
-use Rattle.link_model.specs.Receiving.{accepted_if, accepts, acked_kind, acknowledged_if, acks_control, answers_with_control, control_acked_if, facts_before_taking, facts_hearing, facts_received, given_if, given_notes, has_acknowledged, heard_in_slot, notes_hearing, procedures_take_if, received_notes, refused_notes, took_notes_if}
-use Rattle.link_model.specs.Sending.{control_gone_if, facts_sent, sent_notes, sent_notes_if, takes_leave}
+use Rattle.link_model.specs.Payload.{payload_made}
+use Rattle.link_model.specs.Plain.{IsPlain, control_acked_if, plain_accepted_if as accepted_if, plain_acknowledged_if as acknowledged_if, plain_before_taking as facts_before_taking, plain_entered_if, plain_entry_notes, plain_given_if as given_if, plain_hearing as facts_hearing, plain_notes_hearing as notes_hearing, plain_takes_if as procedures_take_if}
+use Rattle.link_model.specs.Receiving.{accepts, acked_kind, acks_control, answers_with_control, given_notes, has_acknowledged, heard_in_slot, refused_notes, took_notes_if}
+use Rattle.link_model.specs.Sending.{control_gone_if, data_sent_as, facts_sent, sent_notes, sent_notes_if, takes_leave}
 use Rattle.link_model.specs.Setup.{Setup, first_anchor, first_params}
-use Rattle.link_model.specs.Step.{Step, DataGiven, DataReported, Disconnected, EventEntered, PacketReceived, PacketSent, PduFixed, ProcedureAsked, RequestAnswered}
-use Rattle.link_model.specs.Verdicts.{pdu_of}
+use Rattle.link_model.specs.Step.{Step, DataGiven, DataReported, Disconnected, EventEntered, KeyAnswered, PacketReceived, PacketSent, PduFixed, ProcedureAsked, RequestAnswered, WordsGiven}
+use Rattle.link_model.proofs.ControlSteps.{one_step}
+use Rattle.link_model.proofs.Plain.{step_plain}
 use Rattle.link_changes.specs.InForce.{AsksMap, HasRanges}
 use Rattle.link_changes.specs.Noted.{indication_in, indication_noted, indication_read}
 use Rattle.link_changes.proofs.Knowing.{Knows, knows_entered, knows_first}
 use Rattle.link_changes.proofs.Notes.{IsSilent, silent_both, silent_none}
 use Rattle.link_changes.proofs.Parts.{Part, part_alone, part_more, part_same, part_sends, part_takes, silent_one}
+use Rattle.link_model.proofs.PlainEnds.{by_event, by_packet, first_plain}
 use Rattle.link_changes.proofs.Readable.{IsGood}
 use Rattle.link_changes.proofs.Reached.{Reached, reached_first, reached_role, reached_then}
 
@@ -169,7 +171,7 @@ module _ (setup : Setup) (latency : setup.link.role ≡ Central → setup.link.f
       subst (λ (all : List Note). PartOf all d) (append_assoc (notes ++ first) done began ∙ append_assoc notes first (done ++ began) ∙ ap (λ (some : List Note). notes ++ some) (sym (append_assoc first done began)))
       (more ((notes ++ first) ++ done) began d (more (notes ++ first) done d there (done_silent role setup.link.handle entry.done)) (began_silent role setup.link.handle entry.began))
 
-  entered_control : (b : Bool) (slot : ℕ) (facts : Facts) → (if b then after (Enters slot true) facts.control else facts.control) ≡ (facts_entered_if b setup slot facts).control
+  entered_control : (b : Bool) (slot : ℕ) (facts : Facts) → (if b then after (Enters slot true) facts.control else facts.control) ≡ (plain_entered_if b setup slot facts).control
   entered_control true slot facts = refl
   entered_control false slot facts = refl
 
@@ -183,8 +185,9 @@ module _ (setup : Setup) (latency : setup.link.role ≡ Central → setup.link.f
   gone_at_peripheral : (notes : List Note) (slot : ℕ) (facts : Facts) (b : Bool) → role ≡ Peripheral → PartOf notes facts.control
       → PartOf notes (control_gone_if b slot facts).control
   gone_at_peripheral notes slot facts true is p =
-      subst (λ (all : List Note). PartOf all (after (Sends slot true) facts.control)) (append-nil notes)
-      (same notes [] facts.control (Sends slot true) p (λ central. (tt, tt)) (peripheral_sends facts.control slot true (role_now notes facts.control p ∙ is)) (silent_none role))
+      let quiet = is_quiet_now facts in
+      subst (λ (all : List Note). PartOf all (after (Sends slot quiet) facts.control)) (append-nil notes)
+      (same notes [] facts.control (Sends slot quiet) p (λ central. (tt, tt)) (peripheral_sends facts.control slot quiet (role_now notes facts.control p ∙ is)) (silent_none role))
   gone_at_peripheral notes slot facts false is p = p
 
   none_of : (ends : Option ErrCode) → is_none ends ≡ true → ends ≡ None
@@ -201,17 +204,19 @@ module _ (setup : Setup) (latency : setup.link.role ≡ Central → setup.link.f
   stays_if true (Some ctrl) c d is = absurd (cc)
 
   control_sent : (notes : List Note) (slot number : ℕ) (facts : Facts) (next : Option Ctrl) → next_control facts ≡ next → role ≡ Central → PartOf notes facts.control
-      → PartOf (notes ++ sent_notes_if (not (is_empty (pdu_of_control next))) setup.link.handle number (pdu_of_control next)) (after (Sends slot true) facts.control)
+      → PartOf (notes ++ sent_notes_if (not (is_empty (pdu_of_control next))) setup.link.handle number (pdu_of_control next)) (after (Sends slot (is_quiet_now facts)) facts.control)
   control_sent notes slot number facts None none is p =
-      same notes [] facts.control (Sends slot true) p (λ central. (tt, tt))
-      (stays_if (is_none facts.control.ends) (next_ctrl_of facts.control.table (event_of facts.control.track) facts.control.track.params.latency true) facts.control _ none)
+      let quiet = is_quiet_now facts in
+      same notes [] facts.control (Sends slot quiet) p (λ central. (tt, tt))
+      (stays_if (is_none facts.control.ends) (next_ctrl_of facts.control.table (event_of facts.control.track) facts.control.track.params.latency quiet) facts.control _ none)
       (silent_none role)
   control_sent notes slot number facts (Some ctrl) goes is p =
-      let parts = goes_if (is_none facts.control.ends) (next_ctrl_of facts.control.table (event_of facts.control.track) facts.control.track.params.latency true) ctrl goes in
+      let quiet = is_quiet_now facts in
+      let parts = goes_if (is_none facts.control.ends) (next_ctrl_of facts.control.table (event_of facts.control.track) facts.control.track.params.latency quiet) ctrl goes in
       let note = Sent setup.link.handle (number + 1) 3 (record { items = written ctrl }) in
-      subst (λ (b : Bool). PartOf (notes ++ sent_notes_if (not b) setup.link.handle number (pdu_of_control (Some ctrl))) (after (Sends slot true) facts.control)) (sym (filled ctrl))
+      subst (λ (b : Bool). PartOf (notes ++ sent_notes_if (not b) setup.link.handle number (pdu_of_control (Some ctrl))) (after (Sends slot quiet) facts.control)) (sym (filled ctrl))
       (part_sends setup.link.role setup.link.max_rx (first_params setup.link.fields) (first_anchor setup) notes note facts.control
-      (record { event = λ event. refl; none = refl }) ctrl slot true parts.1 is (latency is) (none_of facts.control.ends parts.0) p
+      (record { event = λ event. refl; none = refl }) ctrl slot quiet parts.1 is (latency is) (none_of facts.control.ends parts.0) p
       (ap (λ (r : Role). indication_noted r note) is))
 
   sent_at_central : (notes : List Note) (slot number : ℕ) (facts : Facts) (acked fixes : Bool) → role ≡ Central → is_control facts.outgoing.fixed ≡ false → PartOf notes facts.control
@@ -235,9 +240,10 @@ module _ (setup : Setup) (latency : setup.link.role ≡ Central → setup.link.f
       (sent_silent (is_acked facts.acknowledgement && not (is_empty (pdu_fixed facts))) (numbered facts.acknowledgement.sent) (pdu_fixed facts)
       (ap (λ (r : Role). indication_noted r (Sent setup.link.handle (numbered facts.acknowledgement.sent + 1) (pdu_fixed facts).llid (record { items = (pdu_fixed facts).body }))) is))
 
-  sent_fixed : (acked : Bool) (outgoing : Data) → (acked ≡ false → is_control outgoing.fixed ≡ false) → is_control (data_sent_if acked outgoing).fixed ≡ false
-  sent_fixed true outgoing h = refl
-  sent_fixed false outgoing h = h refl
+  sent_fixed : (payload : List ℕ) (acked : Bool) (outgoing : Data) → (acked ≡ false → is_control outgoing.fixed ≡ false)
+      → is_control (data_sent_as payload acked outgoing).fixed ≡ false
+  sent_fixed payload true outgoing h = refl
+  sent_fixed payload false outgoing h = h refl
 
   unsent_fixed : (slot : ℕ) (facts : Facts) (leaves : Bool) → takes_leave facts ≡ leaves → is_control facts.outgoing.fixed ≡ false
       → is_acked (control_gone_if leaves slot facts).acknowledgement ≡ false → is_control (control_gone_if leaves slot facts).outgoing.fixed ≡ false
@@ -305,11 +311,6 @@ module _ (setup : Setup) (latency : setup.link.role ≡ Central → setup.link.f
       (append_assoc (notes ++ done) took given ∙ append_assoc notes done (took ++ given))
       (more ((notes ++ done) ++ took) given last three (given_silent role setup.link.handle (given_if (accepted && is_procedure_pdu pdu) pdu slot now)))
 
-  received_part : (notes : List Note) (slot : ℕ) (room : Bool) (octets : Option (List ℕ)) (facts : Facts) → PartOf notes facts.control
-      → PartOf (notes ++ received_notes setup slot room octets facts) (facts_received role slot room octets facts).control
-  received_part notes slot room None facts p = more notes [] facts.control p (silent_none role)
-  received_part notes slot room (Some octets) facts p = heard_part notes slot room (header_in octets) (pdu_of octets) facts p
-
   -- ---- the PDU that is fixed at a central
 
   acked_fixed : (b : Bool) (outgoing : Data) → (data_acked_if b outgoing).fixed ≡ outgoing.fixed
@@ -333,10 +334,6 @@ module _ (setup : Setup) (latency : setup.link.role ≡ Central → setup.link.f
       ap (λ (outgoing : Data). outgoing.fixed) (taking_fixed (accepted && is_procedure_pdu pdu) pdu slot (accepted_if accepted pdu now))
       ∙ acked_fixed (acks && is_data facts.acknowledgement.last) facts.outgoing
 
-  received_fixed : (slot : ℕ) (room : Bool) (octets : Option (List ℕ)) (facts : Facts) → (facts_received Central slot room octets facts).outgoing.fixed ≡ facts.outgoing.fixed
-  received_fixed slot room None facts = refl
-  received_fixed slot room (Some octets) facts = heard_fixed slot room (header_in octets) (pdu_of octets) facts
-
   piece_is_data : (piece : Option _) → is_control (pdu_with piece) ≡ false
   piece_is_data None = refl
   piece_is_data (Some piece) = by piece.start
@@ -345,15 +342,15 @@ module _ (setup : Setup) (latency : setup.link.role ≡ Central → setup.link.f
       by true = refl
       by false = refl
 
-  data_by : (control : Bool) (waiting : ℕ) (goes : Bool) (outgoing : Data) → is_control (data_fixed_by control waiting goes outgoing).fixed ≡ false
-  data_by true waiting goes outgoing = refl
-  data_by false waiting true outgoing = piece_is_data (next_piece outgoing)
-  data_by false waiting false outgoing = refl
+  data_by : (control : Bool) (waiting : ℕ) (quiet goes : Bool) (outgoing : Data) → is_control (data_fixed_by control waiting quiet goes outgoing).fixed ≡ false
+  data_by true waiting quiet goes outgoing = refl
+  data_by false waiting quiet true outgoing = piece_is_data (next_piece outgoing)
+  data_by false waiting quiet false outgoing = refl
 
   fixed_fixed : (b : Bool) (facts : Facts) → is_control facts.outgoing.fixed ≡ false → is_control (if b then facts else fixed_anew facts).outgoing.fixed ≡ false
   fixed_fixed true facts is = is
   fixed_fixed false facts is =
-      data_by (is_some (next_control facts)) (waiting_in facts.control.table.queue) (data_goes facts) (data_cut facts)
+      data_by (is_some (next_control facts)) (waiting_in facts.control.table.queue) (is_quiet_now facts) (data_goes facts) (data_cut facts)
 
   -- ---- each step
 
@@ -375,28 +372,32 @@ module _ (setup : Setup) (latency : setup.link.role ≡ Central → setup.link.f
   quiet_known : (notes : List Note) (facts : Facts) → IsKnown setup notes facts → IsKnown setup (notes ++ []) facts
   quiet_known notes facts k = subst (λ (all : List Note). IsKnown setup all facts) (sym (append-nil notes)) k
 
-  entered_if : (b : Bool) (slot : ℕ) (facts : Facts) → (facts_entered_if b setup slot facts).outgoing ≡ facts.outgoing
+  entered_if : (b : Bool) (slot : ℕ) (facts : Facts) → (plain_entered_if b setup slot facts).outgoing ≡ facts.outgoing
   entered_if true slot facts = refl
   entered_if false slot facts = refl
 
-  pub step_known : (notes : List Note) (facts : Facts) (step : Step) → (role ≡ Central → IsGoodStep step) → IsKnown setup notes facts
+  pub step_known : (notes : List Note) (facts : Facts) (step : Step) → (role ≡ Central → IsGoodStep step) → IsPlain role facts → IsKnown setup notes facts
       → IsKnown setup (notes ++ notes_after setup facts step) (facts_after setup facts step)
-  step_known notes facts (DataGiven start body) good k =
+  step_known notes facts (DataGiven start body) good plain k =
       quiet_known notes _ (record {
         part = k.part;
         fixed = λ central. ap is_control (given_fixed setup.link.handle start body facts.outgoing) ∙ k.fixed central;
       })
-  step_known notes facts (ProcedureAsked ask) good k = quiet_known notes _ (asked_known notes ask (is_to_come ask facts) facts good k)
-  step_known notes facts (RequestAnswered answer) good k =
+  step_known notes facts (ProcedureAsked ask) good plain k = quiet_known notes _ (asked_known notes ask (is_to_come ask facts) facts good k)
+  step_known notes facts (RequestAnswered answer) good plain k =
       quiet_known notes _ (record { part = alone notes facts.control (Answers answer) k.part (λ central. good_answer answer (good central)) refl; fixed = k.fixed })
-  step_known notes facts (Disconnected reason slot) good k =
+  step_known notes facts (Disconnected reason slot) good plain k =
       quiet_known notes _ (record { part = alone notes facts.control (Disconnects reason) k.part (λ central. (tt, tt)) refl; fixed = k.fixed })
-  step_known notes facts (EventEntered slot) good k = record {
-    part = subst (λ (c : Control). PartOf (notes ++ notes_after setup facts (EventEntered slot)) c) (entered_control (goes_on facts) slot facts)
-        (entered_part notes slot (params_of facts).latency facts.control (is_none facts.control.ends) refl k.part);
-    fixed = λ central. ap (λ (outgoing : Data). is_control outgoing.fixed) (entered_if (goes_on facts) slot facts) ∙ k.fixed central;
-  }
-  step_known notes facts PduFixed good k =
+  step_known notes facts (KeyAnswered key slot) good plain k =
+      quiet_known notes _ (record { part = subst (λ (c : Control). PartOf notes c) (sym (one_step setup facts (KeyAnswered key slot) plain)) k.part; fixed = k.fixed })
+  step_known notes facts (EventEntered slot) good plain k =
+      by_event setup slot facts plain (λ (some : List Note) (next : Facts). IsKnown setup (notes ++ some) next)
+      (record {
+        part = subst (λ (c : Control). PartOf (notes ++ plain_entry_notes setup slot facts) c) (entered_control (goes_on facts) slot facts)
+            (entered_part notes slot (params_of facts).latency facts.control (is_none facts.control.ends) refl k.part);
+        fixed = λ central. ap (λ (outgoing : Data). is_control outgoing.fixed) (entered_if (goes_on facts) slot facts) ∙ k.fixed central;
+      })
+  step_known notes facts PduFixed good plain k =
       quiet_known notes _ (record {
         part = subst (λ (c : Control). PartOf notes c) (sym (kept (is_control facts.outgoing.fixed))) k.part;
         fixed = λ central. fixed_fixed (is_control facts.outgoing.fixed) facts (k.fixed central);
@@ -405,33 +406,38 @@ module _ (setup : Setup) (latency : setup.link.role ≡ Central → setup.link.f
       kept : (b : Bool) → (if b then facts else fixed_anew facts).control ≡ facts.control
       kept true = refl
       kept false = refl
-  step_known notes facts (PacketSent slot) good k = record {
+  step_known notes facts (PacketSent slot) good plain k = record {
     part = sent_part notes slot facts role refl k;
     fixed = λ central.
         let now = control_gone_if (takes_leave facts) slot facts in
-        sent_fixed (is_acked now.acknowledgement) now.outgoing (unsent_fixed slot facts (takes_leave facts) refl (k.fixed central));
+        sent_fixed (payload_made now.encryption.end now.outgoing.fixed) (is_acked now.acknowledgement) now.outgoing
+        (unsent_fixed slot facts (takes_leave facts) refl (k.fixed central));
   }
-  step_known notes facts (PacketReceived slot octets room) good k = record {
-    part = received_part notes slot room (good_pdu setup facts octets) facts k.part;
-    fixed = λ central.
-        ap (λ (r : Role). is_control (facts_received r slot room (good_pdu setup facts octets) facts).outgoing.fixed) central
-        ∙ ap is_control (received_fixed slot room (good_pdu setup facts octets) facts) ∙ k.fixed central;
-  }
-  step_known notes facts DataReported good k = quiet_known notes _ (record { part = k.part; fixed = k.fixed })
+  step_known notes facts (WordsGiven skd_s iv_s) good plain k = quiet_known notes _ (record { part = k.part; fixed = k.fixed })
+  step_known notes facts (PacketReceived slot octets room) good plain k =
+      by_packet setup slot facts plain (λ (some : List Note) (next : Facts). IsKnown setup (notes ++ some) next) octets room (quiet_known notes facts k)
+      (λ header pdu. record {
+        part = heard_part notes slot room header pdu facts k.part;
+        fixed = λ central.
+            ap (λ (r : Role). is_control (facts_hearing r slot room header pdu facts).outgoing.fixed) central
+            ∙ ap is_control (heard_fixed slot room header pdu facts) ∙ k.fixed central;
+      })
+  step_known notes facts DataReported good plain k = quiet_known notes _ (record { part = k.part; fixed = k.fixed })
 
   -- ---- all steps
 
   abbrev AreGood : List Step → Type 0
   AreGood past = role ≡ Central → AllByRecursion IsAskInRange past × AllByRecursion AsksMap past
 
-  steps_known : (notes : List Note) (facts : Facts) (steps : List Step) → AreGood steps → IsKnown setup notes facts
+  steps_known : (notes : List Note) (facts : Facts) (steps : List Step) → AreGood steps → IsPlain role facts → IsKnown setup notes facts
       → IsKnown setup (notes ++ notes_from setup facts steps) (fold (facts_after setup) facts steps)
-  steps_known notes facts [] good k = quiet_known notes facts k
-  steps_known notes facts (step ∷ steps) good k =
+  steps_known notes facts [] good plain k = quiet_known notes facts k
+  steps_known notes facts (step ∷ steps) good plain k =
       let next = facts_after setup facts step in
       subst (λ (all : List Note). IsKnown setup all (fold (facts_after setup) next steps)) (append_assoc notes (notes_after setup facts step) (notes_from setup next steps))
       (steps_known (notes ++ notes_after setup facts step) next steps (λ central. ((good central).0.1, (good central).1.1))
-      (step_known notes facts step (λ central. ((good central).0.0, (good central).1.0)) k))
+      (step_plain setup facts step plain)
+      (step_known notes facts step (λ central. ((good central).0.0, (good central).1.0)) plain k))
 
   first_known : IsKnown setup [] (first_facts setup)
   first_known = record {
@@ -444,7 +450,7 @@ module _ (setup : Setup) (latency : setup.link.role ≡ Central → setup.link.f
 
   all_known : (past : List Step) → AreGood past → IsKnown setup (notes_of setup past) (facts_of setup past)
   unfolding facts_of notes_of
-  all_known past good = steps_known [] (first_facts setup) past good first_known
+  all_known past good = steps_known [] (first_facts setup) past good (first_plain setup) first_known
 
 -- what a past knows, where a central has its values in range
 pub past_known : (setup : Setup) (past : List Step) → (setup.link.role ≡ Central → HasRanges setup past) → IsKnown setup (notes_of setup past) (facts_of setup past)

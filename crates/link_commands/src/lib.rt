@@ -6,3 +6,4 @@
 mod laws;
 
 pub use crate::laws::{accepted_commands_ask_in_range, each_command_is_one_call};
+pub use open_links::LinkSetup;

@@ -10,8 +10,10 @@ use Rattle.acl_banks.specs.Packets.{DataPacket, has_piece_out, has_unsent, is_al
 use Rattle.acl_banks.specs.Banks.{Bank, bank_after_acked, bank_after_credited, bank_after_drop, bank_after_offer, bank_after_went, credits_of, is_completed, packet_out, piece_length, next_piece as bank_next, unsent_of as bank_unsent}
 use Rattle.acl_banks.proofs.Order.{is_left, is_out}
 use Rattle.acl_banks.proofs.AllLinks.{other-acked, other-completed, other-drop, other-went, own-acked, own-completed, own-left, own-offer, own-offer-other, own-out, own-went}
+use Rattle.link_model.specs.Setup.{Setup}
 use Rattle.link_model.specs.Acknowledgement.{Pdu}
-use Rattle.link_model.specs.Data.{Data, data_acked_if, data_given, data_reported, data_sent_if, is_data, pdu_with, unsent_of, is_completed as is_done}
+use Rattle.link_model.specs.Data.{Data, data_acked_if, data_given, data_reported, is_data, pdu_with, unsent_of, is_completed as is_done}
+use Rattle.link_model.specs.Sending.{data_sent_as}
 use Rattle.link_end.specs.Tied.{HoldsData, IsAfterAck, LeavesOthers, bank_went_if}
 
 -- ---- what a bank has under the handle is what waits
@@ -32,17 +34,17 @@ piece_body (Some piece) = refl
 
 -- ---- the next piece goes out
 
-pub holds_sent : (handle : ℕ) (bank : Bank) (outgoing : Data) (is_new carries : Bool) → is_data outgoing.fixed ≡ carries
+pub holds_sent : (payload : List ℕ) (handle : ℕ) (bank : Bank) (outgoing : Data) (is_new carries : Bool) → is_data outgoing.fixed ≡ carries
     → HoldsData handle bank outgoing
-    → HoldsData handle (bank_went_if (is_new && carries) bank handle (length outgoing.fixed.body)) (data_sent_if is_new outgoing)
-holds_sent handle bank outgoing false carries is holds = holds
-holds_sent handle bank outgoing true false is holds =
+    → HoldsData handle (bank_went_if (is_new && carries) bank handle (length outgoing.fixed.body)) (data_sent_as payload is_new outgoing)
+holds_sent payload handle bank outgoing false carries is holds = holds
+holds_sent payload handle bank outgoing true false is holds =
     record {
       packets = holds.packets
           ∙ ap (λ b. if b then with_first is_left (packet_after_went (length outgoing.fixed.body)) outgoing.packets else outgoing.packets) (sym is);
       complete = holds.complete;
     }
-holds_sent handle bank outgoing true true is holds =
+holds_sent payload handle bank outgoing true true is holds =
     record {
       packets = own-went bank.packets handle (length outgoing.fixed.body)
           ∙ ap (with_first is_left (packet_after_went (length outgoing.fixed.body))) holds.packets
@@ -249,10 +251,16 @@ acked_leaves bank handle other differs = by_done (is_completed (packet_out bank 
         (other-completed bank.packets handle other differs, get_or-set_other bank.counts handle other (credits_of bank handle + 1) 0 differs)
     by_done false = (other-acked bank.packets handle other differs, refl)
 
-pub ack_leaves : (acked : Bool) (handle : ℕ) (before after : Bank) → IsAfterAck acked handle before after → LeavesOthers handle before after
+ack_leaves : (acked : Bool) (handle : ℕ) (before after : Bank) → IsAfterAck acked handle before after → LeavesOthers handle before after
 ack_leaves true handle before after ack =
     subst (LeavesOthers handle before) (sym ack.bank) (acked_leaves before handle)
 ack_leaves false handle before after ack = subst (LeavesOthers handle before) (sym ack.bank) (λ other differs. (refl, refl))
+
+-- the same, where the end was read before it has what it was set up with
+pub ack_leaves_as : (acked : Bool) (one other : Setup) (before after : Bank) → other ≡ one
+    → IsAfterAck acked other.link.handle before after → LeavesOthers one.link.handle before after
+ack_leaves_as acked one other before after same ack =
+    subst (λ (s : Setup). LeavesOthers s.link.handle before after) same (ack_leaves acked other.link.handle before after ack)
 
 pub offer_leaves : (bank : Bank) (handle : ℕ) (start : Bool) (body : List ℕ)
     → LeavesOthers handle bank (bank_after_offer bank (new_packet handle start body))

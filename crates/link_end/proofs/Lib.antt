@@ -1,18 +1,24 @@
 -- The lemmas of this crate.
+pub mod Accepting
 pub mod Banked
+pub mod Counters
 pub mod Counting
 pub mod Entered
-pub mod Events
 pub mod Fixed
+pub mod Giving
 pub mod Heard
 pub mod Hosted
 pub mod Keeping
-pub mod Lengths
 pub mod NoneNext
+pub mod Opening
+pub mod Outcomes
+pub mod Phases
+pub mod Reaching
 pub mod Received
 pub mod Receptions
+pub mod Refusing
+pub mod Reported
 pub mod Sent
-pub mod Sounds
 pub mod Tying
 -- what the crates above use of those below
 pub use Rattle.link_model.proofs as link_model

@@ -10,8 +10,8 @@ use Rattle.procedures.specs.procedure_stages.declared.stages.Progress.{Progress}
 use Rattle.procedures.specs.procedure_stages.Closing.{is_disconnecting}
 use Rattle.procedures.specs.procedure_stages.Queue.{next_in, waiting_in}
 use Rattle.control_end.specs.Answers.{goes_on, next_ctrl}
-use Rattle.control_end.specs.Held.{Held}
-use Rattle.link_end.specs.Held.{quiet_now}
+use Rattle.link_model.specs.phased_end.Answers.{quiet_now}
+use Rattle.link_model.specs.phased_end.Held.{HeldKeyed}
 
 nothing_next : (rejections : List Rejection) (disconnect : Option ErrCode) (drafts : List Draft) (ends : Bool) (progress : Progress) (event : ℕ)
     → waiting_in (record { rejections = rejections; disconnect = disconnect; drafts = drafts }) ≡ 0
@@ -27,7 +27,8 @@ none_sent : (goes : Bool) (next : Outgoing) (event skips : ℕ) → next ≡ Not
 none_sent true next event skips is = ap (λ next. is_some (ctrl_of_outgoing next event skips)) is
 none_sent false next event skips is = refl
 
-pub none_next : (h : Held) → waiting_in h.table.queue ≡ 0 → is_some (next_ctrl quiet_now h) ≡ false
+pub none_next : (h : HeldKeyed) → waiting_in h.control.table.queue ≡ 0 → is_some (next_ctrl (quiet_now h) h.control) ≡ false
 none_next h none =
-    none_sent (goes_on h) _ _ h.track.params.latency
-    (nothing_next h.table.queue.rejections h.table.queue.disconnect h.table.queue.drafts (is_disconnecting h.table.closing && quiet_now) h.table.progress _ none)
+    let table = h.control.table in
+    none_sent (goes_on h.control) _ _ h.control.track.params.latency
+    (nothing_next table.queue.rejections table.queue.disconnect table.queue.drafts (is_disconnecting table.closing && quiet_now h) table.progress _ none)

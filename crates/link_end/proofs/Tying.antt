@@ -16,11 +16,12 @@ use Rattle.link_model.specs.declared.setup.LinkSetup.{LinkSetup}
 use Rattle.link_model.specs.Acknowledgement.{Pdu, empty_pdu}
 use Rattle.link_model.specs.Data.{is_control, is_data, pdu_with}
 use Rattle.link_model.specs.Controls.{pdu_of_control}
-use Rattle.link_end.specs.Held.{Held, quiet_now}
+use Rattle.link_model.specs.phased_end.Answers.{quiet_now}
+use Rattle.link_end.specs.Held.{Held}
 use Rattle.link_end.specs.Entering.{held_entered, held_entered_if}
 use Rattle.link_end.specs.Fixing.{control_is_next, data_goes, held_fixed, pdu_fixed_by}
 use Rattle.link_end.specs.declared.pdus.Got.{Got}
-use Rattle.link_end.specs.Receiving.{acks, acks_piece, answers_with_control, held_acked_if, held_heard, held_received}
+use Rattle.link_end.specs.Receiving.{acks, acks_piece, answers_with_control, counts, held_acked_if, held_read, held_read_if, held_received, right_if, takes_body}
 use Rattle.link_end.specs.Sending.{carries_next, held_gone, held_gone_if, held_out, takes_leave}
 use Rattle.link_end.specs.Tied.{IsAfterAck, IsBefore, IsTied, LeavesOthers, bank_went_if}
 use Rattle.link_end.proofs.Banked.{data_has_octets, next_after_acked, next_is_some, went_is_out}
@@ -84,7 +85,7 @@ tied_gone : (goes : Bool) (slot : ℕ) (held : Held) (bank : Bank) → IsTied he
 tied_gone goes slot held bank tied =
     record {
       out = tied.out;
-      next = next_gone goes held.fixes_control (next_ctrl quiet_now held.control) bank held.setup.link.handle held.fixed tied.next;
+      next = next_gone goes held.fixes_control (next_ctrl (quiet_now held.control) held.control.control) bank held.setup.link.handle held.fixed tied.next;
     }
 
 pub gone_tied : (slot : ℕ) (held new : Held) (bank : Bank) → new ≡ held_gone slot held → IsTied held bank → IsTied new bank
@@ -141,44 +142,79 @@ next_kept handle count before after true ack =
     ap (λ (b : Bank). next_piece b handle count) ack.bank ∙ next_after_acked before handle count
 next_kept handle count before after false ack = ap (λ (b : Bank). next_piece b handle count) ack.bank
 
-tied_heard : (slot : ℕ) (room : Bool) (got : Option Got) (held : Held) (before after : Bank) → IsTied held before
-    → IsAfterAck (acks_piece got held) held.setup.link.handle before after → IsTied (held_received slot room got held) after
-tied_heard slot room None held before after tied ack = subst (IsTied held) (sym ack.bank) tied
-tied_heard slot room (Some got) held before after tied ack =
+tied_heard : (slot : ℕ) (got : Option Got) (held : Held) (before after : Bank) → IsTied held before
+    → IsAfterAck (acks_piece got held) held.setup.link.handle before after → IsTied (held_received slot got held) after
+tied_heard slot None held before after tied ack = subst (IsTied held) (sym ack.bank) tied
+tied_heard slot (Some got) held before after tied ack =
     let handle = held.setup.link.handle in
-    let now = held_acked_if (acks held got.header) (held_heard slot got.header.md held) in
+    let now = held_acked_if (acks held got.header) held in
     record {
       out = out_heard handle before after (acknowledges held.bits got.header) held.is_acked (is_data held.last) ack tied.out;
-      next = next_gone (answers_with_control held.setup.link.role now) now.fixes_control (next_ctrl quiet_now now.control) after handle held.fixed
+      next = next_gone (answers_with_control held.setup.link.role now) now.fixes_control
+          (next_ctrl (quiet_now now.control) now.control.control) after handle held.fixed
           (λ holds. ap pdu_with (next_kept handle (length held.fixed.body) before after (acks_piece (Some got) held) ack) ∙ tied.next holds);
     }
 
-pub heard_tied : (slot : ℕ) (room : Bool) (got : Option Got) (held new : Held) (before after : Bank) → new ≡ held_received slot room got held
+pub heard_tied : (slot : ℕ) (got : Option Got) (held new : Held) (before after : Bank) → new ≡ held_received slot got held
     → IsAfterAck (acks_piece got held) held.setup.link.handle before after → IsTied held before → IsTied new after
-heard_tied slot room got held new before after is ack tied =
-    subst (λ (h : Held). IsTied h after) (sym is) (tied_heard slot room got held before after tied ack)
+heard_tied slot got held new before after is ack tied =
+    subst (λ (h : Held). IsTied h after) (sym is) (tied_heard slot got held before after tied ack)
 
-heard_same : (slot : ℕ) (room : Bool) (got : Option Got) (held : Held) → (held_received slot room got held).setup ≡ held.setup
-heard_same slot room None held = refl
-heard_same slot room (Some got) held = refl
+heard_same : (slot : ℕ) (got : Option Got) (held : Held) → (held_received slot got held).setup ≡ held.setup
+heard_same slot None held = refl
+heard_same slot (Some got) held = refl
 
-pub heard_setup : (slot : ℕ) (room : Bool) (got : Option Got) (held new : Held) → new ≡ held_received slot room got held
-    → new.setup ≡ held.setup
-heard_setup slot room got held new is = ap (λ (h : Held). h.setup) is ∙ heard_same slot room got held
+pub heard_setup : (slot : ℕ) (got : Option Got) (held new : Held) → new ≡ held_received slot got held → new.setup ≡ held.setup
+heard_setup slot got held new is = ap (λ (h : Held). h.setup) is ∙ heard_same slot got held
 
-heard_in_slot : (slot : ℕ) (room : Bool) (got : Option Got) (held : Held) → IsBefore held slot
-    → IsBefore (held_received slot room got held) (slot + 1)
-heard_in_slot slot room None held before = by held.last_good before
-  where
-    by : (last : Option Reception) → IfSome last (λ good. good.slot < slot) → IfSome last (λ good. good.slot < slot + 1)
-    by None before = tt
-    by (Some good) before = omega (arith, before)
-heard_in_slot slot room (Some got) held before = omega arith
+heard_good : (slot : ℕ) (got : Option Got) (held : Held) → (held_received slot got held).last_good ≡ held.last_good
+heard_good slot None held = refl
+heard_good slot (Some got) held = refl
 
-pub heard_before : (slot : ℕ) (room : Bool) (got : Option Got) (held new : Held) → new ≡ held_received slot room got held
-    → IsBefore held slot → IsBefore new (slot + 1)
-heard_before slot room got held new is before =
-    subst (λ (h : Held). IsBefore h (slot + 1)) (sym is) (heard_in_slot slot room got held before)
+-- ---- octets are read first
+
+-- what a read leaves, whatever octets they are
+module _ (P : Held → Type 0) (slot : ℕ) (held : Held) where
+  read_by : (right takes : Bool) (pdu : List ℕ) → P (held_read_if true slot takes pdu held) → P (held_read_if false slot takes pdu held)
+      → P (held_read_if right slot takes pdu held)
+  read_by true takes pdu good forged = good
+  read_by false takes pdu good forged = forged
+
+  reads : (room : Bool) (whole : Option (List ℕ)) → P held
+      → ((takes : Bool) (pdu : List ℕ) → P (held_read_if true slot takes pdu held))
+      → ((takes : Bool) (pdu : List ℕ) → P (held_read_if false slot takes pdu held)) → P (held_read slot room whole held)
+  reads room None stays good forged = stays
+  reads room (Some pdu) stays good forged =
+      let takes = takes_body room pdu held in
+      read_by (right_if (counts pdu held) held.control.end pdu) takes pdu (good takes pdu) (forged takes pdu)
+
+module _ (slot : ℕ) (room : Bool) (whole : Option (List ℕ)) (held new : Held) (is : new ≡ held_read slot room whole held) where
+  pub read_tied : (bank : Bank) → IsTied held bank → IsTied new bank
+  read_tied bank tied =
+      subst (λ (h : Held). IsTied h bank) (sym is)
+      (reads (λ h. IsTied h bank) slot held room whole tied
+      (λ takes pdu. record { out = tied.out; next = tied.next }) (λ takes pdu. record { out = tied.out; next = tied.next }))
+
+  pub read_setup : new.setup ≡ held.setup
+  read_setup =
+      ap (λ (h : Held). h.setup) is
+      ∙ reads (λ h. h.setup ≡ held.setup) slot held room whole refl (λ takes pdu. refl) (λ takes pdu. refl)
+
+  later : (last : Option Reception) → IfSome last (λ good. good.slot < slot) → IfSome last (λ good. good.slot < slot + 1)
+  later None before = tt
+  later (Some good) before = omega (arith, before)
+
+  pub read_before : IsBefore held slot → IsBefore new (slot + 1)
+  read_before before =
+      subst (λ (h : Held). IsBefore h (slot + 1)) (sym is)
+      (reads (λ h. IsBefore h (slot + 1)) slot held room whole (later held.last_good before) (λ takes pdu. omega arith)
+      (λ takes pdu. later held.last_good before))
+
+pub heard_before : (slot : ℕ) (got : Option Got) (held new : Held) → new ≡ held_received slot got held → IsBefore held (slot + 1)
+    → IsBefore new (slot + 1)
+heard_before slot got held new is before =
+    let same = ap (λ (h : Held). h.last_good) is ∙ heard_good slot got held in
+    subst (λ (last : Option Reception). IfSome last (λ good. good.slot < slot + 1)) (sym same) before
 
 -- ---- what is done besides
 

@@ -12,7 +12,7 @@ use Rattle.link_model.specs.Verdicts.{pdu_of}
 use Rattle.link_model.specs.Facts.{Facts}
 use Rattle.link_model.specs.Controls.{is_procedure_pdu}
 use Rattle.link_model.specs.Packets.{good_pdu}
-use Rattle.link_model.specs.Receiving.{accepts, acked_kind, acks_control, facts_before_taking, given_if, has_acknowledged}
+use Rattle.link_model.specs.Receiving.{accepts, acked_kind, acks_control, facts_before_taking, given_if, has_acknowledged, kept_given_if}
 
 -- the procedure of this end that the acknowledgement completes
 abbrev pub acked_received : Option (List ℕ) → Facts → Option Kind
@@ -38,3 +38,18 @@ given_received role slot room (Some pdu) facts = given_hearing role slot room (h
 -- what the procedures give for the PDU in octets on its channel
 unfoldable pub given_of : Setup → Facts → ℕ → List ℕ → Bool → Taken
 given_of setup facts slot octets room = given_received setup.link.role slot room (good_pdu setup facts octets) facts
+
+-- what they give for one that was kept until that PDU
+abbrev pub kept_given_hearing : Role → ℕ → Bool → DataHeader → Pdu → Facts → Taken
+kept_given_hearing role slot room header pdu facts =
+    let now = facts_before_taking role slot header facts in
+    kept_given_if (accepts room header pdu now && is_procedure_pdu pdu) pdu slot now
+
+abbrev pub kept_given_received : Role → ℕ → Bool → Option (List ℕ) → Facts → Taken
+kept_given_received role slot room None facts = nothing_taken
+kept_given_received role slot room (Some pdu) facts =
+    kept_given_hearing role slot room (header_in pdu) (pdu_of pdu) facts
+
+unfoldable pub kept_given_of : Setup → Facts → ℕ → List ℕ → Bool → Taken
+kept_given_of setup facts slot octets room =
+    kept_given_received setup.link.role slot room (good_pdu setup facts octets) facts

@@ -1,34 +1,36 @@
 -- What an end holds as it fixes the PDU that it sends next (Core 5.2, volume 6 part B, sections 2.4 and 4.5.6).
-use Rattle.std.specs.Prelude.{ℕ, nat_lt, ◌||◌, Bool, false, not, Option, is_some, if◌then◌else◌}
+use Rattle.std.specs.Prelude.{ℕ, nat_lt, ◌||◌, ◌&&◌, Bool, false, not, Option, is_some, if◌then◌else◌}
 use Rattle.acl_banks.specs.declared.pieces.Piece.{Piece}
 use Rattle.procedures.specs.procedure_stages.Closing.{is_disconnecting}
 use Rattle.procedures.specs.procedure_stages.Queue.{waiting_in}
 use Rattle.procedures.specs.procedure_values.Limits.{tx_of}
 use Rattle.control_end.specs.Answers.{next_ctrl}
+use Rattle.link_model.specs.phased_end.Answers.{quiet_now}
 use Rattle.link_model.specs.Acknowledgement.{Pdu, empty_pdu}
 use Rattle.link_model.specs.Data.{is_control, pdu_with}
-use Rattle.link_end.specs.Held.{Held, quiet_now}
+use Rattle.link_end.specs.Held.{Held}
 
 -- the most octets of a piece: the effective length that it transmits (section 4.5.10)
 abbrev pub limit_of : Held → ℕ
-limit_of held = tx_of held.control.table.lengths
+limit_of held = tx_of held.control.control.table.lengths
 
 -- a control PDU may be sent, which goes before data (our choice)
 abbrev pub control_is_next : Held → Bool
-control_is_next held = is_some (next_ctrl quiet_now held.control)
+control_is_next held = is_some (next_ctrl (quiet_now held.control) held.control.control)
 
--- no data goes once the host has ended the link (our choice)
+-- data goes in phase Clear or Secure alone, and none once the host has ended the link (section 5.1.3, and our choice)
 abbrev pub data_goes : Held → Bool
-data_goes held = not (is_disconnecting held.control.table.closing)
+data_goes held = quiet_now held.control && not (is_disconnecting held.control.control.table.closing)
 
 -- the PDU that is fixed, by the next piece of data; a control PDU is made only as it is sent (our choice)
 abbrev pub pdu_fixed_by : Bool → Bool → Option Piece → Pdu
 pdu_fixed_by control goes next = if control then empty_pdu else (if goes then pdu_with next else empty_pdu)
 
--- a further PDU waits: after a control PDU another one or data, after a piece octets that are left (section 4.5.6)
-abbrev pub more_fixed_by : Bool → ℕ → Bool → Option Piece → Bool → Bool
-more_fixed_by control waiting goes next left =
-    if control then nat_lt 1 waiting || is_some next else (if goes then left else false)
+-- a further PDU waits: after a control PDU another one, or data that the phase lets go; after a piece octets that are
+-- left (section 4.5.6)
+abbrev pub more_fixed_by : Bool → ℕ → Bool → Bool → Option Piece → Bool → Bool
+more_fixed_by control waiting quiet goes next left =
+    if control then nat_lt 1 waiting || (quiet && is_some next) else (if goes then left else false)
 
 abbrev pub held_fixed_anew : Option Piece → Bool → Held → Held
 held_fixed_anew next left held =
@@ -36,7 +38,8 @@ held_fixed_anew next left held =
       fixed = pdu_fixed_by (control_is_next held) (data_goes held) next;
       fixes_control = control_is_next held;
       more =
-          more_fixed_by (control_is_next held) (waiting_in held.control.table.queue) (data_goes held) next left;
+          more_fixed_by (control_is_next held) (waiting_in held.control.control.table.queue) (quiet_now held.control)
+          (data_goes held) next left;
     }
 
 -- a control PDU that has left the queue and is not sent stays the one that is fixed (our choice)

@@ -1,7 +1,8 @@
 -- What an end of a link holds (our choice).
-use Rattle.std.specs.Prelude.{ℕ, ◌+◌, Bool, true, Option, Some, None, if◌then◌else◌}
+use Rattle.std.specs.Prelude.{ℕ, ◌+◌, Bool, List, Option, Some, None, if◌then◌else◌}
 use Rattle.ack_bit.specs.AckBits.{AckBits}
-use Rattle.control_end.specs.Held.{Held as Control, held_of as control_held}
+use Rattle.link_model.specs.phased_end.Held.{HeldKeyed, held_of as keyed_held}
+use Rattle.link_model.specs.phased_end.keyed_control.declared.material.Response.{Response}
 use Rattle.link_model.specs.Setup.{Setup}
 use Rattle.link_model.specs.declared.events.ConnectionEvent.{ConnectionEvent}
 use Rattle.link_model.specs.declared.events.Reception.{Reception}
@@ -10,13 +11,16 @@ use Rattle.link_model.specs.Data.{numbered}
 use Rattle.link_model.specs.declared.state.KnownLengths.{KnownLengths}
 use Rattle.link_model.specs.declared.state.Leaving.{Leaving}
 use Rattle.link_model.specs.declared.state.PeerFacts.{PeerFacts}
-use Rattle.link_model.specs.Facts.{Facts}
+use Rattle.link_model.specs.Facts.{Facts, keyed_of}
 
 pub record Held : Type 0 where
   -- what it is set up with
   pub setup : Setup
-  -- its procedures, its parameters and anchors, and the error with which one of its procedures ended the link
-  pub control : Control
+  -- its procedures, its parameters and anchors, its phase of encryption with its keys, and the error with which it ended
+  -- the link
+  pub control : HeldKeyed
+  -- what a peripheral would draw to answer LL_ENC_REQ
+  pub response : Response
   pub peer : PeerFacts
   -- the event that was entered last, the longest payloads in it, and those that its host knows
   pub event : ConnectionEvent
@@ -25,8 +29,9 @@ pub record Held : Type 0 where
   pub bits : AckBits
   -- the PDU that it sent last is acknowledged
   pub is_acked : Bool
-  -- the PDU that it sent last, and the one that it sends next: the next control PDU, or this one
+  -- the PDU that it sent last, with its payload as it was on the air, and the one that it sends next: the next control PDU, or this one
   pub last : Pdu
+  pub payload : List ℕ
   pub fixed : Pdu
   pub fixes_control : Bool
   -- a further PDU waited as that was fixed
@@ -43,13 +48,15 @@ abbrev pub held_of : Setup → Facts → Held
 held_of setup facts =
     record {
       setup = setup;
-      control = control_held facts.control;
+      control = keyed_held (keyed_of facts);
+      response = facts.encryption.response;
       peer = facts.peer;
       event = facts.event;
       lengths = facts.lengths;
       bits = bits_of facts.acknowledgement;
       is_acked = is_acked facts.acknowledgement;
       last = facts.acknowledgement.last;
+      payload = facts.outgoing.payload;
       fixed = facts.outgoing.fixed;
       fixes_control = facts.fixes_control;
       more = facts.outgoing.more;
@@ -58,10 +65,6 @@ held_of setup facts =
       last_good = facts.last_good;
       leaving = facts.leaving;
     }
-
--- no link is encrypted yet, so each is in phase Clear (our choice)
-abbrev pub quiet_now : Bool
-quiet_now = true
 
 -- the slots up to the last good packet, each of which has at most one
 abbrev pub heard_slots : Option Reception → ℕ

@@ -1,5 +1,5 @@
 -- A PDU that the code keeps, and one that it received, as PDUs.
-use Rattle.std.specs.Prelude.{ℕ, List, drop}
+use Rattle.std.specs.Prelude.{ℕ, Bool, List}
 use Rattle.data_pdu.specs.Header.{header_in}
 use Rattle.link_model.specs.Acknowledgement.{Pdu}
 use Rattle.link_end.specs.declared.pdus.Got.{Got}
@@ -9,10 +9,11 @@ use Rattle.link_end.specs.declared.pdus.Pdu.{Pdu as KeptPdu}
 abbrev pub pdu_value : KeptPdu → Pdu
 pdu_value pdu = record { llid = pdu.llid; body = pdu.body.items }
 
--- the PDU in these octets, with its header
-abbrev pub got_of : List ℕ → Got
-got_of pdu = record { header = header_in pdu; body = record { items = drop 2 pdu } }
+-- what is read of a good packet with this header: whether its PDU is accepted, and the body that is taken
+abbrev pub got_with : List ℕ → Bool → List ℕ → Got
+got_with pdu accepted body =
+    record { header = header_in pdu; accepted = accepted; body = record { items = body } }
 
--- the PDU that was received
+-- the PDU that was received, as far as it is taken
 abbrev pub pdu_in : Got → Pdu
 pdu_in got = record { llid = got.header.llid; body = got.body.items }

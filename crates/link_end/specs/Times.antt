@@ -16,18 +16,18 @@ use Rattle.link_end.specs.Held.{Held}
 -- at the start of a turn: the first of these reasons (the order is our choice)
 abbrev pub due_by : Held → ℕ → Option ℕ
 due_by held slot =
-    first_of (reason_due held.setup.opened held.control.track.params held.last_good slot)
-    (first_of (option_map (λ (code : ErrCode). code.0) (timeout_of slot held.control))
-    (termination_due held.leaving.disconnected held.control.track.params slot))
+    first_of (reason_due held.setup.opened held.control.control.track.params held.last_good slot)
+    (first_of (option_map (λ (code : ErrCode). code.0) (timeout_of slot held.control.control))
+    (termination_due held.leaving.disconnected held.control.control.track.params slot))
 
 -- at the end of a turn (section 5.1.6; the order is our choice)
 abbrev pub ending_by : Held → Option ErrCode
 ending_by held =
     if held.leaving.acknowledged then Some (record { 0 = terminated_by_local_host })
-    else ended_by_procedures held.control.ends held.leaving
+    else ended_by_procedures held.control.control.ends held.leaving
 
 -- it has nothing to send where no octet of data waits; no procedure is in progress and no indication waits
 abbrev pub is_idle_with : Bool → Held → Bool
 is_idle_with no_data held =
-    ((held.is_acked || is_empty held.last) && (waiting_in held.control.table.queue == 0) && no_data)
-    && (not (is_busy held.control.table.progress) && is_free held.control.track)
+    ((held.is_acked || is_empty held.last) && (waiting_in held.control.control.table.queue == 0) && no_data)
+    && (not (is_busy held.control.control.table.progress) && is_free held.control.control.track)

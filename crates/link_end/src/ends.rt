@@ -9,37 +9,48 @@ ghost use Rattle.adv_pdu.specs.Ranges.{IsInRange};
 ghost use Rattle.instants.specs.Track.{next_anchor_of};
 ghost use Rattle.procedures.specs.procedure_values.Limits.{rx_of, tx_of};
 ghost use Rattle.procedures.specs.procedure_values.Wants.{IsAsk};
-ghost use Rattle.control_end.specs.Answers.{awaits_host, entry_of, goes_on, may_ask};
+ghost use Rattle.control_end.specs.Answers.{awaits_host, entry_of, may_ask};
 ghost use Rattle.control_end.specs.Held.{held_of};
+ghost use Rattle.link_model.specs.Receiving.{HasPayloadLengths};
+ghost use Rattle.link_model.specs.phased_end.Moves.{lasts};
 ghost use Rattle.link_model.specs.Setup.{Setup};
 ghost use Rattle.link_model.specs.Step.{Step, Disconnected, EventEntered};
 ghost use Rattle.link_model.specs.Step.{PacketReceived, PacketSent, PduFixed};
-ghost use Rattle.link_model.specs.Step.{ProcedureAsked, RequestAnswered};
+ghost use Rattle.link_model.specs.Step.{KeyAnswered, ProcedureAsked, RequestAnswered};
+ghost use Rattle.link_model.specs.Step.{WordsGiven};
+ghost use Rattle.link_model.specs.Controls.{is_quiet_now};
+ghost use Rattle.link_model.specs.Drawing.{draws_of};
+ghost use Rattle.link_model.specs.Hosts.{is_key_awaited};
 ghost use Rattle.link_model.specs.Facts.{params_of};
 ghost use Rattle.link_model.specs.Kept.{kept_of};
 ghost use Rattle.link_model.specs.Packets.{packet_sent, verdict_of};
-ghost use Rattle.link_model.specs.Receiving.{HasPayloadLengths, effect_of};
-ghost use Rattle.link_model.specs.Receiving.{effect_unless_known, replies_of};
+ghost use Rattle.link_model.specs.Receiving.{effect_of, effect_unless_known};
+ghost use Rattle.link_model.specs.Receiving.{kept_effect_of, replies_of};
 ghost use Rattle.link_model.specs.Times.{due_of, ending_of, has_second_exchange, span_of};
 ghost use Rattle.link_model.specs.Times.{wants_of};
 ghost use Rattle.link_model.specs.End.{facts_of};
-ghost use Rattle.link_end.specs.Answers.{acked_of, given_of};
-ghost use Rattle.link_end.specs.Held.{quiet_now};
+ghost use Rattle.link_end.specs.Answers.{acked_of, given_of, kept_given_of};
 ghost use Rattle.link_end.specs.Knowing.{Goes, Knows};
 ghost use Rattle.link_end.specs.Tied.{HoldsData, IsBefore, IsTied, LeavesOthers};
 
-use crate::first::{first_anchor, first_params, no_event, no_lengths, no_peer, selector, stays};
-use crate::packets::verdict;
+use crate::first::{
+    first_anchor, first_params, no_event, no_lengths, no_peer, no_response, selector, stays,
+};
+use crate::hearing::Hearing;
 use crate::pdus::Pdu;
+use crate::sending::SEALED_OCTETS;
 use crate::steps::{continues, span};
 use ack_bit::AckEnd;
 use acl_banks::{RxBank, TxBank};
 use arrayvec::ArrayVec;
 use ble_base::{AIR_PACKET_OCTETS, ErrCode, Kind, Outbox, SlotNo, Verdict};
 use chan_select::Selector;
-use control_end::{ControlEnd, Entry};
+use control_end::Entry;
 use instants::Params;
-use link_model::{ConnectionEvent, KnownLengths, Leaving, LinkSetup, PeerFacts, Reception};
+use keyed_control::Response;
+use link_model::{
+    ConnectionEvent, KnownLengths, Leaving, LinkSetup, PeerFacts, PhasedEnd, Reception,
+};
 use procedures::{Ask, Effect};
 use std::marker::Model;
 
@@ -56,6 +67,12 @@ pub struct LinkStep {
     pub done: Option<Kind>,
     /// The procedure of this end that the acknowledgement completes.
     pub acked: Option<Kind>,
+    /// What the layer above does with a control PDU that was kept until this one was taken.
+    pub kept_effect: Effect,
+    /// The procedure of this end that the PDU completes that was kept.
+    pub kept_done: Option<Kind>,
+    /// A peripheral answers LL_ENC_REQ: the words that were given last are drawn.
+    pub draws: bool,
 }
 
 /// One end of a link, from its CONNECT_IND on.
@@ -64,7 +81,9 @@ pub struct LinkEnd {
     pub(crate) setup: LinkSetup,
     /// The slot of the CONNECT_IND.
     pub(crate) opened: u64,
-    pub(crate) control: ControlEnd,
+    pub(crate) control: PhasedEnd,
+    /// What a peripheral would draw to answer LL_ENC_REQ.
+    pub(crate) response: Response,
     pub(crate) peer: PeerFacts,
     pub(crate) selector: Selector,
     pub(crate) event: ConnectionEvent,
@@ -72,9 +91,10 @@ pub struct LinkEnd {
     pub(crate) acknowledgement: AckEnd,
     /// The PDU that was sent last is acknowledged.
     pub(crate) is_acked: bool,
-    /// The PDU that was sent last, and the one that is sent next: the next control PDU, or this
-    /// one.
+    /// The PDU that was sent last, with its payload as it was on the air, and the one that is sent
+    /// next: the next control PDU, or this one.
     pub(crate) last: Pdu,
+    pub(crate) payload: ArrayVec<u8, SEALED_OCTETS>,
     pub(crate) fixed: Pdu,
     pub(crate) fixes_control: bool,
     /// A further PDU waited as that was fixed.
@@ -90,19 +110,21 @@ impl Model for LinkEnd {
     ghost use Rattle.std.specs.Prelude.{◌≡◌, ◌+◌, ◌<◌, ◌≤◌, ◌^◌, IfSome, if◌then◌else◌};
     ghost use Rattle.link_model.specs.Setup.{algorithm_of};
     ghost use Rattle.link_end.specs.Held.{Held, heard_slots};
-    ghost use Rattle.link_end.specs.Sound.{IsSound};
+    ghost use Rattle.link_model.specs.phased_end.Reached.{IsReached};
 
     ghost Value = { Held };
 
     ghost view = { λ e. record {
       setup = record { link = e.setup; opened = e.opened };
       control = e.control;
+      response = e.response;
       peer = e.peer;
       event = e.event;
       lengths = e.lengths;
       bits = e.acknowledgement;
       is_acked = e.is_acked;
       last = record { llid = e.last.llid; body = e.last.body.items };
+      payload = e.payload.items;
       fixed = record { llid = e.fixed.llid; body = e.fixed.body.items };
       fixes_control = e.fixes_control;
       more = e.more;
@@ -112,14 +134,16 @@ impl Model for LinkEnd {
       leaving = e.leaving;
     } };
 
-    // A PDU is taken, and the next one can be sent, only with a good packet in a later slot.
+    // A PDU is taken, and the next one can be sent, only with a good packet in a later slot; a PDU
+    // that is sealed or opened takes a counter of its session.
     ghost invariant = { λ e. (e.opened < 2 ^ 32) × (e.setup.fields.crc_init < 2 ^ 24)
         × (e.setup.max_rx ≤ 251) × (e.event.channel < 37) × (e.event.number < 2 ^ 32)
         × (e.selector ≡ algorithm_of e.setup)
         × IfSome e.last_good (λ good. (good.slot < 2 ^ 32) × (good.event < 2 ^ 32))
         × (e.last.llid < 4) × (e.fixed.llid < 4) × (e.taken ≤ heard_slots e.last_good)
         × ((if e.is_acked then 1 else 0) + e.sent ≤ heard_slots e.last_good)
-        × IfSome e.leaving.disconnected (λ since. since ≤ 2 ^ 32) × IsSound e.control };
+        × IfSome e.leaving.disconnected (λ since. since ≤ 2 ^ 32) × IsReached e.control
+        × (e.control.end.sent ≤ e.sent) × (e.control.end.opened ≤ heard_slots e.last_good) };
 }
 
 impl LinkEnd {
@@ -138,12 +162,13 @@ impl LinkEnd {
         LinkEnd {
             setup,
             opened: slot.0,
-            control: ControlEnd::new(
+            control: PhasedEnd::new(
                 setup.role,
                 setup.max_rx,
                 first_params(&setup),
                 first_anchor(setup.fields.win_offset, slot.0),
             ),
+            response: no_response(),
             peer: no_peer(),
             selector: selector(&setup),
             event: no_event(),
@@ -151,6 +176,7 @@ impl LinkEnd {
             acknowledgement: AckEnd::new(),
             is_acked: false,
             last: Pdu::empty(),
+            payload: ArrayVec::new(),
             fixed: Pdu::empty(),
             fixes_control: false,
             more: false,
@@ -172,7 +198,7 @@ impl LinkEnd {
 
     /// The slot of the anchor of the next event.
     pub fn next_anchor(&self) -> SlotNo
-        ensures value { result.0 ≡ next_anchor_of self.now.control.track }
+        ensures value { result.0 ≡ next_anchor_of self.now.control.control.track }
         ensures known { (setup : Setup) (past : List Step) → Knows setup self.now past
             → result.0 ≡ next_anchor_of (facts_of setup past).control.track }
     {
@@ -284,14 +310,15 @@ impl LinkEnd {
     /// force from then on, the event, and the procedures of this end that are done and that begin.
     /// An end whose procedures ended the link does nothing.
     pub fn enter(&mut self, slot: SlotNo, out: &mut Outbox) -> Entry
-        requires anchor { IsTrue (goes_on self.old.control)
-            → slot.0 ≡ next_anchor_of self.old.control.track }
+        requires anchor { IsTrue (lasts self.old.control)
+            → slot.0 ≡ next_anchor_of self.old.control.control.track }
         requires slot { slot.0 < 2 ^ 32 }
         requires room { array_vec_len out.old ≤ 59 }
         ensures goes { (setup : Setup) (past : List Step) → Knows setup self.old past
             → Goes setup self.new past (EventEntered slot.0) out.old.items out.new.items }
         ensures entry { (setup : Setup) (past : List Step) → Knows setup self.old past
-            → result ≡ entry_of slot.0 quiet_now (held_of (facts_of setup past).control) }
+            → result ≡ entry_of slot.0 (is_quiet_now (facts_of setup past))
+            (held_of (facts_of setup past).control) }
         ensures few { array_vec_len out.new ≤ array_vec_len out.old + 5 }
         ensures handle { self.new.setup ≡ self.old.setup }
         ensures last_good { self.new.last_good ≡ self.old.last_good }
@@ -300,19 +327,20 @@ impl LinkEnd {
             → HoldsData setup.link.handle bank (facts_of setup past).outgoing
             → HoldsData setup.link.handle bank
             (facts_of setup (past ++ EventEntered slot.0 ∷ [])).outgoing }
-        ensures enters { IsTrue (goes_on self.old.control) → 1 ≤ self.new.control.track.entered }
-        ensures entered { 1 ≤ self.old.control.track.entered
-            → 1 ≤ self.new.control.track.entered }
+        ensures enters { IsTrue (lasts self.old.control) → 1 ≤ self.new.control.control.track.entered }
+        ensures entered { 1 ≤ self.old.control.control.track.entered
+            → 1 ≤ self.new.control.control.track.entered }
     {
         self.enter_event(slot.0, out)
     }
 
     /// Fixes the PDU that is sent next where the last one is acknowledged, and whether a further
     /// one waits after it. A control PDU that may be sent goes before data, and is made as it is
-    /// sent; else it is the next piece of at most the effective length, or an empty PDU. No data
-    /// goes once the host has ended the link.
+    /// sent; else it is the next piece of at most the effective length, or an empty PDU. Data goes
+    /// in phase Clear or Secure alone, and none once the host has ended the link (Core 5.2, volume 6
+    /// part B, section 5.1.3).
     pub fn ready<const T: usize>(&mut self, tx: &TxBank<T>)
-        requires entered { 1 ≤ self.old.control.track.entered }
+        requires entered { 1 ≤ self.old.control.control.track.entered }
         requires tied { IsTied self.old tx.now }
         ensures knows { (setup : Setup) (past : List Step) → Knows setup self.old past
             → HoldsData setup.link.handle tx.now (facts_of setup past).outgoing
@@ -323,7 +351,7 @@ impl LinkEnd {
         ensures tied { IsTied self.new tx.now }
         ensures handle { self.new.setup ≡ self.old.setup }
         ensures last_good { self.new.last_good ≡ self.old.last_good }
-        ensures entered { 1 ≤ self.new.control.track.entered }
+        ensures entered { 1 ≤ self.new.control.control.track.entered }
     {
         self.fix(tx);
     }
@@ -331,7 +359,9 @@ impl LinkEnd {
     /// The packet that it sends in this slot: octets in the order of the air, without preamble. It
     /// carries the last PDU again until that is acknowledged, and then the fixed one, which is
     /// noted where it is not empty. A piece in that is out in the bank; a control PDU in that is
-    /// made here and leaves the queue.
+    /// made here and leaves the queue. The payload is sealed as a PDU is first sent, where the phase
+    /// says so, and is sent again as it is (Core 5.2, volume 6 part B, section 4.5.9, and part E,
+    /// section 2).
     #[tactic(auto, using(crate::proofs::Tying::gone_tied))]
     pub fn to_send<const T: usize>(
         &mut self,
@@ -339,7 +369,7 @@ impl LinkEnd {
         tx: &mut TxBank<T>,
         out: &mut Outbox,
     ) -> ArrayVec<u8, AIR_PACKET_OCTETS>
-        requires entered { 1 ≤ self.old.control.track.entered }
+        requires entered { 1 ≤ self.old.control.control.track.entered }
         requires tied { IsTied self.old tx.old }
         requires slot { slot.0 < 2 ^ 32 }
         requires room { array_vec_len out.old ≤ 59 }
@@ -356,12 +386,12 @@ impl LinkEnd {
         ensures others { LeavesOthers self.old.setup.link.handle tx.old tx.new }
         ensures handle { self.new.setup ≡ self.old.setup }
         ensures last_good { self.new.last_good ≡ self.old.last_good }
-        ensures entered { 1 ≤ self.new.control.track.entered }
+        ensures entered { 1 ≤ self.new.control.control.track.entered }
     {
         self.go(slot.0);
-        let packet = self.next_packet();
-        self.send(slot.0, tx, out);
-        packet
+        let more = self.more_out();
+        self.send(slot.0, more, tx, out);
+        self.packet_out(more)
     }
 
     /// Whether the host may ask for a procedure of this kind: it is neither wanted nor running
@@ -375,7 +405,7 @@ impl LinkEnd {
 
     /// The host asks for a procedure, with values in their ranges (Core 5.2, volume 6 part B,
     /// section 5.1). It begins as an event is entered. A channel map that the link is to have
-    /// already changes nothing.
+    /// already changes nothing, nor does an encryption, since no link is encrypted yet.
     pub fn ask(&mut self, ask: Ask)
         requires in_range { IsAsk ask }
         ensures knows { (setup : Setup) (past : List Step) → Knows setup self.old past
@@ -387,8 +417,8 @@ impl LinkEnd {
         ensures tied { (bank : Bank) → IsTied self.old bank → IsTied self.new bank }
         ensures handle { self.new.setup ≡ self.old.setup }
         ensures last_good { self.new.last_good ≡ self.old.last_good }
-        ensures entered { 1 ≤ self.old.control.track.entered
-            → 1 ≤ self.new.control.track.entered }
+        ensures entered { 1 ≤ self.old.control.control.track.entered
+            → 1 ≤ self.new.control.control.track.entered }
     {
         self.ask_unless_to_come(ask);
     }
@@ -416,10 +446,59 @@ impl LinkEnd {
         ensures tied { (bank : Bank) → IsTied self.old bank → IsTied self.new bank }
         ensures handle { self.new.setup ≡ self.old.setup }
         ensures last_good { self.new.last_good ≡ self.old.last_good }
-        ensures entered { 1 ≤ self.old.control.track.entered
-            → 1 ≤ self.new.control.track.entered }
+        ensures entered { 1 ≤ self.old.control.control.track.entered
+            → 1 ≤ self.new.control.control.track.entered }
     {
         self.answer_request(answer);
+    }
+
+    /// Whether the host of a peripheral was asked for a key and has not answered, and the link is
+    /// not to end (Core 5.2, volume 6 part B, section 5.1.3.1).
+    pub fn awaits_key(&self) -> bool
+        ensures { (setup : Setup) (past : List Step) → Knows setup self.now past
+            → result ≡ is_key_awaited (facts_of setup past) }
+    {
+        self.control.awaits_key()
+    }
+
+    /// The host of a peripheral answers in this slot that it has this long term key, most
+    /// significant octet first, or none (Core 5.2, volume 6 part B, section 5.1.3.1). Without a key
+    /// the start is refused; after a pause the link ends, at the latest as the supervision timeout
+    /// from this slot on is over (section 5.1.3.2). Nothing happens where no key is asked for.
+    pub fn key(&mut self, ltk: Option<[u8; 16]>, slot: SlotNo)
+        requires slot { slot.0 ≤ 2 ^ 32 }
+        ensures knows { (setup : Setup) (past : List Step) → Knows setup self.old past
+            → Knows setup self.new (past ++ KeyAnswered ltk slot.0 ∷ []) }
+        ensures holds { (setup : Setup) (past : List Step) (bank : Bank)
+            → HoldsData setup.link.handle bank (facts_of setup past).outgoing
+            → HoldsData setup.link.handle bank
+            (facts_of setup (past ++ KeyAnswered ltk slot.0 ∷ [])).outgoing }
+        ensures tied { (bank : Bank) → IsTied self.old bank → IsTied self.new bank }
+        ensures handle { self.new.setup ≡ self.old.setup }
+        ensures last_good { self.new.last_good ≡ self.old.last_good }
+        ensures entered { 1 ≤ self.old.control.control.track.entered
+            → 1 ≤ self.new.control.control.track.entered }
+    {
+        self.answer_key(ltk, slot.0);
+    }
+
+    /// The words with which a peripheral would answer LL_ENC_REQ in the next packet that it hears:
+    /// its halves of the session key diversifier and of the initialization vector (Core 5.2, volume
+    /// 6 part B, section 5.1.3.1).
+    pub fn enc_words(&mut self, skd_s: u64, iv_s: u32)
+        ensures knows { (setup : Setup) (past : List Step) → Knows setup self.old past
+            → Knows setup self.new (past ++ WordsGiven skd_s iv_s ∷ []) }
+        ensures holds { (setup : Setup) (past : List Step) (bank : Bank)
+            → HoldsData setup.link.handle bank (facts_of setup past).outgoing
+            → HoldsData setup.link.handle bank
+            (facts_of setup (past ++ WordsGiven skd_s iv_s ∷ [])).outgoing }
+        ensures tied { (bank : Bank) → IsTied self.old bank → IsTied self.new bank }
+        ensures handle { self.new.setup ≡ self.old.setup }
+        ensures last_good { self.new.last_good ≡ self.old.last_good }
+        ensures entered { 1 ≤ self.old.control.control.track.entered
+            → 1 ≤ self.new.control.control.track.entered }
+    {
+        self.take_words(skd_s, iv_s);
     }
 
     /// The host ends the link in this slot, for this reason: LL_TERMINATE_IND is queued, unless the
@@ -436,8 +515,8 @@ impl LinkEnd {
         ensures tied { (bank : Bank) → IsTied self.old bank → IsTied self.new bank }
         ensures handle { self.new.setup ≡ self.old.setup }
         ensures last_good { self.new.last_good ≡ self.old.last_good }
-        ensures entered { 1 ≤ self.old.control.track.entered
-            → 1 ≤ self.new.control.track.entered }
+        ensures entered { 1 ≤ self.old.control.control.track.entered
+            → 1 ≤ self.new.control.control.track.entered }
     {
         self.disconnect(reason, slot.0);
     }
@@ -447,15 +526,17 @@ impl LinkEnd {
         ensures { (setup : Setup) (past : List Step) → Knows setup self.now past
             → result ≡ verdict_of setup (facts_of setup past) octets.now }
     {
-        verdict(self.place(), self.setup.max_rx, octets)
+        self.verdict(octets)
     }
 
-    /// Takes octets on its channel in this slot. Only a good packet changes anything: first what it
-    /// acknowledges, then the control PDU with which a peripheral answers counts as sent, and then
-    /// its PDU is looked at. New data is kept for the host where there is room; without room it is
-    /// not accepted. A new PDU that is not empty is noted as it is accepted, and the procedures of
-    /// this end take it where it is a control PDU. After its LL_TERMINATE_IND is acknowledged an
-    /// end takes nothing more.
+    /// Takes octets on its channel in this slot. A good packet changes first what it acknowledges,
+    /// then the control PDU with which a peripheral answers counts as sent, and then its PDU is
+    /// looked at. New data is kept for the host where there is room; without room it is not
+    /// accepted. A new PDU that is not empty is opened, and noted as it is accepted, and the
+    /// procedures of this end take it where it is a control PDU. After its LL_TERMINATE_IND is
+    /// acknowledged an end takes nothing more. A packet whose integrity code is wrong ends the link
+    /// and does nothing else (Core 5.2, volume 6 part B, section 5.1.3.1); any other octets change
+    /// nothing.
     pub fn heard<const T: usize, const R: usize>(
         &mut self,
         octets: &[u8],
@@ -464,7 +545,7 @@ impl LinkEnd {
         rx: &mut RxBank<R>,
         out: &mut Outbox,
     ) -> LinkStep
-        requires entered { 1 ≤ self.old.control.track.entered }
+        requires entered { 1 ≤ self.old.control.control.track.entered }
         requires tied { IsTied self.old tx.old }
         requires counts { credits_of tx.old self.old.setup.link.handle < 65535 }
         requires before { IsBefore self.old slot.0 }
@@ -490,6 +571,16 @@ impl LinkEnd {
             (nat_lt (length rx.old) R)).done }
         ensures acked { (setup : Setup) (past : List Step) → Knows setup self.old past
             → result.acked ≡ acked_of setup (facts_of setup past) octets.now }
+        ensures kept_effect { (setup : Setup) (past : List Step) → Knows setup self.old past
+            → result.kept_effect ≡ kept_effect_of setup (facts_of setup past) slot.0 octets.now
+            (nat_lt (length rx.old) R) }
+        ensures kept_payloads { HasPayloadLengths result.kept_effect }
+        ensures kept_done { (setup : Setup) (past : List Step) → Knows setup self.old past
+            → result.kept_done ≡ (kept_given_of setup (facts_of setup past) slot.0 octets.now
+            (nat_lt (length rx.old) R)).done }
+        ensures draws { (setup : Setup) (past : List Step) → Knows setup self.old past
+            → result.draws ≡ draws_of setup (facts_of setup past) slot.0 octets.now
+            (nat_lt (length rx.old) R) }
         ensures kept { (setup : Setup) (past : List Step) → Knows setup self.old past
             → rx.new ≡ rx.old ++ kept_of setup (facts_of setup past) slot.0 octets.now
             (nat_lt (length rx.old) R) }
@@ -501,19 +592,42 @@ impl LinkEnd {
         ensures others { LeavesOthers self.old.setup.link.handle tx.old tx.new }
         ensures handle { self.new.setup ≡ self.old.setup }
         ensures last_good { IsBefore self.new (slot.0 + 1) }
-        ensures entered { 1 ≤ self.new.control.track.entered }
+        ensures entered { 1 ≤ self.new.control.control.track.entered }
     {
         let lengths = self.lengths;
-        let got = self.good(octets);
+        let got = self.read(octets, slot.0, rx);
         let is_good = got.is_some();
         let heard = self.hear(got, slot.0, tx, rx, out);
-        LinkStep {
-            reply: self.replies(is_good),
-            effect: effect_unless_known(lengths, heard.given.effect),
-            refused: heard.given.refused,
-            done: heard.given.done,
-            acked: heard.acked,
-        }
+        link_step(self.replies(is_good), lengths, &heard)
+    }
+}
+
+/// What comes of a packet, where the host knows these lengths.
+fn link_step(reply: bool, lengths: KnownLengths, heard: &Hearing) -> LinkStep
+    requires payloads { HasPayloadLengths heard.now.given.given.taken.effect }
+    requires kept_payloads { HasPayloadLengths heard.now.given.given.kept.effect }
+    ensures reply { result.reply ≡ reply }
+    ensures effect { result.effect
+        ≡ effect_unless_known lengths heard.now.given.given.taken.effect }
+    ensures payloads { HasPayloadLengths result.effect }
+    ensures refused { result.refused ≡ heard.now.given.given.taken.refused }
+    ensures done { result.done ≡ heard.now.given.given.taken.done }
+    ensures acked { result.acked ≡ heard.now.acked }
+    ensures kept_effect { result.kept_effect
+        ≡ effect_unless_known lengths heard.now.given.given.kept.effect }
+    ensures kept_payloads { HasPayloadLengths result.kept_effect }
+    ensures kept_done { result.kept_done ≡ heard.now.given.given.kept.done }
+    ensures draws { result.draws ≡ heard.now.given.draws }
+{
+    LinkStep {
+        reply,
+        effect: effect_unless_known(lengths, heard.given.given.taken.effect),
+        refused: heard.given.given.taken.refused,
+        done: heard.given.given.taken.done,
+        acked: heard.acked,
+        kept_effect: effect_unless_known(lengths, heard.given.given.kept.effect),
+        kept_done: heard.given.given.kept.done,
+        draws: heard.given.draws,
     }
 }
 

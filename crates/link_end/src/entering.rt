@@ -2,11 +2,12 @@
 ghost use Rattle.std.specs.Prelude.{◌≡◌, ◌+◌, ◌<◌, ◌≤◌, ◌^◌, ◌||◌, ◌++◌, nat_lt, IsTrue};
 ghost use Rattle.arrayvec.specs.ArrayVec.{array_vec_len};
 ghost use Rattle.instants.specs.Track.{next_anchor_of};
-ghost use Rattle.control_end.specs.Answers.{entry_of, goes_on, no_entry};
+ghost use Rattle.control_end.specs.Answers.{entry_of, no_entry};
+ghost use Rattle.link_model.specs.phased_end.Answers.{quiet_now};
+ghost use Rattle.link_model.specs.phased_end.Moves.{lasts};
 ghost use Rattle.link_model.specs.Events.{applied_notes};
 ghost use Rattle.link_model.specs.Entering.{began_notes, done_notes, event_notes};
 ghost use Rattle.link_end.specs.Entering.{entry_notes, held_entered, held_entered_if};
-ghost use Rattle.link_end.specs.Held.{quiet_now};
 
 use crate::controls::enter;
 use crate::ends::LinkEnd;
@@ -40,10 +41,11 @@ fn no_entry() -> Entry
 impl LinkEnd {
     /// Enters the next event, whose anchor is in this slot.
     fn enter_next(&mut self, slot: u64) -> Entry
-        requires goes_on { IsTrue (goes_on self.old.control) }
-        requires anchor { next_anchor_of self.old.control.track < 2 ^ 32 }
+        requires goes_on { IsTrue (lasts self.old.control) }
+        requires anchor { next_anchor_of self.old.control.control.track < 2 ^ 32 }
         ensures held { self.new ≡ held_entered slot self.old }
-        ensures entry { result ≡ entry_of slot quiet_now self.old.control }
+        ensures entry { result ≡ entry_of slot (quiet_now self.old.control) self.old.control.control }
+        ensures enters { 1 ≤ self.new.control.control.track.entered }
     {
         let latency = self.control.params().latency;
         let long = is_long(self.control.lengths());
@@ -68,13 +70,17 @@ impl LinkEnd {
     /// Enters the next event, whose anchor is in this slot, and notes it; an end whose procedures
     /// ended the link does nothing.
     pub(crate) fn enter_event(&mut self, slot: u64, out: &mut Outbox) -> Entry
-        requires anchor { IsTrue (goes_on self.old.control)
-            → next_anchor_of self.old.control.track < 2 ^ 32 }
+        requires anchor { IsTrue (lasts self.old.control)
+            → next_anchor_of self.old.control.control.track < 2 ^ 32 }
         requires room { array_vec_len out.old ≤ 59 }
-        ensures held { self.new ≡ held_entered_if (goes_on self.old.control) slot self.old }
-        ensures entry { result ≡ entry_of slot quiet_now self.old.control }
+        ensures held { self.new ≡ held_entered_if (lasts self.old.control) slot self.old }
+        ensures entry { result ≡ entry_of slot (quiet_now self.old.control) self.old.control.control }
         ensures notes { out.new.items ≡ out.old.items ++ entry_notes slot self.old }
         ensures few { array_vec_len out.new ≤ array_vec_len out.old + 5 }
+        ensures enters { IsTrue (lasts self.old.control)
+            → 1 ≤ self.new.control.control.track.entered }
+        ensures entered { 1 ≤ self.old.control.control.track.entered
+            → 1 ≤ self.new.control.control.track.entered }
     {
         if self.control.ends().is_some() {
             return no_entry();
@@ -119,7 +125,7 @@ fn note_applied(handle: u16, event: EventNo, applied: Option<u64>, out: &mut Out
 
 /// Notes a procedure of this end that is done.
 pub(crate) fn note_done(handle: u16, done: Option<Kind>, out: &mut Outbox)
-    requires room { array_vec_len out.old ≤ 62 }
+    requires room { array_vec_len out.old ≤ 63 }
     ensures notes { out.new.items ≡ out.old.items ++ done_notes handle done }
     ensures few { array_vec_len out.new ≤ array_vec_len out.old + 1 }
 {

@@ -1,13 +1,14 @@
 //! What a new end of a link holds.
-ghost use Rattle.std.specs.Prelude.{◌≡◌, ◌+◌, ◌<◌, ◌^◌};
+ghost use Rattle.std.specs.Prelude.{◌≡◌, ◌+◌, ◌<◌, ◌≤◌, ◌^◌};
 ghost use Rattle.adv_pdu.specs.Ranges.{IsInRange};
 ghost use Rattle.link_model.specs.Events.{no_event};
 ghost use Rattle.link_model.specs.Setup.{algorithm_of, first_params};
-ghost use Rattle.link_model.specs.Facts.{no_lengths, no_peer, stays};
+ghost use Rattle.link_model.specs.Facts.{no_lengths, no_peer, no_response, stays};
 
 use ble_base::{ChannelMap, SlotNo};
 use chan_select::Selector;
 use instants::Params;
+use keyed_control::Response;
 use link_model::{ConnectionEvent, KnownLengths, Leaving, LinkSetup, PeerFacts};
 
 /// The slots from a CONNECT_IND to the earliest anchor of event 0 (our choice).
@@ -20,7 +21,8 @@ const FIRST_OCTETS: u16 = 27;
 /// The first parameters of a link.
 pub(crate) fn first_params(setup: &LinkSetup) -> Params
     requires { IsInRange setup.now.fields }
-    ensures { result ≡ first_params setup.now.fields }
+    ensures value { result ≡ first_params setup.now.fields }
+    ensures latency { result.latency ≤ 499 }
 {
     let Some(map) = ChannelMap::new(setup.fields.map) else {
         unreachable!()
@@ -100,4 +102,11 @@ pub(crate) fn stays() -> Leaving
         ended_by_peer: None,
         answered: false,
     }
+}
+
+/// Nothing is drawn yet.
+pub(crate) fn no_response() -> Response
+    ensures { result ≡ no_response }
+{
+    Response { skd_s: 0, iv_s: 0 }
 }

@@ -25,11 +25,18 @@ fn pdu_fixed(control: bool, goes: bool, next: Option<Piece>) -> Pdu
 }
 
 /// Whether a further PDU waits after that one.
-fn more_fixed(control: bool, waiting: usize, goes: bool, next: &Option<Piece>, left: bool) -> bool
-    ensures { result ≡ more_fixed_by control waiting goes next.now left }
+fn more_fixed(
+    control: bool,
+    waiting: usize,
+    quiet: bool,
+    goes: bool,
+    next: &Option<Piece>,
+    left: bool,
+) -> bool
+    ensures { result ≡ more_fixed_by control waiting quiet goes next.now left }
 {
     if control {
-        waiting > 1 || next.is_some()
+        waiting > 1 || (quiet && next.is_some())
     } else {
         goes && left
     }
@@ -38,7 +45,7 @@ fn more_fixed(control: bool, waiting: usize, goes: bool, next: &Option<Piece>, l
 impl LinkEnd {
     /// Fixes the PDU that it sends next, and whether a further one waits after it.
     fn fix_anew<const T: usize>(&mut self, tx: &TxBank<T>)
-        requires entered { 1 ≤ self.old.control.track.entered }
+        requires entered { 1 ≤ self.old.control.control.track.entered }
         ensures { self.new
             ≡ held_fixed_anew (next_piece tx.now self.old.setup.link.handle (limit_of self.old))
             (nat_lt (next_length tx.now self.old.setup.link.handle (limit_of self.old))
@@ -47,17 +54,19 @@ impl LinkEnd {
         let handle = self.setup.handle;
         let limit = limit(&self.control);
         let control = has_next(&self.control);
-        let goes = !self.control.is_disconnecting();
+        let quiet = self.control.is_quiet();
+        let goes = quiet && !self.control.is_disconnecting();
         let next = tx.peek(handle, limit);
         let left = tx.waits(handle, limit);
-        self.more = more_fixed(control, self.control.waiting(), goes, &next, left);
+        let waiting = self.control.waiting();
+        self.more = more_fixed(control, waiting, quiet, goes, &next, left);
         self.fixed = pdu_fixed(control, goes, next);
         self.fixes_control = control;
     }
 
     /// The same, unless a control PDU that has left the queue is not sent yet.
     pub(crate) fn fix<const T: usize>(&mut self, tx: &TxBank<T>)
-        requires entered { 1 ≤ self.old.control.track.entered }
+        requires entered { 1 ≤ self.old.control.control.track.entered }
         ensures { self.new
             ≡ held_fixed (next_piece tx.now self.old.setup.link.handle (limit_of self.old))
             (nat_lt (next_length tx.now self.old.setup.link.handle (limit_of self.old))

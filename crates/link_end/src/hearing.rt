@@ -1,65 +1,50 @@
-//! What an end makes of octets that reach it: an acknowledgement, and a new PDU.
+//! What an end makes of a good packet that reaches it: an acknowledgement, and a new PDU.
 ghost use Rattle.std.specs.Prelude.{◌≡◌, ◌+◌, ◌<◌, ◌≤◌, ◌^◌, ◌&&◌, ◌++◌, true, false, not};
-ghost use Rattle.std.specs.Prelude.{[], ◌∷◌, Some, None, length, nat_lt, IsSome, if◌then◌else◌};
-ghost use Rattle.std.specs.Option.{option_map};
+ghost use Rattle.std.specs.Prelude.{[], ◌∷◌, Some, None, length, nat_lt, IfSome, IsSome};
+ghost use Rattle.std.specs.Prelude.{if◌then◌else◌};
 ghost use Rattle.std.specs.Bool.{beq};
 ghost use Rattle.arrayvec.specs.ArrayVec.{array_vec_len};
 ghost use Rattle.acl_banks.specs.Banks.{credits_of, packet_out};
-ghost use Rattle.air_frame.specs.Hearing.{heard_in};
 ghost use Rattle.control_end.specs.Answers.{done_by_acknowledgement};
+ghost use Rattle.link_model.specs.Receiving.{HasPayloadLengths};
+ghost use Rattle.link_model.specs.phased_end.Reached.{IsReached};
 ghost use Rattle.link_model.specs.Data.{is_data, is_empty};
-ghost use Rattle.link_model.specs.Events.{event_heard};
 ghost use Rattle.link_model.specs.Pieces.{kept_if};
-ghost use Rattle.link_model.specs.Verdicts.{good_in};
 ghost use Rattle.link_model.specs.Controls.{is_procedure_pdu};
 ghost use Rattle.link_model.specs.Entering.{done_notes};
-ghost use Rattle.link_model.specs.Receiving.{HasPayloadLengths, given_notes};
-ghost use Rattle.link_model.specs.Receiving.{leaving_acked_if, refused_notes};
+ghost use Rattle.link_model.specs.Receiving.{given_notes, leaving_acked_if, refused_notes};
 ghost use Rattle.link_end.specs.Held.{count_if, heard_slots};
-ghost use Rattle.link_end.specs.Pdus.{got_of, pdu_in};
-ghost use Rattle.link_end.specs.Receiving.{accepts, acked_in, acked_kind, acks, acks_piece};
+ghost use Rattle.link_end.specs.Pdus.{pdu_in};
+ghost use Rattle.link_end.specs.Receiving.{IsSingle, acked_in, acked_kind, acks, acks_piece};
 ghost use Rattle.link_end.specs.Receiving.{answers_with_control, bits_received};
-ghost use Rattle.link_end.specs.Receiving.{control_acked_if, given_if, given_in};
-ghost use Rattle.link_end.specs.Receiving.{has_ended, held_accepted_if, held_acked_if};
-ghost use Rattle.link_end.specs.Receiving.{held_before_taking};
-ghost use Rattle.link_end.specs.Receiving.{held_heard, held_hearing, held_received};
-ghost use Rattle.link_end.specs.Receiving.{held_taken_if, kept_in, received_notes};
-ghost use Rattle.link_end.specs.Receiving.{replies_to, taken_notes, took_note_if};
-ghost use Rattle.link_end.specs.Sending.{held_gone_if};
-ghost use Rattle.link_end.specs.Sound.{IsSound};
-ghost use Rattle.link_end.specs.Tied.{IsAfterAck, IsBefore, IsTied};
+ghost use Rattle.link_end.specs.Receiving.{control_acked_if, draws_if, draws_in, given_hearing};
+ghost use Rattle.link_end.specs.Receiving.{given_if, given_in, given_notes_of, has_ended};
+ghost use Rattle.link_end.specs.Receiving.{held_accepted_if, held_acked_if};
+ghost use Rattle.link_end.specs.Receiving.{held_before_taking, held_hearing, held_received};
+ghost use Rattle.link_end.specs.Receiving.{held_taken_if, kept_hearing, kept_in};
+ghost use Rattle.link_end.specs.Receiving.{notes_hearing, received_notes, replies_to};
+ghost use Rattle.link_end.specs.Receiving.{taken_notes, took_note_if};
+ghost use Rattle.link_end.specs.Tied.{IsAfterAck, IsTied};
 
 use crate::controls::see_acked;
 use crate::ends::LinkEnd;
 use crate::entering::note_done;
-use crate::packets::good;
 use crate::pdus::{Got, START};
-use crate::taking::nothing_taken;
+use crate::taking::{Given, nothing_given};
 use ack_bit::AckEnd;
 use acl_banks::{Piece, RxBank, TxBank};
 use ble_base::{ErrCode, Kind, Note, Outbox, Role};
-use control_end::{ControlEnd, Taken};
+use control_end::Taken;
 use data_pdu::DataHeader;
-use link_model::{ConnectionEvent, Leaving, Reception};
+use link_model::{Leaving, PhasedEnd, TakenKeyed};
 
 /// What comes of a packet that was received.
 #[derive(Drop)]
 pub(crate) struct Hearing {
     /// The procedure that the acknowledgement completes.
     pub(crate) acked: Option<Kind>,
-    /// What its procedures give for the new PDU.
-    pub(crate) given: Taken,
-}
-
-/// An event after a good packet with this MD bit was received in a slot.
-fn event_heard(event: ConnectionEvent, slot: u64, more: bool) -> ConnectionEvent
-    ensures { result ≡ event_heard slot more event }
-{
-    ConnectionEvent {
-        heard: event.heard || slot == event.slot,
-        more: event.more || (slot == event.slot && more),
-        ..event
-    }
+    /// What comes of the new PDU.
+    pub(crate) given: Given,
 }
 
 /// A header that acknowledges the last PDU or not, and brings a new PDU or not, by the header that
@@ -106,21 +91,17 @@ fn leaving_acked_if(acked: bool, leaving: Leaving) -> Leaving
 
 /// The control PDU that was sent last is acknowledged, or is not. The answer is the procedure that
 /// it completes.
-fn control_acked_if(acked: bool, control: &mut ControlEnd) -> Option<Kind>
-    requires sound { IsSound control.old }
+fn control_acked_if(acked: bool, control: &mut PhasedEnd) -> Option<Kind>
+    requires reached { IsReached control.old }
     ensures step { control.new ≡ control_acked_if acked control.old }
-    ensures done { result ≡ (if acked then done_by_acknowledgement control.old else None) }
-    ensures sound { IsSound control.new }
-    ensures entered { 1 ≤ control.old.track.entered → 1 ≤ control.new.track.entered }
+    ensures done { result ≡ (if acked then done_by_acknowledgement control.old.control else None) }
+    ensures reached { IsReached control.new }
+    ensures entered { 1 ≤ control.old.control.track.entered
+        → 1 ≤ control.new.control.track.entered }
+    ensures sent { control.new.end.sent ≤ control.old.end.sent }
+    ensures opened { control.new.end.opened ≤ control.old.end.opened }
 {
     if acked { see_acked(control) } else { None }
-}
-
-/// Whether one more piece can be kept for the host.
-fn has_room<const R: usize>(rx: &RxBank<R>) -> bool
-    ensures { result ≡ nat_lt (length rx.now) R }
-{
-    rx.room()
 }
 
 /// Keeps a piece for the host, or does not.
@@ -207,9 +188,9 @@ fn note_refused(handle: u16, refused: Option<(Kind, ErrCode)>, out: &mut Outbox)
     }
 }
 
-/// Notes what a control PDU that was taken did to the procedures of this end.
-fn note_given(handle: u16, given: &Taken, out: &mut Outbox)
-    requires room { array_vec_len out.old ≤ 61 }
+/// Notes what a control PDU did to the procedures of this end.
+fn note_taken(handle: u16, given: &Taken, out: &mut Outbox)
+    requires room { array_vec_len out.old ≤ 62 }
     ensures notes { out.new.items ≡ out.old.items ++ given_notes handle given.now }
     ensures few { array_vec_len out.new ≤ array_vec_len out.old + 2 }
 {
@@ -217,38 +198,29 @@ fn note_given(handle: u16, given: &Taken, out: &mut Outbox)
     note_done(handle, given.done, out);
 }
 
+/// The same for one that refuses a procedure or completes one, and not both.
+fn note_single(handle: u16, given: &Taken, out: &mut Outbox)
+    requires single { IsSingle given.now }
+    requires room { array_vec_len out.old ≤ 61 }
+    ensures notes { out.new.items ≡ out.old.items ++ given_notes handle given.now }
+    ensures few { array_vec_len out.new ≤ array_vec_len out.old + 1 }
+{
+    note_taken(handle, given, out);
+}
+
+/// Notes what a control PDU that was taken did to the procedures of this end, and what one did that
+/// was kept until then.
+fn note_given(handle: u16, given: &TakenKeyed, out: &mut Outbox)
+    requires single { IsSingle given.now.taken }
+    requires room { array_vec_len out.old ≤ 61 }
+    ensures notes { out.new.items ≡ out.old.items ++ given_notes_of handle given.now }
+    ensures few { array_vec_len out.new ≤ array_vec_len out.old + 3 }
+{
+    note_single(handle, &given.taken, out);
+    note_taken(handle, &given.kept, out);
+}
+
 impl LinkEnd {
-    /// The PDU of a good packet.
-    pub(crate) fn good(&self, octets: &[u8]) -> Option<Got>
-        ensures { result ≡ option_map got_of (good_in self.now.setup.link.max_rx
-            (heard_in self.now.event.channel self.now.setup.link.fields.access
-            self.now.setup.link.fields.crc_init octets.now)) }
-    {
-        good(self.place(), self.setup.max_rx, octets)
-    }
-
-    /// Whether a packet with this header acknowledges the PDU that was sent last.
-    fn acks(&self, header: DataHeader) -> bool
-        ensures { result ≡ acks self.now header }
-    {
-        !self.is_acked && header.nesn != self.acknowledgement.header(0, false, 0).sn
-    }
-
-    /// A good packet reached it in this slot.
-    fn note_good(&mut self, slot: u64, more: bool)
-        requires before { IsBefore self.old slot }
-        requires slot { slot < 2 ^ 32 }
-        ensures held { self.new ≡ held_heard slot more self.old }
-        ensures sent { self.new.sent < heard_slots self.new.last_good }
-        ensures taken { self.new.taken < heard_slots self.new.last_good }
-    {
-        self.event = event_heard(self.event, slot, more);
-        self.last_good = Some(Reception {
-            slot,
-            event: self.event.number,
-        });
-    }
-
     /// Its last PDU is acknowledged, or is not. The answer is the procedure that it completes.
     fn see_acked<const T: usize>(
         &mut self,
@@ -268,8 +240,8 @@ impl LinkEnd {
         ensures notes { out.new.items ≡ out.old.items
             ++ done_notes self.old.setup.link.handle (acked_kind acked self.old) }
         ensures few { array_vec_len out.new ≤ array_vec_len out.old + 1 }
-        ensures entered { 1 ≤ self.old.control.track.entered
-            → 1 ≤ self.new.control.track.entered }
+        ensures entered { 1 ≤ self.old.control.control.track.entered
+            → 1 ≤ self.new.control.control.track.entered }
     {
         let handle = self.setup.handle;
         acked_if(acked && self.last.is_data(), handle, tx);
@@ -291,72 +263,62 @@ impl LinkEnd {
         }
     }
 
-    /// Whether the PDU of a packet is new and accepted; data is, where there is room for it.
-    fn accepts(&self, room: bool, got: &Got) -> bool
-        ensures { result ≡ accepts room got.now.header (pdu_in got.now) self.now }
-    {
-        self.acknowledgement.is_new(got.header)
-            && (room || !got.is_data())
-            && (got.is_empty() || !self.leaving.acknowledged)
-    }
-
     /// The new PDU is accepted, or is not.
-    fn accept_if<const R: usize>(
-        &mut self,
-        accepted: bool,
-        got: Got,
-        rx: &mut RxBank<R>,
-        out: &mut Outbox,
-    )
-        requires space { (accepted && is_data (pdu_in got)) ≡ true → length rx.old < R }
+    fn accept_if<const R: usize>(&mut self, got: Got, rx: &mut RxBank<R>, out: &mut Outbox)
+        requires space { (got.accepted && is_data (pdu_in got)) ≡ true → length rx.old < R }
         requires taken { self.old.taken < heard_slots self.old.last_good }
         requires room { array_vec_len out.old ≤ 61 }
-        ensures held { self.new ≡ held_accepted_if accepted (pdu_in got) self.old }
+        ensures held { self.new ≡ held_accepted_if got.accepted (pdu_in got) self.old }
         ensures kept { rx.new ≡ rx.old
-            ++ kept_if (accepted && is_data (pdu_in got)) self.old.setup.link.handle (pdu_in got) }
+            ++ kept_if (got.accepted && is_data (pdu_in got)) self.old.setup.link.handle (pdu_in got) }
         ensures notes { out.new.items ≡ out.old.items
-            ++ took_note_if (accepted && not (is_empty (pdu_in got))) self.old.setup.link.handle
+            ++ took_note_if (got.accepted && not (is_empty (pdu_in got))) self.old.setup.link.handle
             self.old.taken (pdu_in got) }
         ensures few { array_vec_len out.new ≤ array_vec_len out.old + 1 }
     {
-        advance(&mut self.acknowledgement, false, accepted);
-        self.taken = take_if(accepted, self.setup.handle, self.taken, got, rx, out);
+        advance(&mut self.acknowledgement, false, got.accepted);
+        self.taken = take_if(got.accepted, self.setup.handle, self.taken, got, rx, out);
     }
 
     /// The new PDU is taken, or is not. The answer is what its procedures give for it.
     fn take_pdu<const R: usize>(
         &mut self,
-        accepted: bool,
         got: Got,
         slot: u64,
         rx: &mut RxBank<R>,
         out: &mut Outbox,
-    ) -> Taken
-        requires entered { 1 ≤ self.old.control.track.entered }
-        requires space { (accepted && is_data (pdu_in got)) ≡ true → length rx.old < R }
+    ) -> Given
+        requires entered { 1 ≤ self.old.control.control.track.entered }
+        requires space { (got.accepted && is_data (pdu_in got)) ≡ true → length rx.old < R }
         requires taken { self.old.taken < heard_slots self.old.last_good }
         requires room { array_vec_len out.old ≤ 60 }
-        ensures held { self.new ≡ held_taken_if accepted (pdu_in got) slot self.old }
-        ensures given { result
-            ≡ given_if (accepted && is_procedure_pdu (pdu_in got)) (pdu_in got) slot self.old }
-        ensures payloads { HasPayloadLengths result.effect }
+        ensures held { self.new ≡ held_taken_if got.accepted (pdu_in got) slot self.old }
+        ensures given { result.given
+            ≡ given_if (got.accepted && is_procedure_pdu (pdu_in got)) (pdu_in got) slot self.old }
+        ensures draws { result.draws
+            ≡ draws_if (got.accepted && is_procedure_pdu (pdu_in got)) (pdu_in got) slot self.old }
+        ensures payloads { HasPayloadLengths result.given.taken.effect }
+        ensures kept_payloads { HasPayloadLengths result.given.kept.effect }
         ensures kept { rx.new ≡ rx.old
-            ++ kept_if (accepted && is_data (pdu_in got)) self.old.setup.link.handle (pdu_in got) }
+            ++ kept_if (got.accepted && is_data (pdu_in got)) self.old.setup.link.handle
+            (pdu_in got) }
         ensures notes { out.new.items ≡ out.old.items
-            ++ taken_notes accepted (pdu_in got) slot self.old }
-        ensures few { array_vec_len out.new ≤ array_vec_len out.old + 3 }
-        ensures entered { 1 ≤ self.new.control.track.entered }
+            ++ taken_notes got.accepted (pdu_in got) slot self.old }
+        ensures few { array_vec_len out.new ≤ array_vec_len out.old + 4 }
+        ensures entered { 1 ≤ self.new.control.control.track.entered }
     {
         let handle = self.setup.handle;
-        let given = self.give_if(accepted && got.is_procedure_pdu(), &got, slot);
-        self.accept_if(accepted, got, rx, out);
-        note_given(handle, &given, out);
+        let takes_data = got.accepted && got.is_data();
+        let given = self.give_if(got.accepted && got.is_procedure_pdu(), &got, slot);
+        self.accept_if(got, rx, out);
+        self.take_data_if(takes_data);
+        note_given(handle, &given.given, out);
         given
     }
 
-    /// A good packet with this header reached it in this slot: its last PDU is acknowledged, or is
-    /// not, and the control PDU with which a peripheral answers counts as first sent. The answer is
-    /// the procedure that the acknowledgement completes.
+    /// The header of a good packet is taken: its last PDU is acknowledged, or is not, and the control
+    /// PDU with which a peripheral answers counts as first sent. The answer is the procedure that the
+    /// acknowledgement completes.
     fn receive_header<const T: usize>(
         &mut self,
         header: DataHeader,
@@ -364,11 +326,10 @@ impl LinkEnd {
         tx: &mut TxBank<T>,
         out: &mut Outbox,
     ) -> Option<Kind>
-        requires entered { 1 ≤ self.old.control.track.entered }
+        requires entered { 1 ≤ self.old.control.control.track.entered }
         requires tied { IsTied self.old tx.old }
         requires counts { credits_of tx.old self.old.setup.link.handle < 65535 }
-        requires before { IsBefore self.old slot }
-        requires slot { slot < 2 ^ 32 }
+        requires sent { self.old.sent < heard_slots self.old.last_good }
         requires room { array_vec_len out.old ≤ 59 }
         ensures held { self.new ≡ held_before_taking slot header self.old }
         ensures bank { IsAfterAck (acks self.old header && is_data self.old.last)
@@ -377,11 +338,9 @@ impl LinkEnd {
         ensures notes { out.new.items ≡ out.old.items ++ done_notes self.old.setup.link.handle
             (acked_kind (acks self.old header) self.old) }
         ensures few { array_vec_len out.new ≤ array_vec_len out.old + 1 }
-        ensures taken { self.new.taken < heard_slots self.new.last_good }
-        ensures entered { 1 ≤ self.new.control.track.entered }
+        ensures entered { 1 ≤ self.new.control.control.track.entered }
     {
         let acked = self.acks(header);
-        self.note_good(slot, header.md);
         let done = self.see_acked(acked, tx, out);
         self.go_if(self.answers_with_control(), slot);
         done
@@ -396,29 +355,28 @@ impl LinkEnd {
         rx: &mut RxBank<R>,
         out: &mut Outbox,
     ) -> Hearing
-        requires entered { 1 ≤ self.old.control.track.entered }
+        requires entered { 1 ≤ self.old.control.control.track.entered }
         requires tied { IsTied self.old tx.old }
         requires counts { credits_of tx.old self.old.setup.link.handle < 65535 }
-        requires before { IsBefore self.old slot }
-        requires slot { slot < 2 ^ 32 }
+        requires sent { self.old.sent < heard_slots self.old.last_good }
+        requires taken { self.old.taken < heard_slots self.old.last_good }
+        requires space { (got.accepted && is_data (pdu_in got)) ≡ true → length rx.old < R }
         requires room { array_vec_len out.old ≤ 59 }
-        ensures held { self.new ≡ held_hearing slot (nat_lt (length rx.old) R) got self.old }
+        ensures held { self.new ≡ held_hearing slot got self.old }
         ensures bank { IsAfterAck (acks_piece (Some got) self.old) self.old.setup.link.handle
             tx.old tx.new }
-        ensures kept { rx.new
-            ≡ rx.old ++ kept_in slot (nat_lt (length rx.old) R) (Some got) self.old }
-        ensures notes { out.new.items ≡ out.old.items
-            ++ received_notes slot (nat_lt (length rx.old) R) (Some got) self.old }
-        ensures acked { result.acked ≡ acked_in (Some got) self.old }
-        ensures given { result.given
-            ≡ given_in slot (nat_lt (length rx.old) R) (Some got) self.old }
-        ensures payloads { HasPayloadLengths result.given.effect }
-        ensures few { array_vec_len out.new ≤ array_vec_len out.old + 4 }
-        ensures entered { 1 ≤ self.new.control.track.entered }
+        ensures kept { rx.new ≡ rx.old ++ kept_hearing got self.old }
+        ensures notes { out.new.items ≡ out.old.items ++ notes_hearing slot got self.old }
+        ensures acked { result.acked ≡ acked_kind (acks self.old got.header) self.old }
+        ensures given { result.given.given ≡ given_hearing slot got self.old }
+        ensures draws { result.given.draws ≡ draws_in slot (Some got) self.old }
+        ensures payloads { HasPayloadLengths result.given.given.taken.effect }
+        ensures kept_payloads { HasPayloadLengths result.given.given.kept.effect }
+        ensures few { array_vec_len out.new ≤ array_vec_len out.old + 5 }
+        ensures entered { 1 ≤ self.new.control.control.track.entered }
     {
         let acked = self.receive_header(got.header, slot, tx, out);
-        let accepted = self.accepts(has_room(rx), &got);
-        let given = self.take_pdu(accepted, got, slot, rx, out);
+        let given = self.take_pdu(got, slot, rx, out);
         Hearing { acked, given }
     }
 
@@ -431,29 +389,32 @@ impl LinkEnd {
         rx: &mut RxBank<R>,
         out: &mut Outbox,
     ) -> Hearing
-        requires entered { 1 ≤ self.old.control.track.entered }
+        requires entered { 1 ≤ self.old.control.control.track.entered }
         requires tied { IsTied self.old tx.old }
         requires counts { credits_of tx.old self.old.setup.link.handle < 65535 }
-        requires before { IsBefore self.old slot }
-        requires slot { slot < 2 ^ 32 }
+        requires counted { IfSome got (λ got. (self.old.sent < heard_slots self.old.last_good)
+            × (self.old.taken < heard_slots self.old.last_good)) }
+        requires space { IfSome got
+            (λ got. (got.accepted && is_data (pdu_in got)) ≡ true → length rx.old < R) }
         requires room { array_vec_len out.old ≤ 59 }
-        ensures held { self.new ≡ held_received slot (nat_lt (length rx.old) R) got self.old }
+        ensures held { self.new ≡ held_received slot got self.old }
         ensures bank { IsAfterAck (acks_piece got self.old) self.old.setup.link.handle
             tx.old tx.new }
-        ensures kept { rx.new ≡ rx.old ++ kept_in slot (nat_lt (length rx.old) R) got self.old }
-        ensures notes { out.new.items ≡ out.old.items
-            ++ received_notes slot (nat_lt (length rx.old) R) got self.old }
+        ensures kept { rx.new ≡ rx.old ++ kept_in got self.old }
+        ensures notes { out.new.items ≡ out.old.items ++ received_notes slot got self.old }
         ensures acked { result.acked ≡ acked_in got self.old }
-        ensures given { result.given ≡ given_in slot (nat_lt (length rx.old) R) got self.old }
-        ensures payloads { HasPayloadLengths result.given.effect }
-        ensures few { array_vec_len out.new ≤ array_vec_len out.old + 4 }
-        ensures entered { 1 ≤ self.new.control.track.entered }
+        ensures given { result.given.given ≡ given_in slot got self.old }
+        ensures draws { result.given.draws ≡ draws_in slot got self.old }
+        ensures payloads { HasPayloadLengths result.given.given.taken.effect }
+        ensures kept_payloads { HasPayloadLengths result.given.given.kept.effect }
+        ensures few { array_vec_len out.new ≤ array_vec_len out.old + 5 }
+        ensures entered { 1 ≤ self.new.control.control.track.entered }
     {
         match got {
             Some(got) => self.receive(got, slot, tx, rx, out),
             None => Hearing {
                 acked: None,
-                given: nothing_taken(),
+                given: nothing_given(),
             },
         }
     }

@@ -3,16 +3,18 @@ ghost use Rattle.std.specs.Prelude.{◌≡◌, ◌≤◌, ◌^◌, ◌==◌, ◌
 ghost use Rattle.std.specs.Result.{ForOk};
 ghost use Rattle.procedures.specs.procedure_values.Wants.{IsAsk};
 ghost use Rattle.link_model.specs.Hosts.{map_indicated, map_queued, map_waiting, map_wanted};
-ghost use Rattle.link_model.specs.Hosts.{or_else};
+ghost use Rattle.link_model.specs.Hosts.{leaving_from_if, or_else};
 ghost use Rattle.link_end.specs.Hosts.{held_answered, held_asked, held_asked_unless};
-ghost use Rattle.link_end.specs.Hosts.{held_disconnected, is_to_come, map_to_come};
+ghost use Rattle.link_end.specs.Hosts.{ends_without_key, held_disconnected, held_key_answered};
+ghost use Rattle.link_end.specs.Hosts.{held_with_words, is_to_come, map_to_come};
 
-use crate::controls::{answer, ask, disconnect};
+use crate::controls::{answer, answer_key, ask, disconnect};
 use crate::ends::LinkEnd;
 use ble_base::{ChannelMap, ErrCode};
-use control_end::ControlEnd;
+use enc_phase::Transition;
 use instants::{Change, Indication};
-use link_model::KnownLengths;
+use keyed_control::Response;
+use link_model::{KnownLengths, Leaving, PhasedEnd};
 use procedures::{Ask, Draft};
 
 /// The map that the host wants.
@@ -69,8 +71,8 @@ fn or_else(map: Option<ChannelMap>, other: ChannelMap) -> ChannelMap
 
 /// The map that the link is to have: the one that is wanted, or else the one that is on its way, or
 /// else that of now.
-fn map_to_come(control: &ControlEnd) -> ChannelMap
-    ensures { result ≡ map_to_come control.now }
+fn map_to_come(control: &PhasedEnd) -> ChannelMap
+    ensures { result ≡ map_to_come control.now.control }
 {
     let indicated = or_else(map_waiting(control.waiting_change()), control.params().map);
     or_else(
@@ -79,12 +81,14 @@ fn map_to_come(control: &ControlEnd) -> ChannelMap
     )
 }
 
-/// Whether it is a map that the link is to have already.
-fn is_to_come(ask: &Ask, control: &ControlEnd) -> bool
-    ensures { result ≡ is_to_come ask.now control.now }
+/// Whether this changes nothing: a map that the link is to have already, or an encryption, since no
+/// link is encrypted yet.
+fn is_to_come(ask: &Ask, control: &PhasedEnd) -> bool
+    ensures { result ≡ is_to_come ask.now control.now.control }
 {
     match ask {
         Ask::Map(map) => *map == map_to_come(control),
+        Ask::Encrypt { .. } => true,
         _ => false,
     }
 }
@@ -107,26 +111,50 @@ pub(crate) fn lengths_seen(
     }
 }
 
+/// Whether an end ends the link as its host answers so: it has no key after a pause.
+fn ends_without_key(key: &Option<[u8; 16]>, control: &PhasedEnd) -> bool
+    ensures { result ≡ ends_without_key key.now control.now }
+{
+    match key {
+        None => control.awaits_key() && !control.facts().may_follow(Transition::Refuse),
+        Some(_) => false,
+    }
+}
+
+/// How the link is to end where it ends from this slot on, or not.
+fn leaving_from_if(leaves: bool, slot: u64, leaving: Leaving) -> Leaving
+    ensures { result ≡ leaving_from_if leaves slot leaving }
+{
+    if leaves {
+        Leaving {
+            disconnected: Some(slot),
+            ..leaving
+        }
+    } else {
+        leaving
+    }
+}
+
 impl LinkEnd {
     /// The host asks for a procedure.
     fn ask_anew(&mut self, asked: Ask)
         requires in_range { IsAsk asked }
         ensures held { self.new ≡ held_asked asked self.old }
-        ensures entered { 1 ≤ self.old.control.track.entered
-            → 1 ≤ self.new.control.track.entered }
+        ensures entered { 1 ≤ self.old.control.control.track.entered
+            → 1 ≤ self.new.control.control.track.entered }
     {
         let before = self.control.lengths();
         ask(&mut self.control, asked);
         self.lengths = lengths_seen(before, self.control.lengths(), self.lengths);
     }
 
-    /// The same, but for a map that the link is to have already.
+    /// The same, but for a map that the link is to have already and for an encryption.
     pub(crate) fn ask_unless_to_come(&mut self, asked: Ask)
         requires in_range { IsAsk asked }
         ensures held { self.new
-            ≡ held_asked_unless (is_to_come asked self.old.control) asked self.old }
-        ensures entered { 1 ≤ self.old.control.track.entered
-            → 1 ≤ self.new.control.track.entered }
+            ≡ held_asked_unless (is_to_come asked self.old.control.control) asked self.old }
+        ensures entered { 1 ≤ self.old.control.control.track.entered
+            → 1 ≤ self.new.control.control.track.entered }
     {
         if !is_to_come(&asked, &self.control) {
             self.ask_anew(asked);
@@ -137,8 +165,8 @@ impl LinkEnd {
     pub(crate) fn answer_request(&mut self, answered: Result<Ask, ErrCode>)
         requires in_range { ForOk answered IsAsk }
         ensures held { self.new ≡ held_answered answered self.old }
-        ensures entered { 1 ≤ self.old.control.track.entered
-            → 1 ≤ self.new.control.track.entered }
+        ensures entered { 1 ≤ self.old.control.control.track.entered
+            → 1 ≤ self.new.control.control.track.entered }
     {
         answer(&mut self.control, answered);
     }
@@ -147,10 +175,29 @@ impl LinkEnd {
     pub(crate) fn disconnect(&mut self, reason: ErrCode, slot: u64)
         requires slot { slot ≤ 2 ^ 32 }
         ensures held { self.new ≡ held_disconnected reason slot self.old }
-        ensures entered { 1 ≤ self.old.control.track.entered
-            → 1 ≤ self.new.control.track.entered }
+        ensures entered { 1 ≤ self.old.control.control.track.entered
+            → 1 ≤ self.new.control.control.track.entered }
     {
         disconnect(&mut self.control, reason);
         self.leaving.disconnected = Some(slot);
+    }
+
+    /// The host of a peripheral answers in this slot that it has this key, or none.
+    pub(crate) fn answer_key(&mut self, key: Option<[u8; 16]>, slot: u64)
+        requires slot { slot ≤ 2 ^ 32 }
+        ensures held { self.new ≡ held_key_answered key slot self.old }
+        ensures entered { 1 ≤ self.old.control.control.track.entered
+            → 1 ≤ self.new.control.control.track.entered }
+    {
+        let leaves = ends_without_key(&key, &self.control);
+        answer_key(&mut self.control, key);
+        self.leaving = leaving_from_if(leaves, slot, self.leaving);
+    }
+
+    /// What a peripheral would draw is given.
+    pub(crate) fn take_words(&mut self, skd_s: u64, iv_s: u32)
+        ensures { self.new ≡ held_with_words skd_s iv_s self.old }
+    {
+        self.response = Response { skd_s, iv_s };
     }
 }

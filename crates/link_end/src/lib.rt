@@ -1,5 +1,5 @@
-//! One end of a link: its connection events, its packets, its data and its control procedures, and
-//! when it ends (Core 5.2, volume 6 part B, sections 4.5 and 5).
+//! One end of a link: its connection events, its packets, its data, its control procedures and its
+//! encryption, and when it ends (Core 5.2, volume 6 part B, sections 4.5 and 5).
 #![tactic(auto)]
 
 mod controls;
@@ -13,6 +13,7 @@ mod laws;
 mod packets;
 mod pdus;
 mod readers;
+mod reading;
 mod sending;
 mod steps;
 mod taking;

@@ -1,17 +1,14 @@
 //! What an end of a link makes of octets on its channel, and the packet that it sends.
-ghost use Rattle.std.specs.Prelude.{◌≡◌, ◌<◌, ◌≤◌, ◌^◌, ◌++◌, length};
-ghost use Rattle.std.specs.Option.{option_map};
+ghost use Rattle.std.specs.Prelude.{◌≡◌, ◌<◌, ◌≤◌, ◌^◌, ◌&&◌, ◌++◌, not, length, if◌then◌else◌};
 ghost use Rattle.air_frame.specs.Packet.{on_air};
-ghost use Rattle.air_frame.specs.Hearing.{heard_in};
 ghost use Rattle.data_pdu.specs.Header.{octets_of};
-ghost use Rattle.link_model.specs.Verdicts.{good_in, verdict_by};
-ghost use Rattle.link_end.specs.Pdus.{got_of};
+ghost use Rattle.link_model.specs.Verdicts.{has_room_for};
 
-use crate::pdus::Got;
-use air_frame::{Heard, build, unframe};
+use crate::pdus::is_empty;
+use air_frame::build;
 use arrayvec::ArrayVec;
-use ble_base::{AIR_PACKET_OCTETS, Verdict};
-use data_pdu::{DataHeader, write_header};
+use ble_base::AIR_PACKET_OCTETS;
+use data_pdu::{DataHeader, read_header, write_header};
 use wire_fields::put_octets;
 
 /// Where an end sends and listens: the channel, the access address of the link, and where its CRC
@@ -26,56 +23,48 @@ pub(crate) struct Place {
 /// The octets of a header before its payload.
 const HEADER_OCTETS: usize = 2;
 
+/// The octets of an integrity code (Core 5.2, volume 6 part E, section 2).
+const CODE_OCTETS: usize = 4;
+
 /// The most octets of a PDU that is sent.
-const PDU_OCTETS: usize = 253;
+const PDU_OCTETS: usize = 257;
 
 /// The packet of the PDU with this header and this payload.
 pub(crate) fn packet(
     place: Place,
     header: DataHeader,
-    body: &[u8],
+    payload: &[u8],
 ) -> ArrayVec<u8, AIR_PACKET_OCTETS>
     requires channel { place.channel < 40 }
     requires init { place.crc_init < 2 ^ 24 }
     requires llid { header.llid < 4 }
-    requires count { header.length ≡ length body.now }
-    requires fits { length body.now ≤ 251 }
+    requires count { header.length ≡ length payload.now }
+    requires fits { length payload.now ≤ 255 }
     ensures { result.items
-        ≡ on_air place.channel place.access place.crc_init (octets_of header ++ body.now) }
+        ≡ on_air place.channel place.access place.crc_init (octets_of header ++ payload.now) }
 {
     let mut pdu: ArrayVec<u8, PDU_OCTETS> = ArrayVec::new();
     put_octets(&mut pdu, &write_header(header));
-    put_octets(&mut pdu, body);
+    put_octets(&mut pdu, payload);
     build(place.channel, place.access, place.crc_init, pdu.as_slice())
 }
 
-/// The verdict on octets at this place, of an end that receives payloads of at most `max_rx`
-/// octets.
-pub(crate) fn verdict(place: Place, max_rx: u16, octets: &[u8]) -> Verdict
-    requires channel { place.channel < 40 }
-    requires init { place.crc_init < 2 ^ 24 }
-    ensures { result ≡ verdict_by max_rx
-        (heard_in place.channel place.access place.crc_init octets.now) }
+/// The octets of an integrity code that a PDU may have in addition.
+fn code_octets(opens: bool, empty: bool) -> usize
+    ensures { result ≡ (if opens && not empty then 4 else 0) }
 {
-    match unframe(place.channel, place.access, place.crc_init, octets) {
-        Heard::NotOurs => Verdict::Missed,
-        Heard::Whole(pdu) if pdu.len() <= HEADER_OCTETS + usize::from(max_rx) => Verdict::Good,
-        Heard::Broken | Heard::Whole(_) => Verdict::Broken,
-    }
+    if opens && !empty { CODE_OCTETS } else { 0 }
 }
 
-/// The PDU of a good packet.
-pub(crate) fn good(place: Place, max_rx: u16, octets: &[u8]) -> Option<Got>
-    requires channel { place.channel < 40 }
-    requires init { place.crc_init < 2 ^ 24 }
-    requires max_rx { max_rx ≤ 251 }
-    ensures { result ≡ option_map got_of
-        (good_in max_rx (heard_in place.channel place.access place.crc_init octets.now)) }
+/// Whether the payload of a PDU is not longer than what an end receives: at most `max_rx` octets,
+/// and those of an integrity code in addition where it opens a PDU that is not empty.
+pub(crate) fn has_room_for(max_rx: u16, opens: bool, pdu: &[u8]) -> bool
+    requires header { 2 ≤ length pdu.now }
+    requires octets { length pdu.now ≤ 257 }
+    ensures { result ≡ has_room_for max_rx opens pdu.now }
 {
-    match unframe(place.channel, place.access, place.crc_init, octets) {
-        Heard::Whole(pdu) if pdu.len() <= HEADER_OCTETS + usize::from(max_rx) => {
-            Some(Got::new(pdu.as_slice()))
-        }
-        _ => None,
-    }
+    let (_, payload) = pdu.split_at(HEADER_OCTETS);
+    let header = read_header([pdu[0], pdu[1]]);
+    let code = code_octets(opens, is_empty(header.llid, payload.len()));
+    pdu.len() <= HEADER_OCTETS + (usize::from(max_rx) + code)
 }

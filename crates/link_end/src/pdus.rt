@@ -8,12 +8,12 @@ ghost use Rattle.link_model.specs.Acknowledgement.{empty_pdu};
 ghost use Rattle.link_model.specs.Data.{is_control, is_data, is_empty, llid_of, pdu_with};
 ghost use Rattle.link_model.specs.Controls.{begins_with, is_procedure_pdu, is_terminate};
 ghost use Rattle.link_model.specs.Controls.{pdu_of_control, read_of};
-ghost use Rattle.link_end.specs.Pdus.{got_of, pdu_in, pdu_value};
+ghost use Rattle.link_end.specs.Pdus.{pdu_in, pdu_value};
 
 use acl_banks::Piece;
 use arrayvec::ArrayVec;
 use ble_base::PAYLOAD_OCTETS;
-use data_pdu::{Ctrl, CtrlRead, DataHeader, read_ctrl, read_header, write_ctrl};
+use data_pdu::{Ctrl, CtrlRead, DataHeader, read_ctrl, write_ctrl};
 use wire_fields::put_octets;
 
 /// LLID of a PDU that continues a message of the host, and of an empty PDU.
@@ -41,10 +41,13 @@ pub(crate) struct Pdu {
     pub(crate) body: ArrayVec<u8, PAYLOAD_OCTETS>,
 }
 
-/// The PDU of a good packet.
+/// What an end takes of a good packet.
 #[derive(Debug, Drop)]
 pub(crate) struct Got {
     pub(crate) header: DataHeader,
+    /// Its PDU is new and accepted.
+    pub(crate) accepted: bool,
+    /// The body of a PDU that is accepted and not empty, opened; else it has no octet.
     pub(crate) body: ArrayVec<u8, PAYLOAD_OCTETS>,
 }
 
@@ -119,21 +122,6 @@ impl Pdu {
 }
 
 impl Got {
-    /// The PDU in these octets.
-    pub(crate) fn new(pdu: &[u8]) -> Got
-        requires header { 2 ≤ length pdu.now }
-        requires fits { length pdu.now ≤ 253 }
-        ensures { result ≡ got_of pdu.now }
-    {
-        let (_, octets) = pdu.split_at(2);
-        let mut body = ArrayVec::new();
-        put_octets(&mut body, octets);
-        Got {
-            header: read_header([pdu[0], pdu[1]]),
-            body,
-        }
-    }
-
     pub(crate) fn is_data(&self) -> bool
         ensures { result ≡ is_data (pdu_in self.now) }
     {
@@ -170,14 +158,14 @@ fn llid(start: bool) -> u8
 }
 
 /// Whether a PDU with this LLID and this number of octets is data.
-fn is_data(llid: u8, octets: usize) -> bool
+pub(crate) fn is_data(llid: u8, octets: usize) -> bool
     ensures { result ≡ ((llid == 1 || llid == 2) && not (octets == 0)) }
 {
     (llid == CONTINUATION || llid == START) && octets != 0
 }
 
 /// Whether such a PDU counts as empty.
-fn is_empty(llid: u8, octets: usize) -> bool
+pub(crate) fn is_empty(llid: u8, octets: usize) -> bool
     ensures { result ≡ (llid == 0 || octets == 0) }
 {
     llid == 0 || octets == 0

@@ -6,13 +6,15 @@ ghost use Rattle.ack_bit.specs.AckBits.{header_of};
 ghost use Rattle.acl_banks.specs.Banks.{next_piece, packet_out};
 ghost use Rattle.air_frame.specs.Packet.{on_air};
 ghost use Rattle.data_pdu.specs.Header.{octets_of};
+ghost use Rattle.link_model.specs.phased_end.Reached.{IsReached};
 ghost use Rattle.link_model.specs.Data.{is_data, is_empty};
 ghost use Rattle.link_model.specs.Events.{event_sent};
+ghost use Rattle.link_model.specs.Payload.{end_sending, payload_made};
 ghost use Rattle.link_model.specs.Sending.{leaving_sent, sent_notes_if};
 ghost use Rattle.link_end.specs.Held.{count_if};
 ghost use Rattle.link_end.specs.Pdus.{pdu_value};
 ghost use Rattle.link_end.specs.Sending.{carries_next, held_gone, held_gone_if, held_out};
-ghost use Rattle.link_end.specs.Sending.{more_out, pdu_fixed, pdu_out, sent_notes};
+ghost use Rattle.link_end.specs.Sending.{more_out, pdu_fixed, sent_notes};
 ghost use Rattle.link_end.specs.Sending.{takes_leave, with_next_sent};
 ghost use Rattle.link_end.specs.Tied.{IsTied, bank_went_if};
 
@@ -23,9 +25,13 @@ use crate::pdus::Pdu;
 use acl_banks::TxBank;
 use arrayvec::ArrayVec;
 use ble_base::{AIR_PACKET_OCTETS, Note, Outbox};
-use link_model::{ConnectionEvent, Leaving};
+use link_model::{ConnectionEvent, Leaving, PhasedEnd};
 use std::mem;
 use wire_fields::put_octets;
+
+/// The most octets of a payload, with the four of an integrity code (Core 5.2, volume 6 part B,
+/// section 2.4).
+pub(crate) const SEALED_OCTETS: usize = 255;
 
 impl LinkEnd {
     /// Whether the control PDU that is fixed leaves the queue with the next packet.
@@ -38,10 +44,10 @@ impl LinkEnd {
     /// The control PDU that is fixed leaves the queue, or does not: it is made, and counts as first
     /// sent in this slot.
     pub(crate) fn go_if(&mut self, goes: bool, slot: u64)
-        requires entered { 1 ≤ self.old.control.track.entered }
+        requires entered { 1 ≤ self.old.control.control.track.entered }
         requires fixes { goes ≡ true → self.old.fixes_control ≡ true }
         ensures held { self.new ≡ held_gone_if goes slot self.old }
-        ensures entered { 1 ≤ self.new.control.track.entered }
+        ensures entered { 1 ≤ self.new.control.control.track.entered }
     {
         if goes {
             self.leave(slot);
@@ -52,10 +58,10 @@ impl LinkEnd {
     /// the code of all.
     #[inline(never)]
     fn leave(&mut self, slot: u64)
-        requires entered { 1 ≤ self.old.control.track.entered }
+        requires entered { 1 ≤ self.old.control.control.track.entered }
         requires fixes { self.old.fixes_control ≡ true }
         ensures held { self.new ≡ held_gone_if true slot self.old }
-        ensures entered { 1 ≤ self.new.control.track.entered }
+        ensures entered { 1 ≤ self.new.control.control.track.entered }
     {
         self.fixed = next_pdu(&self.control);
         send(&mut self.control, slot);
@@ -64,16 +70,16 @@ impl LinkEnd {
 
     /// The control PDU that is fixed leaves the queue where the last PDU is acknowledged.
     pub(crate) fn go(&mut self, slot: u64)
-        requires entered { 1 ≤ self.old.control.track.entered }
+        requires entered { 1 ≤ self.old.control.control.track.entered }
         ensures held { self.new ≡ held_gone slot self.old }
-        ensures entered { 1 ≤ self.new.control.track.entered }
+        ensures entered { 1 ≤ self.new.control.control.track.entered }
     {
         self.go_if(self.takes_leave(), slot);
     }
 
     /// Whether the PDU that is fixed is empty.
     fn fixes_nothing(&self) -> bool
-        requires entered { 1 ≤ self.now.control.track.entered }
+        requires entered { 1 ≤ self.now.control.control.track.entered }
         ensures { result ≡ is_empty (pdu_fixed self.now) }
     {
         if self.fixes_control {
@@ -84,8 +90,8 @@ impl LinkEnd {
     }
 
     /// Whether its packet says that more waits.
-    fn more_out(&self) -> bool
-        requires entered { 1 ≤ self.now.control.track.entered }
+    pub(crate) fn more_out(&self) -> bool
+        requires entered { 1 ≤ self.now.control.control.track.entered }
         ensures { result ≡ more_out self.now }
     {
         if self.is_acked {
@@ -95,39 +101,21 @@ impl LinkEnd {
         }
     }
 
-    /// The packet of a PDU.
-    fn packet_of(&self, pdu: &Pdu) -> ArrayVec<u8, AIR_PACKET_OCTETS>
-        requires llid { pdu.now.llid < 4 }
-        requires entered { 1 ≤ self.now.control.track.entered }
+    /// The packet of the PDU that was sent last, with this MD bit and the payload that was made as
+    /// that was first sent.
+    pub(crate) fn packet_out(&self, more: bool) -> ArrayVec<u8, AIR_PACKET_OCTETS>
         ensures { result.items ≡ on_air self.now.event.channel self.now.setup.link.fields.access
             self.now.setup.link.fields.crc_init
-            (octets_of (header_of self.now.bits (pdu_value pdu.now).llid (more_out self.now)
-            (length (pdu_value pdu.now).body)) ++ (pdu_value pdu.now).body) }
+            (octets_of (header_of self.now.bits self.now.last.llid more
+            (length self.now.payload)) ++ self.now.payload) }
     {
-        let header = self
-            .acknowledgement
-            .header(pdu.llid, self.more_out(), pdu.body.len() as u8);
-        packet(self.place(), header, pdu.body.as_slice())
+        let count = self.payload.len() as u8;
+        let header = self.acknowledgement.header(self.last.llid, more, count);
+        packet(self.place(), header, self.payload.as_slice())
     }
 
-    /// The packet that it sends: of the last PDU again until that is acknowledged, and of the fixed
-    /// one after that.
-    pub(crate) fn next_packet(&self) -> ArrayVec<u8, AIR_PACKET_OCTETS>
-        requires entered { 1 ≤ self.now.control.track.entered }
-        ensures { result.items ≡ on_air self.now.event.channel self.now.setup.link.fields.access
-            self.now.setup.link.fields.crc_init
-            (octets_of (header_of self.now.bits (pdu_out self.now).llid (more_out self.now)
-            (length (pdu_out self.now).body)) ++ (pdu_out self.now).body) }
-    {
-        if self.is_acked {
-            self.packet_of(&self.fixed)
-        } else {
-            self.packet_of(&self.last)
-        }
-    }
-
-    /// The fixed PDU is the last one then. It is noted where it is not empty, and its piece is out
-    /// where it is data.
+    /// The fixed PDU is the last one then, and its payload is made. It is noted where it is not
+    /// empty, and its piece is out where it is data.
     fn send_fixed<const T: usize>(&mut self, tx: &mut TxBank<T>, out: &mut Outbox)
         requires acked { self.old.is_acked ≡ true }
         requires tied { IsTied self.old tx.old }
@@ -140,6 +128,8 @@ impl LinkEnd {
             (not (is_empty self.old.fixed)) self.old.setup.link.handle self.old.sent
             self.old.fixed }
         ensures few { array_vec_len out.new ≤ array_vec_len out.old + 1 }
+        ensures entered { 1 ≤ self.old.control.control.track.entered
+            → 1 ≤ self.new.control.control.track.entered }
     {
         let handle = self.setup.handle;
         went_if(
@@ -149,6 +139,7 @@ impl LinkEnd {
             tx,
         );
         self.sent = note_sent(handle, self.sent, &self.fixed, out);
+        self.payload = payload(&mut self.control, &self.fixed);
         self.last = mem::replace(&mut self.fixed, Pdu::empty());
         self.more = false;
         self.is_acked = false;
@@ -164,15 +155,23 @@ impl LinkEnd {
             (length self.old.fixed.body) }
         ensures notes { out.new.items ≡ out.old.items ++ sent_notes self.old }
         ensures few { array_vec_len out.new ≤ array_vec_len out.old + 1 }
+        ensures entered { 1 ≤ self.old.control.control.track.entered
+            → 1 ≤ self.new.control.control.track.entered }
     {
         if self.is_acked {
             self.send_fixed(tx, out);
         }
     }
 
-    /// It sends its packet in this slot.
-    pub(crate) fn send<const T: usize>(&mut self, slot: u64, tx: &mut TxBank<T>, out: &mut Outbox)
-        requires entered { 1 ≤ self.old.control.track.entered }
+    /// It sends its packet in this slot, with this MD bit.
+    pub(crate) fn send<const T: usize>(
+        &mut self,
+        slot: u64,
+        more: bool,
+        tx: &mut TxBank<T>,
+        out: &mut Outbox,
+    )
+        requires more { more ≡ more_out self.old }
         requires tied { IsTied self.old tx.old }
         requires room { array_vec_len out.old ≤ 59 }
         ensures held { self.new ≡ held_out slot self.old }
@@ -181,11 +180,32 @@ impl LinkEnd {
             (length self.old.fixed.body) }
         ensures notes { out.new.items ≡ out.old.items ++ sent_notes self.old }
         ensures few { array_vec_len out.new ≤ array_vec_len out.old + 1 }
+        ensures entered { 1 ≤ self.old.control.control.track.entered
+            → 1 ≤ self.new.control.control.track.entered }
     {
-        self.event = event_sent(self.event, slot, self.more_out());
+        self.event = event_sent(self.event, slot, more);
         self.leaving = leaving_sent(self.leaving);
         self.send_next(tx, out);
     }
+}
+
+/// The payload of a new PDU: that of an empty one is its body, any other is sealed where the phase
+/// says so, which takes a counter.
+fn payload(control: &mut PhasedEnd, pdu: &Pdu) -> ArrayVec<u8, SEALED_OCTETS>
+    requires reached { IsReached control.old }
+    requires counter { control.old.end.sent < 2 ^ 39 }
+    ensures payload { result.items ≡ payload_made control.old.end (pdu_value pdu.now) }
+    ensures control { control.new ≡ record control.old {
+      end = end_sending (not (is_empty (pdu_value pdu.now))) control.old.end;
+    } }
+    ensures reached { IsReached control.new }
+{
+    if pdu.is_empty() {
+        let mut payload = ArrayVec::new();
+        put_octets(&mut payload, pdu.body.as_slice());
+        return payload;
+    }
+    control.seal(pdu.llid, pdu.body.as_slice())
 }
 
 /// An event after a packet with this MD bit was sent in a slot. The first exchange of an event is

@@ -149,7 +149,7 @@ impl LinkEnd {
     /// control PDU waits, nor data in the bank.
     fn has_nothing_to_send<const T: usize>(&self, tx: &TxBank<T>) -> bool
         ensures { result ≡ ((self.now.is_acked || is_empty self.now.last)
-            && (waiting_in self.now.control.table.queue == 0)
+            && (waiting_in self.now.control.control.table.queue == 0)
             && (length (unsent_of tx.now self.now.setup.link.handle) == 0)) }
     {
         (self.is_acked || self.last.is_empty())
@@ -159,8 +159,8 @@ impl LinkEnd {
 
     /// Whether no procedure is in progress, and no indication waits.
     fn is_settled(&self) -> bool
-        ensures { result ≡ (not (is_busy self.now.control.table.progress)
-            && is_free self.now.control.track) }
+        ensures { result ≡ (not (is_busy self.now.control.control.table.progress)
+            && is_free self.now.control.control.track) }
     {
         !self.control.is_busy() && self.control.is_free()
     }

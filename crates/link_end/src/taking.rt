@@ -1,21 +1,36 @@
 //! What an end does with a control PDU of the peer that it takes.
-ghost use Rattle.std.specs.Prelude.{◌≡◌, ◌≤◌, true};
+ghost use Rattle.std.specs.Prelude.{◌≡◌, ◌≤◌, ◌&&◌, true, false};
 ghost use Rattle.control_end.specs.Answers.{nothing_taken};
-ghost use Rattle.link_model.specs.Receiving.{HasPayloadLengths, code_of, leaving_by};
+ghost use Rattle.link_model.specs.Receiving.{HasPayloadLengths};
+ghost use Rattle.link_model.specs.phased_end.Taking.{nothing_keyed};
+ghost use Rattle.link_model.specs.unencrypted_ends.Unencrypted.{is_enc_req};
+ghost use Rattle.link_model.specs.Receiving.{code_of, kept_seen, leaving_by};
 ghost use Rattle.link_model.specs.Receiving.{lengths_reported};
 ghost use Rattle.link_model.specs.Receiving.{peer_from, peer_from_if};
 ghost use Rattle.link_end.specs.Pdus.{pdu_in};
-ghost use Rattle.link_end.specs.Receiving.{given_if, held_given_if};
+ghost use Rattle.link_end.specs.Receiving.{IsSingle, draws_if, given_if, held_data_if};
+ghost use Rattle.link_end.specs.Receiving.{held_given_if, lengths_seen_from, may_answer};
+ghost use Rattle.link_model.specs.phased_end.Moves.{lasts};
 
-use crate::controls::take;
+use crate::controls::{take, take_data};
 use crate::ends::LinkEnd;
 use crate::hosts::lengths_seen;
 use crate::pdus::Got;
-use ble_base::ErrCode;
+use ble_base::{ErrCode, Role};
 use control_end::Taken;
 use data_pdu::{Ctrl, CtrlRead};
-use link_model::{KnownLengths, Leaving, PeerFacts, PeerVersion};
+use enc_phase::Transition;
+use link_model::{KnownLengths, Leaving, PeerFacts, PeerVersion, PhasedEnd, TakenKeyed};
 use procedures::Effect;
+
+/// What comes of a control PDU of the peer.
+#[derive(Clone, Copy)]
+pub(crate) struct Given {
+    /// What the procedures give for it, and for one that was kept until then.
+    pub(crate) given: TakenKeyed,
+    /// A peripheral draws what it answers it with.
+    pub(crate) draws: bool,
+}
 
 /// What is known of the peer after a control PDU of it was read.
 fn peer_from(read: &CtrlRead, peer: PeerFacts) -> PeerFacts
@@ -92,8 +107,8 @@ fn leaving_by(code: Option<ErrCode>, leaving: Leaving) -> Leaving
     }
 }
 
-/// Nothing is taken.
-pub(crate) fn nothing_taken() -> Taken
+/// The procedures give nothing.
+fn nothing_taken() -> Taken
     ensures { result ≡ nothing_taken }
 {
     Taken {
@@ -103,38 +118,153 @@ pub(crate) fn nothing_taken() -> Taken
     }
 }
 
+/// Nothing is taken.
+pub(crate) fn nothing_given() -> Given
+    ensures given { result.given ≡ nothing_keyed }
+    ensures draws { result.draws ≡ false }
+    ensures single { IsSingle result.given.taken }
+{
+    Given {
+        given: TakenKeyed {
+            taken: nothing_taken(),
+            kept: nothing_taken(),
+        },
+        draws: false,
+    }
+}
+
+/// What a PDU is that was kept until now, and is answered now.
+fn kept_seen(before: Option<Ctrl>, after: Option<Ctrl>) -> CtrlRead
+    ensures { result ≡ kept_seen before after }
+{
+    match (before, after) {
+        (Some(ctrl), None) => CtrlRead::Known(ctrl),
+        _ => CtrlRead::Bare,
+    }
+}
+
+/// Whether this is LL_ENC_REQ.
+fn is_enc_req(read: &CtrlRead) -> bool
+    ensures { result ≡ is_enc_req read.now }
+{
+    matches!(read, CtrlRead::Known(Ctrl::EncReq { .. }))
+}
+
+/// Whether an end with this role would answer LL_ENC_REQ.
+fn may_answer(role: Role, control: &PhasedEnd) -> bool
+    ensures { result ≡ may_answer role control.now }
+{
+    match role {
+        Role::Central => false,
+        Role::Peripheral => { control.facts().may_follow(Transition::Ask) && !control.is_closing() }
+    }
+}
+
+/// What is known of the lengths after what the procedures gave.
+fn lengths_given(given: &TakenKeyed, lengths: KnownLengths) -> KnownLengths
+    ensures { result
+        ≡ lengths_reported given.now.kept.effect (lengths_reported given.now.taken.effect lengths) }
+{
+    lengths_reported(
+        &given.kept.effect,
+        lengths_reported(&given.taken.effect, lengths),
+    )
+}
+
 impl LinkEnd {
     /// Its procedures take a control PDU of the peer in this slot.
-    fn give(&mut self, got: &Got, slot: u64) -> Taken
-        requires entered { 1 ≤ self.old.control.track.entered }
+    #[inline(never)]
+    fn give(&mut self, got: &Got, slot: u64) -> Given
+        requires entered { 1 ≤ self.old.control.control.track.entered }
         ensures held { self.new ≡ held_given_if true (pdu_in got.now) slot self.old }
-        ensures given { result ≡ given_if true (pdu_in got.now) slot self.old }
-        ensures payloads { HasPayloadLengths result.effect }
-        ensures entered { 1 ≤ self.new.control.track.entered }
+        ensures given { result.given ≡ given_if true (pdu_in got.now) slot self.old }
+        ensures draws { result.draws ≡ draws_if true (pdu_in got.now) slot self.old }
+        ensures payloads { HasPayloadLengths result.given.taken.effect }
+        ensures kept_payloads { HasPayloadLengths result.given.kept.effect }
+        ensures single { IsSingle result.given.taken }
+        ensures entered { 1 ≤ self.new.control.control.track.entered }
     {
         let read = got.read();
         let before = self.control.lengths();
-        let given = take(&mut self.control, &read, slot);
+        let kept = self.control.kept();
+        let sees = self.control.would_see(&read);
+        let answers = self.answers(&read, sees);
+        let given = take(&mut self.control, &read, slot, self.response);
+        self.know(before, kept, sees, &read, &given);
+        Given {
+            given,
+            draws: self.draws(answers),
+        }
+    }
+
+    /// Whether it would answer this PDU with LL_ENC_RSP, where its procedures see it.
+    fn answers(&self, read: &CtrlRead, sees: bool) -> bool
+        ensures { result ≡ (is_enc_req read.now
+            && (may_answer self.now.setup.link.role self.now.control && sees)) }
+    {
+        is_enc_req(read) && (may_answer(self.setup.role, &self.control) && sees)
+    }
+
+    /// Whether it draws what it answers with: it has not ended the link.
+    fn draws(&self, answers: bool) -> bool
+        ensures { result ≡ (answers && lasts self.now.control) }
+    {
+        answers && self.control.ends().is_none()
+    }
+
+    /// What it knows then of the peer, of its lengths, and of how the link is to end: `before` are
+    /// the lengths before, and `kept` is the PDU that was kept.
+    fn know(
+        &mut self,
+        before: (u16, u16),
+        kept: Option<Ctrl>,
+        sees: bool,
+        read: &CtrlRead,
+        given: &TakenKeyed,
+    )
+        ensures { self.new ≡ record self.old {
+          peer = peer_from_if (lasts self.old.control) (kept_seen kept self.old.control.kept)
+              (peer_from_if (lasts self.old.control && sees) read.now self.old.peer);
+          lengths = lengths_reported given.now.kept.effect
+              (lengths_reported given.now.taken.effect (lengths_seen_from before
+              self.old.control.control.table.lengths self.old.lengths));
+          leaving = leaving_by (code_of given.now.taken.effect) self.old.leaving;
+        } }
+    {
         let goes_on = self.control.ends().is_none();
-        self.peer = peer_from_if(goes_on, &read, self.peer);
+        let known = peer_from_if(goes_on && sees, read, self.peer);
+        self.peer = peer_from_if(goes_on, &kept_seen(kept, self.control.kept()), known);
         let seen = lengths_seen(before, self.control.lengths(), self.lengths);
-        self.lengths = lengths_reported(&given.effect, seen);
-        self.leaving = leaving_by(code_of(&given.effect), self.leaving);
-        given
+        self.lengths = lengths_given(given, seen);
+        self.leaving = leaving_by(code_of(&given.taken.effect), self.leaving);
     }
 
     /// They take it, or do not.
-    pub(crate) fn give_if(&mut self, takes: bool, got: &Got, slot: u64) -> Taken
-        requires entered { 1 ≤ self.old.control.track.entered }
+    pub(crate) fn give_if(&mut self, takes: bool, got: &Got, slot: u64) -> Given
+        requires entered { 1 ≤ self.old.control.control.track.entered }
         ensures held { self.new ≡ held_given_if takes (pdu_in got.now) slot self.old }
-        ensures given { result ≡ given_if takes (pdu_in got.now) slot self.old }
-        ensures payloads { HasPayloadLengths result.effect }
-        ensures entered { 1 ≤ self.new.control.track.entered }
+        ensures given { result.given ≡ given_if takes (pdu_in got.now) slot self.old }
+        ensures draws { result.draws ≡ draws_if takes (pdu_in got.now) slot self.old }
+        ensures payloads { HasPayloadLengths result.given.taken.effect }
+        ensures kept_payloads { HasPayloadLengths result.given.kept.effect }
+        ensures single { IsSingle result.given.taken }
+        ensures entered { 1 ≤ self.new.control.control.track.entered }
     {
         if takes {
             self.give(got, slot)
         } else {
-            nothing_taken()
+            nothing_given()
+        }
+    }
+
+    /// Data is taken, or is not.
+    pub(crate) fn take_data_if(&mut self, takes: bool)
+        ensures held { self.new ≡ held_data_if takes self.old }
+        ensures entered { 1 ≤ self.old.control.control.track.entered
+            → 1 ≤ self.new.control.control.track.entered }
+    {
+        if takes {
+            take_data(&mut self.control);
         }
     }
 }

@@ -10,13 +10,13 @@ use Rattle.link_end.specs.Knowing.{Knows}
 use Rattle.link_end.proofs.Keeping.{held_is}
 
 -- none of its procedures has ended the link
-pub new_goes_on : (setup : Setup) (held : Held) → Knows setup held [] → IsTrue (goes_on held.control)
+pub new_goes_on : (setup : Setup) (held : Held) → Knows setup held [] → IsTrue (goes_on held.control.control)
 unfolding facts_of
 new_goes_on setup held knows =
-    subst (λ (h : Held). IsTrue (goes_on h.control)) (sym (held_is setup held [] knows)) refl
+    subst (λ (h : Held). IsTrue (goes_on h.control.control)) (sym (held_is setup held [] knows)) refl
 
 -- the anchor of event 0 is two slots and the offset of the transmit window after its CONNECT_IND
 pub new_anchor : (setup : Setup) (held : Held) → Knows setup held []
-    → next_anchor_of held.control.track ≡ setup.opened + 2 + setup.link.fields.win_offset
+    → next_anchor_of held.control.control.track ≡ setup.opened + 2 + setup.link.fields.win_offset
 unfolding facts_of
-new_anchor setup held knows = ap (λ (h : Held). next_anchor_of h.control.track) (held_is setup held [] knows)
+new_anchor setup held knows = ap (λ (h : Held). next_anchor_of h.control.control.track) (held_is setup held [] knows)

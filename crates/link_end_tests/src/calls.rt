@@ -57,6 +57,8 @@ pub(crate) fn take(end: &mut End, call: Call<'_>, told: &mut String) -> Result<(
         "grant" => end.answer(Ok(ask_named("update"))),
         "refuse" => end.answer(Err(code_of(told, first))),
         "end" => end.finish(code_of(told, first), slot(second)),
+        "key" => end.key(Some([0; 16]), slot(first)),
+        "no_key" => end.key(None, slot(first)),
         _ => return look(end, call, told),
     }
     Ok(())
@@ -78,6 +80,7 @@ fn look(end: &mut End, call: Call<'_>, told: &mut String) -> Result<(), AllocErr
         "give" => give(end, first, told),
         "may_ask" => put_answer(told, end.link.may_ask(ask_named(first).kind())),
         "awaits_host" => put_answer(told, end.link.awaits_host()),
+        "awaits_key" => put_answer(told, end.link.awaits_key()),
         "due" => put_reason(told, end.link.due(SlotNo(u64::from(slot(first))))),
         _ => look_further(end, call.name, told),
     }

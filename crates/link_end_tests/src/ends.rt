@@ -52,7 +52,7 @@ impl Model for End {
 
     ghost view = { λ e. e.next };
 
-    ghost invariant = { λ e. (1 ≤ e.link.control.track.entered) × IsTied e.link e.tx
+    ghost invariant = { λ e. (1 ≤ e.link.control.control.track.entered) × IsTied e.link e.tx
         × IsBefore e.link e.next };
 }
 
@@ -79,8 +79,8 @@ fn fields() -> ConnectFields
 /// A new end of the link that a CONNECT_IND in slot 0 opens.
 #[tactic(auto, using(crate::proofs::Beginning::new_goes_on, crate::proofs::Beginning::new_anchor))]
 fn new_link(role: Role) -> LinkEnd
-    ensures goes_on { IsTrue (goes_on result.control) }
-    ensures anchor { next_anchor_of result.control.track ≡ 2 }
+    ensures goes_on { IsTrue (goes_on result.control.control) }
+    ensures anchor { next_anchor_of result.control.control.track ≡ 2 }
     ensures last_good { result.last_good ≡ None }
     ensures tied { (bank : Bank) → packet_out bank 0 ≡ None → IsTied result bank }
 {
@@ -98,7 +98,7 @@ fn new_link(role: Role) -> LinkEnd
 
 /// An end that has entered event 0.
 fn link_in_event_0(role: Role) -> LinkEnd
-    ensures entered { 1 ≤ result.control.track.entered }
+    ensures entered { 1 ≤ result.control.control.track.entered }
     ensures last_good { result.last_good ≡ None }
     ensures tied { (bank : Bank) → packet_out bank 0 ≡ None → IsTied result bank }
 {
@@ -231,6 +231,11 @@ impl End {
         requires { ForOk answer IsAsk }
     {
         self.link.host_answer(answer);
+    }
+
+    /// The host answers for a key in this slot.
+    pub(crate) fn key(&mut self, ltk: Option<[u8; 16]>, slot: u32) {
+        self.link.key(ltk, SlotNo(u64::from(slot)));
     }
 
     /// The host ends the link in this slot.

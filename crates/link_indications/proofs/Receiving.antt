@@ -1,11 +1,10 @@
 -- An end receives a packet: a peripheral that takes an indication in it goes on only where it is in time.
-use Rattle.std.proofs.Common.{◌≡◌, ℕ, ◌&&◌, not, Bool, true, false, List, [], ◌++◌, Option, Some, None, refl, sym, ap, subst, ◌∙◌, if◌then◌else◌}
+use Rattle.std.proofs.Common.{◌≡◌, ℕ, ◌&&◌, not, Bool, true, false, List, [], ◌++◌, Option, None, refl, sym, ap, subst, ◌∙◌, if◌then◌else◌}
 use Rattle.std.proofs.lemmas.List.{append-nil}
 use Rattle.std.proofs.lemmas.List.Elements.{All-nil}
 use Rattle.ble_base.specs.declared.notes.Note.{Note}
 use Rattle.ble_base.specs.declared.roles.Role.{Role}
 use Rattle.ble_base.specs.declared.roles.Role.TheVariants.{Central, Peripheral}
-use Rattle.data_pdu.specs.Header.{header_in}
 use Rattle.data_pdu.specs.Reading.{ctrl_of}
 use Rattle.data_pdu.specs.declared.header.DataHeader.{DataHeader}
 use Rattle.instants.specs.Track.{TrackFacts, event_of}
@@ -14,17 +13,17 @@ use Rattle.link_model.specs.procedure_stages.Kinds.{role_of}
 use Rattle.link_model.specs.control_model.Control.{Control, SeesAcknowledged, Sends, Takes}
 use Rattle.link_model.proofs.control_model.Moving.{peripheral_sends, same_role, table_alone}
 use Rattle.link_model.specs.Acknowledgement.{Pdu}
-use Rattle.link_model.specs.Controls.{is_procedure_pdu, read_of}
+use Rattle.link_model.specs.Controls.{is_procedure_pdu, is_quiet_now, read_of}
 use Rattle.link_model.specs.Data.{is_control, is_empty}
 use Rattle.link_model.specs.Entering.{done_notes}
 use Rattle.link_model.specs.Facts.{Facts}
-use Rattle.link_model.specs.Receiving.{accepted_if, accepts, acked_kind, acknowledged_if, acks_control, answers_with_control, control_acked_if, facts_before_taking, facts_hearing, facts_received, given_if, given_notes, has_acknowledged, heard_in_slot, notes_hearing, procedures_take_if, received_notes, took_notes_if}
+use Rattle.link_model.specs.Plain.{control_acked_if, plain_accepted_if as accepted_if, plain_acknowledged_if as acknowledged_if, plain_before_taking as facts_before_taking, plain_given_if as given_if, plain_hearing as facts_hearing, plain_notes_hearing as notes_hearing, plain_takes_if as procedures_take_if}
+use Rattle.link_model.specs.Receiving.{accepts, acked_kind, acks_control, answers_with_control, given_notes, has_acknowledged, heard_in_slot, took_notes_if}
 use Rattle.link_model.specs.Sending.{control_gone_if}
 use Rattle.link_model.specs.Setup.{Setup}
-use Rattle.link_model.specs.Verdicts.{pdu_of}
 use Rattle.link_changes.specs.Noted.{event_noted, indication_in, indication_read, taking_if, takings_from}
 use Rattle.link_indications.proofs.Controls.{AreInTime, taken_in_time}
-use Rattle.link_indications.proofs.Holding.{Holds, Kept, holds_more, holds_silent, kept_at_peripheral, kept_same, kept_step, kept_then}
+use Rattle.link_indications.proofs.Holding.{Holds, Kept, holds_more, kept_at_peripheral, kept_same, kept_step, kept_then}
 use Rattle.link_indications.proofs.Silent.{done_same_event, silent_done, silent_given, takings_after, takings_before}
 
 -- ---- the control part
@@ -35,7 +34,7 @@ module _ (role : Role) where
   kept_acked false c = kept_same role c
 
   pub kept_gone : (b : Bool) (slot : ℕ) (facts : Facts) → role ≡ Peripheral → Kept role facts.control (control_gone_if b slot facts).control
-  kept_gone true slot facts is = kept_at_peripheral role (Sends slot true) facts.control is
+  kept_gone true slot facts is = kept_at_peripheral role (Sends slot (is_quiet_now facts)) facts.control is
   kept_gone false slot facts is = kept_same role facts.control
 
   kept_answering : (r : Role) (slot : ℕ) (facts : Facts) → role ≡ r
@@ -70,12 +69,12 @@ acked_role false c is = is
 
 gone_track : (b : Bool) (slot : ℕ) (facts : Facts) → role_of facts.control.table.progress ≡ Peripheral
     → (control_gone_if b slot facts).control.track ≡ facts.control.track
-gone_track true slot facts is = peripheral_sends facts.control slot true is
+gone_track true slot facts is = peripheral_sends facts.control slot (is_quiet_now facts) is
 gone_track false slot facts is = refl
 
 gone_role : (b : Bool) (slot : ℕ) (facts : Facts) → role_of facts.control.table.progress ≡ Peripheral
     → role_of (control_gone_if b slot facts).control.table.progress ≡ Peripheral
-gone_role true slot facts is = same_role Peripheral (Sends slot true) facts.control is
+gone_role true slot facts is = same_role Peripheral (Sends slot (is_quiet_now facts)) facts.control is
 gone_role false slot facts is = is
 
 -- ---- the indication that is taken
@@ -168,10 +167,7 @@ module _ (setup : Setup) (notes : List Note) where
       ∙ ap (λ (n : ℕ). taking_if n (indication_taken noted pdu)) event)
       (λ central. absurd (cc)) kept.goes (heard_in_time slot room header pdu facts role)
 
-  pub holds_received : (slot : ℕ) (room : Bool) (octets : Option (List ℕ)) (facts : Facts) → role_of facts.control.table.progress ≡ setup.link.role
+  pub holds_heard : (slot : ℕ) (room : Bool) (header : DataHeader) (pdu : Pdu) (facts : Facts) → role_of facts.control.table.progress ≡ setup.link.role
       → event_noted notes ≡ event_of facts.control.track → Holds setup.link.role notes facts.control
-      → Holds setup.link.role (notes ++ received_notes setup slot room octets facts) (facts_received setup.link.role slot room octets facts).control
-  holds_received slot room None facts role event h =
-      holds_silent setup.link.role notes [] facts.control facts.control h tt (kept_same setup.link.role facts.control)
-  holds_received slot room (Some octets) facts role event h =
-      heard_by setup.link.role slot room (header_in octets) (pdu_of octets) facts refl role event h
+      → Holds setup.link.role (notes ++ notes_hearing setup slot room header pdu facts) (facts_hearing setup.link.role slot room header pdu facts).control
+  holds_heard slot room header pdu facts role event h = heard_by setup.link.role slot room header pdu facts refl role event h

@@ -19,19 +19,22 @@ use Rattle.link_model.specs.control_end.Answers.{entry_of}
 use Rattle.link_model.specs.control_end.Held.{held_of}
 use Rattle.link_model.specs.Acknowledgement.{Pdu, is_acked}
 use Rattle.link_model.specs.ControlSteps.{IsAskInRange}
-use Rattle.link_model.specs.Controls.{goes_on, next_control, pdu_fixed, pdu_of_control}
+use Rattle.link_model.specs.Controls.{goes_on, is_quiet_now, next_control, pdu_fixed, pdu_of_control}
 use Rattle.link_model.specs.Data.{is_control, is_empty, numbered}
 use Rattle.link_model.specs.End.{facts_after, facts_of, notes_after, notes_from, notes_of}
-use Rattle.link_model.specs.Entering.{event_notes, facts_entered, facts_entered_if}
+use Rattle.link_model.specs.Entering.{event_notes}
 use Rattle.link_model.specs.Facts.{Facts, first_facts}
 use Rattle.link_model.specs.Fixing.{fixed_anew}
 use Rattle.link_model.specs.Hosts.{asked_unless, is_to_come}
-use Rattle.link_model.specs.Packets.{good_pdu}
+use Rattle.link_model.specs.Plain.{IsPlain, plain_entered, plain_entered_if, plain_entry_notes}
 use Rattle.link_model.specs.Sending.{control_gone_if, facts_sent, sent_notes, sent_notes_if, takes_leave}
 use Rattle.link_model.specs.Setup.{Setup, first_anchor, first_params}
-use Rattle.link_model.specs.Step.{Step, DataGiven, DataReported, Disconnected, EventEntered, PacketReceived, PacketSent, PduFixed, ProcedureAsked, RequestAnswered}
+use Rattle.link_model.specs.Step.{Step, DataGiven, DataReported, Disconnected, EventEntered, KeyAnswered, PacketReceived, PacketSent, PduFixed, ProcedureAsked, RequestAnswered, WordsGiven}
+use Rattle.link_model.proofs.ControlSteps.{one_step}
+use Rattle.link_model.proofs.Plain.{step_plain}
 use Rattle.link_changes.specs.InForce.{AsksMap, HasRanges}
 use Rattle.link_changes.specs.Noted.{indication_noted, indications_noted, taking_if, takings_noted}
+use Rattle.link_model.proofs.PlainEnds.{by_event, by_packet, first_plain}
 use Rattle.link_changes.proofs.Readable.{next_goes}
 use Rattle.link_changes.proofs.Reached.{reached_reads, reached_role}
 use Rattle.link_changes.proofs.Reading.{sent_read}
@@ -39,20 +42,20 @@ use Rattle.link_changes.proofs.Steps.{IsGoodStep, IsKnown, past_known, step_know
 use Rattle.link_indications.specs.InTime.{IsTakenInTime}
 use Rattle.link_indications.proofs.Controls.{goes_before, none_of, sent_in_time, sent_more}
 use Rattle.link_indications.proofs.Holding.{Holds, Kept, holds_first, holds_more, holds_silent, kept_same, kept_step}
-use Rattle.link_indications.proofs.Receiving.{holds_received, kept_gone, no_control}
+use Rattle.link_indications.proofs.Receiving.{holds_heard, kept_gone, no_control}
 use Rattle.link_indications.proofs.Silent.{AreSilent, silent_event}
 
 -- ---- an event is entered
 
-entered_kept : (b : Bool) (setup : Setup) (slot : ℕ) (facts : Facts) → Kept setup.link.role facts.control (facts_entered_if b setup slot facts).control
+entered_kept : (b : Bool) (setup : Setup) (slot : ℕ) (facts : Facts) → Kept setup.link.role facts.control (plain_entered_if b setup slot facts).control
 entered_kept true setup slot facts = kept_step setup.link.role (Enters slot true) facts.control refl
 entered_kept false setup slot facts = kept_same setup.link.role facts.control
 
 entered_silent : (b : Bool) (setup : Setup) (slot : ℕ) (facts : Facts)
     → AreSilent setup.link.role
-    (if b then event_notes setup.link.handle (facts_entered setup slot facts).event (entry_of slot true (held_of facts.control)) else [])
+    (if b then event_notes setup.link.handle (plain_entered setup slot facts).event (entry_of slot true (held_of facts.control)) else [])
 entered_silent true setup slot facts =
-    let event = (facts_entered setup slot facts).event in
+    let event = (plain_entered setup slot facts).event in
     let entry = entry_of slot true (held_of facts.control) in
     silent_event setup.link.role setup.link.handle event.number event.channel entry.applied entry.done entry.began
 entered_silent false setup slot facts = tt
@@ -93,31 +96,33 @@ module _ (setup : Setup) (latency : setup.link.role ≡ Central → setup.link.f
   control_sent : (notes : List Note) (slot number : ℕ) (facts : Facts) (next : Option Ctrl) → next_control facts ≡ next → role ≡ Central
       → IsKnown setup notes facts → HoldsIt notes facts.control
       → HoldsIt (notes ++ sent_notes_if (not (is_empty (pdu_of_control next))) setup.link.handle number (pdu_of_control next))
-      (after (Sends slot true) facts.control)
+      (after (Sends slot (is_quiet_now facts)) facts.control)
   control_sent notes slot number facts None none is k h =
+      let quiet = is_quiet_now facts in
       subst (λ (c : Control). HoldsIt (notes ++ []) c)
       (sym (stays_if (is_none facts.control.ends)
-      (next_ctrl_of facts.control.table (event_of facts.control.track) facts.control.track.params.latency true) facts.control _ none))
+      (next_ctrl_of facts.control.table (event_of facts.control.track) facts.control.track.params.latency quiet) facts.control _ none))
       (same notes facts.control facts.control h (kept_same role facts.control))
   control_sent notes slot number facts (Some ctrl) goes is k h =
+      let quiet = is_quiet_now facts in
       let c = facts.control in
-      let d = after (Sends slot true) c in
+      let d = after (Sends slot quiet) c in
       let reached = k.part.reached in
       let first = first_params setup.link.fields in
       let anchor = first_anchor setup in
       let note = Sent setup.link.handle (number + 1) 3 (record { items = written ctrl }) in
-      let parts = goes_if (is_none c.ends) (next_ctrl_of c.table (event_of c.track) c.track.params.latency true) ctrl goes in
+      let parts = goes_if (is_none c.ends) (next_ctrl_of c.table (event_of c.track) c.track.params.latency quiet) ctrl goes in
       let reads = reached_reads role setup.link.max_rx first anchor c reached is in
-      let noted : indication_noted role note ≡ (went slot true c).1 =
+      let noted : indication_noted role note ≡ (went slot quiet c).1 =
       ap (λ (r : Role). indication_noted r note) is
-      ∙ sent_read (next_of c.table (event_of c.track) true) (event_of c.track) c.track.params.latency ctrl
-      (next_goes c.table (event_of c.track) true reads.drafts).draft parts.1 in
+      ∙ sent_read (next_of c.table (event_of c.track) quiet) (event_of c.track) c.track.params.latency ctrl
+      (next_goes c.table (event_of c.track) quiet reads.drafts).draft parts.1 in
       subst (λ (b : Bool). HoldsIt (notes ++ sent_notes_if (not b) setup.link.handle number (pdu_of_control (Some ctrl))) d) (sym (filled ctrl))
-      (holds_more role notes (note ∷ []) c d (event_of c.track) (went slot true c).1 h
-      ((λ i. taking_if (k.part.knows.event i) (noted i) ++ []) ∙ append-nil (taking_if (event_of c.track) (went slot true c).1))
-      (λ central. sent_more c slot true (reached_role role setup.link.max_rx first anchor c reached ∙ is) (none_of c.ends parts.0))
-      (goes_before (Sends slot true) c)
-      (λ lasts. sent_in_time role setup.link.max_rx first anchor c reached is (latency is) slot true))
+      (holds_more role notes (note ∷ []) c d (event_of c.track) (went slot quiet c).1 h
+      ((λ i. taking_if (k.part.knows.event i) (noted i) ++ []) ∙ append-nil (taking_if (event_of c.track) (went slot quiet c).1))
+      (λ central. sent_more c slot quiet (reached_role role setup.link.max_rx first anchor c reached ∙ is) (none_of c.ends parts.0))
+      (goes_before (Sends slot quiet) c)
+      (λ lasts. sent_in_time role setup.link.max_rx first anchor c reached is (latency is) slot quiet))
 
   sent_at_central : (notes : List Note) (slot number : ℕ) (facts : Facts) (acked fixes : Bool) → role ≡ Central → IsKnown setup notes facts
       → HoldsIt notes facts.control
@@ -150,42 +155,49 @@ module _ (setup : Setup) (latency : setup.link.role ≡ Central → setup.link.f
   asked_kept true ask facts = kept_same role facts.control
   asked_kept false ask facts = kept_step role (Asks ask) facts.control refl
 
-  step_holds : (notes : List Note) (facts : Facts) (step : Step) → IsKnown setup notes facts → HoldsIt notes facts.control
+  step_holds : (notes : List Note) (facts : Facts) (step : Step) → IsPlain role facts → IsKnown setup notes facts → HoldsIt notes facts.control
       → HoldsIt (notes ++ notes_after setup facts step) (facts_after setup facts step).control
-  step_holds notes facts (DataGiven start body) k h = same notes facts.control facts.control h (kept_same role facts.control)
-  step_holds notes facts (ProcedureAsked ask) k h = same notes facts.control _ h (asked_kept (is_to_come ask facts) ask facts)
-  step_holds notes facts (RequestAnswered answer) k h = same notes facts.control _ h (kept_step role (Answers answer) facts.control refl)
-  step_holds notes facts (Disconnected reason slot) k h = same notes facts.control _ h (kept_step role (Disconnects reason) facts.control refl)
-  step_holds notes facts (EventEntered slot) k h =
-      holds_silent role notes (notes_after setup facts (EventEntered slot)) facts.control _ h (entered_silent (goes_on facts) setup slot facts)
-      (entered_kept (goes_on facts) setup slot facts)
-  step_holds notes facts PduFixed k h =
+  step_holds notes facts (DataGiven start body) plain k h = same notes facts.control facts.control h (kept_same role facts.control)
+  step_holds notes facts (ProcedureAsked ask) plain k h = same notes facts.control _ h (asked_kept (is_to_come ask facts) ask facts)
+  step_holds notes facts (RequestAnswered answer) plain k h = same notes facts.control _ h (kept_step role (Answers answer) facts.control refl)
+  step_holds notes facts (Disconnected reason slot) plain k h = same notes facts.control _ h (kept_step role (Disconnects reason) facts.control refl)
+  step_holds notes facts (KeyAnswered key slot) plain k h =
+      same notes facts.control _ h
+      (subst (λ (c : Control). Kept role facts.control c) (sym (one_step setup facts (KeyAnswered key slot) plain)) (kept_same role facts.control))
+  step_holds notes facts (EventEntered slot) plain k h =
+      by_event setup slot facts plain (λ (some : List Note) (next : Facts). HoldsIt (notes ++ some) next.control)
+      (holds_silent role notes (plain_entry_notes setup slot facts) facts.control _ h (entered_silent (goes_on facts) setup slot facts)
+      (entered_kept (goes_on facts) setup slot facts))
+  step_holds notes facts PduFixed plain k h =
       same notes facts.control _ h
       (subst (λ (c : Control). Kept role facts.control c) (sym (kept (is_control facts.outgoing.fixed))) (kept_same role facts.control))
     where
       kept : (b : Bool) → (if b then facts else fixed_anew facts).control ≡ facts.control
       kept true = refl
       kept false = refl
-  step_holds notes facts (PacketSent slot) k h = holds_sent notes slot facts role refl k h
-  step_holds notes facts (PacketReceived slot octets room) k h =
-      holds_received setup notes slot room (good_pdu setup facts octets) facts
-      (reached_role role setup.link.max_rx (first_params setup.link.fields) (first_anchor setup) facts.control k.part.reached) k.part.knows.event h
-  step_holds notes facts DataReported k h = same notes facts.control facts.control h (kept_same role facts.control)
+  step_holds notes facts (PacketSent slot) plain k h = holds_sent notes slot facts role refl k h
+  step_holds notes facts (WordsGiven skd_s iv_s) plain k h = same notes facts.control facts.control h (kept_same role facts.control)
+  step_holds notes facts (PacketReceived slot octets room) plain k h =
+      by_packet setup slot facts plain (λ (some : List Note) (next : Facts). HoldsIt (notes ++ some) next.control) octets room
+      (same notes facts.control facts.control h (kept_same role facts.control))
+      (λ header pdu. holds_heard setup notes slot room header pdu facts
+      (reached_role role setup.link.max_rx (first_params setup.link.fields) (first_anchor setup) facts.control k.part.reached) k.part.knows.event h)
+  step_holds notes facts DataReported plain k h = same notes facts.control facts.control h (kept_same role facts.control)
 
   -- ---- all steps
 
   abbrev AreGood : List Step → Type 0
   AreGood past = role ≡ Central → AllByRecursion IsGoodStep past
 
-  steps_hold : (notes : List Note) (facts : Facts) (steps : List Step) → AreGood steps → IsKnown setup notes facts → HoldsIt notes facts.control
+  steps_hold : (notes : List Note) (facts : Facts) (steps : List Step) → AreGood steps → IsPlain role facts → IsKnown setup notes facts → HoldsIt notes facts.control
       → HoldsIt (notes ++ notes_from setup facts steps) (fold (facts_after setup) facts steps).control
-  steps_hold notes facts [] good k h = same notes facts.control facts.control h (kept_same role facts.control)
-  steps_hold notes facts (step ∷ steps) good k h =
+  steps_hold notes facts [] good plain k h = same notes facts.control facts.control h (kept_same role facts.control)
+  steps_hold notes facts (step ∷ steps) good plain k h =
       let next = facts_after setup facts step in
       let more = notes_after setup facts step in
       subst (λ (all : List Note). HoldsIt all (fold (facts_after setup) next steps).control) (append_assoc notes more (notes_from setup next steps))
-      (steps_hold (notes ++ more) next steps (λ central. (good central).1)
-      (step_known setup latency notes facts step (λ central. (good central).0) k) (step_holds notes facts step k h))
+      (steps_hold (notes ++ more) next steps (λ central. (good central).1) (step_plain setup facts step plain)
+      (step_known setup latency notes facts step (λ central. (good central).0) plain k) (step_holds notes facts step plain k h))
 
   known_first : IsKnown setup [] (first_facts setup)
   unfolding facts_of notes_of
@@ -193,7 +205,7 @@ module _ (setup : Setup) (latency : setup.link.role ≡ Central → setup.link.f
 
   all_hold : (past : List Step) → AreGood past → HoldsIt (notes_of setup past) (facts_of setup past).control
   unfolding facts_of notes_of
-  all_hold past good = steps_hold [] (first_facts setup) past good known_first (holds_first role (first_facts setup).control refl)
+  all_hold past good = steps_hold [] (first_facts setup) past good (first_plain setup) known_first (holds_first role (first_facts setup).control refl)
 
 are_good : (past : List Step) → AllByRecursion IsAskInRange past → AllByRecursion AsksMap past → AllByRecursion IsGoodStep past
 are_good [] asks maps = tt

@@ -2,7 +2,7 @@
 use Rattle.std.proofs.Common.{◌≡◌, ℕ, ◌&&◌, Bool, true, false, refl, ap, sym, ◌∙◌, if◌then◌else◌}
 use Rattle.ble_base.specs.declared.roles.Role.{Role}
 use Rattle.data_pdu.specs.declared.header.DataHeader.{DataHeader}
-use Rattle.control_end.specs.procedure_values.declared.asks.Ask.{Ask}
+use Rattle.phased_end.specs.control_end.procedure_values.declared.asks.Ask.{Ask}
 use Rattle.link_model.specs.Setup.{Setup}
 use Rattle.link_model.specs.Acknowledgement.{Pdu, after_sending, is_acked, next_sent, received_by, with_accepted}
 use Rattle.link_model.specs.Facts.{Facts}
@@ -11,7 +11,9 @@ use Rattle.link_model.specs.Entering.{facts_entered_if}
 use Rattle.link_model.specs.Fixing.{fixed_anew}
 use Rattle.link_model.specs.Hosts.{asked_unless}
 use Rattle.link_model.specs.Sending.{control_gone_if, facts_sent, fixed_sent}
-use Rattle.link_model.specs.Receiving.{accepted_if, accepts, acknowledged_if, answers_with_control, facts_before_taking, facts_hearing, has_acknowledged, heard_in_slot, procedures_take_if}
+use Rattle.link_model.specs.Receiving.{accepted_if, accepts, acknowledged_if, answers_with_control, facts_before_taking, facts_hearing, has_acknowledged, heard_in_slot, procedures_take_if, facts_forged_if}
+use Rattle.link_model.proofs.Choices.{either_data, either_forged}
+use Rattle.link_model.specs.Data.{is_data}
 
 -- ---- parts of a step that leave it
 
@@ -36,6 +38,11 @@ pub taken_leaves : (takes : Bool) (pdu : Pdu) (slot : ℕ) (facts : Facts)
     → (procedures_take_if takes pdu slot facts).acknowledgement ≡ facts.acknowledgement
 taken_leaves true pdu slot facts = refl
 taken_leaves false pdu slot facts = refl
+
+pub forged_leaves : (forged : Bool) (facts : Facts)
+    → (facts_forged_if forged facts).acknowledgement ≡ facts.acknowledgement
+forged_leaves forged facts =
+    either_forged (λ (f : Facts). f.acknowledgement ≡ facts.acknowledgement) forged facts refl refl
 
 -- ---- a packet is sent: with the last PDU again, or with the fixed one
 
@@ -64,5 +71,7 @@ pub ack_heard : (role : Role) (slot : ℕ) (room : Bool) (header : DataHeader) (
 ack_heard role slot room header pdu facts =
     let now = facts_before_taking role slot header facts in
     let accepted = accepts room header pdu now in
-    taken_leaves (accepted && is_procedure_pdu pdu) pdu slot (accepted_if accepted pdu now)
+    let seen = procedures_take_if (accepted && is_procedure_pdu pdu) pdu slot (accepted_if accepted pdu now) in
+    either_data (λ (f : Facts). f.acknowledgement ≡ seen.acknowledgement) (accepted && is_data pdu) seen refl refl
+    ∙ taken_leaves (accepted && is_procedure_pdu pdu) pdu slot (accepted_if accepted pdu now)
     ∙ ap (with_accepted accepted pdu) (ack_before_taking role slot header facts)

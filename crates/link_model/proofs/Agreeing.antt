@@ -1,5 +1,5 @@
 -- The two ends of a link stay in agreement.
-use Rattle.std.proofs.Common.{◌≡◌, ◌≤◌, ℕ, ◌+◌, ◌==◌, ◌&&◌, ◌||◌, not, Bool, true, false, List, [], ◌∷◌, ◌++◌, length, Option, None, refl, ap, sym, ◌∙◌, subst, arith, if◌then◌else◌}
+use Rattle.std.proofs.Common.{◌≡◌, ◌≤◌, ℕ, ◌+◌, ◌==◌, ◌&&◌, ◌||◌, not, Bool, true, false, List, [], ◌∷◌, ◌++◌, length, None, refl, ap, sym, ◌∙◌, subst, arith, if◌then◌else◌}
 use Rattle.std.proofs.lemmas.Bool.{eqb-true, eqb-false, ne_eqb}
 use Rattle.std.proofs.lemmas.List.{length-append}
 use Rattle.ble_base.specs.declared.roles.Role.{Role}
@@ -10,17 +10,16 @@ use Rattle.ack_bit.proofs.Links.{acked_count, begins, received, says, sent as se
 use Rattle.data_pdu.specs.declared.header.DataHeader.{DataHeader}
 use Rattle.link_model.specs.Setup.{Setup}
 use Rattle.link_model.specs.Acknowledgement.{Acknowledgement, Pdu, after_sending, bits_of, empty_pdu, end_of, is_acked, next_sent, received_by}
-use Rattle.link_model.specs.Data.{is_control, is_data, is_empty}
-use Rattle.link_model.specs.Data.{is_accepted}
+use Rattle.link_model.specs.Data.{is_accepted, is_control, is_data, is_empty}
 use Rattle.link_model.specs.OneLink.{AreInAgreement}
 use Rattle.link_model.proofs.Hearing.{IsHeardWhole, received_ends}
 use Rattle.link_model.specs.Facts.{Facts}
-use Rattle.link_model.specs.Step.{Step, DataGiven, DataReported, Disconnected, EventEntered, PacketReceived, PacketSent, PduFixed, ProcedureAsked, RequestAnswered}
+use Rattle.link_model.specs.Step.{Step, DataGiven, DataReported, Disconnected, EventEntered, PacketReceived, PacketSent, PduFixed, ProcedureAsked, RequestAnswered, KeyAnswered, WordsGiven}
 use Rattle.link_model.specs.Controls.{goes_on, pdu_fixed}
 use Rattle.link_model.specs.Hosts.{is_to_come}
-use Rattle.link_model.specs.Packets.{good_pdu, header_sent, more_sent, packet_sent, payload_sent, pdu_sent}
-use Rattle.link_model.specs.Hearing.{IsUnderstood, is_on_air, pdu_heard}
-use Rattle.link_model.specs.Receiving.{accepts, facts_before_taking, facts_received}
+use Rattle.link_model.specs.Packets.{good_pdu, header_sent, more_sent, packet_sent, payload_sent, pdu_sent, is_forged}
+use Rattle.link_model.specs.Hearing.{IsUnderstood, is_on_air}
+use Rattle.link_model.specs.Receiving.{accepts, facts_before_taking, facts_received, facts_forged_if}
 use Rattle.link_model.specs.End.{facts_after, facts_of}
 use Rattle.link_model.proofs.Acknowledging.{ack_before_taking, ack_heard, ack_sent, asked_leaves, entered_leaves, fixed_leaves}
 use Rattle.link_model.proofs.Ending.{heard_as_now}
@@ -119,8 +118,7 @@ room_where false false is = refl
 room_where false true is = absurd cc
 
 module _ (whole : IsHeardWhole) (from to : Setup) (sender listener : Facts) (slot : ℕ) (room : Bool)
-    (is : IsUnderstood from sender to listener) (body : payload_sent sender ≡ (pdu_sent sender).body)
-    (agreed : AreInAgreement (ack_ahead sender) listener.acknowledgement)
+    (is : IsUnderstood from sender to listener) (agreed : AreInAgreement (ack_ahead sender) listener.acknowledgement)
   where
     abbrev after : Facts
     after = facts_after to listener (PacketReceived slot (packet_sent from sender) room)
@@ -128,16 +126,13 @@ module _ (whole : IsHeardWhole) (from to : Setup) (sender listener : Facts) (slo
     abbrev ended : Bool
     ended = (facts_before_taking to.link.role slot (header_sent sender) listener).leaving.acknowledged
 
-    pdu_is : pdu_heard sender ≡ pdu_sent sender
-    pdu_is = λ i. record { llid = (pdu_sent sender).llid; body = body i }
-
     ack_after : after.acknowledgement ≡ ack_hearing sender listener.acknowledgement (λ pdu. takes_room room pdu ended) (pdu_sent sender)
     ack_after =
         ap (λ (f : Facts). f.acknowledgement) (facts_heard whole from to sender listener is slot room)
-        ∙ ack_heard to.link.role slot room (header_sent sender) (pdu_heard sender) listener
+        ∙ ack_heard to.link.role slot room (header_sent sender) (pdu_sent sender) listener
         ∙ (λ i. received_by (acknowledges_out sender listener.acknowledgement agreed i)
-        (accepts_by to.link.role slot room (header_sent sender) (pdu_heard sender) listener i) (pdu_heard sender) listener.acknowledgement)
-        ∙ ap (ack_hearing sender listener.acknowledgement (λ pdu. takes_room room pdu ended)) pdu_is
+        (accepts_by to.link.role slot room (header_sent sender) (pdu_sent sender) listener i)
+        (pdu_sent sender) listener.acknowledgement)
 
     heard_agreed : AreInAgreement (ack_ahead sender) after.acknowledgement
     heard_agreed =
@@ -161,7 +156,7 @@ module _ (sender : Facts) (other : Acknowledgement) (agreed : AreInAgreement (ac
       (ne_eqb ahead.acked (length ahead.sent) (λ same. absurd (omega (arith, same, out))))
 
 module _ (whole : IsHeardWhole) (from to : Setup) (sender listener : Facts) (slot : ℕ) (is : IsUnderstood from sender to listener)
-    (body : payload_sent sender ≡ (pdu_sent sender).body) (agreed : AreInAgreement (ack_ahead sender) listener.acknowledgement)
+    (agreed : AreInAgreement (ack_ahead sender) listener.acknowledgement)
   where
     abbrev after_with_room : Facts
     after_with_room = facts_after to listener (PacketReceived slot (packet_sent from sender) true)
@@ -169,7 +164,7 @@ module _ (whole : IsHeardWhole) (from to : Setup) (sender listener : Facts) (slo
     goes_on_now : after_with_room.leaving.acknowledged ≡ false
         → (facts_before_taking to.link.role slot (header_sent sender) listener).leaving.acknowledged ≡ false
     goes_on_now lasts =
-        sym (heard_as_now to.link.role slot true (header_sent sender) (pdu_heard sender) listener)
+        sym (heard_as_now to.link.role slot true (header_sent sender) (pdu_sent sender) listener)
         ∙ sym (ap (λ (f : Facts). f.leaving.acknowledged) (facts_heard whole from to sender listener is slot true)) ∙ lasts
 
     says_accepted : after_with_room.leaving.acknowledged ≡ false
@@ -178,7 +173,7 @@ module _ (whole : IsHeardWhole) (from to : Setup) (sender listener : Facts) (slo
         let other = listener.acknowledgement in
         let reliable = agreed.from_a.reliable in
         let ended = (facts_before_taking to.link.role slot (header_sent sender) listener).leaving.acknowledged in
-        ap (λ (a : Acknowledgement). length a.accepted) (ack_after whole from to sender listener slot true is body agreed)
+        ap (λ (a : Acknowledgement). length a.accepted) (ack_after whole from to sender listener slot true is agreed)
         ∙ counted (is_new (bits_of other) (header_sent sender)) (takes_room true (pdu_sent sender) ended) other.accepted (pdu_sent sender)
         (length (ack_ahead sender).sent) (room_where (is_empty (pdu_sent sender)) ended (goes_on_now lasts))
         (fresh_is sender other agreed) reliable.sent_only reliable.at_most_one_ahead
@@ -186,35 +181,35 @@ module _ (whole : IsHeardWhole) (from to : Setup) (sender listener : Facts) (slo
 -- ---- as the laws have it
 
 pub heard_agrees : (whole : IsHeardWhole) (from to : Setup) (sender listener : Facts) (slot : ℕ) (room : Bool)
-    → IsUnderstood from sender to listener → payload_sent sender ≡ (pdu_sent sender).body
+    → IsUnderstood from sender to listener
     → AreInAgreement (facts_after from sender (PacketSent slot)).acknowledgement listener.acknowledgement
     → AreInAgreement (facts_after from sender (PacketSent slot)).acknowledgement
     (facts_after to listener (PacketReceived slot (packet_sent from sender) room)).acknowledgement
-heard_agrees whole from to sender listener slot room is body agreed =
+heard_agrees whole from to sender listener slot room is agreed =
     let ahead = ack_sent slot sender in
     subst (λ (a : Acknowledgement). AreInAgreement a (facts_after to listener (PacketReceived slot (packet_sent from sender) room)).acknowledgement)
     (sym ahead)
-    (heard_agreed whole from to sender listener slot room is body
+    (heard_agreed whole from to sender listener slot room is
     (subst (λ (a : Acknowledgement). AreInAgreement a listener.acknowledgement) ahead agreed))
 
 pub heard_acks : (whole : IsHeardWhole) (from to : Setup) (sender listener : Facts) (slot : ℕ) (room : Bool)
-    → IsUnderstood from sender to listener → payload_sent sender ≡ (pdu_sent sender).body
+    → IsUnderstood from sender to listener
     → AreInAgreement (facts_after from sender (PacketSent slot)).acknowledgement listener.acknowledgement
     → (facts_after to listener (PacketReceived slot (packet_sent from sender) room)).acknowledgement.acked
     ≡ length sender.acknowledgement.accepted
-heard_acks whole from to sender listener slot room is body agreed =
-    says_acked whole from to sender listener slot room is body
+heard_acks whole from to sender listener slot room is agreed =
+    says_acked whole from to sender listener slot room is
     (subst (λ (a : Acknowledgement). AreInAgreement a listener.acknowledgement) (ack_sent slot sender) agreed)
 
 pub heard_accepts : (whole : IsHeardWhole) (from to : Setup) (sender listener : Facts) (slot : ℕ)
-    → IsUnderstood from sender to listener → payload_sent sender ≡ (pdu_sent sender).body
+    → IsUnderstood from sender to listener
     → AreInAgreement (facts_after from sender (PacketSent slot)).acknowledgement listener.acknowledgement
     → (facts_after to listener (PacketReceived slot (packet_sent from sender) true)).leaving.acknowledged ≡ false
     → length (facts_after to listener (PacketReceived slot (packet_sent from sender) true)).acknowledgement.accepted
     ≡ length (facts_after from sender (PacketSent slot)).acknowledgement.sent
-heard_accepts whole from to sender listener slot is body agreed lasts =
+heard_accepts whole from to sender listener slot is agreed lasts =
     let ahead = ack_sent slot sender in
-    says_accepted whole from to sender listener slot is body
+    says_accepted whole from to sender listener slot is
     (subst (λ (a : Acknowledgement). AreInAgreement a listener.acknowledgement) ahead agreed) lasts
     ∙ sym (ap (λ (a : Acknowledgement). length a.sent) ahead)
 
@@ -229,13 +224,16 @@ pub others_leave : (setup : Setup) (facts : Facts) (step : Step) → is_on_air s
 others_leave setup facts (DataGiven start body) is = refl
 others_leave setup facts (ProcedureAsked ask) is = asked_leaves (is_to_come ask facts) ask facts
 others_leave setup facts (RequestAnswered answer) is = refl
+others_leave setup facts (KeyAnswered key slot) is = refl
 others_leave setup facts (Disconnected reason slot) is = refl
 others_leave setup facts (EventEntered slot) is = entered_leaves (goes_on facts) setup slot facts
 others_leave setup facts PduFixed is = fixed_leaves (is_control facts.outgoing.fixed) facts
 others_leave setup facts (PacketSent slot) is = absurd cc
+others_leave setup facts (WordsGiven skd_s iv_s) is = refl
 others_leave setup facts (PacketReceived slot octets room) is = absurd cc
 others_leave setup facts DataReported is = refl
 
 pub unheard_leaves : (setup : Setup) (facts : Facts) (slot : ℕ) (octets : List ℕ) (room : Bool) → good_pdu setup facts octets ≡ None
-    → facts_after setup facts (PacketReceived slot octets room) ≡ facts
-unheard_leaves setup facts slot octets room none = ap (λ (pdu : Option (List ℕ)). facts_received setup.link.role slot room pdu facts) none
+    → is_forged setup facts octets ≡ false → facts_after setup facts (PacketReceived slot octets room) ≡ facts
+unheard_leaves setup facts slot octets room none not_forged =
+    λ i. facts_forged_if (not_forged i) (facts_received setup.link.role slot room (none i) facts)

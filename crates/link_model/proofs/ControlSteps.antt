@@ -1,4 +1,4 @@
--- The control part of an end goes by its steps.
+-- The control part of an end that encrypts nothing goes by its steps.
 use Rattle.std.proofs.Common.{◌≡◌, ℕ, ◌&&◌, not, Bool, true, false, List, [], ◌∷◌, ◌++◌, fold, Option, Some, None, Result, Ok, Err, refl, ap, sym, ◌∙◌, if◌then◌else◌}
 use Rattle.std.specs.Bool.{⊤}
 use Rattle.std.specs.List.{AllByRecursion}
@@ -8,26 +8,29 @@ use Rattle.ble_base.specs.declared.roles.Role.{Role}
 use Rattle.data_pdu.specs.declared.ctrl.CtrlRead.{CtrlRead}
 use Rattle.data_pdu.specs.declared.header.DataHeader.{DataHeader}
 use Rattle.data_pdu.specs.Header.{header_in}
-use Rattle.control_end.specs.procedure_values.declared.asks.Ask.{Ask}
-use Rattle.control_end.specs.procedure_stages.Kinds.{role_of}
-use Rattle.control_end.specs.control_model.Control.{Control, Step as ControlStep, Answers, Asks, Disconnects, Enters, SeesAcknowledged, Sends, Takes, after, after_all, first_control}
-use Rattle.control_end.specs.control_model.Waits.{AreInRange, IsInRange}
-use Rattle.control_end.proofs.control_model.Moving.{role_after}
+use Rattle.phased_end.specs.control_end.procedure_values.declared.asks.Ask.{Ask}
+use Rattle.phased_end.specs.control_end.procedure_stages.Kinds.{role_of}
+use Rattle.phased_end.specs.control_end.control_model.Control.{Control, Step as ControlStep, Answers, Asks, Disconnects, Enters, SeesAcknowledged, Sends, Takes, after, after_all, first_control}
+use Rattle.phased_end.specs.control_end.control_model.Waits.{AreInRange, IsInRange}
+use Rattle.phased_end.proofs.control_end.control_model.Moving.{role_after}
+use Rattle.phased_end.specs.keyed_control.Keyed.{Keyed}
 use Rattle.link_model.specs.Setup.{Setup, first_anchor, first_params}
 use Rattle.link_model.specs.Acknowledgement.{Pdu}
 use Rattle.link_model.specs.Data.{is_control}
 use Rattle.link_model.specs.Verdicts.{pdu_of}
 use Rattle.link_model.specs.Facts.{Facts, first_facts}
-use Rattle.link_model.specs.Step.{Step, DataGiven, DataReported, Disconnected, EventEntered, PacketReceived, PacketSent, PduFixed, ProcedureAsked, RequestAnswered}
-use Rattle.link_model.specs.Controls.{goes_on, is_procedure_pdu, is_quiet_now, read_of}
+use Rattle.link_model.specs.Step.{Step, DataGiven, DataReported, Disconnected, EventEntered, KeyAnswered, PacketReceived, PacketSent, PduFixed, ProcedureAsked, RequestAnswered, WordsGiven}
+use Rattle.link_model.specs.Controls.{goes_on, is_procedure_pdu, read_of}
 use Rattle.link_model.specs.Entering.{facts_entered_if}
 use Rattle.link_model.specs.Fixing.{fixed_anew}
 use Rattle.link_model.specs.Hosts.{asked_unless, is_to_come}
 use Rattle.link_model.specs.Packets.{good_pdu}
 use Rattle.link_model.specs.Sending.{control_gone_if, takes_leave}
-use Rattle.link_model.specs.Receiving.{accepted_if, accepts, acknowledged_if, acks_control, answers_with_control, control_acked_if, facts_before_taking, facts_hearing, facts_received, has_acknowledged, heard_in_slot, procedures_take_if}
+use Rattle.link_model.specs.Receiving.{accepts, acks_control, answers_with_control, facts_received, has_acknowledged, heard_in_slot}
+use Rattle.link_model.specs.Plain.{IsPlain, control_acked_if, plain_accepted_if, plain_acknowledged_if, plain_before_taking, plain_hearing, plain_takes_if}
 use Rattle.link_model.specs.End.{facts_after, facts_of}
 use Rattle.link_model.specs.ControlSteps.{AreAsksInRange, IsAskInRange, control_steps_from, control_steps_in, control_steps_of, is_owed, step_if, steps_hearing, steps_received}
+use Rattle.link_model.proofs.Plain.{begins_plain, entered_control_plain, heard_plain, hearing_plain, key_plain, plain_acked_stays, quiet_plain, received_plain, step_plain}
 
 -- ---- one step of an end
 
@@ -40,22 +43,22 @@ asked : (comes : Bool) (ask : Ask) (facts : Facts)
 asked true ask facts = refl
 asked false ask facts = refl
 
-entered : (goes : Bool) (setup : Setup) (slot : ℕ) (facts : Facts)
-    → (facts_entered_if goes setup slot facts).control ≡ after_all (step_if goes (Enters slot (is_quiet_now facts))) facts.control
-entered true setup slot facts = refl
-entered false setup slot facts = refl
+entered : (goes : Bool) (setup : Setup) (slot : ℕ) (facts : Facts) → IsPlain setup.link.role facts
+    → (facts_entered_if goes setup slot facts).control ≡ after_all (step_if goes (Enters slot true)) facts.control
+entered true setup slot facts plain = entered_control_plain setup.link.role slot facts plain
+entered false setup slot facts plain = refl
 
-gone : (goes : Bool) (slot : ℕ) (facts : Facts)
-    → (control_gone_if goes slot facts).control ≡ after_all (step_if goes (Sends slot (is_quiet_now facts))) facts.control
-gone true slot facts = refl
-gone false slot facts = refl
+gone : (role : Role) (goes : Bool) (slot : ℕ) (facts : Facts) → IsPlain role facts
+    → (control_gone_if goes slot facts).control ≡ after_all (step_if goes (Sends slot true)) facts.control
+gone role true slot facts plain = ap (λ quiet. after (Sends slot quiet) facts.control) (quiet_plain role facts plain)
+gone role false slot facts plain = refl
 
 acked : (is_acked : Bool) (c : Control) → control_acked_if is_acked c ≡ after_all (step_if is_acked SeesAcknowledged) c
 acked true c = refl
 acked false c = refl
 
 taken : (takes : Bool) (pdu : Pdu) (slot : ℕ) (facts : Facts)
-    → (procedures_take_if takes pdu slot facts).control ≡ after_all (step_if takes (Takes (read_of pdu) slot (is_quiet_now facts))) facts.control
+    → (plain_takes_if takes pdu slot facts).control ≡ after_all (step_if takes (Takes (read_of pdu) slot true)) facts.control
 taken true pdu slot facts = refl
 taken false pdu slot facts = refl
 
@@ -65,56 +68,69 @@ three : (first second third : List ControlStep) (c x y z : Control) → x ≡ af
 three first second third c x y z x_is y_is z_is =
     z_is ∙ ap (after_all third) (y_is ∙ ap (after_all second) x_is ∙ sym (joined first second c)) ∙ sym (joined (first ++ second) third c)
 
-heard : (role : Role) (slot : ℕ) (room : Bool) (header : DataHeader) (pdu : Pdu) (facts : Facts)
-    → (facts_hearing role slot room header pdu facts).control ≡ after_all (steps_hearing role slot room header pdu facts) facts.control
-heard role slot room header pdu facts =
+heard : (role at : Role) (slot : ℕ) (room : Bool) (header : DataHeader) (pdu : Pdu) (facts : Facts) → IsPlain role facts
+    → (plain_hearing at slot room header pdu facts).control ≡ after_all (steps_hearing at slot room header pdu facts) facts.control
+heard role at slot room header pdu facts plain =
     let acks = has_acknowledged facts header in
-    let own = acknowledged_if acks (heard_in_slot slot header.md facts) in
-    let answers = answers_with_control role own in
+    let own = plain_acknowledged_if acks (heard_in_slot slot header.md facts) in
+    let answers = answers_with_control at own in
     let now = control_gone_if answers slot own in
     let accepted = accepts room header pdu now in
     let takes = accepted && is_procedure_pdu pdu in
-    three (step_if (acks_control acks facts) SeesAcknowledged) (step_if answers (Sends slot (is_quiet_now own)))
-    (step_if takes (Takes (read_of pdu) slot (is_quiet_now now))) facts.control own.control now.control
-    (facts_hearing role slot room header pdu facts).control
-    (acked (acks_control acks facts) facts.control) (gone answers slot own) (taken takes pdu slot (accepted_if accepted pdu now))
+    let own_plain : IsPlain role own =
+    plain_acked_stays role acks (heard_in_slot slot header.md facts) (heard_plain role slot header.md facts plain) in
+    three (step_if (acks_control acks facts) SeesAcknowledged) (step_if answers (Sends slot true))
+    (step_if takes (Takes (read_of pdu) slot true)) facts.control own.control now.control
+    (plain_hearing at slot room header pdu facts).control
+    (acked (acks_control acks facts) facts.control) (gone role answers slot own own_plain)
+    (taken takes pdu slot (plain_accepted_if accepted pdu now))
 
-received : (role : Role) (slot : ℕ) (room : Bool) (pdu : Option (List ℕ)) (facts : Facts)
+received : (role : Role) (slot : ℕ) (room : Bool) (pdu : Option (List ℕ)) (facts : Facts) → IsPlain role facts
     → (facts_received role slot room pdu facts).control ≡ after_all (steps_received role slot room pdu facts) facts.control
-received role slot room None facts = refl
-received role slot room (Some octets) facts = heard role slot room (header_in octets) (pdu_of octets) facts
+received role slot room None facts plain = refl
+received role slot room (Some octets) facts plain =
+    let header = header_in octets in
+    let pdu = pdu_of octets in
+    ap (λ (f : Facts). f.control) (hearing_plain role role slot room header pdu facts plain)
+    ∙ heard role role slot room header pdu facts plain
 
 fixed : (stays : Bool) (facts : Facts) → (if stays then facts else fixed_anew facts).control ≡ facts.control
 fixed true facts = refl
 fixed false facts = refl
 
-pub one_step : (setup : Setup) (facts : Facts) (step : Step)
+pub one_step : (setup : Setup) (facts : Facts) (step : Step) → IsPlain setup.link.role facts
     → (facts_after setup facts step).control ≡ after_all (control_steps_in setup facts step) facts.control
-one_step setup facts (DataGiven start body) = refl
-one_step setup facts (ProcedureAsked ask) = asked (is_to_come ask facts) ask facts
-one_step setup facts (RequestAnswered answer) = refl
-one_step setup facts (Disconnected reason slot) = refl
-one_step setup facts (EventEntered slot) = entered (goes_on facts) setup slot facts
-one_step setup facts PduFixed = fixed (is_control facts.outgoing.fixed) facts
-one_step setup facts (PacketSent slot) = gone (takes_leave facts) slot facts
-one_step setup facts (PacketReceived slot octets room) = received setup.link.role slot room (good_pdu setup facts octets) facts
-one_step setup facts DataReported = refl
+one_step setup facts (DataGiven start body) plain = refl
+one_step setup facts (ProcedureAsked ask) plain = asked (is_to_come ask facts) ask facts
+one_step setup facts (RequestAnswered answer) plain = refl
+one_step setup facts (KeyAnswered key slot) plain =
+    ap (λ (k : Keyed). k.phased.control) (key_plain setup.link.role key facts plain)
+one_step setup facts (Disconnected reason slot) plain = refl
+one_step setup facts (EventEntered slot) plain = entered (goes_on facts) setup slot facts plain
+one_step setup facts PduFixed plain = fixed (is_control facts.outgoing.fixed) facts
+one_step setup facts (PacketSent slot) plain = gone setup.link.role (takes_leave facts) slot facts plain
+one_step setup facts (WordsGiven skd_s iv_s) plain = refl
+one_step setup facts (PacketReceived slot octets room) plain =
+    ap (λ (f : Facts). f.control) (received_plain setup facts slot octets room plain)
+    ∙ received setup.link.role slot room (good_pdu setup facts octets) facts plain
+one_step setup facts DataReported plain = refl
 
 -- ---- all steps
 
-steps_go : (setup : Setup) (facts : Facts) (steps : List Step)
+steps_go : (setup : Setup) (facts : Facts) (steps : List Step) → IsPlain setup.link.role facts
     → (fold (facts_after setup) facts steps).control ≡ after_all (control_steps_from setup facts steps) facts.control
-steps_go setup facts [] = refl
-steps_go setup facts (step ∷ steps) =
+steps_go setup facts [] plain = refl
+steps_go setup facts (step ∷ steps) plain =
     let next = facts_after setup facts step in
     let later = control_steps_from setup next steps in
-    steps_go setup next steps ∙ ap (after_all later) (one_step setup facts step) ∙ sym (joined (control_steps_in setup facts step) later facts.control)
+    steps_go setup next steps (step_plain setup facts step plain) ∙ ap (after_all later) (one_step setup facts step plain)
+    ∙ sym (joined (control_steps_in setup facts step) later facts.control)
 
 pub past_goes : (setup : Setup) (past : List Step) → (facts_of setup past).control
     ≡ after_all (control_steps_of setup past)
     (first_control setup.link.role setup.link.max_rx (first_params setup.link.fields) (first_anchor setup))
 unfolding facts_of control_steps_of
-past_goes setup past = steps_go setup (first_facts setup) past
+past_goes setup past = steps_go setup (first_facts setup) past (begins_plain setup)
 
 steps-append : (setup : Setup) (facts : Facts) (steps more : List Step)
     → control_steps_from setup facts (steps ++ more)
@@ -165,22 +181,24 @@ module _ (Q : Step → Type 0) (P : ControlStep → Type 0) (holds : HoldsOf Q P
   each_received role slot room (Some octets) facts =
       let header = header_in octets in
       let pdu = pdu_of octets in
-      let own = acknowledged_if (has_acknowledged facts header) (heard_in_slot slot header.md facts) in
-      let now = facts_before_taking role slot header facts in
+      let own = plain_acknowledged_if (has_acknowledged facts header) (heard_in_slot slot header.md facts) in
+      let now = plain_before_taking role slot header facts in
       both P _ _ (both P _ _ (perhaps P (acks_control (has_acknowledged facts header) facts) SeesAcknowledged holds.sees)
-      (perhaps P (answers_with_control role own) (Sends slot (is_quiet_now own)) (holds.sends slot (is_quiet_now own))))
-      (perhaps P (accepts room header pdu now && is_procedure_pdu pdu) (Takes (read_of pdu) slot (is_quiet_now now)) (holds.takes (read_of pdu) slot (is_quiet_now now)))
+      (perhaps P (answers_with_control role own) (Sends slot true) (holds.sends slot true)))
+      (perhaps P (accepts room header pdu now && is_procedure_pdu pdu) (Takes (read_of pdu) slot true) (holds.takes (read_of pdu) slot true))
 
   each_in : (setup : Setup) (facts : Facts) (step : Step) → Q step → AllByRecursion P (control_steps_in setup facts step)
   each_in setup facts (DataGiven start body) is = tt
   each_in setup facts (ProcedureAsked ask) is = perhaps P (not (is_to_come ask facts)) (Asks ask) (holds.asks ask is)
   each_in setup facts (RequestAnswered answer) is = (holds.answers answer is, tt)
+  each_in setup facts (KeyAnswered key slot) is = tt
   each_in setup facts (Disconnected reason slot) is = (holds.disconnects reason, tt)
   each_in setup facts (EventEntered slot) is =
-      perhaps P (goes_on facts) (Enters slot (is_quiet_now facts)) (holds.enters slot (is_quiet_now facts))
+      perhaps P (goes_on facts) (Enters slot true) (holds.enters slot true)
   each_in setup facts PduFixed is = tt
   each_in setup facts (PacketSent slot) is =
-      perhaps P (takes_leave facts) (Sends slot (is_quiet_now facts)) (holds.sends slot (is_quiet_now facts))
+      perhaps P (takes_leave facts) (Sends slot true) (holds.sends slot true)
+  each_in setup facts (WordsGiven skd_s iv_s) is = tt
   each_in setup facts (PacketReceived slot octets room) is = each_received setup.link.role slot room (good_pdu setup facts octets) facts
   each_in setup facts DataReported is = tt
 

@@ -1,14 +1,14 @@
 -- One PDU of an end is out at a time.
-use Rattle.std.proofs.Common.{◌≡◌, ◌+◌, ◌-◌, ◌≤◌, Bool, true, false, List, [], ◌∷◌, ◌++◌, length, Some, refl, ap, ◌∙◌, arith}
+use Rattle.std.proofs.Common.{◌≡◌, ◌+◌, ◌-◌, ◌≤◌, Bool, true, false, List, [], ◌∷◌, length, Some, refl, ap, ◌∙◌, arith}
 use Rattle.std.specs.List.{slice_get}
 use Rattle.std.proofs.lemmas.Bool.{eqb-true, eqb-false}
 use Rattle.std.proofs.lemmas.List.{length-append}
 use Rattle.ack_bit.proofs.Directions.{last-push}
 use Rattle.link_model.specs.Setup.{Setup}
 use Rattle.link_model.specs.Acknowledgement.{Acknowledgement, Pdu, first_acknowledgement, is_acked, next_sent, with_accepted, with_acked}
-use Rattle.link_model.proofs.Outgoing.{EndsIn}
 use Rattle.link_model.specs.Step.{Step}
 use Rattle.link_model.specs.End.{facts_of}
+use Rattle.link_model.proofs.Outgoing.{EndsIn}
 use Rattle.link_model.proofs.Moves.{EachMoveKeeps, past_keeps}
 
 pub record AreCounted (ack : Acknowledgement) : Type 0 where
@@ -54,18 +54,15 @@ counts_kept =
       first = first_counted;
       given = λ handle start body ack outgoing are. are;
       reported = λ ack outgoing are. are;
-      fixed = λ control waiting limit goes ack outgoing are. are;
+      fixed = λ control waiting limit quiet goes ack outgoing are. are;
       gone = λ control ack outgoing all are. are;
-      sent = λ ack outgoing are. sent_counted (is_acked ack) outgoing.fixed ack refl are;
+      sent = λ payload ack outgoing are. sent_counted (is_acked ack) outgoing.fixed ack refl are;
       acked = λ acked ack outgoing out are. acked_counted acked ack out are;
       accepted = λ accepted pdu ack outgoing are. accepted_counted accepted pdu ack are;
     }
 
 pub past_counts : (setup : Setup) (past : List Step) → AreCounted (facts_of setup past).acknowledgement
 past_counts setup past = past_keeps (λ ack outgoing. AreCounted ack) counts_kept setup past
-
-last_of : (sent front : List Pdu) (last : Pdu) → sent ≡ front ++ last ∷ [] → slice_get sent (length sent - 1) ≡ Some last
-last_of sent front last is = ap (λ (pdus : List Pdu). slice_get pdus (length pdus - 1)) is ∙ last-push front last
 
 pub past_counted : (setup : Setup) (past : List Step) → let ack = (facts_of setup past).acknowledgement in
     (ack.acked ≤ length ack.sent) × (length ack.sent ≤ ack.acked + 1)
@@ -76,4 +73,4 @@ pub past_last : (setup : Setup) (past : List Step) → let ack = (facts_of setup
 past_last setup past =
     let ack = (facts_of setup past).acknowledgement in
     let is = (past_counts setup past).last_sent in
-    last_of ack.sent is.front ack.last is.sent_are
+    ap (λ (pdus : List Pdu). slice_get pdus (length pdus - 1)) is.sent_are ∙ last-push is.front ack.last

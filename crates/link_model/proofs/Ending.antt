@@ -7,26 +7,26 @@ use Rattle.ble_base.specs.declared.roles.Role.{Role}
 use Rattle.ack_bit.specs.Nonempty.{nonempty}
 use Rattle.data_pdu.specs.declared.header.DataHeader.{DataHeader}
 use Rattle.data_pdu.specs.Header.{header_in}
-use Rattle.control_end.specs.procedure_values.declared.asks.Ask.{Ask}
+use Rattle.phased_end.specs.control_end.procedure_values.declared.asks.Ask.{Ask}
 use Rattle.link_model.specs.Setup.{Setup}
 use Rattle.link_model.specs.Acknowledgement.{Acknowledgement, Pdu}
-use Rattle.link_model.specs.Data.{is_control, is_empty}
+use Rattle.link_model.specs.Data.{is_accepted, is_control, is_data, is_empty}
 use Rattle.link_model.specs.Numbers.{is_took_note, numbered_notes, took_note}
-use Rattle.link_model.specs.Data.{is_accepted}
 use Rattle.link_model.specs.Verdicts.{pdu_of}
 use Rattle.link_model.specs.declared.state.Leaving.{Leaving}
 use Rattle.link_model.specs.Facts.{Facts}
-use Rattle.link_model.specs.Step.{Step, DataGiven, DataReported, Disconnected, EventEntered, PacketReceived, PacketSent, PduFixed, ProcedureAsked, RequestAnswered}
+use Rattle.link_model.specs.Step.{Step, DataGiven, DataReported, Disconnected, EventEntered, PacketReceived, PacketSent, PduFixed, ProcedureAsked, RequestAnswered, KeyAnswered, WordsGiven}
 use Rattle.link_model.specs.Controls.{goes_on, is_procedure_pdu, is_terminate}
 use Rattle.link_model.specs.Entering.{facts_entered_if}
 use Rattle.link_model.specs.Fixing.{fixed_anew}
-use Rattle.link_model.specs.Hosts.{asked_unless, is_to_come}
-use Rattle.link_model.specs.Packets.{good_pdu}
+use Rattle.link_model.specs.Hosts.{asked_unless, is_to_come, leaving_from_if, ends_without_key}
+use Rattle.link_model.specs.Packets.{has_new_pdu, good_pdu, is_forged}
 use Rattle.link_model.specs.Sending.{control_gone_if, takes_leave}
-use Rattle.link_model.specs.Receiving.{accepted_if, accepts, acknowledged_if, answers_with_control, code_of, facts_before_taking, facts_hearing, facts_received, has_acknowledged, has_new_pdu, heard_in_slot, leaving_by, procedures_give, procedures_take_if}
+use Rattle.link_model.specs.Receiving.{accepted_if, accepts, acknowledged_if, answers_with_control, code_of, facts_before_taking, facts_hearing, facts_received, has_acknowledged, heard_in_slot, leaving_by, procedures_give, procedures_take_if, facts_forged_if}
 use Rattle.link_model.specs.End.{facts_after, notes_after}
-use Rattle.link_model.proofs.Acknowledging.{ack_heard, ack_sent, asked_leaves, entered_leaves, fixed_leaves}
+use Rattle.link_model.proofs.Acknowledging.{ack_heard, ack_sent, asked_leaves, entered_leaves, fixed_leaves, forged_leaves}
 use Rattle.link_model.proofs.Numbering.{nonempty-push, step_numbered}
+use Rattle.link_model.proofs.Choices.{either_data, either_forged}
 
 -- ---- once it is acknowledged, it stays so
 
@@ -67,7 +67,10 @@ module _ (role : Role) (slot : ℕ) (room : Bool) (header : DataHeader) (pdu : P
   pub heard_as_now : (facts_hearing role slot room header pdu facts).leaving.acknowledged ≡ now.leaving.acknowledged
   heard_as_now =
       let accepted = accepts room header pdu now in
-      taken_stays (accepted && is_procedure_pdu pdu) pdu slot (accepted_if accepted pdu now)
+      let seen = procedures_take_if (accepted && is_procedure_pdu pdu) pdu slot (accepted_if accepted pdu now) in
+      either_data (λ (f : Facts). f.leaving.acknowledged ≡ seen.leaving.acknowledged)
+      (accepted && is_data pdu) seen refl refl
+      ∙ taken_stays (accepted && is_procedure_pdu pdu) pdu slot (accepted_if accepted pdu now)
 
   now_is : now.leaving.acknowledged
       ≡ (facts.leaving.acknowledged || (has_acknowledged facts header && is_terminate facts.acknowledgement.last))
@@ -80,16 +83,30 @@ module _ (role : Role) (slot : ℕ) (room : Bool) (header : DataHeader) (pdu : P
       heard_as_now ∙ now_is
       ∙ or_more facts.leaving.acknowledged (has_acknowledged facts header && is_terminate facts.acknowledgement.last) is
 
+key_stays : (leaves : Bool) (slot : ℕ) (leaving : Leaving)
+    → (leaving_from_if leaves slot leaving).acknowledged ≡ leaving.acknowledged
+key_stays true slot leaving = refl
+key_stays false slot leaving = refl
+
+-- a forged packet leaves that as it is
+forged_stays : (forged : Bool) (facts : Facts) → (facts_forged_if forged facts).leaving ≡ facts.leaving
+forged_stays forged facts = either_forged (λ (f : Facts). f.leaving ≡ facts.leaving) forged facts refl refl
+
 pub stays : (setup : Setup) (facts : Facts) (step : Step) → facts.leaving.acknowledged ≡ true
     → (facts_after setup facts step).leaving.acknowledged ≡ true
 stays setup facts (DataGiven start body) is = is
 stays setup facts (ProcedureAsked ask) is = ap (λ (l : Leaving). l.acknowledged) (asked_stays (is_to_come ask facts) ask facts) ∙ is
 stays setup facts (RequestAnswered answer) is = is
+stays setup facts (KeyAnswered key slot) is = key_stays (ends_without_key key facts) slot facts.leaving ∙ is
 stays setup facts (Disconnected reason slot) is = is
 stays setup facts (EventEntered slot) is = ap (λ (l : Leaving). l.acknowledged) (entered_stays (goes_on facts) setup slot facts) ∙ is
 stays setup facts PduFixed is = ap (λ (l : Leaving). l.acknowledged) (fixed_stays (is_control facts.outgoing.fixed) facts) ∙ is
 stays setup facts (PacketSent slot) is = ap (λ (l : Leaving). l.acknowledged) (gone_stays (takes_leave facts) slot facts) ∙ is
-stays setup facts (PacketReceived slot octets room) is = by (good_pdu setup facts octets)
+stays setup facts (WordsGiven skd_s iv_s) is = is
+stays setup facts (PacketReceived slot octets room) is =
+    let pdu = good_pdu setup facts octets in
+    ap (λ (l : Leaving). l.acknowledged)
+    (forged_stays (is_forged setup facts octets) (facts_received setup.link.role slot room pdu facts)) ∙ by pdu
   where
     by : (pdu : Option (List ℕ)) → (facts_received setup.link.role slot room pdu facts).leaving.acknowledged ≡ true
     by None = is
@@ -131,13 +148,19 @@ none_taken setup facts (DataGiven start body) ended = refl
 none_taken setup facts (ProcedureAsked ask) ended =
     ap (λ (a : Acknowledgement). nonempty is_empty a.accepted) (asked_leaves (is_to_come ask facts) ask facts)
 none_taken setup facts (RequestAnswered answer) ended = refl
+none_taken setup facts (KeyAnswered key slot) ended = refl
 none_taken setup facts (Disconnected reason slot) ended = refl
 none_taken setup facts (EventEntered slot) ended =
     ap (λ (a : Acknowledgement). nonempty is_empty a.accepted) (entered_leaves (goes_on facts) setup slot facts)
 none_taken setup facts PduFixed ended =
     ap (λ (a : Acknowledgement). nonempty is_empty a.accepted) (fixed_leaves (is_control facts.outgoing.fixed) facts)
 none_taken setup facts (PacketSent slot) ended = ap (λ (a : Acknowledgement). nonempty is_empty a.accepted) (ack_sent slot facts)
-none_taken setup facts (PacketReceived slot octets room) ended = by (good_pdu setup facts octets) ended
+none_taken setup facts (WordsGiven skd_s iv_s) ended = refl
+none_taken setup facts (PacketReceived slot octets room) ended =
+    let later = facts_received setup.link.role slot room (good_pdu setup facts octets) facts in
+    ap (λ (a : Acknowledgement). nonempty is_empty a.accepted) (forged_leaves (is_forged setup facts octets) later)
+    ∙ by (good_pdu setup facts octets)
+    (sym (ap (λ (l : Leaving). l.acknowledged) (forged_stays (is_forged setup facts octets) later)) ∙ ended)
   where
     by : (pdu : Option (List ℕ)) → (facts_received setup.link.role slot room pdu facts).leaving.acknowledged ≡ true
         → nonempty is_empty (facts_received setup.link.role slot room pdu facts).acknowledgement.accepted

@@ -10,35 +10,50 @@ use Rattle.data_pdu.specs.declared.header.DataHeader.{DataHeader}
 use Rattle.data_pdu.specs.Header.{header_in}
 use Rattle.instants.specs.declared.indications.Indication.{Indication}
 use Rattle.instants.specs.Track.{next_number}
-use Rattle.control_end.specs.procedure_values.Limits.{first_lengths, rx_of, tx_of}
-use Rattle.control_end.specs.procedure_values.declared.lengths.Lengths.{Lengths}
-use Rattle.control_end.specs.procedure_values.Drafts.{is_out}
-use Rattle.control_end.specs.procedure_values.declared.asks.Ask.{Ask}
-use Rattle.control_end.specs.procedure_values.declared.asks.Ask.TheVariants.{Update}
-use Rattle.control_end.specs.procedure_stages.declared.steps.Effect.{Effect}
-use Rattle.control_end.specs.procedure_stages.declared.steps.Effect.TheVariants.{Lengths as new_lengths}
-use Rattle.control_end.specs.procedure_stages.Closing.{is_open}
-use Rattle.control_end.specs.procedure_stages.InProgress.{is_host_asked}
-use Rattle.control_end.specs.procedure_stages.Kinds.{role_of}
-use Rattle.control_end.specs.procedures.Beginning.{ask_at, begin_at, place_to_begin}
-use Rattle.control_end.specs.procedures.Going.{entered_step, host_answer_step, is_answer, terminate_step}
-use Rattle.control_end.specs.procedures.Sending.{acked_step}
-use Rattle.control_end.specs.procedures.Table.{TableFacts}
-use Rattle.control_end.specs.control_model.Control.{Control, Step, Answers, Disconnects, Enters, SeesAcknowledged, Sends, after, following, goes_out, moved, table_if, went}
+use Rattle.phased_end.specs.control_end.procedure_values.Limits.{first_lengths, rx_of, tx_of}
+use Rattle.phased_end.specs.control_end.procedure_values.declared.lengths.Lengths.{Lengths}
+use Rattle.phased_end.specs.control_end.procedure_values.Drafts.{is_out}
+use Rattle.phased_end.specs.control_end.procedure_values.declared.asks.Ask.{Ask}
+use Rattle.phased_end.specs.control_end.procedure_values.declared.asks.Ask.TheVariants.{Update}
+use Rattle.phased_end.specs.control_end.procedure_stages.declared.steps.Effect.{Effect}
+use Rattle.phased_end.specs.control_end.procedure_stages.declared.steps.Effect.TheVariants.{Lengths as new_lengths}
+use Rattle.phased_end.specs.control_end.procedure_stages.Closing.{is_open}
+use Rattle.phased_end.specs.control_end.procedure_stages.InProgress.{is_host_asked}
+use Rattle.phased_end.specs.control_end.procedure_stages.Kinds.{role_of}
+use Rattle.phased_end.specs.control_end.procedures.Beginning.{ask_at, begin_at, begin_step, place_to_begin}
+use Rattle.phased_end.specs.control_end.procedures.Going.{entered_step, host_answer_step, is_answer, terminate_step}
+use Rattle.phased_end.specs.control_end.procedures.Sending.{acked_step}
+use Rattle.phased_end.specs.control_end.procedures.Table.{TableFacts}
+use Rattle.phased_end.specs.control_end.control_model.Control.{Control, Step, Answers, Disconnects, Enters, Owes, SeesAcknowledged, Sends, after, ended, following, goes_out, moved, table_if, went}
+use Rattle.ble_base.specs.ErrorCodes.{mic_failure, pin_or_key_missing}
+use Rattle.data_pdu.specs.declared.ctrl.Ctrl.{Ctrl}
+use Rattle.data_pdu.specs.declared.ctrl.Ctrl.TheVariants.{PauseEncReq, RejectExtInd, StartEncReq, TerminateInd}
+use Rattle.phased_end.specs.enc_phase.declared.classes.PduClass.TheVariants.{Data as data_class}
+use Rattle.phased_end.specs.enc_phase.declared.facts.PhaseFacts.{PhaseFacts}
+use Rattle.phased_end.specs.enc_phase.declared.facts.PhaseFacts.TheVariants.{Clear}
+use Rattle.phased_end.specs.enc_phase.declared.facts.Transition.TheVariants.{Ask as AskTransition, Refuse}
+use Rattle.phased_end.specs.enc_phase.Phases.{may_follow, phase_after}
+use Rattle.phased_end.specs.enc_phase.Taking.{allows}
+use Rattle.phased_end.specs.control_end.procedure_stages.Opcodes.{enc_req_opcode}
+use Rattle.phased_end.specs.phased_control.Phased.{Phased, ask_begun, asking_if, asks_again, encrypting, encrypting_if, is_encrypt, is_open_now, is_quiet_now as is_quiet_phased, key_given, key_lacking, refused_if, request_of, table_entered, with_owed_if, with_step}
+use Rattle.phased_end.specs.phased_control.Taken.{ended_with, role_now}
+use Rattle.phased_end.specs.keyed_control.Keyed.{Keyed}
+use Rattle.phased_end.specs.keyed_control.KeyedSteps.{KeyedStep, Enters as KeyedEnters, SeesAcknowledged as KeyedSees, TakesData, is_of_session, keyed_after, keyed_moved}
 use Rattle.link_model.specs.Setup.{Setup}
 use Rattle.link_model.specs.Acknowledgement.{Pdu}
-use Rattle.link_model.specs.Data.{is_control}
+use Rattle.link_model.specs.Data.{is_control, is_data}
 use Rattle.link_model.specs.Verdicts.{pdu_of}
 use Rattle.link_model.specs.declared.state.KnownLengths.{KnownLengths}
-use Rattle.link_model.specs.Facts.{Facts, first_facts}
-use Rattle.link_model.specs.Step.{Step as LinkStep, DataGiven, DataReported, Disconnected, EventEntered, PacketReceived, PacketSent, PduFixed, ProcedureAsked, RequestAnswered}
+use Rattle.link_model.specs.Facts.{Facts, first_facts, keyed_of}
+use Rattle.link_model.specs.Step.{Step as LinkStep, DataGiven, DataReported, Disconnected, EventEntered, PacketReceived, PacketSent, PduFixed, ProcedureAsked, RequestAnswered, KeyAnswered, WordsGiven}
 use Rattle.link_model.specs.Controls.{are_equal, goes_on, is_long, is_procedure_pdu, is_quiet_now}
+use Rattle.link_model.proofs.Choices.{either_data, either_forged}
 use Rattle.link_model.specs.Entering.{facts_entered_if}
 use Rattle.link_model.specs.Fixing.{fixed_anew}
-use Rattle.link_model.specs.Hosts.{asked, asked_unless, facts_answered, facts_disconnected, is_to_come}
-use Rattle.link_model.specs.Packets.{good_pdu}
+use Rattle.link_model.specs.Hosts.{asked, asked_unless, facts_answered, facts_disconnected, is_to_come, key_step, facts_key_answered}
+use Rattle.link_model.specs.Packets.{good_pdu, is_forged}
 use Rattle.link_model.specs.Sending.{control_gone_if, takes_leave}
-use Rattle.link_model.specs.Receiving.{accepted_if, accepts, acknowledged_if, acks_control, answers_with_control, control_acked_if, facts_hearing, facts_received, has_acknowledged, heard_in_slot, lengths_reported, lengths_seen, procedures_give, procedures_take, procedures_take_if}
+use Rattle.link_model.specs.Receiving.{accepted_if, accepts, acknowledged_if, acks_control, answers_with_control, keyed_acked_if, kept_give, data_taken, ended_by_forgery, facts_hearing, facts_received, has_acknowledged, heard_in_slot, lengths_reported, lengths_seen, procedures_give, procedures_take, procedures_take_if}
 use Rattle.link_model.specs.End.{facts_after, facts_of}
 use Rattle.link_model.specs.Times.{has_second_exchange}
 
@@ -121,6 +136,75 @@ sending slot quiet c = after_lengths (Sends slot quiet) c (sent_lengths (goes_ou
 seeing : (c : Control) → (after SeesAcknowledged c).table.lengths ≡ c.table.lengths
 seeing c = after_lengths SeesAcknowledged c (table_lengths (is_out c.table.out) (acked_step c.table).0 c refl)
 
+owing : (ctrl : Ctrl) (c : Control) → (after (Owes ctrl) c).table.lengths ≡ c.table.lengths
+owing ctrl c = after_lengths (Owes ctrl) c refl
+
+-- ---- with the encryption
+
+owing_if : (owed : Option Ctrl) (s : Phased) → (with_owed_if owed s).control.table.lengths ≡ s.control.table.lengths
+owing_if None s = refl
+owing_if (Some ctrl) s = owing ctrl s.control
+
+encrypting_lengths : (p : PhaseFacts) (s : Phased) → (encrypting p s).control.table.lengths ≡ s.control.table.lengths
+encrypting_lengths Clear s = owing_if s.request (record s { phase = phase_after AskTransition s.phase })
+encrypting_lengths phase s = owing PauseEncReq s.control
+
+begins_encrypting : (begins : Bool) (request : Option Ctrl) (s : Phased)
+    → (encrypting_if begins request s).control.table.lengths ≡ s.control.table.lengths
+begins_encrypting true request s = encrypting_lengths s.phase (record s { request = request })
+begins_encrypting false request s = refl
+
+asks_lengths : (asks : Bool) (s : Phased) → (asking_if asks s).control.table.lengths ≡ s.control.table.lengths
+asks_lengths true s = owing_if s.request (record s { phase = phase_after AskTransition s.phase })
+asks_lengths false s = refl
+
+-- a key counts where it is asked for
+key_lengths : (asked : Bool) (after_key s : Phased) → after_key.control.table.lengths ≡ s.control.table.lengths
+    → (if asked then after_key else s).control.table.lengths ≡ s.control.table.lengths
+key_lengths true after_key s same = same
+key_lengths false after_key s same = refl
+
+refused_lengths : (refuses : Bool) (s : Phased) → (refused_if refuses s).control.table.lengths ≡ s.control.table.lengths
+refused_lengths true s = owing (RejectExtInd enc_req_opcode pin_or_key_missing) s.control
+refused_lengths false s = owing (TerminateInd pin_or_key_missing) s.control
+
+keyed_lengths : (step : KeyedStep) (k : Keyed)
+    → (keyed_moved step k).phased.control.table.lengths ≡ k.phased.control.table.lengths
+    → (keyed_after step k).phased.control.table.lengths ≡ k.phased.control.table.lengths
+keyed_lengths step k same = by (is_of_session step || is_none k.phased.control.ends)
+  where
+    by : (lasts : Bool) → (if lasts then keyed_moved step k else k).phased.control.table.lengths
+        ≡ k.phased.control.table.lengths
+    by true = same
+    by false = refl
+
+keyed_entering : (slot : ℕ) (k : Keyed)
+    → (keyed_after (KeyedEnters slot) k).phased.control.table.lengths ≡ k.phased.control.table.lengths
+keyed_entering slot k =
+    let s = k.phased in
+    let quiet = is_quiet_phased s in
+    keyed_lengths (KeyedEnters slot) k
+    (begins_encrypting (is_encrypt (begin_step (table_entered s) slot quiet).1)
+    (request_of (ask_begun (table_entered s) quiet))
+    (with_step (Enters slot quiet) s)
+    ∙ entering slot quiet s.control)
+
+keyed_seeing : (k : Keyed) → (keyed_after KeyedSees k).phased.control.table.lengths ≡ k.phased.control.table.lengths
+keyed_seeing k =
+    keyed_lengths KeyedSees k
+    (asks_lengths (asks_again k.phased) (with_step SeesAcknowledged k.phased) ∙ seeing k.phased.control)
+
+keyed_answering : (key : Option (List ℕ)) (k : Keyed)
+    → (keyed_after (key_step key) k).phased.control.table.lengths ≡ k.phased.control.table.lengths
+keyed_answering (Some ltk) k =
+    let s = k.phased in
+    keyed_lengths (key_step (Some ltk)) k
+    (key_lengths (s.asks_key && is_open_now s) (key_given s) s (owing StartEncReq s.control))
+keyed_answering None k =
+    let s = k.phased in
+    keyed_lengths (key_step None) k
+    (key_lengths (s.asks_key && is_open_now s) (key_lacking s) s (refused_lengths (may_follow Refuse s.phase) s))
+
 -- ---- what an end keeps of its lengths
 
 -- where no length was over 27 octets as the event was entered, and none was changed since, none is
@@ -158,7 +242,7 @@ asked_short true ask facts short = short
 asked_short false ask facts short = seen facts (asked ask facts) refl refl short
 
 entered_short : (goes : Bool) (setup : Setup) (slot : ℕ) (facts : Facts) → AreShort facts → AreShort (facts_entered_if goes setup slot facts)
-entered_short true setup slot facts short = λ long changed. ap is_long (entering slot (is_quiet_now facts) facts.control) ∙ long
+entered_short true setup slot facts short = λ long changed. ap is_long (keyed_entering slot (keyed_of facts)) ∙ long
 entered_short false setup slot facts short = short
 
 fixed_short : (stays : Bool) (facts : Facts) → AreShort facts → AreShort (if stays then facts else fixed_anew facts)
@@ -169,9 +253,10 @@ gone_short : (goes : Bool) (slot : ℕ) (facts : Facts) → AreShort facts → A
 gone_short true slot facts short = leaves facts (control_gone_if true slot facts) refl (sending slot (is_quiet_now facts) facts.control) short
 gone_short false slot facts short = short
 
-acked_lengths : (acked : Bool) (c : Control) → (control_acked_if acked c).table.lengths ≡ c.table.lengths
-acked_lengths true c = seeing c
-acked_lengths false c = refl
+acked_lengths : (acked : Bool) (k : Keyed)
+    → (keyed_acked_if acked k).phased.control.table.lengths ≡ k.phased.control.table.lengths
+acked_lengths true k = keyed_seeing k
+acked_lengths false k = refl
 
 -- what its host knows of the lengths is nothing of these
 reported_long : (effect : Effect) (lengths : KnownLengths) → (lengths_reported effect lengths).long ≡ lengths.long
@@ -182,12 +267,30 @@ reported_changed : (effect : Effect) (lengths : KnownLengths) → (lengths_repor
 reported_changed (new_lengths rx tx) lengths = refl
 reported_changed other lengths = refl
 
+-- data that ends the link
+keyed_taking_data : (k : Keyed)
+    → (keyed_after TakesData k).phased.control.table.lengths ≡ k.phased.control.table.lengths
+keyed_taking_data k = keyed_lengths TakesData k (by (allows k.phased.phase (role_now k.phased) data_class))
+  where
+    by : (allowed : Bool) → (if allowed then k.phased else ended_with mic_failure k.phased).control.table.lengths
+        ≡ k.phased.control.table.lengths
+    by true = refl
+    by false = refl
+
+-- a forged packet ends it too
+forged_lengths : (goes : Bool) (c : Control)
+    → (if goes then ended (record { 0 = mic_failure }) c else c).table.lengths ≡ c.table.lengths
+forged_lengths true c = refl
+forged_lengths false c = refl
+
 taken_short : (takes : Bool) (pdu : Pdu) (slot : ℕ) (facts : Facts) → AreShort facts → AreShort (procedures_take_if takes pdu slot facts)
 taken_short true pdu slot facts short =
     let later = procedures_take pdu slot facts in
     let effect = (procedures_give pdu slot facts).effect in
+    let kept = (kept_give pdu slot facts).effect in
     let known = lengths_seen facts.control.table.lengths later.control.table.lengths facts.lengths in
-    seen facts later (reported_long effect known) (reported_changed effect known) short
+    seen facts later (reported_long kept (lengths_reported effect known) ∙ reported_long effect known)
+    (reported_changed kept (lengths_reported effect known) ∙ reported_changed effect known) short
 taken_short false pdu slot facts short = short
 
 heard_short : (role : Role) (slot : ℕ) (room : Bool) (header : DataHeader) (pdu : Pdu) (facts : Facts) → AreShort facts
@@ -197,9 +300,13 @@ heard_short role slot room header pdu facts short =
     let own = acknowledged_if acks (heard_in_slot slot header.md facts) in
     let now = control_gone_if (answers_with_control role own) slot own in
     let accepted = accepts room header pdu now in
+    let seen = procedures_take_if (accepted && is_procedure_pdu pdu) pdu slot (accepted_if accepted pdu now) in
+    let has_short =
     taken_short (accepted && is_procedure_pdu pdu) pdu slot (accepted_if accepted pdu now)
     (gone_short (answers_with_control role own) slot own
-    (leaves facts own refl (acked_lengths (acks_control acks facts) facts.control) short))
+    (leaves facts own refl (acked_lengths (acks_control acks facts) (keyed_of facts)) short)) in
+    either_data AreShort (accepted && is_data pdu) seen
+    (leaves seen (data_taken seen) refl (keyed_taking_data (keyed_of seen)) has_short) has_short
 
 received_short : (role : Role) (slot : ℕ) (room : Bool) (pdu : Option (List ℕ)) (facts : Facts) → AreShort facts
     → AreShort (facts_received role slot room pdu facts)
@@ -210,13 +317,21 @@ step_short : (setup : Setup) (facts : Facts) (step : LinkStep) → AreShort fact
 step_short setup facts (DataGiven start body) short = short
 step_short setup facts (ProcedureAsked ask) short = asked_short (is_to_come ask facts) ask facts short
 step_short setup facts (RequestAnswered answer) short = leaves facts (facts_answered answer facts) refl (answering answer facts.control) short
+step_short setup facts (KeyAnswered key slot) short =
+    leaves facts (facts_key_answered key slot facts) refl (keyed_answering key (keyed_of facts)) short
 step_short setup facts (Disconnected reason slot) short =
     leaves facts (facts_disconnected reason slot facts) refl (disconnecting reason facts.control) short
 step_short setup facts (EventEntered slot) short = entered_short (goes_on facts) setup slot facts short
 step_short setup facts PduFixed short = fixed_short (is_control facts.outgoing.fixed) facts short
 step_short setup facts (PacketSent slot) short = gone_short (takes_leave facts) slot facts short
+step_short setup facts (WordsGiven skd_s iv_s) short = short
 step_short setup facts (PacketReceived slot octets room) short =
-    received_short setup.link.role slot room (good_pdu setup facts octets) facts short
+    let later = facts_received setup.link.role slot room (good_pdu setup facts octets) facts in
+    let has_short = received_short setup.link.role slot room (good_pdu setup facts octets) facts short in
+    either_forged AreShort (is_forged setup facts octets) later
+    (leaves later (record later { control = ended_by_forgery later.control }) refl
+    (forged_lengths (is_none later.control.ends) later.control) has_short)
+    has_short
 step_short setup facts DataReported short = short
 
 -- before any exchange each way has 27 octets at most

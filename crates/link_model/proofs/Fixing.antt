@@ -10,31 +10,38 @@ use Rattle.ble_base.specs.declared.roles.Role.{Role}
 use Rattle.data_pdu.specs.declared.ctrl.Ctrl.{Ctrl}
 use Rattle.data_pdu.specs.declared.header.DataHeader.{DataHeader}
 use Rattle.data_pdu.specs.Header.{header_in}
-use Rattle.control_end.specs.procedure_values.Limits.{tx_of}
-use Rattle.control_end.specs.procedure_values.declared.asks.Ask.{Ask}
-use Rattle.control_end.specs.procedure_stages.Queue.{waiting_in}
+use Rattle.phased_end.specs.control_end.procedure_values.Limits.{tx_of}
+use Rattle.phased_end.specs.control_end.procedure_values.declared.asks.Ask.{Ask}
+use Rattle.phased_end.specs.control_end.procedure_stages.Queue.{waiting_in}
 use Rattle.link_model.specs.Setup.{Setup}
 use Rattle.link_model.specs.Acknowledgement.{Pdu, empty_pdu, is_acked}
-use Rattle.link_model.specs.Data.{Data, data_acked_if, data_given, data_sent_if, is_control, is_data, is_unsent, llid_of, next_piece, pdu_with, unsent_of}
+use Rattle.link_model.specs.Data.{Data, data_acked_if, data_given, is_control, is_data, is_unsent, llid_of, next_piece, pdu_with, unsent_of}
 use Rattle.link_model.specs.Verdicts.{pdu_of}
 use Rattle.link_model.specs.Facts.{Facts, first_facts}
-use Rattle.link_model.specs.Step.{Step, DataGiven, DataReported, Disconnected, EventEntered, PacketReceived, PacketSent, PduFixed, ProcedureAsked, RequestAnswered}
-use Rattle.link_model.specs.Controls.{goes_on, is_procedure_pdu, next_control, pdu_fixed, pdu_of_control}
+use Rattle.link_model.specs.Step.{Step, DataGiven, DataReported, Disconnected, EventEntered, PacketReceived, PacketSent, PduFixed, ProcedureAsked, RequestAnswered, KeyAnswered, WordsGiven}
+use Rattle.link_model.specs.Controls.{goes_on, is_procedure_pdu, next_control, pdu_fixed, pdu_of_control, is_quiet_now}
 use Rattle.link_model.specs.Fixing.{data_cut, data_fixed_by, data_goes, fixed_anew}
 use Rattle.link_model.specs.Entering.{facts_entered_if}
 use Rattle.link_model.specs.Hosts.{asked_unless, is_to_come}
-use Rattle.link_model.specs.Packets.{good_pdu}
-use Rattle.link_model.specs.Sending.{control_gone_if, takes_leave}
+use Rattle.link_model.specs.Packets.{good_pdu, is_forged}
+use Rattle.link_model.specs.Sending.{control_gone_if, takes_leave, data_sent_as}
 use Rattle.link_model.specs.Receiving.{accepted_if, accepts, acknowledged_if, answers_with_control, facts_hearing, facts_received, has_acknowledged, heard_in_slot, procedures_take_if}
 use Rattle.link_model.specs.End.{facts_after, facts_of}
+use Rattle.link_model.proofs.Choices.{either_data, either_forged}
+use Rattle.link_model.specs.Payload.{payload_made}
 
-none_after : (waiting : ℕ) (piece : Option Piece) → (nat_lt 1 waiting || is_some piece) ≡ false → (waiting ≤ 1) × (piece ≡ None)
-none_after waiting piece is = by_test (nat_lt 1 waiting) piece refl is
+none_after : (waiting : ℕ) (quiet : Bool) (piece : Option Piece)
+    → (nat_lt 1 waiting || (quiet && is_some piece)) ≡ false
+    → (waiting ≤ 1) × (quiet ≡ true → piece ≡ None)
+none_after waiting quiet piece is = by_test (nat_lt 1 waiting) quiet piece refl is
   where
-    by_test : (many : Bool) (piece : Option Piece) → nat_lt 1 waiting ≡ many → (many || is_some piece) ≡ false → (waiting ≤ 1) × (piece ≡ None)
-    by_test true piece e is = absurd cc
-    by_test false None e is = (grind (arith, nat_tests), refl)
-    by_test false (Some piece) e is = absurd cc
+    by_test : (many quiet : Bool) (piece : Option Piece) → nat_lt 1 waiting ≡ many
+        → (many || (quiet && is_some piece)) ≡ false
+        → (waiting ≤ 1) × (quiet ≡ true → piece ≡ None)
+    by_test true quiet piece e is = absurd cc
+    by_test false quiet None e is = (grind (arith, nat_tests), λ holds. refl)
+    by_test false true (Some piece) e is = absurd cc
+    by_test false false (Some piece) e is = (grind (arith, nat_tests), λ holds. absurd cc)
 
 cut_fits : (limit : ℕ) (found : Option DataPacket) → length (pdu_with (option_map (piece_of limit) found)).body ≤ limit
 cut_fits limit None = omega arith
@@ -53,7 +60,8 @@ module _ (setup : Setup) (facts : Facts) where
 
   -- the PDU and the MD bit, by the control PDU that goes next
   abbrev fixed_for : Option Ctrl → Bool → Data
-  fixed_for control goes = data_fixed_by (is_some control) (waiting_in facts.control.table.queue) goes (data_cut facts)
+  fixed_for control goes =
+      data_fixed_by (is_some control) (waiting_in facts.control.table.queue) (is_quiet_now facts) goes (data_cut facts)
 
   pub fixed_control : (ctrl : Ctrl) → is_control facts.outgoing.fixed ≡ false → next_control facts ≡ Some ctrl
       → pdu_fixed (facts_after setup facts PduFixed) ≡ pdu_of_control (Some ctrl)
@@ -63,9 +71,9 @@ module _ (setup : Setup) (facts : Facts) where
 
   pub nothing_else : (ctrl : Ctrl) → is_control facts.outgoing.fixed ≡ false → next_control facts ≡ Some ctrl
       → (facts_after setup facts PduFixed).outgoing.more ≡ false
-      → (waiting_in facts.control.table.queue ≤ 1) × (next_piece (data_cut facts) ≡ None)
+      → (waiting_in facts.control.table.queue ≤ 1) × (is_quiet_now facts ≡ true → next_piece (data_cut facts) ≡ None)
   nothing_else ctrl is next none =
-      none_after (waiting_in facts.control.table.queue) (next_piece (data_cut facts))
+      none_after (waiting_in facts.control.table.queue) (is_quiet_now facts) (next_piece (data_cut facts))
       (sym (ap (λ (f : Facts). f.outgoing.more) (anew is) ∙ ap (λ (control : Option Ctrl). (fixed_for control (data_goes facts)).more) next) ∙ none)
 
   pub fixed_data : is_control facts.outgoing.fixed ≡ false → next_control facts ≡ None → data_goes facts ≡ true
@@ -108,10 +116,11 @@ piece_control (Some piece) = by piece.start
     by true = refl
     by false = refl
 
-anew_control : (control : Bool) (waiting : ℕ) (goes : Bool) (outgoing : Data) → is_control (data_fixed_by control waiting goes outgoing).fixed ≡ false
-anew_control true waiting goes outgoing = refl
-anew_control false waiting true outgoing = piece_control (next_piece outgoing)
-anew_control false waiting false outgoing = refl
+anew_control : (control : Bool) (waiting : ℕ) (quiet goes : Bool) (outgoing : Data)
+    → is_control (data_fixed_by control waiting quiet goes outgoing).fixed ≡ false
+anew_control true waiting quiet goes outgoing = refl
+anew_control false waiting quiet true outgoing = piece_control (next_piece outgoing)
+anew_control false waiting quiet false outgoing = refl
 
 -- a PDU that is no control PDU
 no_control : (pdu : Pdu) (fixes : Bool) → is_control pdu ≡ false → is_control pdu ≡ true → fixes ≡ false
@@ -129,16 +138,18 @@ fixed_left : (same : Bool) (facts : Facts) → HasLeft facts → HasLeft (if sam
 fixed_left true facts left = left
 fixed_left false facts left =
     no_control (fixed_anew facts).outgoing.fixed (fixed_anew facts).fixes_control
-    (anew_control (is_some (next_control facts)) (waiting_in facts.control.table.queue) (data_goes facts) (data_cut facts))
+    (anew_control (is_some (next_control facts)) (waiting_in facts.control.table.queue) (is_quiet_now facts)
+    (data_goes facts) (data_cut facts))
 
 gone_left : (goes : Bool) (slot : ℕ) (facts : Facts) → HasLeft facts → HasLeft (control_gone_if goes slot facts)
 gone_left true slot facts left = λ holds. refl
 gone_left false slot facts left = left
 
-sent_left : (is_new fixes : Bool) (outgoing : Data) → (is_control outgoing.fixed ≡ true → fixes ≡ false)
-    → is_control (data_sent_if is_new outgoing).fixed ≡ true → fixes ≡ false
-sent_left true fixes outgoing left = no_control empty_pdu fixes refl
-sent_left false fixes outgoing left = left
+sent_left : (payload : List ℕ) (is_new fixes : Bool) (outgoing : Data)
+    → (is_control outgoing.fixed ≡ true → fixes ≡ false)
+    → is_control (data_sent_as payload is_new outgoing).fixed ≡ true → fixes ≡ false
+sent_left payload true fixes outgoing left = no_control empty_pdu fixes refl
+sent_left payload false fixes outgoing left = left
 
 acked_control : (acked : Bool) (outgoing : Data) → (data_acked_if acked outgoing).fixed ≡ outgoing.fixed
 acked_control true outgoing = refl
@@ -155,9 +166,13 @@ heard_left role slot room header pdu facts left =
     let own = acknowledged_if acks (heard_in_slot slot header.md facts) in
     let now = control_gone_if (answers_with_control role own) slot own in
     let accepted = accepts room header pdu now in
+    let seen = procedures_take_if (accepted && is_procedure_pdu pdu) pdu slot (accepted_if accepted pdu now) in
+    let has_left =
     taken_left (accepted && is_procedure_pdu pdu) pdu slot (accepted_if accepted pdu now)
     (gone_left (answers_with_control role own) slot own
-    (λ holds. left (sym (ap is_control (acked_control (acks && is_data facts.acknowledgement.last) facts.outgoing)) ∙ holds)))
+    (λ holds. left (sym (ap is_control
+    (acked_control (acks && is_data facts.acknowledgement.last) facts.outgoing)) ∙ holds))) in
+    either_data HasLeft (accepted && is_data pdu) seen has_left has_left
 
 received_left : (role : Role) (slot : ℕ) (room : Bool) (pdu : Option (List ℕ)) (facts : Facts) → HasLeft facts
     → HasLeft (facts_received role slot room pdu facts)
@@ -169,13 +184,20 @@ step_left setup facts (DataGiven start body) left =
     λ holds. left (sym (ap is_control (given_control setup.link.handle start body facts.outgoing)) ∙ holds)
 step_left setup facts (ProcedureAsked ask) left = asked_left (is_to_come ask facts) ask facts left
 step_left setup facts (RequestAnswered answer) left = left
+step_left setup facts (KeyAnswered key slot) left = left
 step_left setup facts (Disconnected reason slot) left = left
 step_left setup facts (EventEntered slot) left = entered_left (goes_on facts) setup slot facts left
 step_left setup facts PduFixed left = fixed_left (is_control facts.outgoing.fixed) facts left
 step_left setup facts (PacketSent slot) left =
     let now = control_gone_if (takes_leave facts) slot facts in
-    sent_left (is_acked now.acknowledgement) now.fixes_control now.outgoing (gone_left (takes_leave facts) slot facts left)
-step_left setup facts (PacketReceived slot octets room) left = received_left setup.link.role slot room (good_pdu setup facts octets) facts left
+    sent_left (payload_made now.encryption.end now.outgoing.fixed)
+    (is_acked now.acknowledgement) now.fixes_control now.outgoing (gone_left (takes_leave facts) slot facts left)
+step_left setup facts (WordsGiven skd_s iv_s) left = left
+step_left setup facts (PacketReceived slot octets room) left =
+    let pdu = good_pdu setup facts octets in
+    let has_left = received_left setup.link.role slot room pdu facts left in
+    either_forged HasLeft (is_forged setup facts octets)
+    (facts_received setup.link.role slot room pdu facts) has_left has_left
 step_left setup facts DataReported left = left
 
 steps_left : (setup : Setup) (facts : Facts) (steps : List Step) → HasLeft facts → HasLeft (fold (facts_after setup) facts steps)

@@ -1,14 +1,11 @@
 -- What an end makes of a packet that it hears: a packet of a PDU is heard whole, and the bits are counts.
-use Rattle.std.proofs.Common.{◌≡◌, ℕ, ◌+◌, Bool, true, false, not, ◌||◌, List, [], ◌∷◌, ◌++◌, length, refl, ap, ◌∙◌, length-append, if◌then◌else◌}
+use Rattle.std.proofs.Common.{◌≡◌, ℕ, ◌+◌, Bool, true, false, not, List, [], ◌∷◌, ◌++◌, length, refl, ap, ◌∙◌, length-append, if◌then◌else◌}
 use Rattle.air_frame.specs.declared.Heard.TheVariants.{Whole}
 use Rattle.air_frame.specs.Hearing.{heard_in}
 use Rattle.air_frame.specs.Packet.{on_air, IsPdu}
-use Rattle.data_pdu.specs.declared.header.DataHeader.{DataHeader}
-use Rattle.ack_bit.specs.AckBits.{is_odd, is_new, acknowledges}
-use Rattle.ack_bit.specs.AckLink.{after_receiving as end_after_receiving}
+use Rattle.ack_bit.specs.AckBits.{is_odd}
 use Rattle.ack_bit.proofs.Directions.{odd-next}
 use Rattle.link_model.specs.Acknowledgement.{Acknowledgement, Pdu, bits_of, end_of, received_by}
-use Rattle.link_model.specs.Data.{is_accepted, is_data}
 
 -- a packet of a PDU in form is heard whole
 abbrev pub IsHeardWhole : Type 0
@@ -57,10 +54,3 @@ received_ends ack pdu false true =
       accepted = ack.accepted ++ pdu ∷ [];
     }
 received_ends ack pdu false false = refl
-
--- with room, or with none for data
-pub received_end : (ack : Acknowledgement) (header : DataHeader) (pdu : Pdu) (room : Bool)
-    → end_of (received_by (acknowledges (bits_of ack) header) (is_accepted room (is_new (bits_of ack) header) pdu) pdu ack)
-    ≡ end_after_receiving (end_of ack) header pdu (room || not (is_data pdu))
-received_end ack header pdu room =
-    received_ends ack pdu (acknowledges (bits_of ack) header) (is_accepted room (is_new (bits_of ack) header) pdu)

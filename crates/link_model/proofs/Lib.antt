@@ -1,4 +1,7 @@
 -- The lemmas of this crate.
+pub mod KeyedSteps
+pub mod KeyedPasts
+pub mod Choices
 pub mod Hearing
 pub mod Outgoing
 pub mod ControlSteps
@@ -17,9 +20,17 @@ pub mod Exchanges
 pub mod Agreeing
 pub mod Pieces
 pub mod Pasts
+pub mod Opening
+pub mod Headers
 pub mod Received
+pub mod Plain
+pub mod PlainSteps
+pub mod PlainGives
+pub mod PlainPayloads
+pub mod PlainEnds
 -- what the crates above use of those below
-pub use Rattle.control_end.proofs.control_model as control_model
-pub use Rattle.control_end.proofs as control_end
-pub use Rattle.control_end.proofs.table_laws as table_laws
-pub use Rattle.control_end.proofs.procedure_values as procedure_values
+pub use Rattle.phased_end.proofs.control_end.control_model as control_model
+pub use Rattle.phased_end.proofs.control_end as control_end
+pub use Rattle.phased_end.proofs.control_end.table_laws as table_laws
+pub use Rattle.phased_end.proofs.control_end.procedure_values as procedure_values
+pub use Rattle.phased_end.proofs as phased_end

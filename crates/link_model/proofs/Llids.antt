@@ -4,13 +4,14 @@ use Rattle.acl_banks.specs.declared.pieces.Piece.{Piece}
 use Rattle.data_pdu.specs.declared.ctrl.Ctrl.{Ctrl}
 use Rattle.link_model.specs.Setup.{Setup}
 use Rattle.link_model.specs.Acknowledgement.{Acknowledgement, Pdu, empty_pdu, is_acked, next_sent}
-use Rattle.link_model.specs.Data.{Data, data_acked_if, data_given, data_sent_if, is_data, llid_of, next_piece, pdu_with}
+use Rattle.link_model.specs.Data.{Data, data_acked_if, data_given, is_data, llid_of, next_piece, pdu_with}
 use Rattle.link_model.specs.Step.{Step}
 use Rattle.link_model.specs.Controls.{next_control, pdu_of_control}
 use Rattle.link_model.specs.Fixing.{data_fixed_by}
 use Rattle.link_model.specs.Packets.{pdu_sent}
 use Rattle.link_model.specs.End.{facts_of}
 use Rattle.link_model.proofs.Moves.{EachMoveKeeps, past_keeps}
+use Rattle.link_model.specs.Sending.{data_sent_as}
 
 abbrev HasLlid : Pdu → Type 0
 HasLlid pdu = (0 < pdu.llid) × (pdu.llid < 4)
@@ -38,15 +39,16 @@ given_llids : (handle : ℕ) (start : Bool) (body : List ℕ) (ack : Acknowledge
 given_llids handle start [] ack outgoing have = have
 given_llids handle start (octet ∷ octets) ack outgoing have = have
 
-fixed_llid : (control : Bool) (waiting : ℕ) (goes : Bool) (outgoing : Data) → HasLlid (data_fixed_by control waiting goes outgoing).fixed
-fixed_llid true waiting goes outgoing = empty_llid
-fixed_llid false waiting true outgoing = piece_llid (next_piece outgoing)
-fixed_llid false waiting false outgoing = empty_llid
+fixed_llid : (control : Bool) (waiting : ℕ) (quiet goes : Bool) (outgoing : Data)
+    → HasLlid (data_fixed_by control waiting quiet goes outgoing).fixed
+fixed_llid true waiting quiet goes outgoing = empty_llid
+fixed_llid false waiting quiet true outgoing = piece_llid (next_piece outgoing)
+fixed_llid false waiting quiet false outgoing = empty_llid
 
-sent_llids : (is_new : Bool) (ack : Acknowledgement) (outgoing : Data) → HaveLlids ack outgoing
-    → HaveLlids (next_sent is_new outgoing.fixed ack) (data_sent_if is_new outgoing)
-sent_llids true ack outgoing have = (have.1, empty_llid)
-sent_llids false ack outgoing have = have
+sent_llids : (payload : List ℕ) (is_new : Bool) (ack : Acknowledgement) (outgoing : Data) → HaveLlids ack outgoing
+    → HaveLlids (next_sent is_new outgoing.fixed ack) (data_sent_as payload is_new outgoing)
+sent_llids payload true ack outgoing have = (have.1, empty_llid)
+sent_llids payload false ack outgoing have = have
 
 acked_llids : (acked : Bool) (ack : Acknowledgement) (outgoing : Data) → HaveLlids ack outgoing → HaveLlids ack (data_acked_if acked outgoing)
 acked_llids true ack outgoing have = have
@@ -58,9 +60,10 @@ llids_kept =
       first = (empty_llid, empty_llid);
       given = given_llids;
       reported = λ ack outgoing have. have;
-      fixed = λ control waiting limit goes ack outgoing have. (have.0, fixed_llid control waiting goes (record outgoing { limit = limit }));
+      fixed = λ control waiting limit quiet goes ack outgoing have.
+          (have.0, fixed_llid control waiting quiet goes (record outgoing { limit = limit }));
       gone = λ control ack outgoing all have. (have.0, control_llid control);
-      sent = λ ack outgoing have. sent_llids (is_acked ack) ack outgoing have;
+      sent = λ payload ack outgoing have. sent_llids payload (is_acked ack) ack outgoing have;
       acked = λ acked ack outgoing out have. acked_llids (acked && is_data ack.last) ack outgoing have;
       accepted = λ accepted pdu ack outgoing have. have;
     }

@@ -1,5 +1,5 @@
 -- The notes of what an end sent and took have numbers in order.
-use Rattle.std.proofs.Common.{◌≡◌, ℕ, ◌+◌, ◌&&◌, Bool, true, false, not, List, [], ◌∷◌, ◌++◌, fold, length, Option, Some, None, refl, ap, sym, ◌∙◌, arith, if◌then◌else◌}
+use Rattle.std.proofs.Common.{◌≡◌, ℕ, ◌+◌, ◌&&◌, Bool, true, false, not, List, [], ◌∷◌, ◌++◌, fold, length, Option, Some, None, refl, ap, sym, ◌∙◌, arith, if◌then◌else◌, subst}
 use Rattle.std.specs.List.{filter}
 use Rattle.std.proofs.lemmas.List.{append-nil, append_assoc}
 use Rattle.std.proofs.lemmas.List.Elements.{filter-append}
@@ -9,10 +9,10 @@ use Rattle.ble_base.specs.declared.procedure_kinds.Kind.{Kind}
 use Rattle.ack_bit.specs.Nonempty.{nonempty}
 use Rattle.data_pdu.specs.declared.header.DataHeader.{DataHeader}
 use Rattle.data_pdu.specs.Header.{header_in}
-use Rattle.control_end.specs.declared.answers.Entry.{Entry}
-use Rattle.control_end.specs.declared.answers.Taken.{Taken}
-use Rattle.control_end.specs.Answers.{entry_of}
-use Rattle.control_end.specs.Held.{held_of}
+use Rattle.phased_end.specs.control_end.declared.answers.Entry.{Entry}
+use Rattle.phased_end.specs.control_end.declared.answers.Taken.{Taken}
+use Rattle.phased_end.specs.control_end.Answers.{entry_of}
+use Rattle.phased_end.specs.control_end.Held.{held_of}
 use Rattle.link_model.specs.Setup.{Setup}
 use Rattle.link_model.specs.declared.events.ConnectionEvent.{ConnectionEvent}
 use Rattle.link_model.specs.Acknowledgement.{Acknowledgement, Pdu, is_acked}
@@ -21,16 +21,16 @@ use Rattle.link_model.specs.Numbers.{is_sent_note, is_took_note, numbered_notes,
 use Rattle.link_model.specs.Events.{applied_notes}
 use Rattle.link_model.specs.Verdicts.{pdu_of}
 use Rattle.link_model.specs.Facts.{Facts, first_facts}
-use Rattle.link_model.specs.Step.{Step, DataGiven, DataReported, Disconnected, EventEntered, PacketReceived, PacketSent, PduFixed, ProcedureAsked, RequestAnswered}
+use Rattle.link_model.specs.Step.{Step, DataGiven, DataReported, Disconnected, EventEntered, PacketReceived, PacketSent, PduFixed, ProcedureAsked, RequestAnswered, KeyAnswered, WordsGiven}
 use Rattle.link_model.specs.Controls.{goes_on, is_procedure_pdu, is_quiet_now, pdu_fixed}
 use Rattle.link_model.specs.Entering.{began_notes, done_notes, entry_notes, event_notes, facts_entered}
 use Rattle.link_model.specs.Hosts.{is_to_come}
-use Rattle.link_model.specs.Packets.{good_pdu}
+use Rattle.link_model.specs.Packets.{good_pdu, is_forged}
 use Rattle.link_model.specs.Sending.{sent_notes, sent_notes_if}
-use Rattle.link_model.specs.Receiving.{accepts, acked_kind, acks_control, facts_before_taking, facts_hearing, facts_received, given_if, given_notes, has_acknowledged, notes_hearing, received_notes, refused_notes, took_notes_if}
+use Rattle.link_model.specs.Receiving.{accepts, acked_kind, acks_control, facts_before_taking, facts_hearing, facts_received, given_if, given_notes, has_acknowledged, notes_hearing, received_notes, refused_notes, took_notes_if, kept_given_if}
 use Rattle.link_model.specs.End.{facts_after, facts_of, notes_after, notes_from, notes_of}
 use Rattle.link_model.specs.Delivery.{AreNumbered}
-use Rattle.link_model.proofs.Acknowledging.{ack_before_taking, ack_heard, ack_sent, asked_leaves, entered_leaves, fixed_leaves}
+use Rattle.link_model.proofs.Acknowledging.{ack_before_taking, ack_heard, ack_sent, asked_leaves, entered_leaves, fixed_leaves, forged_leaves}
 
 -- ---- a list with one PDU more
 
@@ -206,17 +206,19 @@ module _ (setup : Setup) where
       let mid = took_notes_if noted setup.link.handle pdu now in
       let given = given_if (accepted && is_procedure_pdu pdu) pdu slot now in
       let front_are = done_others setup.link.handle (acked_kind (acks_control (has_acknowledged facts header) facts) facts) in
-      let rest_are = given_others setup.link.handle given in
+      let kept = kept_given_if (accepted && is_procedure_pdu pdu) pdu slot now in
+      let rest = given_notes setup.link.handle given ++ given_notes setup.link.handle kept in
+      let rest_are = both_others _ _ (given_others setup.link.handle given) (given_others setup.link.handle kept) in
       let heard = ack_heard setup.link.role slot room header pdu facts in
       record {
         sent = no_notes is_sent_note (sent_note setup.link.handle) ack.sent _ (notes_hearing setup slot room header pdu facts)
             (ap (λ (a : Acknowledgement). a.sent) heard)
-            (between is_sent_note front mid (given_notes setup.link.handle given) front_are.sent rest_are.sent
+            (between is_sent_note front mid rest front_are.sent rest_are.sent
             ∙ no_sent_as_taken noted setup.link.handle pdu now);
         took = ap (λ (a : Acknowledgement). numbered_notes (took_note setup.link.handle) 1 (nonempty is_empty a.accepted)) heard
             ∙ pushed (took_note setup.link.handle) ack.accepted pdu accepted (is_empty pdu) refl
             ∙ ap (λ ns. before_took facts ++ ns)
-            (sym (between is_took_note front mid (given_notes setup.link.handle given) front_are.took rest_are.took
+            (sym (between is_took_note front mid rest front_are.took rest_are.took
             ∙ took_as_taken noted setup.link.handle pdu now
             ∙ ap (λ (a : Acknowledgement). if noted then took_note setup.link.handle (numbered a.accepted + 1) pdu ∷ [] else [])
             (ack_before_taking setup.link.role slot header facts)));
@@ -233,12 +235,19 @@ module _ (setup : Setup) where
   step_numbered facts (DataGiven start body) = leaves setup facts.acknowledgement _ [] refl no_others
   step_numbered facts (ProcedureAsked ask) = leaves setup facts.acknowledgement _ [] (asked_leaves (is_to_come ask facts) ask facts) no_others
   step_numbered facts (RequestAnswered answer) = leaves setup facts.acknowledgement _ [] refl no_others
+  step_numbered facts (KeyAnswered key slot) = leaves setup facts.acknowledgement _ [] refl no_others
   step_numbered facts (Disconnected reason slot) = leaves setup facts.acknowledgement _ [] refl no_others
   step_numbered facts (EventEntered slot) = entered slot facts
   step_numbered facts PduFixed =
       leaves setup facts.acknowledgement _ [] (fixed_leaves (is_control facts.outgoing.fixed) facts) no_others
   step_numbered facts (PacketSent slot) = sends slot facts
-  step_numbered facts (PacketReceived slot octets room) = receives slot room (good_pdu setup facts octets) facts
+  step_numbered facts (WordsGiven skd_s iv_s) = leaves setup facts.acknowledgement _ [] refl no_others
+  step_numbered facts (PacketReceived slot octets room) =
+      let pdu = good_pdu setup facts octets in
+      let later = facts_received setup.link.role slot room pdu facts in
+      subst (λ (a : Acknowledgement). IsFollowed setup facts.acknowledgement a
+      (received_notes setup slot room pdu facts))
+      (sym (forged_leaves (is_forged setup facts octets) later)) (receives slot room pdu facts)
   step_numbered facts DataReported = leaves setup facts.acknowledgement _ [] refl no_others
 
   -- ---- all steps

@@ -10,8 +10,7 @@ use Rattle.acl_banks.specs.Packets.{DataPacket, marked_octets, piece_of}
 use Rattle.acl_banks.proofs.Octets.{length-marked_octets}
 use Rattle.link_model.specs.Setup.{Setup}
 use Rattle.link_model.specs.Acknowledgement.{Acknowledgement, Pdu, is_acked}
-use Rattle.link_model.specs.Data.{Data, data_in, data_of, is_data, is_out, is_unsent, pdu_with}
-use Rattle.link_model.specs.Data.{acked_data, sent_data}
+use Rattle.link_model.specs.Data.{Data, acked_data, data_in, data_of, is_data, is_out, is_unsent, pdu_with, sent_data}
 use Rattle.link_model.proofs.Outgoing.{all_acked, data-push, none_out, not_out}
 use Rattle.link_model.specs.Step.{Step}
 use Rattle.link_model.specs.End.{facts_of}

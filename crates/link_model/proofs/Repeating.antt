@@ -3,56 +3,57 @@ use Rattle.std.proofs.Common.{◌≡◌, ℕ, ◌&&◌, Bool, true, false, List,
 use Rattle.ble_base.specs.declared.roles.Role.{Role}
 use Rattle.data_pdu.specs.declared.header.DataHeader.{DataHeader}
 use Rattle.data_pdu.specs.Header.{header_in}
-use Rattle.control_end.specs.procedure_values.declared.asks.Ask.{Ask}
-use Rattle.control_end.specs.procedure_stages.Queue.{waiting_in}
+use Rattle.phased_end.specs.control_end.procedure_values.declared.asks.Ask.{Ask}
+use Rattle.phased_end.specs.control_end.procedure_stages.Queue.{waiting_in}
 use Rattle.link_model.specs.Setup.{Setup}
-use Rattle.link_model.specs.Acknowledgement.{Acknowledgement, Pdu, is_acked, next_sent}
-use Rattle.link_model.specs.Data.{Data, data_acked_if, data_given, data_sent_if, is_control, is_data}
+use Rattle.link_model.specs.Acknowledgement.{Pdu, is_acked}
+use Rattle.link_model.specs.Data.{Data, data_acked_if, data_given, is_control, is_data}
 use Rattle.link_model.specs.Verdicts.{pdu_of}
-use Rattle.link_model.specs.Payload.{payload_of}
+use Rattle.link_model.specs.Payload.{payload_made}
 use Rattle.link_model.specs.Facts.{Facts}
-use Rattle.link_model.specs.Step.{Step, DataGiven, DataReported, Disconnected, EventEntered, PacketReceived, PacketSent, PduFixed, ProcedureAsked, RequestAnswered}
-use Rattle.link_model.specs.Controls.{goes_on, is_procedure_pdu, next_control, pdu_fixed, pdu_of_control}
+use Rattle.link_model.specs.Step.{Step, DataGiven, DataReported, Disconnected, EventEntered, PacketReceived, PacketSent, PduFixed, ProcedureAsked, RequestAnswered, KeyAnswered, WordsGiven}
+use Rattle.link_model.specs.Controls.{goes_on, is_procedure_pdu, next_control, pdu_fixed, pdu_of_control, is_quiet_now}
 use Rattle.link_model.specs.Entering.{facts_entered_if}
 use Rattle.link_model.specs.Fixing.{data_cut, data_fixed_by, data_goes, fixed_anew}
 use Rattle.link_model.specs.Hosts.{asked_unless, is_to_come}
-use Rattle.link_model.specs.Packets.{good_pdu, payload_sent, pdu_sent}
-use Rattle.link_model.specs.Sending.{control_gone_if, facts_sent, fixed_sent}
+use Rattle.link_model.specs.Packets.{good_pdu, payload_sent, is_forged}
+use Rattle.link_model.specs.Sending.{control_gone_if, facts_sent, fixed_sent, data_sent_as}
 use Rattle.link_model.specs.Receiving.{accepted_if, accepts, acknowledged_if, answers_with_control, facts_before_taking, facts_hearing, facts_received, has_acknowledged, heard_in_slot, procedures_take_if}
-use Rattle.link_model.specs.End.{facts_after, facts_of}
-use Rattle.link_model.proofs.Moves.{EachMoveKeeps, past_keeps}
+use Rattle.link_model.specs.End.{facts_after}
+use Rattle.link_model.proofs.Choices.{either_data, either_forged}
 
 pub sent_again : (facts : Facts) → is_acked facts.acknowledgement ≡ false → payload_sent facts ≡ facts.outgoing.payload
-sent_again facts out = ap (λ b. if b then payload_of (pdu_fixed facts) else facts.outgoing.payload) out
+sent_again facts out =
+    ap (λ b. if b then payload_made facts.encryption.end (pdu_fixed facts) else facts.outgoing.payload) out
 
 -- ---- a packet is sent
 
 sent_by : (acked fixes : Bool) (slot : ℕ) (facts : Facts) → is_acked facts.acknowledgement ≡ acked → facts.fixes_control ≡ fixes
-    → (fixed_sent slot (control_gone_if (acked && fixes) slot facts)).outgoing
-    ≡ data_sent_if acked (record facts.outgoing { fixed = (if acked then pdu_fixed facts else facts.outgoing.fixed) })
-sent_by true true slot facts all fixes = ap (λ b. data_sent_if b (record facts.outgoing { fixed = pdu_fixed facts })) all
+    → (fixed_sent slot (control_gone_if (acked && fixes) slot facts)).outgoing.payload
+    ≡ (if acked then payload_made facts.encryption.end (pdu_fixed facts) else facts.outgoing.payload)
+sent_by true true slot facts all fixes =
+    let made = payload_made facts.encryption.end (pdu_fixed facts) in
+    ap (λ b. (data_sent_as made b (record facts.outgoing { fixed = pdu_fixed facts })).payload) all
 sent_by true false slot facts all fixes =
-    λ i. data_sent_if (all i)
-    (record facts.outgoing { fixed = (if sym fixes i then pdu_of_control (next_control facts) else facts.outgoing.fixed) })
-sent_by false fixed slot facts all fixes = ap (λ b. data_sent_if b facts.outgoing) all
-
-payload_by : (acked : Bool) (next fixed : Pdu) (outgoing : Data)
-    → (data_sent_if acked (record outgoing { fixed = (if acked then next else fixed) })).payload
-    ≡ (if acked then payload_of next else outgoing.payload)
-payload_by true next fixed outgoing = refl
-payload_by false next fixed outgoing = refl
+    let made = payload_made facts.encryption.end facts.outgoing.fixed in
+    ap (λ b. (data_sent_as made b facts.outgoing).payload) all
+    ∙ (λ i. payload_made facts.encryption.end
+    (if sym fixes i then pdu_of_control (next_control facts) else facts.outgoing.fixed))
+sent_by false fixed slot facts all fixes =
+    let made = payload_made facts.encryption.end facts.outgoing.fixed in
+    ap (λ b. (data_sent_as made b facts.outgoing).payload) all
 
 payload_after : (slot : ℕ) (facts : Facts)
     → (facts_sent slot facts).outgoing.payload
-    ≡ (if is_acked facts.acknowledgement then payload_of (pdu_fixed facts) else facts.outgoing.payload)
-payload_after slot facts =
-    ap (λ (outgoing : Data). outgoing.payload) (sent_by (is_acked facts.acknowledgement) facts.fixes_control slot facts refl refl)
-    ∙ payload_by (is_acked facts.acknowledgement) (pdu_fixed facts) facts.outgoing.fixed facts.outgoing
+    ≡ (if is_acked facts.acknowledgement then payload_made facts.encryption.end
+    (pdu_fixed facts) else facts.outgoing.payload)
+payload_after slot facts = sent_by (is_acked facts.acknowledgement) facts.fixes_control slot facts refl refl
 
 pub first_payload : (facts : Facts) (slot : ℕ) → is_acked facts.acknowledgement ≡ true
-    → (facts_sent slot facts).outgoing.payload ≡ payload_of (pdu_fixed facts)
+    → (facts_sent slot facts).outgoing.payload ≡ payload_made facts.encryption.end (pdu_fixed facts)
 first_payload facts slot all =
-    payload_after slot facts ∙ ap (λ b. if b then payload_of (pdu_fixed facts) else facts.outgoing.payload) all
+    payload_after slot facts
+    ∙ ap (λ b. if b then payload_made facts.encryption.end (pdu_fixed facts) else facts.outgoing.payload) all
 
 -- ---- whatever else happens
 
@@ -69,15 +70,17 @@ entered_kept : (goes : Bool) (setup : Setup) (slot : ℕ) (facts : Facts)
 entered_kept true setup slot facts = refl
 entered_kept false setup slot facts = refl
 
-anew_kept : (control : Bool) (waiting : ℕ) (goes : Bool) (outgoing : Data) → (data_fixed_by control waiting goes outgoing).payload ≡ outgoing.payload
-anew_kept true waiting goes outgoing = refl
-anew_kept false waiting true outgoing = refl
-anew_kept false waiting false outgoing = refl
+anew_kept : (control : Bool) (waiting : ℕ) (quiet goes : Bool) (outgoing : Data)
+    → (data_fixed_by control waiting quiet goes outgoing).payload ≡ outgoing.payload
+anew_kept true waiting quiet goes outgoing = refl
+anew_kept false waiting quiet true outgoing = refl
+anew_kept false waiting quiet false outgoing = refl
 
 fixed_kept : (stays : Bool) (facts : Facts) → (if stays then facts else fixed_anew facts).outgoing.payload ≡ facts.outgoing.payload
 fixed_kept true facts = refl
 fixed_kept false facts =
-    anew_kept (is_some (next_control facts)) (waiting_in facts.control.table.queue) (data_goes facts) (data_cut facts)
+    anew_kept (is_some (next_control facts)) (waiting_in facts.control.table.queue) (is_quiet_now facts)
+    (data_goes facts) (data_cut facts)
 
 gone_kept : (goes : Bool) (slot : ℕ) (facts : Facts) → (control_gone_if goes slot facts).outgoing.payload ≡ facts.outgoing.payload
 gone_kept true slot facts = refl
@@ -99,7 +102,9 @@ heard_kept role slot room header pdu facts =
     let own = acknowledged_if acks (heard_in_slot slot header.md facts) in
     let now = facts_before_taking role slot header facts in
     let accepted = accepts room header pdu now in
-    taken_kept (accepted && is_procedure_pdu pdu) pdu slot (accepted_if accepted pdu now)
+    let seen = procedures_take_if (accepted && is_procedure_pdu pdu) pdu slot (accepted_if accepted pdu now) in
+    either_data (λ (f : Facts). f.outgoing.payload ≡ seen.outgoing.payload) (accepted && is_data pdu) seen refl refl
+    ∙ taken_kept (accepted && is_procedure_pdu pdu) pdu slot (accepted_if accepted pdu now)
     ∙ gone_kept (answers_with_control role own) slot own ∙ acked_kept (acks && is_data facts.acknowledgement.last) facts.outgoing
 
 received_kept : (role : Role) (slot : ℕ) (room : Bool) (pdu : Option (List ℕ)) (facts : Facts)
@@ -112,45 +117,17 @@ pub payload_kept : (setup : Setup) (facts : Facts) (step : Step) → is_acked fa
 payload_kept setup facts (DataGiven start body) out = given_kept setup.link.handle start body facts.outgoing
 payload_kept setup facts (ProcedureAsked ask) out = asked_kept (is_to_come ask facts) ask facts
 payload_kept setup facts (RequestAnswered answer) out = refl
+payload_kept setup facts (KeyAnswered key slot) out = refl
 payload_kept setup facts (Disconnected reason slot) out = refl
 payload_kept setup facts (EventEntered slot) out = entered_kept (goes_on facts) setup slot facts
 payload_kept setup facts PduFixed out = fixed_kept (is_control facts.outgoing.fixed) facts
 payload_kept setup facts (PacketSent slot) out =
-    payload_after slot facts ∙ ap (λ b. if b then payload_of (pdu_fixed facts) else facts.outgoing.payload) out
+    payload_after slot facts
+    ∙ ap (λ b. if b then payload_made facts.encryption.end (pdu_fixed facts) else facts.outgoing.payload) out
+payload_kept setup facts (WordsGiven skd_s iv_s) out = refl
 payload_kept setup facts (PacketReceived slot octets room) out =
-    received_kept setup.link.role slot room (good_pdu setup facts octets) facts
+    let later = facts_received setup.link.role slot room (good_pdu setup facts octets) facts in
+    either_forged (λ (f : Facts). f.outgoing.payload ≡ later.outgoing.payload)
+    (is_forged setup facts octets) later refl refl
+    ∙ received_kept setup.link.role slot room (good_pdu setup facts octets) facts
 payload_kept setup facts DataReported out = refl
-
--- ---- it is the body of the PDU that was sent last
-
-abbrev IsPayloadOfLast : Acknowledgement → Data → Type 0
-IsPayloadOfLast ack outgoing = outgoing.payload ≡ payload_of ack.last
-
-sent_last : (is_new : Bool) (ack : Acknowledgement) (outgoing : Data) → IsPayloadOfLast ack outgoing
-    → IsPayloadOfLast (next_sent is_new outgoing.fixed ack) (data_sent_if is_new outgoing)
-sent_last true ack outgoing is = refl
-sent_last false ack outgoing is = is
-
-last_kept : EachMoveKeeps IsPayloadOfLast
-last_kept =
-    record {
-      first = refl;
-      given = λ handle start body ack outgoing is. given_kept handle start body outgoing ∙ is;
-      reported = λ ack outgoing is. is;
-      fixed = λ control waiting limit goes ack outgoing is. anew_kept control waiting goes (record outgoing { limit = limit }) ∙ is;
-      gone = λ control ack outgoing all is. is;
-      sent = λ ack outgoing is. sent_last (is_acked ack) ack outgoing is;
-      acked = λ acked ack outgoing out is. acked_kept (acked && is_data ack.last) outgoing ∙ is;
-      accepted = λ accepted pdu ack outgoing is. is;
-    }
-
-body_by : (acked : Bool) (next last : Pdu) (payload : List ℕ) → payload ≡ payload_of last
-    → (if acked then payload_of next else payload) ≡ payload_of (if acked then next else last)
-body_by true next last payload is = refl
-body_by false next last payload is = is
-
-pub past_payload : (setup : Setup) (past : List Step) → let facts = facts_of setup past in payload_sent facts ≡ payload_of (pdu_sent facts)
-past_payload setup past =
-    let facts = facts_of setup past in
-    body_by (is_acked facts.acknowledgement) (pdu_fixed facts) facts.acknowledgement.last facts.outgoing.payload
-    (past_keeps IsPayloadOfLast last_kept setup past)

@@ -15,8 +15,8 @@ use Rattle.acl_banks.proofs.OneLink.{IsKept, all_counted, all_octets, kept-acked
 use Rattle.data_pdu.specs.declared.ctrl.Ctrl.{Ctrl}
 use Rattle.link_model.specs.Setup.{Setup}
 use Rattle.link_model.specs.Acknowledgement.{Acknowledgement, Pdu, empty_pdu, first_acknowledgement, is_acked, next_sent, with_accepted, with_acked}
-use Rattle.link_model.specs.Data.{Data, data_acked, data_acked_if, data_completed, data_given, data_in, data_of, data_reported, data_sent, data_sent_if, first_data, is_completed, is_data, is_out, is_unsent, llid_of, pdu_with}
-use Rattle.link_model.specs.Data.{acked_data, sent_data}
+use Rattle.link_model.specs.Data.{Data, acked_data, data_acked, data_acked_if, data_completed, data_given, data_in, data_of, data_reported, data_sent, first_data, is_completed, is_data, is_out, is_unsent, llid_of, pdu_with, sent_data}
+use Rattle.link_model.proofs.Counts.{accepted_counted, acked_counted, AreCounted, first_counted, sent_counted}
 use Rattle.link_model.proofs.Outgoing.{all_acked, data-push, none_out, not_out}
 use Rattle.link_model.specs.Controls.{pdu_of_control}
 use Rattle.link_model.specs.Facts.{Facts}
@@ -24,8 +24,8 @@ use Rattle.link_model.specs.Fixing.{data_fixed_by}
 use Rattle.link_model.specs.Step.{Step}
 use Rattle.link_model.specs.End.{facts_of}
 use Rattle.link_model.specs.Delivery.{IsInOrder}
-use Rattle.link_model.proofs.Counts.{AreCounted, accepted_counted, acked_counted, first_counted, sent_counted}
 use Rattle.link_model.proofs.Moves.{EachMoveKeeps, past_keeps}
+use Rattle.link_model.specs.Sending.{data_sent_as}
 
 -- what became of the data, as the bank of all links has it
 abbrev pub past_of : Acknowledgement → Data → Past
@@ -94,13 +94,14 @@ cut_again : (limit : ℕ) (found : Option DataPacket)
 cut_again limit None = refl
 cut_again limit (Some packet) = ap (λ piece. pdu_with (Some piece)) (piece-again limit packet)
 
-fixed_together : (control : Bool) (waiting limit : ℕ) (goes : Bool) (ack : Acknowledgement) (outgoing : Data) → IsTogether ack outgoing
-    → IsTogether ack (data_fixed_by control waiting goes (record outgoing { limit = limit }))
-fixed_together true waiting limit goes ack outgoing are =
+fixed_together : (control : Bool) (waiting limit : ℕ) (quiet goes : Bool) (ack : Acknowledgement) (outgoing : Data)
+    → IsTogether ack outgoing
+    → IsTogether ack (data_fixed_by control waiting quiet goes (record outgoing { limit = limit }))
+fixed_together true waiting limit quiet goes ack outgoing are =
     record { kept = are.kept; counts = are.counts; next = empty_next outgoing.packets }
-fixed_together false waiting limit false ack outgoing are =
+fixed_together false waiting limit quiet false ack outgoing are =
     record { kept = are.kept; counts = are.counts; next = empty_next outgoing.packets }
-fixed_together false waiting limit true ack outgoing are =
+fixed_together false waiting limit quiet true ack outgoing are =
     record {
       kept = are.kept;
       counts = are.counts;
@@ -188,9 +189,10 @@ kept_sent false ack outgoing are all holds =
     kept_at outgoing.packets outgoing.complete (past_of ack outgoing) (sent_data ack ++ data_in outgoing.fixed) (acked_data ack)
     (sym (append-nil (sent_data ack)) ∙ ap (λ octets. sent_data ack ++ octets) (sym (no_data_in outgoing.fixed holds))) refl are.kept
 
-sent_together : (is_new : Bool) (ack : Acknowledgement) (outgoing : Data) → is_acked ack ≡ is_new → IsTogether ack outgoing
-    → IsTogether (next_sent is_new outgoing.fixed ack) (data_sent_if is_new outgoing)
-sent_together true ack outgoing is are =
+sent_together : (payload : List ℕ) (is_new : Bool) (ack : Acknowledgement) (outgoing : Data) → is_acked ack ≡ is_new
+    → IsTogether ack outgoing
+    → IsTogether (next_sent is_new outgoing.fixed ack) (data_sent_as payload is_new outgoing)
+sent_together payload true ack outgoing is are =
     let all : ack.acked ≡ length ack.sent = eqb-true ack.acked (length ack.sent) is in
     let next = outgoing.fixed in
     record {
@@ -203,7 +205,7 @@ sent_together true ack outgoing is are =
       counts = sent_counted true next ack is are.counts;
       next = empty_next (data_sent outgoing).packets;
     }
-sent_together false ack outgoing is are =
+sent_together payload false ack outgoing is are =
     record { kept = are.kept; counts = sent_counted false outgoing.fixed ack is are.counts; next = are.next }
 
 -- ---- the PDU that was sent last is acknowledged
@@ -370,7 +372,7 @@ stays_together =
       reported = reported_together;
       fixed = fixed_together;
       gone = λ control ack outgoing all are. gone_together control ack outgoing are;
-      sent = λ ack outgoing are. sent_together (is_acked ack) ack outgoing refl are;
+      sent = λ payload ack outgoing are. sent_together payload (is_acked ack) ack outgoing refl are;
       acked = heard_together;
       accepted = accepted_together;
     }

@@ -5,8 +5,8 @@ use Rattle.std.proofs.lemmas.Bool.Decides.{nat_tests}
 use Rattle.ble_base.specs.declared.roles.Role.{Role}
 use Rattle.ble_base.specs.declared.roles.Role.TheVariants.{Central, Peripheral}
 use Rattle.instants.specs.Track.{is_free}
-use Rattle.control_end.specs.procedure_stages.InProgress.{is_busy}
-use Rattle.control_end.specs.procedure_stages.Queue.{waiting_in}
+use Rattle.phased_end.specs.control_end.procedure_stages.InProgress.{is_busy}
+use Rattle.phased_end.specs.control_end.procedure_stages.Queue.{waiting_in}
 use Rattle.link_model.specs.Setup.{Setup}
 use Rattle.link_model.specs.declared.events.ConnectionEvent.{ConnectionEvent}
 use Rattle.link_model.specs.declared.events.Reception.{Reception}
@@ -16,7 +16,7 @@ use Rattle.link_model.specs.Lost.{is_recent, skips_by}
 use Rattle.link_model.specs.Facts.{Facts}
 use Rattle.link_model.specs.Times.{has_nothing_to_send, is_idle, wants_of}
 
-no_last : (first : Bool) → (first && false) ≡ false
+pub no_last : (first : Bool) → (first && false) ≡ false
 no_last true = refl
 no_last false = refl
 

@@ -8,8 +8,7 @@ use Rattle.acl_banks.specs.Packets.{Marked}
 use Rattle.acl_banks.specs.History.{HostData, octets_of, whole_packets}
 use Rattle.link_model.specs.Setup.{Setup}
 use Rattle.link_model.specs.Acknowledgement.{Pdu}
-use Rattle.link_model.specs.Data.{data_in, data_of, unsent_of}
-use Rattle.link_model.specs.Data.{acked_data}
+use Rattle.link_model.specs.Data.{acked_data, data_in, data_of, unsent_of}
 use Rattle.link_model.specs.OneLink.{AreInAgreement}
 use Rattle.link_model.specs.Facts.{Facts}
 use Rattle.link_model.specs.Step.{Step}

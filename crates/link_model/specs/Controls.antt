@@ -1,25 +1,24 @@
 -- The control PDUs of one end: which of them a body is, which one goes next, and what is longest (Core 5.2, volume 6
 -- part B, sections 2.4.2 and 4.5.10).
-use Rattle.std.specs.Prelude.{ℕ, ◌==◌, ◌&&◌, ◌||◌, nat_lt, Bool, true, false, not, List, [], ◌∷◌, Option, Some, None, is_none, if◌then◌else◌}
+use Rattle.std.specs.Prelude.{ℕ, ◌==◌, ◌&&◌, ◌||◌, nat_lt, Bool, false, not, List, [], ◌∷◌, Option, Some, None, is_none, if◌then◌else◌}
 use Rattle.data_pdu.specs.declared.ctrl.Ctrl.{Ctrl}
-use Rattle.data_pdu.specs.declared.ctrl.Ctrl.TheVariants.{EncReq, PauseEncReq}
 use Rattle.data_pdu.specs.declared.ctrl.CtrlRead.{CtrlRead}
-use Rattle.data_pdu.specs.declared.ctrl.CtrlRead.TheVariants.{Known, Unknown}
 use Rattle.data_pdu.specs.Layouts.{written}
-use Rattle.data_pdu.specs.Reading.{ctrl_of, opcode_of}
+use Rattle.data_pdu.specs.Reading.{ctrl_of}
+use Rattle.phased_end.specs.enc_phase.Phases.{is_quiet}
 use Rattle.ble_base.specs.Limits.{first_payload_octets}
-use Rattle.control_end.specs.procedure_values.declared.lengths.Lengths.{Lengths}
-use Rattle.control_end.specs.procedure_values.Limits.{rx_of, tx_of}
-use Rattle.control_end.specs.control_model.Supported.{read_supported}
-use Rattle.control_end.specs.Answers.{next_ctrl}
-use Rattle.control_end.specs.Held.{held_of}
+use Rattle.phased_end.specs.control_end.procedure_values.declared.lengths.Lengths.{Lengths}
+use Rattle.phased_end.specs.control_end.procedure_values.Limits.{rx_of, tx_of}
+use Rattle.phased_end.specs.control_end.Answers.{next_ctrl}
+use Rattle.phased_end.specs.control_end.Held.{held_of}
+use Rattle.phased_end.specs.control_end.control_model.Supported.{read_supported}
 use Rattle.link_model.specs.Acknowledgement.{Pdu, empty_pdu}
 use Rattle.link_model.specs.Data.{is_control, is_empty}
 use Rattle.link_model.specs.Facts.{Facts}
 
 -- ---- which control PDU a body is
 
--- no link is encrypted yet
+-- no link encrypts yet: a PDU that begins or pauses an encryption is not supported
 abbrev pub read_of : Pdu → CtrlRead
 read_of pdu = read_supported (ctrl_of pdu.body)
 
@@ -37,9 +36,9 @@ is_procedure_pdu pdu = is_control pdu && not (is_empty pdu)
 
 -- ---- which control PDU goes next
 
--- no link is encrypted yet, so each is in phase Clear
+-- phase Clear or Secure
 abbrev pub is_quiet_now : Facts → Bool
-is_quiet_now facts = true
+is_quiet_now facts = is_quiet facts.encryption.phase
 
 abbrev pub next_control : Facts → Option Ctrl
 next_control facts = next_ctrl (is_quiet_now facts) (held_of facts.control)

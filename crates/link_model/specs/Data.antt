@@ -8,7 +8,6 @@ use Rattle.acl_banks.specs.declared.pieces.Piece.{Piece}
 use Rattle.acl_banks.specs.History.{HostData}
 use Rattle.acl_banks.specs.Packets.{DataPacket, Marked, is_all_sent, marked_octets, new_packet, packet_after_acked, packet_after_went, piece_of, sent_length, unsent_octets, with_first, without_first}
 use Rattle.link_model.specs.Acknowledgement.{Acknowledgement, Pdu, empty_pdu}
-use Rattle.link_model.specs.Payload.{payload_of}
 
 pub record Data : Type 0 where
   -- the packets of the host that were kept to be sent, in order
@@ -38,7 +37,7 @@ first_data = record {
   limit = first_payload_octets;
   fixed = empty_pdu;
   more = false;
-  payload = payload_of empty_pdu;
+  payload = empty_pdu.body;
 }
 
 -- ---- PDUs
@@ -128,8 +127,8 @@ data_fixed controls held outgoing =
       more = waits_behind controls held (next_piece outgoing) (length (unsent_of outgoing));
     }
 
--- the fixed PDU is sent: as many octets go out as it has, whatever the limit is by now. Its payload is made here, and is
--- kept for sending it again
+-- the fixed PDU is sent: as many octets go out as it has, whatever the limit is by now. Its body is kept as the payload for
+-- sending it again; a payload that is sealed takes its place where it is made
 abbrev pub data_sent : Data → Data
 data_sent outgoing =
     record outgoing {
@@ -139,7 +138,7 @@ data_sent outgoing =
           else outgoing.packets);
       fixed = empty_pdu;
       more = false;
-      payload = payload_of outgoing.fixed;
+      payload = outgoing.fixed.body;
     }
 
 abbrev pub data_sent_if : Bool → Data → Data

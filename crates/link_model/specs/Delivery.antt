@@ -5,8 +5,7 @@ use Rattle.std.specs.List.{filter}
 use Rattle.ack_bit.specs.Nonempty.{nonempty}
 use Rattle.acl_banks.specs.History.{octets_of, whole_packets}
 use Rattle.link_model.specs.Setup.{Setup}
-use Rattle.link_model.specs.Data.{data_of, is_empty, unsent_of}
-use Rattle.link_model.specs.Data.{acked_data, sent_data}
+use Rattle.link_model.specs.Data.{acked_data, data_of, is_empty, sent_data, unsent_of}
 use Rattle.link_model.specs.Numbers.{is_sent_note, is_took_note, numbered_notes, sent_note, took_note}
 use Rattle.link_model.specs.Facts.{Facts}
 use Rattle.link_model.specs.Step.{Step}

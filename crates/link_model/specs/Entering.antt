@@ -3,24 +3,28 @@ use Rattle.std.specs.Prelude.{ℕ, Bool, false, List, [], ◌∷◌, ◌++◌, O
 use Rattle.ble_base.specs.declared.notes.Note.{Note}
 use Rattle.ble_base.specs.declared.notes.Note.TheVariants.{Began, Done, Enter}
 use Rattle.ble_base.specs.declared.procedure_kinds.Kind.{Kind}
-use Rattle.control_end.specs.control_model.Control.{Control, Enters, after}
-use Rattle.control_end.specs.declared.answers.Entry.{Entry}
-use Rattle.control_end.specs.Answers.{entry_of}
-use Rattle.control_end.specs.Held.{held_of}
+use Rattle.phased_end.specs.control_end.control_model.Control.{Control}
+use Rattle.phased_end.specs.keyed_control.Keyed.{Keyed}
+use Rattle.phased_end.specs.keyed_control.KeyedSteps.{Enters, keyed_after}
+use Rattle.phased_end.specs.control_end.declared.answers.Entry.{Entry}
+use Rattle.phased_end.specs.control_end.Answers.{entry_of}
+use Rattle.phased_end.specs.control_end.Held.{held_of}
 use Rattle.link_model.specs.Setup.{Setup}
 use Rattle.link_model.specs.declared.events.ConnectionEvent.{ConnectionEvent}
 use Rattle.link_model.specs.Events.{applied_notes, event_entered}
-use Rattle.link_model.specs.Facts.{Facts, params_of}
+use Rattle.link_model.specs.Facts.{Facts, keyed_of, params_of, with_keyed}
 use Rattle.link_model.specs.Controls.{goes_on, is_long, is_quiet_now}
 
--- the indication that waits holds from its Instant on, and then a procedure may begin
+-- the indication that waits holds from its Instant on, and then a procedure may begin; with an encryption its phase changes
+abbrev pub keyed_entered : ℕ → Facts → Keyed
+keyed_entered slot facts = keyed_after (Enters slot) (keyed_of facts)
+
 abbrev pub control_entered : ℕ → Facts → Control
-control_entered slot facts = after (Enters slot (is_quiet_now facts)) facts.control
+control_entered slot facts = (keyed_entered slot facts).phased.control
 
 abbrev pub facts_entered : Setup → ℕ → Facts → Facts
 facts_entered setup slot facts =
-    record facts {
-      control = control_entered slot facts;
+    record (with_keyed (keyed_entered slot facts) facts) {
       event = event_entered setup slot (params_of facts).latency (control_entered slot facts).track;
       lengths = record facts.lengths { long = is_long facts.control.table.lengths; changed = false };
     }

@@ -1,45 +1,46 @@
 -- As a turn begins, an end fixes the PDU that it sends next (Core 5.2, volume 6 part B, sections 2.4 and 4.5.6; the order
 -- is our choice).
-use Rattle.std.specs.Prelude.{ℕ, nat_lt, ◌||◌, Bool, false, not, [], is_some, if◌then◌else◌}
-use Rattle.control_end.specs.procedure_stages.Closing.{is_disconnecting}
-use Rattle.control_end.specs.procedure_stages.Queue.{waiting_in}
-use Rattle.control_end.specs.procedure_values.Limits.{tx_of}
+use Rattle.std.specs.Prelude.{ℕ, nat_lt, ◌||◌, ◌&&◌, Bool, false, not, [], is_some, if◌then◌else◌}
+use Rattle.phased_end.specs.control_end.procedure_stages.Closing.{is_disconnecting}
+use Rattle.phased_end.specs.control_end.procedure_stages.Queue.{waiting_in}
+use Rattle.phased_end.specs.control_end.procedure_values.Limits.{tx_of}
 use Rattle.link_model.specs.Acknowledgement.{empty_pdu}
 use Rattle.link_model.specs.Data.{Data, data_fixed, is_control, next_piece}
 use Rattle.link_model.specs.Facts.{Facts}
-use Rattle.link_model.specs.Controls.{next_control}
+use Rattle.link_model.specs.Controls.{is_quiet_now, next_control}
 
 -- its data, cut into pieces of at most the effective length (section 4.5.10)
 abbrev pub data_cut : Facts → Data
 data_cut facts = record facts.outgoing { limit = tx_of facts.control.table.lengths }
 
 -- a control PDU goes before all data. MD is 1 where another control PDU waits, also one that may not be sent yet, or data
-abbrev pub control_fixed : ℕ → Data → Data
-control_fixed waiting outgoing =
-    record outgoing { fixed = empty_pdu; more = nat_lt 1 waiting || is_some (next_piece outgoing) }
+-- that the phase lets go
+abbrev pub control_fixed : ℕ → Bool → Data → Data
+control_fixed waiting quiet outgoing =
+    record outgoing { fixed = empty_pdu; more = nat_lt 1 waiting || (quiet && is_some (next_piece outgoing)) }
 
 abbrev pub nothing_fixed : Data → Data
 nothing_fixed outgoing = record outgoing { fixed = empty_pdu; more = false }
 
--- no data goes once the host has ended the link (our choice)
+-- data goes in phase Clear or Secure alone, and none once the host has ended the link (section 5.1.3, and our choice)
 abbrev pub data_goes : Facts → Bool
-data_goes facts = not (is_disconnecting facts.control.table.closing)
+data_goes facts = is_quiet_now facts && not (is_disconnecting facts.control.table.closing)
 
 -- else the next piece of data goes, or an empty PDU. MD is 1 where octets of data wait after that piece
 abbrev pub data_fixed_if : Bool → Data → Data
 data_fixed_if goes outgoing = if goes then data_fixed [] [] outgoing else nothing_fixed outgoing
 
-abbrev pub data_fixed_by : Bool → ℕ → Bool → Data → Data
-data_fixed_by control waiting goes outgoing =
-    if control then control_fixed waiting outgoing else data_fixed_if goes outgoing
+abbrev pub data_fixed_by : Bool → ℕ → Bool → Bool → Data → Data
+data_fixed_by control waiting quiet goes outgoing =
+    if control then control_fixed waiting quiet outgoing else data_fixed_if goes outgoing
 
 abbrev pub fixed_anew : Facts → Facts
 fixed_anew facts =
     record facts {
       fixes_control = is_some (next_control facts);
       outgoing =
-          data_fixed_by (is_some (next_control facts)) (waiting_in facts.control.table.queue) (data_goes facts)
-          (data_cut facts);
+          data_fixed_by (is_some (next_control facts)) (waiting_in facts.control.table.queue) (is_quiet_now facts)
+          (data_goes facts) (data_cut facts);
     }
 
 -- a control PDU that has left the queue and is not sent stays the one that is fixed

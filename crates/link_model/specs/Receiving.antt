@@ -1,5 +1,6 @@
 -- An end receives a packet (Core 5.2, volume 6 part B, sections 4.5.6, 4.5.9 and 5.1).
 use Rattle.std.specs.Prelude.{ℕ, ◌+◌, ◌≤◌, ◌==◌, ◌&&◌, ◌||◌, not, Bool, false, List, [], ◌∷◌, ◌++◌, Option, Some, None, is_none, is_some, ⊤, if◌then◌else◌}
+use Rattle.ble_base.specs.ErrorCodes.{mic_failure}
 use Rattle.ble_base.specs.Limits.{payload_octets}
 use Rattle.ble_base.specs.declared.error_codes.ErrCode.{ErrCode}
 use Rattle.ble_base.specs.declared.notes.Note.{Note}
@@ -7,32 +8,38 @@ use Rattle.ble_base.specs.declared.notes.Note.TheVariants.{Refused, Took}
 use Rattle.ble_base.specs.declared.procedure_kinds.Kind.{Kind}
 use Rattle.ble_base.specs.declared.roles.Role.{Role}
 use Rattle.ble_base.specs.declared.roles.Role.TheVariants.{Central, Peripheral}
-use Rattle.ack_bit.specs.AckBits.{acknowledges, is_new}
+use Rattle.ack_bit.specs.AckBits.{acknowledges}
+use Rattle.data_pdu.specs.declared.ctrl.Ctrl.{Ctrl}
 use Rattle.data_pdu.specs.declared.ctrl.Ctrl.TheVariants.{FeatureReq, FeatureRsp, PeripheralFeatureReq, VersionInd}
 use Rattle.data_pdu.specs.declared.ctrl.CtrlRead.{CtrlRead}
-use Rattle.data_pdu.specs.declared.ctrl.CtrlRead.TheVariants.{Known}
+use Rattle.data_pdu.specs.declared.ctrl.CtrlRead.TheVariants.{Bare, Known}
 use Rattle.data_pdu.specs.declared.header.DataHeader.{DataHeader}
 use Rattle.data_pdu.specs.Header.{header_in}
-use Rattle.control_end.specs.procedure_stages.declared.steps.Effect.{Effect}
-use Rattle.control_end.specs.procedure_stages.declared.steps.Effect.TheVariants.{Lengths as new_lengths, Nothing, PeerEnds}
-use Rattle.control_end.specs.procedure_values.declared.lengths.Lengths.{Lengths}
-use Rattle.control_end.specs.control_model.Control.{Control, SeesAcknowledged, Takes, after}
-use Rattle.control_end.specs.declared.answers.Taken.{Taken}
-use Rattle.control_end.specs.Answers.{done_by_acknowledgement, nothing_taken, taken_of}
-use Rattle.control_end.specs.Held.{held_of}
+use Rattle.phased_end.specs.control_end.procedure_stages.declared.steps.Effect.{Effect}
+use Rattle.phased_end.specs.control_end.procedure_stages.declared.steps.Effect.TheVariants.{Lengths as new_lengths, Nothing, PeerEnds}
+use Rattle.phased_end.specs.control_end.procedure_values.declared.lengths.Lengths.{Lengths}
+use Rattle.phased_end.specs.control_end.control_model.Control.{Control, ended}
+use Rattle.phased_end.specs.declared.taking.TakenKeyed.{TakenKeyed}
+use Rattle.phased_end.specs.Held.{held_of as keyed_held}
+use Rattle.phased_end.specs.Taking.{drawn, is_handed, taken_keyed}
+use Rattle.phased_end.specs.keyed_control.Keyed.{Keyed}
+use Rattle.phased_end.specs.keyed_control.KeyedSteps.{SeesAcknowledged, Takes, TakesData, keyed_after}
+use Rattle.phased_end.specs.control_end.declared.answers.Taken.{Taken}
+use Rattle.phased_end.specs.control_end.Answers.{done_by_acknowledgement, nothing_taken}
+use Rattle.phased_end.specs.control_end.Held.{held_of}
 use Rattle.link_model.specs.Setup.{Setup}
 use Rattle.link_model.specs.Acknowledgement.{Pdu, bits_of, is_acked, with_accepted, with_acked}
-use Rattle.link_model.specs.Data.{data_acked_if, is_control, is_data, is_empty, numbered}
+use Rattle.link_model.specs.Data.{data_acked_if, is_accepted, is_control, is_data, is_empty, numbered}
 use Rattle.link_model.specs.Events.{event_heard}
-use Rattle.link_model.specs.Data.{is_accepted}
 use Rattle.link_model.specs.Verdicts.{pdu_of}
 use Rattle.link_model.specs.declared.state.KnownLengths.{KnownLengths}
 use Rattle.link_model.specs.declared.state.Leaving.{Leaving}
 use Rattle.link_model.specs.declared.state.PeerFacts.{PeerFacts}
-use Rattle.link_model.specs.Facts.{Facts}
-use Rattle.link_model.specs.Controls.{are_equal, goes_on, is_procedure_pdu, is_quiet_now, is_terminate, read_of}
+use Rattle.link_model.specs.Facts.{Facts, keyed_of, with_keyed}
+use Rattle.link_model.specs.Controls.{are_equal, goes_on, is_procedure_pdu, is_terminate, read_of}
 use Rattle.link_model.specs.Entering.{done_notes}
-use Rattle.link_model.specs.Packets.{good_pdu}
+use Rattle.link_model.specs.Packets.{good_pdu, has_new_pdu}
+use Rattle.link_model.specs.Payload.{end_accepting}
 use Rattle.link_model.specs.Sending.{control_gone_if, takes_leave}
 
 -- ---- a good packet reached it in this slot
@@ -54,18 +61,18 @@ has_acknowledged facts header = not (is_acked facts.acknowledgement) && acknowle
 abbrev pub acks_control : Bool → Facts → Bool
 acks_control acked facts = acked && is_control facts.acknowledgement.last
 
-abbrev pub control_acked_if : Bool → Control → Control
-control_acked_if acked control = if acked then after SeesAcknowledged control else control
-
 abbrev pub leaving_acked_if : Bool → Leaving → Leaving
 leaving_acked_if acked leaving = record leaving { acknowledged = leaving.acknowledged || acked }
 
+-- after its LL_PAUSE_ENC_RSP a central asks for encryption again (section 5.1.3.2)
+abbrev pub keyed_acked_if : Bool → Keyed → Keyed
+keyed_acked_if acked k = if acked then keyed_after SeesAcknowledged k else k
+
 abbrev pub acknowledged_if : Bool → Facts → Facts
 acknowledged_if acked facts =
-    record facts {
+    record (with_keyed (keyed_acked_if (acks_control acked facts) (keyed_of facts)) facts) {
       acknowledgement = with_acked acked facts.acknowledgement;
       outgoing = data_acked_if (acked && is_data facts.acknowledgement.last) facts.outgoing;
-      control = control_acked_if (acks_control acked facts) facts.control;
       leaving = leaving_acked_if (acked && is_terminate facts.acknowledgement.last) facts.leaving;
     }
 
@@ -86,20 +93,27 @@ facts_before_taking role slot header facts =
 
 -- ---- the new PDU is taken, or is not
 
-abbrev pub has_new_pdu : Facts → DataHeader → Bool
-has_new_pdu facts header = is_new (bits_of facts.acknowledgement) header
-
 -- an end whose LL_TERMINATE_IND is acknowledged takes nothing more (section 5.1.6)
 abbrev pub accepts : Bool → DataHeader → Pdu → Facts → Bool
 accepts room header pdu facts =
     is_accepted room (has_new_pdu facts header) pdu && (is_empty pdu || not facts.leaving.acknowledged)
 
--- what its procedures give for a control PDU
+-- what its procedures give for a control PDU, and for one that was kept until now; nothing where they do not see it
+abbrev pub procedures_answer : Pdu → ℕ → Facts → TakenKeyed
+procedures_answer pdu slot facts =
+    taken_keyed slot facts.encryption.response (read_of pdu) (keyed_held (keyed_of facts))
+
 abbrev pub procedures_give : Pdu → ℕ → Facts → Taken
-procedures_give pdu slot facts = taken_of (read_of pdu) slot (is_quiet_now facts) (held_of facts.control)
+procedures_give pdu slot facts = (procedures_answer pdu slot facts).taken
+
+abbrev pub kept_give : Pdu → ℕ → Facts → Taken
+kept_give pdu slot facts = (procedures_answer pdu slot facts).kept
+
+abbrev pub keyed_taken : Pdu → ℕ → Facts → Keyed
+keyed_taken pdu slot facts = keyed_after (Takes (read_of pdu) slot (drawn facts.encryption.response)) (keyed_of facts)
 
 abbrev pub control_taken : Pdu → ℕ → Facts → Control
-control_taken pdu slot facts = after (Takes (read_of pdu) slot (is_quiet_now facts)) facts.control
+control_taken pdu slot facts = (keyed_taken pdu slot facts).phased.control
 
 -- the features and the version of the peer are known from the PDUs that have them (sections 2.4.2.9 to 2.4.2.15)
 abbrev pub peer_from : CtrlRead → PeerFacts → PeerFacts
@@ -112,6 +126,23 @@ peer_from other peer = peer
 
 abbrev pub peer_from_if : Bool → CtrlRead → PeerFacts → PeerFacts
 peer_from_if goes_on read peer = if goes_on then peer_from read peer else peer
+
+-- the procedures see a PDU as it is taken
+abbrev pub is_seen : Pdu → Facts → Bool
+is_seen pdu facts = is_handed (read_of pdu) (keyed_held (keyed_of facts))
+
+-- one that was kept is answered once the phase is Clear or Secure, and then nothing is kept
+abbrev pub kept_seen : Option Ctrl → Option Ctrl → CtrlRead
+kept_seen (Some ctrl) None = Known ctrl
+kept_seen before after = Bare
+
+-- an end that ended the link by a PDU knows nothing of it
+abbrev pub peer_taken : Pdu → ℕ → Facts → PeerFacts
+peer_taken pdu slot facts =
+    let now = keyed_taken pdu slot facts in
+    let goes_on = is_none now.phased.control.ends in
+    peer_from_if goes_on (kept_seen facts.encryption.kept now.phased.kept)
+    (peer_from_if (goes_on && is_seen pdu facts) (read_of pdu) facts.peer)
 
 abbrev pub lengths_seen : Lengths → Lengths → KnownLengths → KnownLengths
 lengths_seen before after lengths = record lengths { changed = lengths.changed || not (are_equal before after) }
@@ -132,25 +163,41 @@ leaving_by (Some code) leaving = record leaving { ended_by_peer = Some code }
 
 abbrev pub procedures_take : Pdu → ℕ → Facts → Facts
 procedures_take pdu slot facts =
-    record facts {
-      control = control_taken pdu slot facts;
-      peer = peer_from_if (is_none (control_taken pdu slot facts).ends) (read_of pdu) facts.peer;
+    record (with_keyed (keyed_taken pdu slot facts) facts) {
+      peer = peer_taken pdu slot facts;
       lengths =
-          lengths_reported (procedures_give pdu slot facts).effect
-          (lengths_seen facts.control.table.lengths (control_taken pdu slot facts).table.lengths facts.lengths);
+          lengths_reported (kept_give pdu slot facts).effect
+          (lengths_reported (procedures_give pdu slot facts).effect
+          (lengths_seen facts.control.table.lengths (control_taken pdu slot facts).table.lengths facts.lengths));
       leaving = leaving_by (code_of (procedures_give pdu slot facts).effect) facts.leaving;
     }
 
 abbrev pub procedures_take_if : Bool → Pdu → ℕ → Facts → Facts
 procedures_take_if takes pdu slot facts = if takes then procedures_take pdu slot facts else facts
 
+-- data that the phase forbids ends the link
+abbrev pub data_taken : Facts → Facts
+data_taken facts = with_keyed (keyed_after TakesData (keyed_of facts)) facts
+
+abbrev pub data_taken_if : Bool → Facts → Facts
+data_taken_if takes facts = if takes then data_taken facts else facts
+
+-- a PDU that is not empty takes its counter where it is accepted
+abbrev pub counts_accepted : Bool → Pdu → Bool
+counts_accepted accepted pdu = accepted && not (is_empty pdu)
+
 abbrev pub accepted_if : Bool → Pdu → Facts → Facts
 accepted_if accepted pdu facts =
-    record facts { acknowledgement = with_accepted accepted pdu facts.acknowledgement }
+    record facts {
+      acknowledgement = with_accepted accepted pdu facts.acknowledgement;
+      encryption =
+          record facts.encryption { end = end_accepting (counts_accepted accepted pdu) facts.encryption.end };
+    }
 
 abbrev pub taken_if : Bool → Pdu → ℕ → Facts → Facts
 taken_if accepted pdu slot facts =
-    procedures_take_if (accepted && is_procedure_pdu pdu) pdu slot (accepted_if accepted pdu facts)
+    data_taken_if (accepted && is_data pdu)
+    (procedures_take_if (accepted && is_procedure_pdu pdu) pdu slot (accepted_if accepted pdu facts))
 
 -- ---- all of a reception, in this order
 
@@ -162,6 +209,13 @@ facts_hearing role slot room header pdu facts =
 abbrev pub facts_received : Role → ℕ → Bool → Option (List ℕ) → Facts → Facts
 facts_received role slot room None facts = facts
 facts_received role slot room (Some pdu) facts = facts_hearing role slot room (header_in pdu) (pdu_of pdu) facts
+
+-- a forged packet does nothing but end the link (section 5.1.3.1)
+abbrev pub ended_by_forgery : Control → Control
+ended_by_forgery c = if is_none c.ends then ended (record { 0 = mic_failure }) c else c
+
+abbrev pub facts_forged_if : Bool → Facts → Facts
+facts_forged_if forged facts = if forged then record facts { control = ended_by_forgery facts.control } else facts
 
 -- ---- what it notes, in this order
 
@@ -183,13 +237,17 @@ refused_notes handle (Some (kind, code)) = Refused handle kind code ∷ []
 abbrev pub given_if : Bool → Pdu → ℕ → Facts → Taken
 given_if takes pdu slot facts = if takes then procedures_give pdu slot facts else nothing_taken
 
+abbrev pub kept_given_if : Bool → Pdu → ℕ → Facts → Taken
+kept_given_if takes pdu slot facts = if takes then kept_give pdu slot facts else nothing_taken
+
 abbrev pub given_notes : ℕ → Taken → List Note
 given_notes handle given = refused_notes handle given.refused ++ done_notes handle given.done
 
 abbrev pub taken_notes : ℕ → Bool → Pdu → ℕ → Facts → List Note
 taken_notes handle accepted pdu slot facts =
     took_notes_if (accepted && not (is_empty pdu)) handle pdu facts
-    ++ given_notes handle (given_if (accepted && is_procedure_pdu pdu) pdu slot facts)
+    ++ (given_notes handle (given_if (accepted && is_procedure_pdu pdu) pdu slot facts)
+    ++ given_notes handle (kept_given_if (accepted && is_procedure_pdu pdu) pdu slot facts))
 
 abbrev pub notes_hearing : Setup → ℕ → Bool → DataHeader → Pdu → Facts → List Note
 notes_hearing setup slot room header pdu facts =
@@ -223,6 +281,22 @@ effect_received role slot room (Some pdu) facts = effect_hearing role slot room 
 unfoldable pub effect_of : Setup → Facts → ℕ → List ℕ → Bool → Effect
 effect_of setup facts slot octets room =
     effect_received setup.link.role slot room (good_pdu setup facts octets) facts
+
+-- and with one that was kept until then
+abbrev pub kept_effect_hearing : Role → ℕ → Bool → DataHeader → Pdu → Facts → Effect
+kept_effect_hearing role slot room header pdu facts =
+    let now = facts_before_taking role slot header facts in
+    effect_unless_known facts.lengths
+    (kept_given_if (accepts room header pdu now && is_procedure_pdu pdu) pdu slot now).effect
+
+abbrev pub kept_effect_received : Role → ℕ → Bool → Option (List ℕ) → Facts → Effect
+kept_effect_received role slot room None facts = Nothing
+kept_effect_received role slot room (Some pdu) facts =
+    kept_effect_hearing role slot room (header_in pdu) (pdu_of pdu) facts
+
+unfoldable pub kept_effect_of : Setup → Facts → ℕ → List ℕ → Bool → Effect
+kept_effect_of setup facts slot octets room =
+    kept_effect_received setup.link.role slot room (good_pdu setup facts octets) facts
 
 -- the lengths in an effect are at most that of a payload (section 4.5.10)
 abbrev pub HasPayloadLengths : Effect → Type 0

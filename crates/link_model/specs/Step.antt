@@ -1,7 +1,7 @@
 -- What happens to one end of a link, step by step (our choice).
-use Rattle.std.specs.Prelude.{ℕ, Bool, List, Result}
+use Rattle.std.specs.Prelude.{ℕ, Bool, List, Option, Result}
 use Rattle.ble_base.specs.declared.error_codes.ErrCode.{ErrCode}
-use Rattle.control_end.specs.procedure_values.declared.asks.Ask.{Ask}
+use Rattle.phased_end.specs.control_end.procedure_values.declared.asks.Ask.{Ask}
 
 pub data Step : Type 0 where
   -- its host gives it a packet of data: the start of a message, or a continuation
@@ -9,6 +9,8 @@ pub data Step : Type 0 where
   -- its host asks for a procedure, answers a request of the peer, or ends the link in this slot
   ProcedureAsked : (ask : Ask) → Step
   RequestAnswered : (answer : Result Ask ErrCode) → Step
+  -- the host of a peripheral answers in this slot that it has this long term key, or none
+  KeyAnswered : (key : Option (List ℕ)) (slot : ℕ) → Step
   Disconnected : (reason : ErrCode) (slot : ℕ) → Step
   -- it enters the next connection event, the anchor of which is in this slot
   EventEntered : (slot : ℕ) → Step
@@ -16,6 +18,9 @@ pub data Step : Type 0 where
   PduFixed : Step
   -- it sends its packet in this slot
   PacketSent : (slot : ℕ) → Step
+  -- what a peripheral would draw to answer LL_ENC_REQ: its halves of the session key diversifier and of the
+  -- initialization vector
+  WordsGiven : (skd_s iv_s : ℕ) → Step
   -- octets reach it in this slot, on its channel; there is room for a piece of data, or not
   PacketReceived : (slot : ℕ) (octets : List ℕ) (room : Bool) → Step
   -- the complete packets are reported to its host

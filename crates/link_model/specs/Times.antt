@@ -6,10 +6,10 @@ use Rattle.ble_base.specs.ErrorCodes.{terminated_by_local_host}
 use Rattle.ble_base.specs.declared.error_codes.ErrCode.{ErrCode}
 use Rattle.instants.specs.declared.indications.Params.{Params}
 use Rattle.instants.specs.Track.{is_free}
-use Rattle.control_end.specs.procedure_stages.Queue.{waiting_in}
-use Rattle.control_end.specs.procedure_stages.InProgress.{is_busy}
-use Rattle.control_end.specs.Answers.{timeout_of}
-use Rattle.control_end.specs.Held.{held_of}
+use Rattle.phased_end.specs.control_end.procedure_stages.Queue.{waiting_in}
+use Rattle.phased_end.specs.control_end.procedure_stages.InProgress.{is_busy}
+use Rattle.phased_end.specs.control_end.Answers.{timeout_of}
+use Rattle.phased_end.specs.control_end.Held.{held_of}
 use Rattle.link_model.specs.Setup.{Setup}
 use Rattle.link_model.specs.Acknowledgement.{is_acked}
 use Rattle.link_model.specs.Data.{is_empty, unsent_of}

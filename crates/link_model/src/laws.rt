@@ -6,6 +6,7 @@ ghost use Rattle.std.specs.Prelude.{◌&&◌, not, is_some};
 ghost use Rattle.std.specs.List.{AllByRecursion, filter, find};
 ghost use Rattle.std.specs.Option.{option_map};
 ghost use Rattle.acl_banks.specs.Packets.{piece_of};
+ghost use Rattle.ble_base.specs.declared.roles.Role.{Role};
 ghost use Rattle.ble_base.specs.declared.roles.Role.TheVariants.{Central};
 ghost use Rattle.ble_base.specs.declared.verdicts.Verdict.TheVariants.{Good};
 ghost use Rattle.ack_bit.specs.Nonempty.{nonempty};
@@ -13,13 +14,17 @@ ghost use Rattle.data_pdu.specs.declared.ctrl.Ctrl.{Ctrl};
 ghost use Rattle.data_pdu.specs.declared.header.DataHeader.{DataHeader};
 ghost use Rattle.data_pdu.specs.Header.{header_in};
 ghost use Rattle.instants.specs.Track.{is_free};
-ghost use Rattle.control_end.specs.procedure_values.Limits.{tx_of};
-ghost use Rattle.control_end.specs.procedure_stages.InProgress.{is_busy};
-ghost use Rattle.control_end.specs.procedure_stages.Kinds.{role_of};
-ghost use Rattle.control_end.specs.procedure_stages.Queue.{waiting_in};
-ghost use Rattle.control_end.specs.control_model.Control.{after_all, first_control};
-ghost use Rattle.control_end.specs.control_model.Control.{Step as ControlStep};
-ghost use Rattle.control_end.specs.control_model.Waits.{AreInRange};
+ghost use Rattle.phased_end.specs.control_end.procedure_values.Limits.{tx_of};
+ghost use Rattle.phased_end.specs.control_end.procedure_stages.InProgress.{is_busy};
+ghost use Rattle.phased_end.specs.control_end.procedure_stages.Kinds.{role_of};
+ghost use Rattle.phased_end.specs.control_end.procedure_stages.Queue.{waiting_in};
+ghost use Rattle.phased_end.specs.control_end.control_model.Control.{after_all, first_control};
+ghost use Rattle.phased_end.specs.control_end.control_model.Control.{Step as ControlStep};
+ghost use Rattle.phased_end.specs.control_end.control_model.Waits.{AreInRange};
+ghost use Rattle.phased_end.specs.enc_phase.Sealing.{EncEnd, after_sending};
+ghost use Rattle.phased_end.specs.keyed_control.Keyed.{first_keyed};
+ghost use Rattle.phased_end.specs.keyed_control.KeyedSteps.{keyed_after_all, phased_steps};
+ghost use Rattle.phased_end.specs.phased_control.Ends.{AllAskInRange};
 ghost use Rattle.link_model.specs.Setup.{Setup, first_anchor, first_params};
 ghost use Rattle.link_model.specs.Acknowledgement.{Acknowledgement, Pdu, empty_pdu, is_acked};
 ghost use Rattle.link_model.specs.Data.{is_control, is_data, is_empty, is_out, is_unsent};
@@ -27,19 +32,28 @@ ghost use Rattle.link_model.specs.Data.{next_piece, pdu_with, unsent_of};
 ghost use Rattle.link_model.specs.Numbers.{is_took_note};
 ghost use Rattle.link_model.specs.Verdicts.{pdu_of};
 ghost use Rattle.link_model.specs.OneLink.{AreInAgreement};
-ghost use Rattle.link_model.specs.Payload.{payload_of};
-ghost use Rattle.link_model.specs.Facts.{Facts};
-ghost use Rattle.link_model.specs.Controls.{is_long, next_control, pdu_fixed, pdu_of_control};
+ghost use Rattle.link_model.specs.Payload.{CanOpen, payload_made};
+ghost use Rattle.link_model.specs.Facts.{Facts, keyed_of};
+ghost use Rattle.link_model.specs.Controls.{goes_on, is_long, is_quiet_now, next_control};
+ghost use Rattle.link_model.specs.Controls.{pdu_fixed, pdu_of_control};
 ghost use Rattle.link_model.specs.Step.{Step, PacketReceived, PacketSent, PduFixed};
 ghost use Rattle.link_model.specs.Fixing.{data_cut, data_goes};
-ghost use Rattle.link_model.specs.Packets.{good_pdu, header_sent, packet_sent, payload_sent};
+ghost use Rattle.link_model.specs.Packets.{FitsReceiver, good_pdu, header_sent, is_forged};
+ghost use Rattle.link_model.specs.Packets.{packet_sent, payload_sent};
 ghost use Rattle.link_model.specs.Packets.{pdu_sent, verdict_of};
-ghost use Rattle.link_model.specs.Hearing.{IsUnderstood, is_on_air, pdu_heard, pdu_octets};
+ghost use Rattle.link_model.specs.Hearing.{IsOpened, IsUnderstood, is_on_air, pdu_heard};
+ghost use Rattle.link_model.specs.Hearing.{pdu_octets};
 ghost use Rattle.link_model.specs.Sending.{facts_sent};
-ghost use Rattle.link_model.specs.Receiving.{accepts, facts_hearing, notes_hearing};
+ghost use Rattle.link_model.specs.Receiving.{accepts, ended_by_forgery, facts_hearing};
+ghost use Rattle.link_model.specs.Receiving.{notes_hearing};
 ghost use Rattle.link_model.specs.Times.{has_second_exchange, wants_of};
+ghost use Rattle.link_model.specs.KeyedSteps.{is_forged_in_step};
+ghost use Rattle.link_model.specs.KeyedSteps.{keyed_steps_in, keyed_steps_of};
 ghost use Rattle.link_model.specs.ControlSteps.{AreAsksInRange, control_steps_in};
 ghost use Rattle.link_model.specs.ControlSteps.{control_steps_of, is_owed};
+ghost use Rattle.link_model.specs.Entering.{facts_entered};
+ghost use Rattle.link_model.specs.Plain.{IsPlain, plain_entered, plain_hearing};
+ghost use Rattle.link_model.specs.Plain.{plain_notes_hearing};
 ghost use Rattle.link_model.specs.Delivery.{AreNumbered, IsDelivered, IsInOrder};
 ghost use Rattle.link_model.specs.End.{facts_after, facts_of, notes_after, notes_of};
 
@@ -55,39 +69,101 @@ pub fn past_grows()
 {}
 
 /// The packet that an end sends is good at the other end of the link where that listens on its
-/// channel and its payload is not longer than what that receives. What is read in it is its header,
-/// and its LLID and its payload as one PDU; that is what the other end hears (Core 5.2, volume 6
-/// part B, sections 2.4 and 4.5.10). Each PDU that an end sends has the LLID 1, 2 or 3.
+/// channel, its payload is not longer than what that receives, and that opens what is sealed. What
+/// is read in it is its header, and its LLID and its body as one PDU; that is what the other end
+/// hears (Core 5.2, volume 6 part B, sections 2.4 and 4.5.10). Each PDU that an end sends has the
+/// LLID 1, 2 or 3.
 pub fn a_packet_is_understood()
     ensures good { (from to : Setup) (sender listener : Facts)
         → IsUnderstood from sender to listener
         → verdict_of to listener (packet_sent from sender) ≡ Good }
     ensures pdu { (from to : Setup) (sender listener : Facts)
         → IsUnderstood from sender to listener
-        → good_pdu to listener (packet_sent from sender) ≡ Some (pdu_octets sender) }
-    ensures header { (sender : Facts) → (pdu_sent sender).llid < 4
-        → header_in (pdu_octets sender) ≡ header_sent sender }
-    ensures body { (sender : Facts) → (pdu_sent sender).llid < 4
-        → pdu_of (pdu_octets sender) ≡ pdu_heard sender }
+        → good_pdu to listener (packet_sent from sender)
+        ≡ Some (pdu_octets sender listener) }
+    ensures forged { (from to : Setup) (sender listener : Facts)
+        → IsUnderstood from sender to listener
+        → is_forged to listener (packet_sent from sender) ≡ false }
+    ensures header { (sender listener : Facts) → (pdu_sent sender).llid < 4
+        → header_in (pdu_octets sender listener) ≡ header_sent sender }
+    ensures body { (sender listener : Facts) → (pdu_sent sender).llid < 4
+        → pdu_of (pdu_octets sender listener) ≡ pdu_heard sender listener }
     ensures facts { (from to : Setup) (sender listener : Facts) (slot : ℕ) (room : Bool)
         → IsUnderstood from sender to listener
         → facts_after to listener (PacketReceived slot (packet_sent from sender) room)
-        ≡ facts_hearing to.link.role slot room (header_sent sender) (pdu_heard sender) listener }
+        ≡ facts_hearing to.link.role slot room (header_sent sender) (pdu_sent sender) listener }
     ensures notes { (from to : Setup) (sender listener : Facts) (slot : ℕ) (room : Bool)
         → IsUnderstood from sender to listener
         → notes_after to listener (PacketReceived slot (packet_sent from sender) room)
-        ≡ notes_hearing to slot room (header_sent sender) (pdu_heard sender) listener }
+        ≡ notes_hearing to slot room (header_sent sender) (pdu_sent sender) listener }
     ensures llid { (setup : Setup) (past : List Step) → let pdu = pdu_sent (facts_of setup past) in
         (0 < pdu.llid) × (pdu.llid < 4) }
 {
     air_frame::laws::packet_tells_its_pdu();
 }
 
-/// The control part of an end goes by the control steps of its past, one after the other, from the
-/// first one of its link. They are in range where what its host asks and answers is, none of them
-/// queues a PDU of an encryption, and none of them changes the role of the end.
-pub fn the_control_part_goes_by_its_steps()
+/// The procedures, the phase and the keys of an end go by the steps of its past, one after the
+/// other, from the first ones of its link. A forged packet is no step: it ends the link, and changes
+/// nothing else (Core 5.2, volume 6 part B, section 5.1.3). No step changes the role of the end, and
+/// its session is in the phase of its procedures.
+pub fn an_end_goes_by_its_steps()
     ensures step { (setup : Setup) (facts : Facts) (step : Step)
+        → facts.encryption.end.phase ≡ facts.encryption.phase
+        → is_forged_in_step setup facts step ≡ false
+        → keyed_of (facts_after setup facts step)
+        ≡ keyed_after_all (keyed_steps_in setup facts step) (keyed_of facts) }
+    ensures forged { (setup : Setup) (facts : Facts) (step : Step)
+        → is_forged_in_step setup facts step ≡ true
+        → facts_after setup facts step
+        ≡ record facts { control = ended_by_forgery facts.control } }
+    ensures past { (setup : Setup) (past : List Step) → goes_on (facts_of setup past) ≡ true
+        → keyed_of (facts_of setup past)
+        ≡ keyed_after_all (keyed_steps_of setup past)
+        (first_keyed setup.link.role setup.link.max_rx (first_params setup.link.fields)
+        (first_anchor setup)) }
+    ensures grows { (setup : Setup) (past : List Step) (step : Step)
+        → keyed_steps_of setup (past ++ step ∷ [])
+        ≡ keyed_steps_of setup past ++ keyed_steps_in setup (facts_of setup past) step }
+    ensures in_range { (setup : Setup) (past : List Step) → AreAsksInRange past
+        → AllAskInRange (phased_steps (keyed_steps_of setup past)) }
+    ensures role { (setup : Setup) (past : List Step)
+        → role_of (facts_of setup past).control.table.progress ≡ setup.link.role }
+    ensures phase { (setup : Setup) (past : List Step)
+        → let encryption = (facts_of setup past).encryption in
+        encryption.end.phase ≡ encryption.phase }
+{}
+
+/// No link encrypts yet. Whatever happens to an end, its encryption is that of the beginning, and its
+/// procedures run none (Core 5.2, volume 6 part B, section 5.1.3; that it is so is our choice). So
+/// each step of it changes its procedures and its parameters alone, and the payload of a packet is
+/// the body of its PDU.
+pub fn an_end_encrypts_nothing()
+    ensures past { (setup : Setup) (past : List Step)
+        → IsPlain setup.link.role (facts_of setup past) }
+    ensures step { (setup : Setup) (facts : Facts) (step : Step) → IsPlain setup.link.role facts
+        → IsPlain setup.link.role (facts_after setup facts step) }
+    ensures quiet { (role : Role) (facts : Facts) → IsPlain role facts
+        → is_quiet_now facts ≡ true }
+    ensures entered { (setup : Setup) (facts : Facts) (slot : ℕ) → IsPlain setup.link.role facts
+        → facts_entered setup slot facts ≡ plain_entered setup slot facts }
+    ensures hearing { (role : Role) (slot : ℕ) (room : Bool) (header : DataHeader) (pdu : Pdu)
+        (facts : Facts) → IsPlain role facts → facts_hearing role slot room header pdu facts
+        ≡ plain_hearing role slot room header pdu facts }
+    ensures noted { (setup : Setup) (slot : ℕ) (room : Bool) (header : DataHeader) (pdu : Pdu)
+        (facts : Facts) → IsPlain setup.link.role facts
+        → notes_hearing setup slot room header pdu facts
+        ≡ plain_notes_hearing setup slot room header pdu facts }
+    ensures forged { (setup : Setup) (facts : Facts) (octets : List ℕ)
+        → IsPlain setup.link.role facts → is_forged setup facts octets ≡ false }
+    ensures body { (setup : Setup) (past : List Step) → payload_sent (facts_of setup past)
+        ≡ (pdu_sent (facts_of setup past)).body }
+{}
+
+/// The control part of an end that encrypts nothing goes by the control steps of its past, one after
+/// the other, from the first one of its link. They are in range where what its host asks and answers
+/// is, none of them queues a PDU of an encryption, and none of them changes the role of the end.
+pub fn the_control_part_goes_by_its_steps()
+    ensures step { (setup : Setup) (facts : Facts) (step : Step) → IsPlain setup.link.role facts
         → (facts_after setup facts step).control
         ≡ after_all (control_steps_in setup facts step) facts.control }
     ensures past { (setup : Setup) (past : List Step) → (facts_of setup past).control
@@ -105,6 +181,29 @@ pub fn the_control_part_goes_by_its_steps()
     ensures role { (setup : Setup) (past : List Step)
         → role_of (facts_of setup past).control.table.progress ≡ setup.link.role }
 {}
+
+/// What one end sends is opened by the other end, where its payload was made with the session and
+/// the counter with which that opens, or both are clear; and an integrity code fits in there where
+/// the body does (Core 5.2, volume 6 part B, section 4.5.10, and part E, section 2). A new PDU that
+/// is not empty takes a counter as it is sent, and nothing else does.
+pub fn a_sealed_packet_is_opened()
+    ensures opened { (made : EncEnd) (sender listener : Facts) → (pdu_sent sender).llid < 4
+        → payload_sent sender ≡ payload_made made (pdu_sent sender)
+        → CanOpen made listener.encryption.end → IsOpened sender listener }
+    ensures fits { (made : EncEnd) (sender listener : Facts) (to : Setup)
+        → payload_sent sender ≡ payload_made made (pdu_sent sender)
+        → CanOpen made listener.encryption.end
+        → length (pdu_sent sender).body ≤ to.link.max_rx → FitsReceiver sender to listener }
+    ensures sent { (sender : Facts) (slot : ℕ) → is_acked sender.acknowledgement ≡ true
+        → is_empty (pdu_fixed sender) ≡ false
+        → (facts_sent slot sender).encryption.end ≡ after_sending sender.encryption.end }
+    ensures again { (sender : Facts) (slot : ℕ) → is_acked sender.acknowledgement ≡ false
+        → (facts_sent slot sender).encryption.end ≡ sender.encryption.end }
+    ensures empty { (sender : Facts) (slot : ℕ) → is_empty (pdu_fixed sender) ≡ true
+        → (facts_sent slot sender).encryption.end ≡ sender.encryption.end }
+{
+    enc_phase::laws::sent_is_opened();
+}
 
 /// Whatever an end receives, it takes no PDU for acknowledged that it did not send, and sends none
 /// before the one before it is acknowledged; and what it sends again is the last of those sent.
@@ -159,23 +258,17 @@ pub fn a_payload_is_sent_again()
         → is_acked facts.acknowledgement ≡ false
         → (facts_after setup facts step).outgoing.payload ≡ facts.outgoing.payload }
     ensures first { (facts : Facts) (slot : ℕ) → is_acked facts.acknowledgement ≡ true
-        → (facts_sent slot facts).outgoing.payload ≡ payload_of (pdu_fixed facts) }
-{}
-
-/// As long as no payload is sealed, the payload of a packet is the body of its PDU.
-#[tactic(auto, using(crate::proofs::Repeating::past_payload))]
-pub fn a_payload_is_the_body()
-    ensures { (setup : Setup) (past : List Step) → payload_sent (facts_of setup past)
-        ≡ (pdu_sent (facts_of setup past)).body }
+        → (facts_sent slot facts).outgoing.payload
+        ≡ payload_made facts.encryption.end (pdu_fixed facts) }
 {}
 
 /// As a turn begins, a control PDU that has left the queue and is not sent stays fixed, and is the
 /// one that goes. Else, where a control PDU may be sent, that one is fixed, and MD is 0 only where
 /// nothing else waits: no other control PDU, also none that may not be sent yet, and no piece of
-/// data. Where none may be sent and data goes, the next piece of at most the effective length is
-/// fixed, or an empty PDU where there is none, and MD says whether octets of data wait after it.
-/// Where no data goes, an empty PDU is fixed, with MD 0 (Core 5.2, volume 6 part B, sections 4.5.6
-/// and 4.5.10).
+/// data that the phase lets go. Where none may be sent and data goes, the next piece of at most the
+/// effective length is fixed, or an empty PDU where there is none, and MD says whether octets of
+/// data wait after it. Where no data goes, an empty PDU is fixed, with MD 0 (Core 5.2, volume 6
+/// part B, sections 4.5.6 and 4.5.10).
 pub fn control_pdus_go_before_data()
     ensures stays { (setup : Setup) (facts : Facts) → is_control facts.outgoing.fixed ≡ true
         → facts_after setup facts PduFixed ≡ facts }
@@ -187,7 +280,8 @@ pub fn control_pdus_go_before_data()
     ensures after_control { (setup : Setup) (facts : Facts) (ctrl : Ctrl)
         → is_control facts.outgoing.fixed ≡ false → next_control facts ≡ Some ctrl
         → (facts_after setup facts PduFixed).outgoing.more ≡ false
-        → (waiting_in facts.control.table.queue ≤ 1) × (next_piece (data_cut facts) ≡ None) }
+        → (waiting_in facts.control.table.queue ≤ 1)
+        × (is_quiet_now facts ≡ true → next_piece (data_cut facts) ≡ None) }
     ensures data { (setup : Setup) (facts : Facts) → is_control facts.outgoing.fixed ≡ false
         → next_control facts ≡ None → data_goes facts ≡ true
         → pdu_fixed (facts_after setup facts PduFixed) ≡ pdu_with (next_piece (data_cut facts)) }
@@ -274,14 +368,13 @@ pub fn ends_stay_in_agreement()
         → AreInAgreement (facts_after from sender (PacketSent slot)).acknowledgement other }
     ensures heard { (from to : Setup) (sender listener : Facts) (slot : ℕ) (room : Bool)
         → IsUnderstood from sender to listener
-        → payload_sent sender ≡ (pdu_sent sender).body
         → AreInAgreement (facts_after from sender (PacketSent slot)).acknowledgement
         listener.acknowledgement
         → AreInAgreement (facts_after from sender (PacketSent slot)).acknowledgement
         (facts_after to listener
         (PacketReceived slot (packet_sent from sender) room)).acknowledgement }
     ensures unheard { (setup : Setup) (facts : Facts) (slot : ℕ) (octets : List ℕ) (room : Bool)
-        → good_pdu setup facts octets ≡ None
+        → good_pdu setup facts octets ≡ None → is_forged setup facts octets ≡ false
         → facts_after setup facts (PacketReceived slot octets room) ≡ facts }
     ensures others { (setup : Setup) (facts : Facts) (step : Step) → is_on_air step ≡ false
         → (facts_after setup facts step).acknowledgement ≡ facts.acknowledgement }
@@ -302,7 +395,6 @@ pub fn ends_stay_in_agreement()
 pub fn a_packet_says_what_was_accepted()
     ensures acknowledged { (from to : Setup) (sender listener : Facts) (slot : ℕ) (room : Bool)
         → IsUnderstood from sender to listener
-        → payload_sent sender ≡ (pdu_sent sender).body
         → AreInAgreement (facts_after from sender (PacketSent slot)).acknowledgement
         listener.acknowledgement
         → (facts_after to listener
@@ -310,7 +402,6 @@ pub fn a_packet_says_what_was_accepted()
         ≡ length sender.acknowledgement.accepted }
     ensures accepted { (from to : Setup) (sender listener : Facts) (slot : ℕ)
         → IsUnderstood from sender to listener
-        → payload_sent sender ≡ (pdu_sent sender).body
         → AreInAgreement (facts_after from sender (PacketSent slot)).acknowledgement
         listener.acknowledgement
         → let after = facts_after to listener

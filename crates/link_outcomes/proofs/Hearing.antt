@@ -1,9 +1,9 @@
 -- How far the request of a peripheral is at most, as it receives a packet.
-use Rattle.std.proofs.Common.{◌≡◌, ℕ, ◌==◌, ◌&&◌, not, Bool, true, false, List, Option, Some, None, if◌then◌else◌, refl, sym, ap, subst, ◌∙◌}
+use Rattle.std.proofs.Common.{◌≡◌, ℕ, ◌==◌, ◌&&◌, not, Bool, true, false, List, if◌then◌else◌, refl, sym, ap, subst, ◌∙◌}
 use Rattle.std.proofs.lemmas.Bool.{and_parts}
+use Rattle.ble_base.specs.declared.notes.Note.{Note}
 use Rattle.ble_base.specs.declared.roles.Role.{Role}
 use Rattle.ble_base.specs.declared.roles.Role.TheVariants.{Central, Peripheral}
-use Rattle.data_pdu.specs.Header.{header_in}
 use Rattle.data_pdu.specs.Reading.{ctrl_of, opcode_of}
 use Rattle.data_pdu.specs.declared.ctrl.CtrlRead.{CtrlRead}
 use Rattle.data_pdu.specs.declared.ctrl.CtrlRead.TheVariants.{Bare, Known, Unknown}
@@ -14,19 +14,19 @@ use Rattle.link_model.specs.Acknowledgement.{Pdu, is_acked}
 use Rattle.link_model.specs.Controls.{goes_on, is_procedure_pdu, read_of}
 use Rattle.link_model.specs.Data.{Data, data_acked_if, is_control, is_data, is_empty}
 use Rattle.link_model.specs.End.{facts_after, notes_after}
-use Rattle.link_model.specs.Entering.{facts_entered}
 use Rattle.link_model.specs.Facts.{Facts}
 use Rattle.link_model.specs.Hosts.{is_to_come}
-use Rattle.link_model.specs.Packets.{good_pdu}
-use Rattle.link_model.specs.Receiving.{accepted_if, accepts, acked_kind, acknowledged_if, acks_control, answers_with_control, facts_before_taking, facts_hearing, facts_received, given_if, has_acknowledged, heard_in_slot, notes_hearing, procedures_take_if, received_notes, took_notes_if}
+use Rattle.link_model.specs.Plain.{IsPlain, plain_accepted_if as accepted_if, plain_acknowledged_if as acknowledged_if, plain_before_taking as facts_before_taking, plain_entered, plain_given_if as given_if, plain_hearing as facts_hearing, plain_notes_hearing as notes_hearing, plain_takes_if as procedures_take_if}
+use Rattle.link_model.specs.Receiving.{accepts, acked_kind, acks_control, answers_with_control, has_acknowledged, heard_in_slot, took_notes_if}
 use Rattle.link_model.specs.Sending.{takes_leave}
 use Rattle.link_model.specs.Setup.{Setup}
-use Rattle.link_model.specs.Step.{Step, DataGiven, DataReported, Disconnected, EventEntered, PacketReceived, PacketSent, PduFixed, ProcedureAsked, RequestAnswered}
-use Rattle.link_model.specs.Verdicts.{pdu_of}
+use Rattle.link_model.specs.Step.{Step, DataGiven, DataReported, Disconnected, EventEntered, KeyAnswered, PacketReceived, PacketSent, PduFixed, ProcedureAsked, RequestAnswered, WordsGiven}
 use Rattle.link_model.specs.control_end.Answers.{entry_of}
 use Rattle.link_model.specs.control_end.Held.{held_of}
 use Rattle.link_model.specs.control_model.Control.{Control, Answers, Disconnects, SeesAcknowledged, Takes, after}
 use Rattle.link_model.specs.control_model.Supported.{begins_encryption, read_supported}
+use Rattle.link_model.proofs.ControlSteps.{one_step}
+use Rattle.link_model.proofs.PlainEnds.{by_event, by_packet}
 use Rattle.link_outcomes.proofs.Awaiting.{answers, waits_in}
 use Rattle.link_outcomes.proofs.Controls.{Holds, control_holds, weaker}
 use Rattle.link_outcomes.proofs.Standing.{Stands, StandsIn, asked_stands, entered_stands, entry_less, fixed_stands, free, given_fixed, gone_stands, heard_waits, is_param, level, level_one, level_up, other_stands, sent_by, stands_less}
@@ -129,28 +129,29 @@ heard_stands setup slot room header pdu waits facts s =
     (sym (heard_waits Request handle (acked_kind (acks_control (has_acknowledged facts header) facts) facts) took given waits))
     (taken_by accepted (is_empty pdu) (is_control pdu) handle pdu slot waits now refl (before_stands setup.link.role slot header waits facts s))
 
-received_stands : (setup : Setup) (slot : ℕ) (room : Bool) (octets : Option (List ℕ)) (waits : Bool) (facts : Facts) → StandsIn waits facts
-    → StandsIn (waits_in Request waits (received_notes setup slot room octets facts)) (facts_received setup.link.role slot room octets facts)
-received_stands setup slot room None waits facts s = s
-received_stands setup slot room (Some octets) waits facts s = heard_stands setup slot room (header_in octets) (pdu_of octets) waits facts s
-
 -- ---- each step
 
-pub step_stands : (setup : Setup) (facts : Facts) (step : Step) (waits : Bool) → StandsIn waits facts
+pub step_stands : (setup : Setup) (facts : Facts) (step : Step) (waits : Bool) → IsPlain setup.link.role facts → StandsIn waits facts
     → StandsIn (waits_in Request waits (notes_after setup facts step)) (facts_after setup facts step)
-step_stands setup facts (DataGiven start body) waits s =
+step_stands setup facts (DataGiven start body) waits plain s =
     subst (λ (pdu : Pdu). Stands waits facts.control pdu (is_acked facts.acknowledgement)) (given_fixed setup.link.handle start body facts.outgoing) s
-step_stands setup facts (ProcedureAsked ask) waits s = asked_stands (is_to_come ask facts) ask waits facts s
-step_stands setup facts (RequestAnswered answer) waits s =
+step_stands setup facts (ProcedureAsked ask) waits plain s = asked_stands (is_to_come ask facts) ask waits facts s
+step_stands setup facts (RequestAnswered answer) waits plain s =
     record { holds = control_holds (level (is_param facts.outgoing.fixed) waits) (Answers answer) facts.control tt s.holds; left = s.left }
-step_stands setup facts (Disconnected reason slot) waits s =
+step_stands setup facts (Disconnected reason slot) waits plain s =
     record { holds = control_holds (level (is_param facts.outgoing.fixed) waits) (Disconnects reason) facts.control tt s.holds; left = s.left }
-step_stands setup facts (EventEntered slot) waits s =
-    stands_less waits _ _ _ _
-    (entry_less Request (goes_on facts) setup.link.handle (facts_entered setup slot facts).event (entry_of slot true (held_of facts.control)) waits)
-    (entered_stands (goes_on facts) setup slot waits facts s)
-step_stands setup facts PduFixed waits s = fixed_stands (is_control facts.outgoing.fixed) waits facts s
-step_stands setup facts (PacketSent slot) waits s =
+step_stands setup facts (KeyAnswered key slot) waits plain s =
+    subst (λ (c : Control). Stands waits c facts.outgoing.fixed (is_acked facts.acknowledgement)) (sym (one_step setup facts (KeyAnswered key slot) plain)) s
+step_stands setup facts (EventEntered slot) waits plain s =
+    by_event setup slot facts plain (λ (notes : List Note) (next : Facts). StandsIn (waits_in Request waits notes) next)
+    (stands_less waits _ _ _ _
+    (entry_less Request (goes_on facts) setup.link.handle (plain_entered setup slot facts).event (entry_of slot true (held_of facts.control)) waits)
+    (entered_stands (goes_on facts) setup slot waits facts s))
+step_stands setup facts PduFixed waits plain s = fixed_stands (is_control facts.outgoing.fixed) waits facts s
+step_stands setup facts (PacketSent slot) waits plain s =
     sent_by (is_acked facts.acknowledgement) facts.fixes_control setup.link.handle slot waits facts refl refl s
-step_stands setup facts (PacketReceived slot octets room) waits s = received_stands setup slot room (good_pdu setup facts octets) waits facts s
-step_stands setup facts DataReported waits s = record { holds = s.holds; left = s.left }
+step_stands setup facts (WordsGiven skd_s iv_s) waits plain s = record { holds = s.holds; left = s.left }
+step_stands setup facts (PacketReceived slot octets room) waits plain s =
+    by_packet setup slot facts plain (λ (notes : List Note) (next : Facts). StandsIn (waits_in Request waits notes) next) octets room s
+    (λ header pdu. heard_stands setup slot room header pdu waits facts s)
+step_stands setup facts DataReported waits plain s = record { holds = s.holds; left = s.left }

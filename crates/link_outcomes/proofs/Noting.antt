@@ -1,12 +1,12 @@
 -- Where a peripheral notes that a procedure is done, that procedure runs there, and no answer to it is awaited.
 use Rattle.std.proofs.Common.{◌≡◌, ◌≤◌, ℕ, ◌&&◌, ◌||◌, not, Bool, true, false, List, [], ◌∷◌, ◌++◌, Option, Some, None, is_none, is_some, option_map, if◌then◌else◌, refl, sym, ap, ◌∙◌, arith}
 use Rattle.ble_base.specs.declared.error_codes.ErrCode.{ErrCode}
+use Rattle.ble_base.specs.declared.notes.Note.{Note}
 use Rattle.ble_base.specs.declared.notes.Note.TheVariants.{Enter}
 use Rattle.ble_base.specs.declared.procedure_kinds.Kind.{Kind}
 use Rattle.ble_base.specs.declared.procedure_kinds.Kind.TheVariants.{Request as request_kind}
 use Rattle.ble_base.specs.declared.roles.Role.{Role}
 use Rattle.ble_base.specs.declared.roles.Role.TheVariants.{Central as central_role, Peripheral as peripheral_role}
-use Rattle.data_pdu.specs.Header.{header_in}
 use Rattle.data_pdu.specs.Reading.{ctrl_of}
 use Rattle.data_pdu.specs.declared.ctrl.CtrlRead.{CtrlRead}
 use Rattle.data_pdu.specs.declared.header.DataHeader.{DataHeader}
@@ -17,18 +17,17 @@ use Rattle.exclusive_stages.specs.declared.pdus.Exclusive.TheVariants.{Map, Phy,
 use Rattle.exclusive_stages.specs.declared.stages.PeripheralStage.TheVariants.{RequestGranted}
 use Rattle.instants.specs.Track.{next_number}
 use Rattle.link_model.specs.Acknowledgement.{Pdu, is_acked}
-use Rattle.link_model.specs.Controls.{goes_on, is_procedure_pdu, pdu_fixed, read_of}
+use Rattle.link_model.specs.Controls.{goes_on, is_procedure_pdu, is_quiet_now, pdu_fixed, read_of}
 use Rattle.link_model.specs.Data.{is_control, is_empty, numbered}
 use Rattle.link_model.specs.End.{facts_after, notes_after, notes_from, notes_of}
-use Rattle.link_model.specs.Entering.{began_notes, done_notes, event_notes, facts_entered}
+use Rattle.link_model.specs.Entering.{began_notes, done_notes, event_notes}
 use Rattle.link_model.specs.Events.{applied_notes}
 use Rattle.link_model.specs.Facts.{Facts, first_facts}
-use Rattle.link_model.specs.Packets.{good_pdu}
-use Rattle.link_model.specs.Receiving.{accepts, acked_kind, acknowledged_if, acks_control, answers_with_control, facts_before_taking, given_if, given_notes, has_acknowledged, heard_in_slot, notes_hearing, procedures_give, received_notes, refused_notes, took_notes_if}
+use Rattle.link_model.specs.Plain.{IsPlain, plain_acknowledged_if as acknowledged_if, plain_before_taking as facts_before_taking, plain_entered, plain_given_if as given_if, plain_gives as procedures_give, plain_notes_hearing as notes_hearing}
+use Rattle.link_model.specs.Receiving.{accepts, acked_kind, acks_control, answers_with_control, given_notes, has_acknowledged, heard_in_slot, refused_notes, took_notes_if}
 use Rattle.link_model.specs.Sending.{control_gone_if, sent_notes_if}
 use Rattle.link_model.specs.Setup.{Setup, first_anchor, first_params}
-use Rattle.link_model.specs.Step.{Step, DataGiven, DataReported, Disconnected, EventEntered, PacketReceived, PacketSent, PduFixed, ProcedureAsked, RequestAnswered}
-use Rattle.link_model.specs.Verdicts.{pdu_of}
+use Rattle.link_model.specs.Step.{Step, DataGiven, DataReported, Disconnected, EventEntered, KeyAnswered, PacketReceived, PacketSent, PduFixed, ProcedureAsked, RequestAnswered, WordsGiven}
 use Rattle.link_model.specs.declared.events.ConnectionEvent.{ConnectionEvent}
 use Rattle.link_model.specs.control_end.Answers.{entry_of, nothing_taken, step_shown}
 use Rattle.link_model.specs.control_end.Held.{held_of}
@@ -52,7 +51,9 @@ use Rattle.link_model.specs.procedures.Going.{entered_step}
 use Rattle.link_model.specs.procedures.Table.{TableFacts}
 use Rattle.link_model.specs.procedures.Taking.{facts_with, lacks_room, no_room, outcome_of}
 use Rattle.link_procedures.proofs.Controls.{sends_keep}
+use Rattle.link_model.proofs.Plain.{step_plain}
 use Rattle.link_procedures.proofs.Noting.{swapped}
+use Rattle.link_model.proofs.PlainEnds.{by_event, by_packet, first_plain}
 use Rattle.link_procedures.proofs.Steps.{acked_goes, own_in, step_goes}
 use Rattle.link_outcomes.proofs.Awaiting.{all_right, answers, right_more, runs_in, waits_in}
 use Rattle.link_outcomes.proofs.Controls.{Holds}
@@ -263,7 +264,7 @@ taking_right q runs waits handle pdu slot facts accepted empty control is role o
 -- ---- the procedure that runs as the PDU is taken
 
 gone_own : (goes : Bool) (slot : ℕ) (facts : Facts) → own_in (control_gone_if goes slot facts) ≡ own_in facts
-gone_own true slot facts = sends_keep slot true facts.control
+gone_own true slot facts = sends_keep slot (is_quiet_now facts) facts.control
 gone_own false slot facts = refl
 
 before_own : (q : Exclusive) (role : Role) (slot : ℕ) (header : DataHeader) (facts : Facts) → role_of facts.control.table.progress ≡ peripheral_role
@@ -292,46 +293,47 @@ heard_right q runs waits requests setup slot room header pdu facts k =
 
 -- ---- each step
 
-step_right : (q : Exclusive) (runs waits requests : Bool) (setup : Setup) (facts : Facts) (step : Step) → Known q runs waits requests facts
+step_right : (q : Exclusive) (runs waits requests : Bool) (setup : Setup) (facts : Facts) (step : Step) → IsPlain setup.link.role facts → Known q runs waits requests facts
     → all_right q runs waits (notes_after setup facts step) ≡ true
-step_right q runs waits requests setup facts (DataGiven start body) k = refl
-step_right q runs waits requests setup facts (ProcedureAsked ask) k = refl
-step_right q runs waits requests setup facts (RequestAnswered answer) k = refl
-step_right q runs waits requests setup facts (Disconnected reason slot) k = refl
-step_right q runs waits requests setup facts (EventEntered slot) k =
-    entered_right q runs waits setup.link.handle slot (facts_entered setup slot facts).event facts.control (goes_on facts) refl
-    (held_may q runs waits requests (is_param facts.outgoing.fixed) facts.control.table.progress k.stands.holds.role k.own k.stands.holds.fits.low k.agree)
-step_right q runs waits requests setup facts PduFixed k = refl
-step_right q runs waits requests setup facts (PacketSent slot) k =
+step_right q runs waits requests setup facts (DataGiven start body) plain k = refl
+step_right q runs waits requests setup facts (ProcedureAsked ask) plain k = refl
+step_right q runs waits requests setup facts (RequestAnswered answer) plain k = refl
+step_right q runs waits requests setup facts (Disconnected reason slot) plain k = refl
+step_right q runs waits requests setup facts (KeyAnswered key slot) plain k = refl
+step_right q runs waits requests setup facts (EventEntered slot) plain k =
+    by_event setup slot facts plain (λ (notes : List Note) (next : Facts). all_right q runs waits notes ≡ true)
+    (entered_right q runs waits setup.link.handle slot (plain_entered setup slot facts).event facts.control (goes_on facts) refl
+    (held_may q runs waits requests (is_param facts.outgoing.fixed) facts.control.table.progress k.stands.holds.role k.own k.stands.holds.fits.low k.agree))
+step_right q runs waits requests setup facts PduFixed plain k = refl
+step_right q runs waits requests setup facts (PacketSent slot) plain k =
     sent_right q runs waits (is_acked facts.acknowledgement && not (is_empty (pdu_fixed facts))) setup.link.handle (numbered facts.acknowledgement.sent)
     (pdu_fixed facts)
-step_right q runs waits requests setup facts (PacketReceived slot octets room) k = by (good_pdu setup facts octets)
-  where
-    by : (octets : Option (List ℕ)) → all_right q runs waits (received_notes setup slot room octets facts) ≡ true
-    by None = refl
-    by (Some octets) = heard_right q runs waits requests setup slot room (header_in octets) (pdu_of octets) facts k
-step_right q runs waits requests setup facts DataReported k = refl
+step_right q runs waits requests setup facts (WordsGiven skd_s iv_s) plain k = refl
+step_right q runs waits requests setup facts (PacketReceived slot octets room) plain k =
+    by_packet setup slot facts plain (λ (notes : List Note) (next : Facts). all_right q runs waits notes ≡ true) octets room refl
+    (λ header pdu. heard_right q runs waits requests setup slot room header pdu facts k)
+step_right q runs waits requests setup facts DataReported plain k = refl
 
-step_known : (q : Exclusive) (runs waits requests : Bool) (setup : Setup) (facts : Facts) (step : Step) → Known q runs waits requests facts
+step_known : (q : Exclusive) (runs waits requests : Bool) (setup : Setup) (facts : Facts) (step : Step) → IsPlain setup.link.role facts → Known q runs waits requests facts
     → let notes = notes_after setup facts step in
     Known q (runs_in q runs notes) (waits_in q waits notes) (waits_in Request requests notes) (facts_after setup facts step)
-step_known q runs waits requests setup facts step k =
+step_known q runs waits requests setup facts step plain k =
     let notes = notes_after setup facts step in
     record {
-      own = ap (λ (b : Bool). runs_in q b notes) k.own ∙ step_goes setup facts step (kind_of q);
-      stands = step_stands setup facts step requests k.stands;
+      own = ap (λ (b : Bool). runs_in q b notes) k.own ∙ step_goes setup facts step plain (kind_of q);
+      stands = step_stands setup facts step requests plain k.stands;
       agree = λ is i. waits_in (is i) (k.agree is i) notes;
     }
 
-steps_right : (q : Exclusive) (setup : Setup) (steps : List Step) (facts : Facts) (runs waits requests : Bool) → Known q runs waits requests facts
+steps_right : (q : Exclusive) (setup : Setup) (steps : List Step) (facts : Facts) (runs waits requests : Bool) → IsPlain setup.link.role facts → Known q runs waits requests facts
     → all_right q runs waits (notes_from setup facts steps) ≡ true
-steps_right q setup [] facts runs waits requests k = refl
-steps_right q setup (step ∷ steps) facts runs waits requests k =
+steps_right q setup [] facts runs waits requests plain k = refl
+steps_right q setup (step ∷ steps) facts runs waits requests plain k =
     let notes = notes_after setup facts step in
     let next = facts_after setup facts step in
-    right_more q notes (notes_from setup next steps) runs waits (step_right q runs waits requests setup facts step k)
+    right_more q notes (notes_from setup next steps) runs waits (step_right q runs waits requests setup facts step plain k)
     (steps_right q setup steps next (runs_in q runs notes) (waits_in q waits notes) (waits_in Request requests notes)
-    (step_known q runs waits requests setup facts step k))
+    (step_plain setup facts step plain) (step_known q runs waits requests setup facts step plain k))
 
 -- ---- all steps
 
@@ -354,4 +356,4 @@ first_known q setup is =
 pub past_right : (q : Exclusive) (setup : Setup) (past : List Step) → setup.link.role ≡ peripheral_role
     → all_right q false false (notes_of setup past) ≡ true
 unfolding notes_of
-past_right q setup past is = steps_right q setup past (first_facts setup) false false false (first_known q setup is)
+past_right q setup past is = steps_right q setup past (first_facts setup) false false false (first_plain setup) (first_known q setup is)

@@ -124,15 +124,15 @@ out_low f n event skips quiet ctrl (Other draft) role fits next sent is =
     let same : ctrl_of_draft draft event skips ≡ ctrl = cc in
     first_low f n draft role fits (first_of f event quiet draft next) (draft_asks draft event skips (ap is_request same ∙ is))
 
-pub request_low : (n : ℕ) (c : Control) (ctrl : Ctrl) → Holds n c → next_ctrl true (held_of c) ≡ Some ctrl → is_request ctrl ≡ true → Holds 0 c
-request_low n c ctrl h next is = by (is_none c.ends) next
+pub request_low : (n : ℕ) (quiet : Bool) (c : Control) (ctrl : Ctrl) → Holds n c → next_ctrl quiet (held_of c) ≡ Some ctrl → is_request ctrl ≡ true → Holds 0 c
+request_low n quiet c ctrl h next is = by (is_none c.ends) next
   where
-    by : (goes : Bool) → (if goes then ctrl_of_outgoing (next_of c.table (event_of c.track) true) (event_of c.track) c.track.params.latency else None) ≡ Some ctrl
+    by : (goes : Bool) → (if goes then ctrl_of_outgoing (next_of c.table (event_of c.track) quiet) (event_of c.track) c.track.params.latency else None) ≡ Some ctrl
         → Holds 0 c
     by true sent =
         record {
           role = h.role;
           fits =
-              out_low c.table n (event_of c.track) c.track.params.latency true ctrl (next_of c.table (event_of c.track) true) h.role h.fits refl sent is;
+              out_low c.table n (event_of c.track) c.track.params.latency quiet ctrl (next_of c.table (event_of c.track) quiet) h.role h.fits refl sent is;
         }
     by false sent = absurd cc

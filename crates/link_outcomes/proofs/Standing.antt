@@ -13,15 +13,17 @@ use Rattle.exclusive_stages.specs.Pdus.{is_kind}
 use Rattle.exclusive_stages.specs.declared.pdus.Exclusive.{Exclusive}
 use Rattle.exclusive_stages.specs.declared.pdus.Exclusive.TheVariants.{Request}
 use Rattle.link_model.specs.Acknowledgement.{Pdu, empty_pdu, is_acked}
-use Rattle.link_model.specs.Controls.{next_control, pdu_fixed, pdu_of_control}
-use Rattle.link_model.specs.Data.{Data, data_given, data_sent_if, is_control, is_empty, numbered, pdu_with}
-use Rattle.link_model.specs.Entering.{began_notes, done_notes, event_notes, facts_entered_if}
+use Rattle.link_model.specs.Controls.{is_quiet_now, next_control, pdu_fixed, pdu_of_control}
+use Rattle.link_model.specs.Data.{Data, data_given, is_control, is_empty, numbered, pdu_with}
+use Rattle.link_model.specs.Entering.{began_notes, done_notes, event_notes}
 use Rattle.link_model.specs.Events.{applied_notes}
 use Rattle.link_model.specs.Facts.{Facts}
 use Rattle.link_model.specs.Fixing.{data_cut, data_fixed_by, data_goes, fixed_anew}
 use Rattle.link_model.specs.Hosts.{asked_unless}
+use Rattle.link_model.specs.Payload.{payload_made}
+use Rattle.link_model.specs.Plain.{plain_entered_if}
 use Rattle.link_model.specs.Receiving.{given_notes, refused_notes}
-use Rattle.link_model.specs.Sending.{control_gone, control_gone_if, fixed_sent, sent_notes_if, takes_leave}
+use Rattle.link_model.specs.Sending.{control_gone, control_gone_if, data_sent_as, fixed_sent, sent_notes_if, takes_leave}
 use Rattle.link_model.specs.Setup.{Setup}
 use Rattle.link_model.specs.declared.events.ConnectionEvent.{ConnectionEvent}
 use Rattle.link_model.specs.control_end.declared.answers.Entry.{Entry}
@@ -153,7 +155,7 @@ asked_stands true ask waits facts s = s
 asked_stands false ask waits facts s =
     record { holds = control_holds (level (is_param facts.outgoing.fixed) waits) (Asks ask) facts.control tt s.holds; left = s.left }
 
-pub entered_stands : (goes : Bool) (setup : Setup) (slot : ℕ) (waits : Bool) (facts : Facts) → StandsIn waits facts → StandsIn waits (facts_entered_if goes setup slot facts)
+pub entered_stands : (goes : Bool) (setup : Setup) (slot : ℕ) (waits : Bool) (facts : Facts) → StandsIn waits facts → StandsIn waits (plain_entered_if goes setup slot facts)
 entered_stands true setup slot waits facts s =
     record { holds = control_holds (level (is_param facts.outgoing.fixed) waits) (Enters slot true) facts.control tt s.holds; left = s.left }
 entered_stands false setup slot waits facts s = s
@@ -170,15 +172,16 @@ piece_none (Some piece) = by piece.start
     by true = refl
     by false = refl
 
-anew_none : (control : Bool) (waiting : ℕ) (goes : Bool) (outgoing : Data) → is_control (data_fixed_by control waiting goes outgoing).fixed ≡ false
-anew_none true waiting goes outgoing = refl
-anew_none false waiting true outgoing = piece_none _
-anew_none false waiting false outgoing = refl
+anew_none : (control : Bool) (waiting : ℕ) (quiet goes : Bool) (outgoing : Data) → is_control (data_fixed_by control waiting quiet goes outgoing).fixed ≡ false
+anew_none true waiting quiet goes outgoing = refl
+anew_none false waiting quiet true outgoing = piece_none _
+anew_none false waiting quiet false outgoing = refl
 
 pub fixed_stands : (stays : Bool) (waits : Bool) (facts : Facts) → StandsIn waits facts → StandsIn waits (if stays then facts else fixed_anew facts)
 fixed_stands true waits facts s = s
 fixed_stands false waits facts s =
-    other_stands waits _ facts.control (fixed_anew facts).outgoing.fixed (anew_none _ (waiting_in facts.control.table.queue) (data_goes facts) (data_cut facts))
+    other_stands waits _ facts.control (fixed_anew facts).outgoing.fixed
+    (anew_none _ (waiting_in facts.control.table.queue) (is_quiet_now facts) (data_goes facts) (data_cut facts))
     (free (is_param facts.outgoing.fixed) waits facts.control s.holds)
 
 -- ---- a control PDU leaves the queue
@@ -186,7 +189,7 @@ fixed_stands false waits facts s =
 next_low : (n : ℕ) (facts : Facts) (next : Option Ctrl) → next_control facts ≡ next → is_param (pdu_of_control next) ≡ true → Holds n facts.control
     → Holds 0 facts.control
 next_low n facts None next is h = absurd cc
-next_low n facts (Some ctrl) next is h = request_low n facts.control ctrl h next is
+next_low n facts (Some ctrl) next is h = request_low n (is_quiet_now facts) facts.control ctrl h next is
 
 param_low : (n : ℕ) (facts : Facts) → facts.fixes_control ≡ true → is_param (pdu_fixed facts) ≡ true → Holds n facts.control → Holds 0 facts.control
 param_low n facts fixes is h =
@@ -194,11 +197,11 @@ param_low n facts fixes is h =
     (ap (λ (b : Bool). is_param (if b then pdu_of_control (next_control facts) else facts.outgoing.fixed)) (sym fixes) ∙ is) h
 
 sends_level : (slot : ℕ) (waits : Bool) (facts : Facts) (fixes param : Bool) → facts.fixes_control ≡ true → is_param (pdu_fixed facts) ≡ param
-    → Holds (level fixes waits) facts.control → Holds (level param waits) (after (Sends slot true) facts.control)
+    → Holds (level fixes waits) facts.control → Holds (level param waits) (after (Sends slot (is_quiet_now facts)) facts.control)
 sends_level slot waits facts fixes true control is h =
-    control_holds 0 (Sends slot true) facts.control tt (param_low (level fixes waits) facts control is h)
+    control_holds 0 (Sends slot (is_quiet_now facts)) facts.control tt (param_low (level fixes waits) facts control is h)
 sends_level slot waits facts fixes false control is h =
-    control_holds (level false waits) (Sends slot true) facts.control tt (free fixes waits facts.control h)
+    control_holds (level false waits) (Sends slot (is_quiet_now facts)) facts.control tt (free fixes waits facts.control h)
 
 pub gone_stands : (goes : Bool) (slot : ℕ) (waits : Bool) (facts : Facts) → (goes ≡ true → takes_leave facts ≡ true) → StandsIn waits facts
     → StandsIn waits (control_gone_if goes slot facts)
@@ -222,26 +225,26 @@ sent_waits true handle number pdu false c low h = by (is_param pdu) low
     by true low = weaker 0 1 c (omega arith) (low refl)
     by false low = h
 
-sent_empty : (waits acked : Bool) (c : Control) (all : Bool) (outgoing : Data) → all ≡ true → Holds (level false waits) c
-    → Stands waits c (data_sent_if all outgoing).fixed acked
-sent_empty waits acked c true outgoing is h = other_stands waits acked c empty_pdu refl h
-sent_empty waits acked c false outgoing is h = absurd cc
+sent_empty : (waits acked : Bool) (c : Control) (payload : List ℕ) (all : Bool) (outgoing : Data) → all ≡ true → Holds (level false waits) c
+    → Stands waits c (data_sent_as payload all outgoing).fixed acked
+sent_empty waits acked c payload true outgoing is h = other_stands waits acked c empty_pdu refl h
+sent_empty waits acked c payload false outgoing is h = absurd cc
 
 pub sent_by : (acked fixes : Bool) (handle slot : ℕ) (waits : Bool) (facts : Facts) → is_acked facts.acknowledgement ≡ acked → facts.fixes_control ≡ fixes
     → StandsIn waits facts
     → StandsIn (waits_in Request waits (sent_notes_if (acked && not (is_empty (pdu_fixed facts))) handle (numbered facts.acknowledgement.sent) (pdu_fixed facts)))
     (fixed_sent slot (control_gone_if (acked && fixes) slot facts))
 sent_by true true handle slot waits facts all fixes s =
-    let c = after (Sends slot true) facts.control in
+    let c = after (Sends slot (is_quiet_now facts)) facts.control in
     let n = level (is_param facts.outgoing.fixed) waits in
-    sent_empty _ _ c (is_acked facts.acknowledgement) (control_gone slot facts).outgoing all
+    sent_empty _ _ c (payload_made facts.encryption.end (pdu_fixed facts)) (is_acked facts.acknowledgement) (control_gone slot facts).outgoing all
     (sent_waits (not (is_empty (pdu_fixed facts))) handle (numbered facts.acknowledgement.sent) (pdu_fixed facts) waits c
-    (λ is. control_holds 0 (Sends slot true) facts.control tt (param_low n facts fixes is s.holds))
-    (control_holds (level false waits) (Sends slot true) facts.control tt (free (is_param facts.outgoing.fixed) waits facts.control s.holds)))
+    (λ is. control_holds 0 (Sends slot (is_quiet_now facts)) facts.control tt (param_low n facts fixes is s.holds))
+    (control_holds (level false waits) (Sends slot (is_quiet_now facts)) facts.control tt (free (is_param facts.outgoing.fixed) waits facts.control s.holds)))
 sent_by true false handle slot waits facts all fixes s =
     let same : pdu_fixed facts ≡ facts.outgoing.fixed =
     ap (λ (b : Bool). if b then pdu_of_control (next_control facts) else facts.outgoing.fixed) fixes in
-    sent_empty _ _ facts.control (is_acked facts.acknowledgement) facts.outgoing all
+    sent_empty _ _ facts.control (payload_made facts.encryption.end facts.outgoing.fixed) (is_acked facts.acknowledgement) facts.outgoing all
     (sent_waits (not (is_empty (pdu_fixed facts))) handle (numbered facts.acknowledgement.sent) (pdu_fixed facts) waits facts.control
     (λ is. subst (λ (b : Bool). Holds (level b waits) facts.control) (sym (ap is_param same) ∙ is) s.holds)
     (free (is_param facts.outgoing.fixed) waits facts.control s.holds))
@@ -252,6 +255,6 @@ sent_by false fixes handle slot waits facts all fixed s =
     none true is = let no : true ≡ false = sym (s.left is) ∙ all in absurd (cc)
     none false is = refl
 
-    by : (acked : Bool) → acked ≡ false → is_control (data_sent_if acked facts.outgoing).fixed ≡ false
+    by : (acked : Bool) → acked ≡ false → is_control (data_sent_as (payload_made facts.encryption.end facts.outgoing.fixed) acked facts.outgoing).fixed ≡ false
     by false is = none (is_control facts.outgoing.fixed) refl
     by true is = absurd cc

@@ -8,7 +8,6 @@ use Rattle.ble_base.specs.declared.notes.Note.{Note}
 use Rattle.ble_base.specs.declared.notes.Note.TheVariants.{Enter, Took}
 use Rattle.ble_base.specs.declared.procedure_kinds.Kind.{Kind}
 use Rattle.ble_base.specs.declared.roles.Role.{Role}
-use Rattle.data_pdu.specs.Header.{header_in}
 use Rattle.data_pdu.specs.Reading.{ctrl_of}
 use Rattle.data_pdu.specs.declared.ctrl.Ctrl.TheVariants.{TerminateInd}
 use Rattle.data_pdu.specs.declared.ctrl.CtrlRead.{CtrlRead}
@@ -18,17 +17,16 @@ use Rattle.link_model.specs.Acknowledgement.{Pdu, is_acked}
 use Rattle.link_model.specs.Controls.{goes_on, is_procedure_pdu, pdu_fixed}
 use Rattle.link_model.specs.Data.{is_control, is_empty, numbered}
 use Rattle.link_model.specs.End.{facts_after, facts_of, notes_after, notes_from, notes_of}
-use Rattle.link_model.specs.Entering.{began_notes, done_notes, event_notes, facts_entered, facts_entered_if}
+use Rattle.link_model.specs.Entering.{began_notes, done_notes, event_notes}
 use Rattle.link_model.specs.Events.{applied_notes}
 use Rattle.link_model.specs.Facts.{Facts, first_facts}
 use Rattle.link_model.specs.Fixing.{fixed_anew}
-use Rattle.link_model.specs.Hosts.{asked_unless, is_to_come}
-use Rattle.link_model.specs.Packets.{good_pdu}
-use Rattle.link_model.specs.Receiving.{accepted_if, accepts, acked_kind, acknowledged_if, acks_control, answers_with_control, code_of, facts_before_taking, facts_hearing, facts_received, given_if, given_notes, has_acknowledged, heard_in_slot, leaving_by, notes_hearing, procedures_give, procedures_take_if, received_notes, refused_notes, took_notes_if}
+use Rattle.link_model.specs.Hosts.{asked_unless, ends_without_key, is_to_come, leaving_from_if}
+use Rattle.link_model.specs.Plain.{IsPlain, plain_accepted_if as accepted_if, plain_acknowledged_if as acknowledged_if, plain_before_taking as facts_before_taking, plain_entered, plain_entered_if, plain_given_if as given_if, plain_gives as procedures_give, plain_hearing as facts_hearing, plain_notes_hearing as notes_hearing, plain_takes_if as procedures_take_if}
+use Rattle.link_model.specs.Receiving.{accepts, acked_kind, acks_control, answers_with_control, code_of, given_notes, has_acknowledged, heard_in_slot, leaving_by, refused_notes, took_notes_if}
 use Rattle.link_model.specs.Sending.{control_gone_if, sent_notes_if, takes_leave}
 use Rattle.link_model.specs.Setup.{Setup}
-use Rattle.link_model.specs.Step.{Step, DataGiven, DataReported, Disconnected, EventEntered, PacketReceived, PacketSent, PduFixed, ProcedureAsked, RequestAnswered}
-use Rattle.link_model.specs.Verdicts.{pdu_of}
+use Rattle.link_model.specs.Step.{Step, DataGiven, DataReported, Disconnected, EventEntered, KeyAnswered, PacketReceived, PacketSent, PduFixed, ProcedureAsked, RequestAnswered, WordsGiven}
 use Rattle.link_model.specs.declared.events.ConnectionEvent.{ConnectionEvent}
 use Rattle.link_model.specs.declared.state.Leaving.{Leaving}
 use Rattle.link_model.specs.control_end.Answers.{entry_of, nothing_taken, step_shown, taken_of}
@@ -47,6 +45,8 @@ use Rattle.link_model.specs.procedures.Termination.{terminate_taken}
 use Rattle.link_model.specs.procedure_values.declared.asks.Ask.{Ask}
 use Rattle.link_model.specs.ControlSteps.{control_steps_in}
 use Rattle.link_model.proofs.ControlSteps.{one_step}
+use Rattle.link_model.proofs.Plain.{step_plain}
+use Rattle.link_model.proofs.PlainEnds.{by_event, by_packet, first_plain}
 use Rattle.link_outcomes.specs.Lasting.{is_lasting}
 
 -- ---- LL_TERMINATE_IND is taken
@@ -113,9 +113,13 @@ asked_same : (comes : Bool) (ask : Ask) (facts : Facts) → took_none (asked_unl
 asked_same true ask facts = refl
 asked_same false ask facts = refl
 
-entered_same : (goes : Bool) (setup : Setup) (slot : ℕ) (facts : Facts) → took_none (facts_entered_if goes setup slot facts) ≡ took_none facts
+entered_same : (goes : Bool) (setup : Setup) (slot : ℕ) (facts : Facts) → took_none (plain_entered_if goes setup slot facts) ≡ took_none facts
 entered_same true setup slot facts = refl
 entered_same false setup slot facts = refl
+
+key_same : (leaves : Bool) (slot : ℕ) (leaving : Leaving) → is_none (leaving_from_if leaves slot leaving).ended_by_peer ≡ is_none leaving.ended_by_peer
+key_same true slot leaving = refl
+key_same false slot leaving = refl
 
 fixed_same : (stays : Bool) (facts : Facts) → took_none (if stays then facts else fixed_anew facts) ≡ took_none facts
 fixed_same true facts = refl
@@ -143,30 +147,35 @@ heard_stays role slot room header pdu facts is =
     let accepted = accepts room header pdu now in
     taken_stays (accepted && is_procedure_pdu pdu) pdu slot (accepted_if accepted pdu now) (gone_same (answers_with_control role acked) slot acked ∙ is)
 
-peer_stays : (setup : Setup) (facts : Facts) (step : Step) → took_none facts ≡ false → took_none (facts_after setup facts step) ≡ false
-peer_stays setup facts (DataGiven start body) is = is
-peer_stays setup facts (ProcedureAsked ask) is = asked_same (is_to_come ask facts) ask facts ∙ is
-peer_stays setup facts (RequestAnswered answer) is = is
-peer_stays setup facts (Disconnected reason slot) is = is
-peer_stays setup facts (EventEntered slot) is = entered_same (goes_on facts) setup slot facts ∙ is
-peer_stays setup facts PduFixed is = fixed_same (is_control facts.outgoing.fixed) facts ∙ is
-peer_stays setup facts (PacketSent slot) is = gone_same (takes_leave facts) slot facts ∙ is
-peer_stays setup facts (PacketReceived slot octets room) is = by (good_pdu setup facts octets)
-  where
-    by : (pdu : Option (List ℕ)) → took_none (facts_received setup.link.role slot room pdu facts) ≡ false
-    by None = is
-    by (Some octets) = heard_stays setup.link.role slot room (header_in octets) (pdu_of octets) facts is
-peer_stays setup facts DataReported is = is
+peer_stays : (setup : Setup) (facts : Facts) (step : Step) → IsPlain setup.link.role facts → took_none facts ≡ false
+    → took_none (facts_after setup facts step) ≡ false
+peer_stays setup facts (DataGiven start body) plain is = is
+peer_stays setup facts (ProcedureAsked ask) plain is = asked_same (is_to_come ask facts) ask facts ∙ is
+peer_stays setup facts (RequestAnswered answer) plain is = is
+peer_stays setup facts (Disconnected reason slot) plain is = is
+peer_stays setup facts (KeyAnswered key slot) plain is = key_same (ends_without_key key facts) slot facts.leaving ∙ is
+peer_stays setup facts (EventEntered slot) plain is =
+    by_event setup slot facts plain (λ (notes : List Note) (next : Facts). took_none next ≡ false) (entered_same (goes_on facts) setup slot facts ∙ is)
+peer_stays setup facts PduFixed plain is = fixed_same (is_control facts.outgoing.fixed) facts ∙ is
+peer_stays setup facts (PacketSent slot) plain is = gone_same (takes_leave facts) slot facts ∙ is
+peer_stays setup facts (WordsGiven skd_s iv_s) plain is = is
+peer_stays setup facts (PacketReceived slot octets room) plain is =
+    by_packet setup slot facts plain (λ (notes : List Note) (next : Facts). took_none next ≡ false) octets room is
+    (λ header pdu. heard_stays setup.link.role slot room header pdu facts is)
+peer_stays setup facts DataReported plain is = is
 
-step_stays : (setup : Setup) (facts : Facts) (step : Step) → is_lasting facts ≡ false → is_lasting (facts_after setup facts step) ≡ false
-step_stays setup facts step is =
+step_stays : (setup : Setup) (facts : Facts) (step : Step) → IsPlain setup.link.role facts → is_lasting facts ≡ false
+    → is_lasting (facts_after setup facts step) ≡ false
+step_stays setup facts step plain is =
     both_stay (goes_on facts) (took_none facts) (goes_on (facts_after setup facts step)) (took_none (facts_after setup facts step))
-    (λ ended. ap (λ (c : Control). is_none c.ends) (one_step setup facts step) ∙ ends_stay (control_steps_in setup facts step) facts.control ended)
-    (peer_stays setup facts step) is
+    (λ ended. ap (λ (c : Control). is_none c.ends) (one_step setup facts step plain) ∙ ends_stay (control_steps_in setup facts step) facts.control ended)
+    (peer_stays setup facts step plain) is
 
-steps_stay : (setup : Setup) (steps : List Step) (facts : Facts) → is_lasting facts ≡ false → is_lasting (fold (facts_after setup) facts steps) ≡ false
-steps_stay setup [] facts is = is
-steps_stay setup (step ∷ steps) facts is = steps_stay setup steps (facts_after setup facts step) (step_stays setup facts step is)
+steps_stay : (setup : Setup) (steps : List Step) (facts : Facts) → IsPlain setup.link.role facts → is_lasting facts ≡ false
+    → is_lasting (fold (facts_after setup) facts steps) ≡ false
+steps_stay setup [] facts plain is = is
+steps_stay setup (step ∷ steps) facts plain is =
+    steps_stay setup steps (facts_after setup facts step) (step_plain setup facts step plain) (step_stays setup facts step plain is)
 
 -- ---- the notes that say so
 
@@ -282,27 +291,27 @@ heard_ends setup slot room header pdu facts is =
     takes_if (accepted && is_procedure_pdu pdu) pdu slot (accepted_if accepted pdu now) (λ i. parts.0 i && (noted.control i && parts.1 i))
     (read_as (ctrl_of pdu.body) noted.read)
 
-step_ends : (setup : Setup) (facts : Facts) (step : Step) → list_any is_termination (notes_after setup facts step) ≡ true
+step_ends : (setup : Setup) (facts : Facts) (step : Step) → IsPlain setup.link.role facts → list_any is_termination (notes_after setup facts step) ≡ true
     → is_lasting (facts_after setup facts step) ≡ false
-step_ends setup facts (DataGiven start body) is = absurd cc
-step_ends setup facts (ProcedureAsked ask) is = absurd cc
-step_ends setup facts (RequestAnswered answer) is = absurd cc
-step_ends setup facts (Disconnected reason slot) is = absurd cc
-step_ends setup facts (EventEntered slot) is =
-    none_said _ _
-    (entered_none (goes_on facts) setup.link.handle (facts_entered setup slot facts).event (entry_of slot true (held_of facts.control))) is
-step_ends setup facts PduFixed is = absurd cc
-step_ends setup facts (PacketSent slot) is =
+step_ends setup facts (DataGiven start body) plain is = absurd cc
+step_ends setup facts (ProcedureAsked ask) plain is = absurd cc
+step_ends setup facts (RequestAnswered answer) plain is = absurd cc
+step_ends setup facts (Disconnected reason slot) plain is = absurd cc
+step_ends setup facts (KeyAnswered key slot) plain is = absurd cc
+step_ends setup facts (EventEntered slot) plain is =
+    by_event setup slot facts plain (λ (notes : List Note) (next : Facts). list_any is_termination notes ≡ true → is_lasting next ≡ false)
+    (none_said _ _
+    (entered_none (goes_on facts) setup.link.handle (plain_entered setup slot facts).event (entry_of slot true (held_of facts.control)))) is
+step_ends setup facts PduFixed plain is = absurd cc
+step_ends setup facts (PacketSent slot) plain is =
     none_said _ _
     (sent_none (is_acked facts.acknowledgement && not (is_empty (pdu_fixed facts))) setup.link.handle (numbered facts.acknowledgement.sent)
     (pdu_fixed facts)) is
-step_ends setup facts (PacketReceived slot octets room) is = by (good_pdu setup facts octets) is
-  where
-    by : (pdu : Option (List ℕ)) → list_any is_termination (received_notes setup slot room pdu facts) ≡ true
-        → is_lasting (facts_received setup.link.role slot room pdu facts) ≡ false
-    by None is = absurd cc
-    by (Some octets) is = heard_ends setup slot room (header_in octets) (pdu_of octets) facts is
-step_ends setup facts DataReported is = absurd cc
+step_ends setup facts (WordsGiven skd_s iv_s) plain is = absurd cc
+step_ends setup facts (PacketReceived slot octets room) plain is =
+    by_packet setup slot facts plain (λ (notes : List Note) (next : Facts). list_any is_termination notes ≡ true → is_lasting next ≡ false) octets room
+    (λ none. absurd cc) (λ header pdu. heard_ends setup slot room header pdu facts) is
+step_ends setup facts DataReported plain is = absurd cc
 
 -- ---- all steps
 
@@ -315,13 +324,14 @@ here_or_later X notes more is here later = by (list_any is_termination notes) re
     by false none =
         later (sym (list_any-append is_termination notes more ∙ ap (λ (b : Bool). b || list_any is_termination more) none) ∙ is)
 
-steps_end : (setup : Setup) (steps : List Step) (facts : Facts) → list_any is_termination (notes_from setup facts steps) ≡ true
-    → is_lasting (fold (facts_after setup) facts steps) ≡ false
-steps_end setup [] facts is = absurd cc
-steps_end setup (step ∷ steps) facts is =
+steps_end : (setup : Setup) (steps : List Step) (facts : Facts) → IsPlain setup.link.role facts
+    → list_any is_termination (notes_from setup facts steps) ≡ true → is_lasting (fold (facts_after setup) facts steps) ≡ false
+steps_end setup [] facts plain is = absurd cc
+steps_end setup (step ∷ steps) facts plain is =
     let next = facts_after setup facts step in
+    let later_plain = step_plain setup facts step plain in
     here_or_later _ (notes_after setup facts step) (notes_from setup next steps) is
-    (λ here. steps_stay setup steps next (step_ends setup facts step here)) (λ later. steps_end setup steps next later)
+    (λ here. steps_stay setup steps next later_plain (step_ends setup facts step plain here)) (λ later. steps_end setup steps next later_plain later)
 
 any_more : (a b : Bool) → b ≡ true → (a || b) ≡ true
 any_more true b is = refl
@@ -338,4 +348,4 @@ pub past_over : (setup : Setup) (past : List Step) (start later : List Note) (ha
     → is_lasting (facts_of setup past) ≡ false
 unfolding facts_of notes_of
 past_over setup past start later handle count body code are is =
-    steps_end setup past (first_facts setup) (ap (list_any is_termination) are ∙ stands start later handle count code body is)
+    steps_end setup past (first_facts setup) (first_plain setup) (ap (list_any is_termination) are ∙ stands start later handle count code body is)

@@ -1,7 +1,5 @@
 -- What a peripheral holds after it heard a packet and answered it.
-use Rattle.std.proofs.Common.{◌≡◌, ◌⊎◌, inl, inr, ℕ, ◌+◌, ◌-◌, ◌<◌, ◌≤◌, ◌&&◌, ◌||◌, Bool, true, false, not, length, Some, refl, ap, sym, subst, ◌∙◌, arith}
-use Rattle.control_octets.specs.procedure_stages.Closing.{is_disconnecting, is_open}
-use Rattle.control_octets.specs.procedure_stages.declared.closing.Closing.{Closing}
+use Rattle.std.proofs.Common.{◌≡◌, ◌⊎◌, inl, inr, ℕ, ◌+◌, ◌-◌, ◌<◌, ◌≤◌, ◌&&◌, ◌||◌, Bool, true, false, length, Some, refl, ap, sym, subst, ◌∙◌, arith}
 use Rattle.link_model.specs.Acknowledgement.{Acknowledgement, Pdu, is_acked, next_sent, received_by, with_accepted}
 use Rattle.link_model.specs.Data.{Data, data_acked_if, data_sent_if, is_control, is_data}
 use Rattle.link_model.specs.Events.{event_heard, event_sent}
@@ -11,10 +9,12 @@ use Rattle.link_model.specs.declared.state.Leaving.{Leaving}
 use Rattle.link_model.specs.Facts.{Facts}
 use Rattle.link_model.specs.Controls.{is_procedure_pdu, is_terminate}
 use Rattle.link_model.specs.Packets.{more_sent}
-use Rattle.link_model.specs.Receiving.{accepted_if, acknowledged_if, heard_in_slot, taken_if}
+use Rattle.link_model.specs.Plain.{IsPlain, plain_accepted_if as accepted_if, plain_acknowledged_if as acknowledged_if, plain_taken_if as taken_if}
+use Rattle.link_model.specs.Receiving.{heard_in_slot}
 use Rattle.link_model.specs.Sending.{control_gone_if, facts_sent, fixed_sent, leaving_sent, takes_leave}
 use Rattle.link_pairs.specs.Ends.{HasExchange, IsAtRest, turns_at}
 use Rattle.link_pairs.proofs.ControlKept.{Keeps}
+use Rattle.link_pairs.proofs.PlainEnds.{IsPlainEncryption, goes_kept}
 use Rattle.link_pairs.proofs.TakingPdus.{IsTakenBy, taken_same}
 
 -- ---- what does not change
@@ -27,10 +27,13 @@ pub record IsGoneFrom (facts now : Facts) : Type 0 where
   pub leaving : now.leaving ≡ facts.leaving
   pub peer : now.peer ≡ facts.peer
   pub payload : now.outgoing.payload ≡ facts.outgoing.payload
+  pub encryption : now.encryption ≡ facts.encryption
 
 pub gone_same : (goes : Bool) (slot : ℕ) (facts : Facts) → IsGoneFrom facts (control_gone_if goes slot facts)
-gone_same true slot facts = record { acknowledgement = refl; event = refl; last_good = refl; leaving = refl; peer = refl; payload = refl }
-gone_same false slot facts = record { acknowledgement = refl; event = refl; last_good = refl; leaving = refl; peer = refl; payload = refl }
+gone_same true slot facts =
+    record { acknowledgement = refl; event = refl; last_good = refl; leaving = refl; peer = refl; payload = refl; encryption = refl }
+gone_same false slot facts =
+    record { acknowledgement = refl; event = refl; last_good = refl; leaving = refl; peer = refl; payload = refl; encryption = refl }
 
 pub acked_fixed : (acked : Bool) (outgoing : Data) → (data_acked_if acked outgoing).fixed ≡ outgoing.fixed
 acked_fixed true outgoing = refl
@@ -166,15 +169,22 @@ module _ (setup : Setup) (slot : ℕ) (more acks : Bool) (facts : Facts) (accept
   heard_now : turns_at setup.opened answered.last_good ≡ slot + 1
   heard_now = ap (turns_at setup.opened) (taken_good slot more acks facts accepted pdu)
 
+  encrypts : IsPlainEncryption setup.link.role answered.encryption
+  encrypts =
+      (took slot more acks facts accepted pdu).encrypts setup.link.role
+      (subst (IsPlainEncryption setup.link.role) (sym (gone slot more acks facts).encryption) rests.plain.encryption)
+
   in_event : facts.event.slot ≤ slot
   in_event = event_by slot facts.event.slot facts.event.heard has.1
 
   pub rests_with : (all : Bool) → HasLast slot more acks facts accepted pdu all → IsAtRest setup (slot + 1) (answered_if slot more acks facts accepted pdu all)
   rests_with all last =
       let kept = keeps.kept in
+      let next = answered_if slot more acks facts accepted pdu all in
+      let plain : IsPlain setup.link.role next = record { encryption = encrypts; control = keeps.plain rests.plain.control } in
       record {
         fits = keeps.fits rests.fits;
-        plain = keeps.plain rests.plain;
+        plain = plain;
         role = keeps.role setup.link.role rests.role;
         none_gone = last.none_gone;
         payload = last.payload;
@@ -188,6 +198,6 @@ module _ (setup : Setup) (slot : ℕ) (more acks : Bool) (facts : Facts) (accept
               let at = in_event in omega (arith, event_slot, heard_now, at),
             );
         past = omega (arith, heard_now);
-        goes = subst (λ (c : Closing). not (is_disconnecting c) ≡ is_open c) (sym kept.closing) rests.goes;
+        goes = goes_kept setup.link.role facts next rests.plain plain kept.closing rests.goes;
         stays = taken_stays slot more acks facts accepted pdu ∙ (λ i. rests.stays i || ends i);
       }

@@ -25,8 +25,11 @@ use Rattle.joint_laws.proofs.joint_controls.Running.{goes_on}
 use Rattle.joint_laws.specs.joint_parameters.Turns.{Begins, IsPaired, Link, link_after, step_if}
 use Rattle.joint_laws.proofs.joint_parameters.Pairing.{after_may, running_from}
 use Rattle.link_model.specs.Setup.{Setup}
+use Rattle.link_model.specs.Controls.{is_quiet_now}
 use Rattle.link_model.specs.Entering.{facts_entered}
 use Rattle.link_model.specs.Facts.{Facts}
+use Rattle.link_model.specs.Plain.{IsPlain, plain_entered}
+use Rattle.link_model.proofs.Plain.{entered_plain}
 use Rattle.link_pairs.specs.Ends.{AreEnds, IsAtRest, phased_of}
 use Rattle.link_pairs.specs.Shown.{Shows}
 use Rattle.link_pairs.specs.Turns.{entered_in}
@@ -68,11 +71,14 @@ anchor_entered (Some change) t = anchor_changed (is_due change t.entered) change
 -- ---- one end
 
 abbrev pub entering : Bool → Setup → ℕ → Facts → Facts
-entering enters setup slot facts = if enters then facts_entered setup slot facts else facts
+entering enters setup slot facts = if enters then plain_entered setup slot facts else facts
 
 module _ (setup : Setup) (slot : ℕ) (facts : Facts) (lasts : facts.control.ends ≡ None) where
-  pub entered_is : (enters : Bool) → (next_anchor_of facts.control.track == slot) ≡ enters → entered_in setup slot facts ≡ entering enters setup slot facts
-  entered_is enters is = λ i. if is i then (if is_none (lasts i) then facts_entered setup slot facts else facts) else facts
+  pub entered_is : IsPlain setup.link.role facts → (enters : Bool) → (next_anchor_of facts.control.track == slot) ≡ enters
+      → entered_in setup slot facts ≡ entering enters setup slot facts
+  entered_is plain enters is =
+      (λ i. if is i then (if is_none (lasts i) then facts_entered setup slot facts else facts) else facts)
+      ∙ ap (λ (entered : Facts). if enters then entered else facts) (entered_plain setup slot facts plain)
 
   pub entering_sends : (enters : Bool) → (entering enters setup slot facts).acknowledgement ≡ facts.acknowledgement
   entering_sends true = refl
@@ -102,7 +108,7 @@ module _ (setup : Setup) (slot : ℕ) (facts : Facts) (lasts : facts.control.end
   entering_rests turns true is r =
       record {
         fits = stays_fitting facts.control (control_enters slot true) r.fits tt;
-        plain = stays facts.control (control_enters slot true) r.plain refl;
+        plain = record { encryption = r.plain.encryption; control = stays facts.control (control_enters slot true) r.plain.control refl };
         role = same_role setup.link.role (control_enters slot true) facts.control r.role;
         none_gone = r.none_gone;
         payload = r.payload;
@@ -112,7 +118,9 @@ module _ (setup : Setup) (slot : ℕ) (facts : Facts) (lasts : facts.control.end
         number = refl;
         heard = λ heard. absurd (cc);
         past = r.past;
-        goes = subst (λ (closing : Closing). not (is_disconnecting closing) ≡ is_open closing) (sym (enters_closing facts.control slot)) r.goes;
+        goes =
+            subst (λ (closing : Closing). (is_quiet_now facts && not (is_disconnecting closing)) ≡ is_open closing)
+            (sym (enters_closing facts.control slot)) r.goes;
         stays = r.stays;
       }
 
@@ -213,11 +221,11 @@ module _ (central peripheral : Setup) (slot : ℕ) (answers : Bool) (l : Link) (
 
     central_phased : next.central ≡ phased_of central_next
     central_phased =
-        entering_phased central slot c central_lasts (next_anchor_of c.control.track == slot) l.joint.central s.central_part s.central_rests.plain
+        entering_phased central slot c central_lasts (next_anchor_of c.control.track == slot) l.joint.central s.central_part s.central_rests.plain.control
 
     peripheral_phased : next.peripheral ≡ phased_of peripheral_next
     peripheral_phased =
-        entering_phased peripheral slot p peripheral_lasts (next_anchor_of p.control.track == slot) l.joint.peripheral s.peripheral_part s.peripheral_rests.plain
+        entering_phased peripheral slot p peripheral_lasts (next_anchor_of p.control.track == slot) l.joint.peripheral s.peripheral_part s.peripheral_rests.plain.control
 
     next_shows : Shows central peripheral (slot + 1) false (record { turns = after_turn l.turns; joint = next }) central_next peripheral_next
     next_shows =
@@ -231,9 +239,9 @@ module _ (central peripheral : Setup) (slot : ℕ) (answers : Bool) (l : Link) (
     pub begun_shows : Shows central peripheral (slot + 1) false (link_after (Begins slot) l) (entered_in central slot c) (entered_in peripheral slot p)
     begun_shows =
         subst (λ (d : Facts). Shows central peripheral (slot + 1) false (link_after (Begins slot) l) d (entered_in peripheral slot p))
-        (sym (entered_is central slot c central_lasts _ refl))
+        (sym (entered_is central slot c central_lasts s.central_rests.plain _ refl))
         (subst (λ (q : Facts). Shows central peripheral (slot + 1) false (link_after (Begins slot) l) central_next q)
-        (sym (entered_is peripheral slot p peripheral_lasts _ refl))
+        (sym (entered_is peripheral slot p peripheral_lasts s.peripheral_rests.plain _ refl))
         (subst (λ (j : Joint). Shows central peripheral (slot + 1) false (record { turns = after_turn l.turns; joint = j }) central_next peripheral_next)
         (sym leads) next_shows))
 

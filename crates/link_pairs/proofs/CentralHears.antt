@@ -30,7 +30,8 @@ use Rattle.link_model.specs.Controls.{goes_on as end_goes_on, read_of, is_proced
 use Rattle.link_model.specs.declared.state.Leaving.{Leaving}
 use Rattle.link_model.specs.Facts.{Facts}
 use Rattle.link_model.specs.Step.{PacketReceived}
-use Rattle.link_model.specs.Receiving.{control_acked_if, leaving_acked_if, control_taken, facts_hearing, peer_from_if, procedures_take, procedures_take_if}
+use Rattle.link_model.specs.Plain.{control_acked_if, plain_control_taken as control_taken, plain_hearing as facts_hearing, plain_takes as procedures_take, plain_takes_if as procedures_take_if}
+use Rattle.link_model.specs.Receiving.{leaving_acked_if, peer_from_if}
 use Rattle.link_pairs.specs.Ends.{AreEnds, heard_turns, is_lasting}
 use Rattle.link_pairs.specs.Hearing.{IsPacketOf, received}
 use Rattle.link_pairs.specs.Shown.{AreLinked, Shows}
@@ -171,9 +172,10 @@ module _ (central peripheral : Setup) (slot : ℕ) (more acks fresh : Bool) (c p
     quiet j up stopped not_stopped is free shown =
         subst (λ (b : Bool). after_hearing j (facts_by b accepted)) (sym none)
         (subst (λ (j : Joint). after_hearing j (facts_by false accepted)) (sym is) (
-          λ still. hears_shows central peripheral slot more acks fresh c p l s says accepted (plain_phased seen knows) up stopped seen c.peer
+          λ still. hears_shows central peripheral slot more acks fresh c p l s says accepted (plain_phased seen knows) up stopped seen c.encryption.knows_version c.peer
               c.lengths leaving_seen refl shown free agreed
-              (heard_rests slot more acks accepted last c central seen c.peer c.lengths leaving_seen seen_keeps s.central_rests past entered stays_open),
+              (heard_rests slot more acks accepted last c central seen c.encryption.knows_version c.peer c.lengths leaving_seen seen_keeps s.central_rests past entered
+              stays_open),
           λ lasting. running_from (record joint_seen { up = up; stopped = stopped }) not_stopped seen_lasts g.peripheral,
           refl,
         ))
@@ -243,10 +245,11 @@ module _ (central peripheral : Setup) (slot : ℕ) (more acks fresh : Bool) (c p
         subst (λ (j : Joint). after_hearing j d) (sym joint_took_is) (
           λ still. let now = goes_on joint_took still in
               hears_shows central peripheral slot more acks fresh c p l s says true (plain_phased took (knows || is_version (Known ctrl)))
-              (Taken (control_item outgoing ctrl)) (is_terminate ctrl) took d.peer d.lengths d.leaving
+              (Taken (control_item outgoing ctrl)) (is_terminate ctrl) took d.encryption.knows_version d.peer d.lengths d.leaving
               (ap (plain_phased took) (knows_now (ap (λ (ends : Option ErrCode). is_none ends) now.central)))
               (shown now.stopped) refl agreed
-              (heard_rests slot more acks true last c central took d.peer d.lengths d.leaving (took_keeps now.stopped) s.central_rests past entered
+              (heard_rests slot more acks true last c central took d.encryption.knows_version d.peer d.lengths d.leaving (took_keeps now.stopped) s.central_rests
+              past entered
               ((taken_same true last slot before).acknowledged ∙ stays_open)),
           λ lasting. let parts = and_parts (end_goes_on d) (is_none d.leaving.ended_by_peer) lasting in
               let ends = none_of took.ends parts.0 in
@@ -373,5 +376,6 @@ hears heard central peripheral slot c p channel octets room ends linked past ent
     linked_on central peripheral (slot + 1) (slot + 1) true false c p (received central slot octets room c) p linked
     (lasts_before central c (PacketReceived slot octets room)) (λ is. is)
     (λ l reached running s. shown_on central peripheral ends slot c p octets room past entered
-    (is_read heard peripheral central slot (slot + 1) p c channel octets (sym ends.one_link.fields) s.peripheral_fits s.peripheral_rests packet same)
+    (is_read heard peripheral central slot (slot + 1) p c channel octets (sym ends.one_link.fields) s.peripheral_fits s.peripheral_rests packet same
+    s.central_rests.plain)
     l reached running s)

@@ -95,7 +95,8 @@ central_lasts heard central peripheral slot c p channel octets room ends linked 
     let running = runs central peripheral ends (slot + 1) true c p linked c_lasts p_lasts in
     let s = linked.shows running in
     central_goes_on central peripheral ends slot c p octets room past entered
-    (is_read heard peripheral central slot (slot + 1) p c channel octets (sym ends.one_link.fields) s.peripheral_fits s.peripheral_rests packet same)
+    (is_read heard peripheral central slot (slot + 1) p c channel octets (sym ends.one_link.fields) s.peripheral_fits s.peripheral_rests packet same
+    s.central_rests.plain)
     (link_now central peripheral ends (slot + 1) true c p linked c_lasts p_lasts)
     (reached_now central peripheral ends (slot + 1) true c p linked c_lasts p_lasts) running s
 

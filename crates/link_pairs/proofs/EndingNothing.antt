@@ -6,7 +6,7 @@ use Rattle.control_octets.specs.procedure_stages.Closing.{is_open}
 use Rattle.control_octets.specs.procedure_stages.InProgress.{is_host_asked}
 use Rattle.control_octets.specs.procedure_values.declared.asks.Ask.{Ask}
 use Rattle.control_octets.specs.procedures.Going.{host_answer_step, is_answer, terminate_step}
-use Rattle.control_octets.specs.control_model.Control.{Answers, Asks, Control, Disconnects, Enters, after}
+use Rattle.control_octets.specs.control_model.Control.{Answers, Asks, Control, Disconnects, after}
 use Rattle.control_octets.proofs.control_model.Calls.{any_step}
 use Rattle.link_model.specs.Data.{is_control}
 use Rattle.link_model.specs.Setup.{Setup}
@@ -17,19 +17,17 @@ use Rattle.link_model.specs.Facts.{Facts}
 use Rattle.link_model.specs.Fixing.{facts_fixed, fixed_anew}
 use Rattle.link_model.specs.Hosts.{asked_unless, is_to_come}
 use Rattle.link_model.specs.Sending.{control_gone_if, facts_sent, takes_leave}
-use Rattle.link_model.specs.Step.{Step, DataGiven, DataReported, Disconnected, EventEntered, PacketReceived, PacketSent, PduFixed, ProcedureAsked, RequestAnswered}
+use Rattle.link_model.specs.Step.{Step, DataGiven, DataReported, Disconnected, EventEntered, KeyAnswered, PacketReceived, PacketSent, PduFixed, ProcedureAsked, RequestAnswered, WordsGiven}
 use Rattle.link_pairs.specs.Hosts.{MayHost}
 use Rattle.link_pairs.specs.Sound.{EndsNothing}
 use Rattle.link_pairs.specs.Turns.{central_begun, entered_in, prepared, sent_if}
 use Rattle.link_pairs.proofs.ControlKept.{sent_ends, table_ends}
+use Rattle.link_pairs.proofs.TakingNothing.{entered_nothing}
 
 -- ---- the control part
 
 asked_ends : (c : Control) (ask : Ask) → (after (Asks ask) c).ends ≡ c.ends
 asked_ends c ask = any_step (λ (d : Control). d.ends ≡ c.ends) (Asks ask) c refl refl
-
-entered_ends : (c : Control) (slot : ℕ) (quiet : Bool) → (after (Enters slot quiet) c).ends ≡ c.ends
-entered_ends c slot quiet = any_step (λ (d : Control). d.ends ≡ c.ends) (Enters slot quiet) c refl refl
 
 answered_ends : (c : Control) (answer : Result Ask ErrCode) → (after (Answers answer) c).ends ≡ c.ends
 answered_ends c answer =
@@ -53,7 +51,7 @@ asked true ask facts = same facts
 asked false ask facts = record { procedures = asked_ends facts.control ask; peer = refl }
 
 entered : (lasts : Bool) (setup : Setup) (slot : ℕ) (facts : Facts) → EndsNothing facts (facts_entered_if lasts setup slot facts)
-entered true setup slot facts = record { procedures = entered_ends facts.control slot (is_quiet_now facts); peer = refl }
+entered true setup slot facts = record { procedures = (entered_nothing slot facts).ends; peer = refl }
 entered false setup slot facts = same facts
 
 fixed : (gone : Bool) (facts : Facts) → EndsNothing facts (if gone then facts else fixed_anew facts)
@@ -73,6 +71,8 @@ host_ends_nothing setup facts (ProcedureAsked ask) may = asked (is_to_come ask f
 host_ends_nothing setup facts (RequestAnswered answer) may = record { procedures = answered_ends facts.control answer; peer = refl }
 host_ends_nothing setup facts (Disconnected reason slot) may = record { procedures = disconnected_ends facts.control reason; peer = refl }
 host_ends_nothing setup facts DataReported may = record { procedures = refl; peer = refl }
+host_ends_nothing setup facts (KeyAnswered key slot) may = absurd may
+host_ends_nothing setup facts (WordsGiven skd_s iv_s) may = absurd may
 host_ends_nothing setup facts (EventEntered slot) may = absurd may
 host_ends_nothing setup facts PduFixed may = absurd may
 host_ends_nothing setup facts (PacketSent slot) may = absurd may

@@ -30,7 +30,10 @@ rests_first : (setup : Setup) → IsPayloadMax setup.link.max_rx → IsInRange s
 rests_first setup rx range =
     record {
       fits = begins_fitting setup.link.role setup.link.max_rx (first_params setup.link.fields) (first_anchor setup) rx (params_fit setup.link.fields range);
-      plain = begins_none setup.link.role setup.link.max_rx (first_params setup.link.fields) (first_anchor setup);
+      plain = record {
+        encryption = refl;
+        control = begins_none setup.link.role setup.link.max_rx (first_params setup.link.fields) (first_anchor setup);
+      };
       role = role_after setup.link.role setup.link.max_rx (first_params setup.link.fields) (first_anchor setup) [];
       none_gone = refl;
       payload = refl;

@@ -12,7 +12,7 @@ use Rattle.control_octets.specs.procedure_values.Limits.{tx_of}
 use Rattle.link_model.specs.Acknowledgement.{Pdu}
 use Rattle.link_model.specs.Data.{Data, is_control, is_data, is_unsent, llid_of, pdu_with}
 use Rattle.link_model.specs.Setup.{Setup}
-use Rattle.link_model.specs.Controls.{next_control}
+use Rattle.link_model.specs.Controls.{is_quiet_now, next_control}
 use Rattle.link_model.specs.Facts.{Facts}
 use Rattle.link_model.specs.Fixing.{data_cut, data_fixed_by, data_goes, fixed_anew}
 use Rattle.link_pairs.specs.Ends.{IsAtRest}
@@ -40,18 +40,18 @@ found_piece limit None = record { llid = omega arith; short = omega arith }
 found_piece limit (Some packet) =
     record { llid = llid_small (packet.start && (sent_length packet == 0)); short = taken_short limit (drop (sent_length packet) packet.body) }
 
-fixed_piece : (control : Bool) (waiting : ℕ) (goes : Bool) (o : Data) → IsPiece o.limit (data_fixed_by control waiting goes o).fixed
-fixed_piece true waiting goes o = record { llid = omega arith; short = omega arith }
-fixed_piece false waiting true o = found_piece o.limit (find is_unsent o.packets)
-fixed_piece false waiting false o = record { llid = omega arith; short = omega arith }
+fixed_piece : (control : Bool) (waiting : ℕ) (quiet goes : Bool) (o : Data) → IsPiece o.limit (data_fixed_by control waiting quiet goes o).fixed
+fixed_piece true waiting quiet goes o = record { llid = omega arith; short = omega arith }
+fixed_piece false waiting quiet true o = found_piece o.limit (find is_unsent o.packets)
+fixed_piece false waiting quiet false o = record { llid = omega arith; short = omega arith }
 
 pub piece_no_control : (limit : ℕ) (pdu : Pdu) → IsPiece limit pdu → is_control pdu ≡ false
 piece_no_control limit pdu is = let less = is.llid in ne_eqb pdu.llid 3 (λ same. omega (arith, less, same))
 
-pub fixed_payload : (control : Bool) (waiting : ℕ) (goes : Bool) (o : Data) → (data_fixed_by control waiting goes o).payload ≡ o.payload
-fixed_payload true waiting goes o = refl
-fixed_payload false waiting true o = refl
-fixed_payload false waiting false o = refl
+pub fixed_payload : (control : Bool) (waiting : ℕ) (quiet goes : Bool) (o : Data) → (data_fixed_by control waiting quiet goes o).payload ≡ o.payload
+fixed_payload true waiting quiet goes o = refl
+fixed_payload false waiting quiet true o = refl
+fixed_payload false waiting quiet false o = refl
 
 -- ---- data is fixed only where it goes and no control PDU goes
 
@@ -59,10 +59,11 @@ none_next : (next : Option Ctrl) → is_some next ≡ false → next ≡ None
 none_next None is = refl
 none_next (Some ctrl) is = absurd (cc)
 
-goes_first : (control : Bool) (waiting : ℕ) (goes : Bool) (o : Data) → is_data (data_fixed_by control waiting goes o).fixed ≡ true → (control ≡ false) × (goes ≡ true)
-goes_first true waiting goes o is = absurd (cc)
-goes_first false waiting true o is = (refl, refl)
-goes_first false waiting false o is = absurd (cc)
+goes_first : (control : Bool) (waiting : ℕ) (quiet goes : Bool) (o : Data)
+    → is_data (data_fixed_by control waiting quiet goes o).fixed ≡ true → (control ≡ false) × (goes ≡ true)
+goes_first true waiting quiet goes o is = absurd (cc)
+goes_first false waiting quiet true o is = (refl, refl)
+goes_first false waiting quiet false o is = absurd (cc)
 
 -- ---- an end that has an exchange in this turn fixes its PDU
 
@@ -89,14 +90,14 @@ module _ (facts : Facts) where
 
   -- it is a piece of at most the effective length
   pub anew_piece : IsPiece (tx_of facts.control.table.lengths) (fixed_anew facts).outgoing.fixed
-  anew_piece = fixed_piece control waiting (data_goes facts) (data_cut facts)
+  anew_piece = fixed_piece control waiting (is_quiet_now facts) (data_goes facts) (data_cut facts)
 
   pub anew_fixed : HasFixed (fixed_anew facts)
   anew_fixed =
       record {
         control = refl;
         data_first =
-            λ is. let first = goes_first control waiting (data_goes facts) (data_cut facts) is in (none_next (next_control facts) first.0, first.1);
+            λ is. let first = goes_first control waiting (is_quiet_now facts) (data_goes facts) (data_cut facts) is in (none_next (next_control facts) first.0, first.1);
         short = anew_piece.short;
         two_bits = let small = anew_piece.llid in omega (arith, small);
       }
@@ -106,10 +107,12 @@ fixing_rests setup turns false facts r = r
 fixing_rests setup turns true facts r =
     record {
       fits = r.fits;
-      plain = r.plain;
+      plain = record { encryption = r.plain.encryption; control = r.plain.control };
       role = r.role;
       none_gone = piece_no_control (tx_of facts.control.table.lengths) (fixed_anew facts).outgoing.fixed (anew_piece facts);
-      payload = fixed_payload (is_some (next_control facts)) (waiting_in facts.control.table.queue) (data_goes facts) (data_cut facts) ∙ r.payload;
+      payload =
+          fixed_payload (is_some (next_control facts)) (waiting_in facts.control.table.queue) (is_quiet_now facts) (data_goes facts) (data_cut facts)
+          ∙ r.payload;
       fits_any = r.fits_any;
       two_bits = r.two_bits;
       slot = r.slot;

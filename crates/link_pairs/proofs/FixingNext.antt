@@ -13,7 +13,7 @@ use Rattle.control_octets.specs.procedures.Queue.{next_of}
 use Rattle.control_octets.specs.procedures.Sending.{next_ctrl_of}
 use Rattle.unencrypted_ends.specs.enc_phase.Phases.{seals}
 use Rattle.unencrypted_ends.specs.enc_phase.declared.facts.PhaseFacts.TheVariants.{Clear as clear_phase}
-use Rattle.control_octets.specs.control_model.Control.{Control}
+use Rattle.control_octets.specs.control_model.Control.{Control, Sends, after}
 use Rattle.control_octets.specs.control_model.Supported.{begins_encryption, read_supported}
 use Rattle.control_octets.specs.Fitting.{FitsOctets}
 use Rattle.control_octets.proofs.Pdus.{written_short}
@@ -29,7 +29,7 @@ use Rattle.link_model.specs.Acknowledgement.{Pdu, is_acked}
 use Rattle.link_model.specs.Data.{is_control, is_data, is_empty}
 use Rattle.link_model.specs.Controls.{pdu_of_control}
 use Rattle.link_model.specs.Facts.{Facts}
-use Rattle.link_model.specs.Controls.{next_control, pdu_fixed}
+use Rattle.link_model.specs.Controls.{is_quiet_now, next_control, pdu_fixed}
 use Rattle.link_model.specs.Sending.{control_gone_if}
 use Rattle.link_pairs.specs.Ways.{IsControlPdu, IsItem}
 use Rattle.link_pairs.proofs.PeripheralSteps.{fixes_after, fixes_data_after, next_item_is, one_step, sends_data_is, with_end}
@@ -128,11 +128,14 @@ module _ (central : Phased) (down way : Way) (slot : ℕ) (facts : Facts) (knows
     pub answer : acked ≡ true → IsAnswer next_way (gone (acked && fixes)).outgoing.fixed
     pub same : acked ≡ false → next_way ≡ way
 
-  module _ (lasts : facts.control.ends ≡ None) (fits : FitsOctets facts.control) (plain : IsUnencrypted facts.control)
+  module _ (lasts : facts.control.ends ≡ None) (fits : FitsOctets facts.control) (plain : IsUnencrypted facts.control) (quiet : is_quiet_now facts ≡ true)
       (clear : is_acked facts.acknowledgement ≡ true → way ≡ Clear)
       (control : facts.fixes_control ≡ is_some (next_control facts))
       (data_first : is_data facts.outgoing.fixed ≡ true → (next_control facts ≡ None) × (is_open facts.control.table.closing ≡ true))
       (none_gone : is_control facts.outgoing.fixed ≡ false) (two_bits : facts.outgoing.fixed.llid < 4) where
+    next_is : next_ctrl true (held_of facts.control) ≡ next_control facts
+    next_is = ap (λ (b : Bool). next_ctrl b (held_of facts.control)) (sym quiet)
+
     -- its last PDU is not acknowledged
     fixes_later : (fixes : Bool) → FixesNext false fixes FixesNothing
     fixes_later fixes = record { may_fix = tt; next_way = way; leads = λ comes. refl; answer = λ is. absurd (cc); same = λ is. refl }
@@ -152,13 +155,16 @@ module _ (central : Phased) (down way : Way) (slot : ℕ) (facts : Facts) (knows
         let c = facts.control in
         let next = some_next (next_control facts) (sym control ∙ fixes) in
         let item = control_item (next_of c.table (event_of c.track) true) next.0 in
-        let is : next_item (plain_phased c knows) ≡ Some item = next_item_is c knows lasts ∙ ap (item_by (next_of c.table (event_of c.track) true)) next.1 in
+        let is : next_item (plain_phased c knows) ≡ Some item =
+        next_item_is c knows lasts ∙ ap (item_by (next_of c.table (event_of c.track) true)) (next_is ∙ next.1) in
         let pdu : pdu_fixed facts ≡ pdu_of_control (Some next.0) = λ i. if fixes i then pdu_of_control (next.1 i) else facts.outgoing.fixed in
         record {
           may_fix = (ap is_clear (clear acked), ap (λ (o : Option Item). is_some o) is);
           next_way = fixed (next_item (plain_phased c knows));
-          leads = λ comes. fixes_after central down c knows slot way (one_step (PeripheralFixes slot) now comes);
-          answer = λ all. Holds item false (ap fixed is) (subst (IsItem item) (sym pdu) (next_is_control c next.0 lasts fits plain next.1));
+          leads =
+              λ comes. fixes_after central down c knows slot way (one_step (PeripheralFixes slot) now comes)
+              ∙ ap (λ (b : Bool). with_end central down (fixed (next_item (plain_phased c knows))) false (after (Sends slot b) c) knows) (sym quiet);
+          answer = λ all. Holds item false (ap fixed is) (subst (IsItem item) (sym pdu) (next_is_control c next.0 lasts fits plain (next_is ∙ next.1)));
           same = λ none. absurd (cc);
         }
 
@@ -166,7 +172,7 @@ module _ (central : Phased) (down way : Way) (slot : ℕ) (facts : Facts) (knows
     fixes_data acked is =
         let goes = data_first is in
         record {
-          may_fix = (ap is_clear (clear acked), sends_data_is facts.control knows lasts goes.0 goes.1);
+          may_fix = (ap is_clear (clear acked), sends_data_is facts.control knows lasts (next_is ∙ goes.0) goes.1);
           next_way = Fixed Data (seals Peripheral clear_phase);
           leads = λ comes. fixes_data_after central down facts.control knows way (one_step PeripheralFixesData now comes);
           answer = λ all. Holds Data (seals Peripheral clear_phase) refl is;

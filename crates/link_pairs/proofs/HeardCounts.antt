@@ -5,25 +5,27 @@ use Rattle.ble_base.specs.declared.roles.Role.{Role}
 use Rattle.ack_bit.specs.AckBits.{is_new}
 use Rattle.data_pdu.specs.declared.header.DataHeader.{DataHeader}
 use Rattle.control_octets.specs.control_model.Control.{Control}
-use Rattle.link_model.specs.Acknowledgement.{Acknowledgement, Pdu, bits_of, is_acked, received_by}
+use Rattle.link_model.specs.Acknowledgement.{Acknowledgement, Pdu, bits_of, is_acked, received_by, with_accepted}
 use Rattle.link_model.specs.Data.{is_data, is_empty}
 use Rattle.link_model.specs.OneLink.{AreInAgreement}
 use Rattle.link_model.specs.declared.state.Leaving.{Leaving}
 use Rattle.link_model.specs.Controls.{is_terminate}
 use Rattle.link_model.specs.Facts.{Facts}
-use Rattle.link_model.specs.Receiving.{accepts, acknowledged_if, acks_control, answers_with_control, control_acked_if, facts_before_taking, facts_hearing, heard_in_slot}
+use Rattle.link_model.specs.Controls.{is_procedure_pdu, is_quiet_now}
+use Rattle.link_model.specs.Plain.{control_acked_if, plain_accepted_if as accepted_if, plain_acknowledged_if as acknowledged_if, plain_before_taking as facts_before_taking, plain_hearing as facts_hearing}
+use Rattle.link_model.specs.Receiving.{accepts, acks_control, answers_with_control, heard_in_slot}
 use Rattle.link_model.specs.Sending.{control_gone_if}
-use Rattle.link_model.proofs.Acknowledging.{ack_before_taking, ack_heard}
 use Rattle.link_pairs.proofs.Answering.{IsGoneFrom, acked_payload, gone_same}
 use Rattle.link_pairs.proofs.Counts.{HasBitsOf, acknowledged_by, heard_agreed, is_fresh}
 use Rattle.link_pairs.proofs.TakingNothing.{TakesNothing, acked_nothing, sends_nothing, takes_none, takes_then}
+use Rattle.link_pairs.proofs.TakingPdus.{taken_same}
 
 seen_nothing : (acked : Bool) (c : Control) → TakesNothing c (control_acked_if acked c)
 seen_nothing true c = acked_nothing c
 seen_nothing false c = takes_none c
 
 pub gone_nothing : (goes : Bool) (slot : ℕ) (facts : Facts) → TakesNothing facts.control (control_gone_if goes slot facts).control
-gone_nothing true slot facts = sends_nothing slot true facts.control
+gone_nothing true slot facts = sends_nothing slot (is_quiet_now facts) facts.control
 gone_nothing false slot facts = takes_none facts.control
 
 and_rest : (a b c : Bool) → ((a && b) && c) ≡ (a && (b && c))
@@ -72,7 +74,7 @@ module _ (role : Role) (slot : ℕ) (room : Bool) (header : DataHeader) (pdu : P
 
   -- whether it is new does not depend on what is acknowledged
   pub fresh_then : is_new (bits_of before.acknowledgement) header ≡ fresh
-  fresh_then = ap (λ (a : Acknowledgement). is_new (bits_of a) header) (ack_before_taking role slot header facts)
+  fresh_then = ap (λ (a : Acknowledgement). is_new (bits_of a) header) gone.acknowledgement
 
   takes_is : takes ≡ (fresh && has_room)
   takes_is =
@@ -83,7 +85,9 @@ module _ (role : Role) (slot : ℕ) (room : Bool) (header : DataHeader) (pdu : P
   takes_fresh is = (and_parts fresh has_room (sym takes_is ∙ is)).0
 
   pub heard_ack : (facts_hearing role slot room header pdu facts).acknowledgement ≡ received_by acks takes pdu facts.acknowledgement
-  heard_ack = ack_heard role slot room header pdu facts
+  heard_ack =
+      (taken_same (takes && is_procedure_pdu pdu) pdu slot (accepted_if takes pdu before)).acknowledgement
+      ∙ ap (with_accepted takes pdu) gone.acknowledgement
 
 -- the counts agree with those of the end that sent the packet
 pub hearing_agreed : (role : Role) (slot : ℕ) (room : Bool) (header : DataHeader) (facts : Facts) (from : Acknowledgement)

@@ -16,12 +16,15 @@ use Rattle.link_model.specs.declared.state.KnownLengths.{KnownLengths}
 use Rattle.link_model.specs.declared.state.Leaving.{Leaving}
 use Rattle.link_model.specs.declared.state.PeerFacts.{PeerFacts}
 use Rattle.link_model.specs.Facts.{Facts}
-use Rattle.link_model.specs.Receiving.{accepted_if, acknowledged_if, heard_in_slot}
+use Rattle.link_model.specs.Controls.{is_quiet_now}
+use Rattle.link_model.specs.Plain.{plain_accepted_if as accepted_if, plain_acknowledged_if as acknowledged_if}
+use Rattle.link_model.specs.Receiving.{heard_in_slot}
 use Rattle.link_pairs.specs.Ends.{IsAtRest, heard_turns, phased_of}
 use Rattle.link_pairs.specs.Shown.{Shows}
 use Rattle.link_pairs.specs.Ways.{ShowsWay}
 use Rattle.link_pairs.proofs.ControlKept.{IsKept, Keeps}
 use Rattle.link_pairs.proofs.Counts.{Says}
+use Rattle.link_pairs.proofs.PlainEnds.{knowing}
 use Rattle.link_pairs.proofs.Ways.{last_same, last_seen, way_same, way_seen}
 
 -- ---- what an end holds after it heard a packet in this slot
@@ -44,10 +47,17 @@ module _ (slot : ℕ) (more acks accepted : Bool) (pdu : Pdu) (facts : Facts) wh
   accepted_facts = accepted_if accepted pdu (acked_facts slot more acks facts)
 
   -- with what its procedures made of that
-  abbrev pub heard_facts : Control → PeerFacts → KnownLengths → Leaving → Facts
-  heard_facts k peer lengths leaving = record accepted_facts { control = k; peer = peer; lengths = lengths; leaving = leaving }
+  abbrev pub heard_facts : Control → Bool → PeerFacts → KnownLengths → Leaving → Facts
+  heard_facts k knows peer lengths leaving =
+      record accepted_facts {
+        control = k;
+        encryption = record facts.encryption { knows_version = knows };
+        peer = peer;
+        lengths = lengths;
+        leaving = leaving;
+      }
 
-  module _ (setup : Setup) (k : Control) (peer : PeerFacts) (lengths : KnownLengths) (leaving : Leaving)
+  module _ (setup : Setup) (k : Control) (knows : Bool) (peer : PeerFacts) (lengths : KnownLengths) (leaving : Leaving)
       (keeps : Keeps facts.control k) (rests : IsAtRest setup (slot + 1) facts) (past : heard_turns setup facts ≤ slot)
       (entered : 1 ≤ facts.control.track.entered) (stays : leaving.acknowledged ≡ false) where
     kept : IsKept facts.control k
@@ -57,12 +67,15 @@ module _ (slot : ℕ) (more acks accepted : Bool) (pdu : Pdu) (facts : Facts) wh
     heard_first true is now = let before = (rests.heard is).1 in omega (arith, before, past)
     heard_first false is now = let same = eqb-true slot facts.event.slot now in omega (arith, same)
 
-    pub heard_rests : IsAtRest setup (slot + 1) (heard_facts k peer lengths leaving)
+    pub heard_rests : IsAtRest setup (slot + 1) (heard_facts k knows peer lengths leaving)
     heard_rests =
         let now = acks && is_data facts.acknowledgement.last in
         record {
           fits = keeps.fits rests.fits;
-          plain = keeps.plain rests.plain;
+          plain = record {
+            encryption = knowing setup.link.role facts.encryption knows rests.plain.encryption;
+            control = keeps.plain rests.plain.control;
+          };
           role = keeps.role setup.link.role rests.role;
           none_gone = ap is_control (acked_fixed now facts.outgoing) ∙ rests.none_gone;
           payload = acked_payload now facts.outgoing ∙ rests.payload;
@@ -72,7 +85,7 @@ module _ (slot : ℕ) (more acks accepted : Bool) (pdu : Pdu) (facts : Facts) wh
           number = rests.number ∙ ap (λ n. n - 1) (sym kept.entered);
           heard = λ heard. (rw kept.entered entered, heard_first facts.event.heard refl heard);
           past = omega arith;
-          goes = subst (λ (to_end : Closing). not (is_disconnecting to_end) ≡ is_open to_end) (sym kept.closing) rests.goes;
+          goes = subst (λ (to_end : Closing). (is_quiet_now facts && not (is_disconnecting to_end)) ≡ is_open to_end) (sym kept.closing) rests.goes;
           stays = stays;
         }
 
@@ -80,8 +93,9 @@ module _ (slot : ℕ) (more acks accepted : Bool) (pdu : Pdu) (facts : Facts) wh
 
 module _ (central peripheral : Setup) (slot : ℕ) (more acks fresh : Bool) (c p : Facts) (l : Link)
     (s : Shows central peripheral (slot + 1) true l c p) (says : Says c.acknowledgement p.acknowledgement acks fresh) where
-  pub hears_shows : (accepted : Bool) (x : Phased) (up : Way) (stopped : Bool) (k : Control) (peer : PeerFacts) (lengths : KnownLengths)
-      (leaving : Leaving) → let d = heard_facts slot more acks accepted p.acknowledgement.last c k peer lengths leaving in
+  pub hears_shows : (accepted : Bool) (x : Phased) (up : Way) (stopped : Bool) (k : Control) (knows : Bool) (peer : PeerFacts)
+      (lengths : KnownLengths) (leaving : Leaving)
+      → let d = heard_facts slot more acks accepted p.acknowledgement.last c k knows peer lengths leaving in
       x ≡ phased_of d → ShowsWay up p.acknowledgement (with_accepted accepted p.acknowledgement.last c.acknowledgement)
       → is_free up ≡ true → AreInAgreement d.acknowledgement p.acknowledgement → IsAtRest central (slot + 1) d
       → Shows central peripheral (slot + 1) false
@@ -95,8 +109,8 @@ module _ (central peripheral : Setup) (slot : ℕ) (more acks fresh : Bool) (c p
           stopped = stopped;
         };
       }) d p
-  hears_shows accepted x up stopped k peer lengths leaving is shown free agreed rests =
-      let d = heard_facts slot more acks accepted p.acknowledgement.last c k peer lengths leaving in
+  hears_shows accepted x up stopped k knows peer lengths leaving is shown free agreed rests =
+      let d = heard_facts slot more acks accepted p.acknowledgement.last c k knows peer lengths leaving in
       record {
         central_part = is;
         peripheral_part = s.peripheral_part;

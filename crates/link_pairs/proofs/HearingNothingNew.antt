@@ -6,49 +6,58 @@ use Rattle.ble_base.specs.declared.roles.Role.{Role}
 use Rattle.ble_base.specs.declared.roles.Role.TheVariants.{Central, Peripheral}
 use Rattle.data_pdu.specs.declared.header.DataHeader.{DataHeader}
 use Rattle.link_model.specs.Acknowledgement.{Pdu, is_acked, with_acked}
-use Rattle.link_model.specs.Data.{data_sent_if, is_control, is_data, is_empty}
+use Rattle.link_model.specs.Data.{is_control, is_data, is_empty}
 use Rattle.link_model.specs.Setup.{Setup}
 use Rattle.link_model.specs.Entering.{done_notes}
 use Rattle.link_model.specs.Facts.{Facts}
-use Rattle.link_model.specs.Receiving.{accepts, acked_kind, acknowledged_if, acks_control, answers_with_control, facts_before_taking, facts_hearing, has_acknowledged, heard_in_slot, notes_hearing, taken_if, taken_notes}
-use Rattle.link_model.specs.Sending.{control_gone_if, facts_sent, fixed_sent}
+use Rattle.link_model.specs.Payload.{end_sending, payload_made}
+use Rattle.link_model.specs.Plain.{plain_acknowledged_if as acknowledged_if, plain_before_taking as facts_before_taking, plain_hearing as facts_hearing, plain_notes_hearing as notes_hearing, plain_taken_if as taken_if, plain_taken_notes as taken_notes}
+use Rattle.link_model.specs.Receiving.{accepts, acked_kind, acks_control, answers_with_control, has_acknowledged, heard_in_slot}
+use Rattle.link_model.specs.Sending.{control_gone_if, data_sent_as, facts_sent, fixed_sent, seals_new}
 use Rattle.link_pairs.specs.Turns.{central_begun, prepared, sent_if}
 use Rattle.link_pairs.proofs.Counts.{acknowledged_by, is_fresh}
 use Rattle.link_pairs.proofs.HeardCounts.{fresh_then}
 use Rattle.link_pairs.proofs.NothingNew.{HasNothingNew, nothing_then, prepared_still, same_still}
+use Rattle.link_pairs.proofs.PlainEnds.{plain_with}
 use Rattle.link_pairs.proofs.TakingNothing.{takes_none}
 use Rattle.link_pairs.proofs.Ways.{sent_again}
 
 -- ---- it sends its last PDU again
 
-again_still : (slot : ℕ) (facts : Facts) → is_acked facts.acknowledgement ≡ false → HasNothingNew facts (fixed_sent slot facts)
-again_still slot facts out =
+again_still : (setup : Setup) (slot : ℕ) (facts : Facts) → is_acked facts.acknowledgement ≡ false → HasNothingNew setup facts (fixed_sent slot facts)
+again_still setup slot facts out =
+    let e = facts.encryption in
+    let payload = payload_made e.end facts.outgoing.fixed in
     record {
+      plain =
+          λ is. plain_with setup.link.role (fixed_sent slot facts) e
+          (ap (λ (all : Bool). record e { end = end_sending (seals_new all facts.outgoing.fixed) e.end }) out) is.encryption is.control;
       control = takes_none facts.control;
       acknowledgement = sent_again facts.outgoing.fixed facts.acknowledgement out;
-      payload = ap (λ (all : Bool). (data_sent_if all facts.outgoing).payload) out;
-      none_gone = λ none. ap (λ (all : Bool). is_control (data_sent_if all facts.outgoing).fixed) out ∙ none;
+      payload = ap (λ (all : Bool). (data_sent_as payload all facts.outgoing).payload) out;
+      none_gone = λ none. ap (λ (all : Bool). is_control (data_sent_as payload all facts.outgoing).fixed) out ∙ none;
       by_peer = refl;
       stays = refl;
       answered = λ is. or_left facts.leaving.answered _ is;
     }
 
-pub sent_still : (slot : ℕ) (facts : Facts) → is_acked facts.acknowledgement ≡ false → HasNothingNew facts (facts_sent slot facts)
-sent_still slot facts out =
-    subst (HasNothingNew facts) (λ i. fixed_sent slot (control_gone_if (sym out i && facts.fixes_control) slot facts)) (again_still slot facts out)
+pub sent_still : (setup : Setup) (slot : ℕ) (facts : Facts) → is_acked facts.acknowledgement ≡ false → HasNothingNew setup facts (facts_sent slot facts)
+sent_still setup slot facts out =
+    subst (HasNothingNew setup facts) (λ i. fixed_sent slot (control_gone_if (sym out i && facts.fixes_control) slot facts))
+    (again_still setup slot facts out)
 
 pub sent_if_still : (sends : Bool) (setup : Setup) (slot : ℕ) (facts : Facts) → is_acked facts.acknowledgement ≡ false
-    → HasNothingNew facts (sent_if sends setup slot facts)
-sent_if_still true setup slot facts out = sent_still slot facts out
-sent_if_still false setup slot facts out = same_still facts
+    → HasNothingNew setup facts (sent_if sends setup slot facts)
+sent_if_still true setup slot facts out = sent_still setup slot facts out
+sent_if_still false setup slot facts out = same_still setup facts
 
 -- as a turn begins at a central
 pub begun_still : (setup : Setup) (slot : ℕ) (transmits : Bool) (facts : Facts) → is_acked facts.acknowledgement ≡ false
-    → HasNothingNew facts (central_begun setup slot transmits facts)
+    → HasNothingNew setup facts (central_begun setup slot transmits facts)
 begun_still setup slot transmits facts out =
     let now = prepared setup slot transmits facts in
     let nothing = prepared_still setup slot transmits facts in
-    nothing_then facts now (central_begun setup slot transmits facts) nothing
+    nothing_then setup facts now (central_begun setup slot transmits facts) nothing
     (sent_if_still transmits setup slot now (ap is_acked nothing.acknowledgement ∙ out))
 
 -- ---- it hears a packet
@@ -82,9 +91,10 @@ module _ (role : Role) (slot : ℕ) (room : Bool) (header : DataHeader) (pdu : P
     pub heard_as_nothing : facts_hearing role slot room header pdu facts ≡ hearing_by false false false
     heard_as_nothing = λ i. hearing_by (acks i) (goes i) (accepts_none i)
 
-    nothing_still : HasNothingNew facts (hearing_by false false false)
-    nothing_still =
+    nothing_still : (setup : Setup) → HasNothingNew setup facts (hearing_by false false false)
+    nothing_still setup =
         record {
+          plain = λ is. record { encryption = is.encryption; control = is.control };
           control = takes_none facts.control;
           acknowledgement = refl;
           payload = refl;
@@ -94,8 +104,8 @@ module _ (role : Role) (slot : ℕ) (room : Bool) (header : DataHeader) (pdu : P
           answered = λ is. is;
         }
 
-    pub heard_still : HasNothingNew facts (facts_hearing role slot room header pdu facts)
-    heard_still = subst (HasNothingNew facts) (sym heard_as_nothing) nothing_still
+    pub heard_still : (setup : Setup) → HasNothingNew setup facts (facts_hearing role slot room header pdu facts)
+    heard_still setup = subst (HasNothingNew setup facts) (sym heard_as_nothing) (nothing_still setup)
 
     pub heard_control : (facts_hearing role slot room header pdu facts).control ≡ facts.control
     heard_control = ap (λ (f : Facts). f.control) heard_as_nothing

@@ -33,11 +33,13 @@ use Rattle.link_model.specs.End.{facts_after}
 use Rattle.link_model.specs.Facts.{Facts}
 use Rattle.link_model.specs.Hosts.{asked_unless, is_to_come}
 use Rattle.link_model.specs.Receiving.{lengths_seen}
-use Rattle.link_model.specs.Step.{Step, DataGiven, DataReported, Disconnected, EventEntered, PacketReceived, PacketSent, PduFixed, ProcedureAsked, RequestAnswered}
+use Rattle.link_model.specs.Plain.{IsPlain}
+use Rattle.link_model.specs.Step.{Step, DataGiven, DataReported, Disconnected, EventEntered, PacketReceived, PacketSent, PduFixed, ProcedureAsked, RequestAnswered, KeyAnswered, WordsGiven}
 use Rattle.link_pairs.specs.Ends.{IsAtRest, heard_turns, is_lasting, phased_of}
 use Rattle.link_pairs.specs.Hosts.{MayAsk, MayHost}
 use Rattle.link_pairs.specs.Shown.{AreLinked, Shows}
 use Rattle.link_pairs.proofs.Lasting.{lasts_before}
+use Rattle.link_pairs.proofs.PlainEnds.{goes_as}
 use Rattle.link_pairs.proofs.Reaching.{IsReached, IsShown, linked_on, reached_next, shown}
 use Rattle.link_pairs.proofs.Showing.{central_shows, peripheral_shows}
 
@@ -100,7 +102,7 @@ module _ (setup : Setup) (turns : ℕ) (facts : Facts) (r : IsAtRest setup turns
   host_rests host step lengths leaving does fits none stays_open =
       record {
         fits = stays_fitting facts.control step r.fits fits;
-        plain = stays facts.control step r.plain none;
+        plain = now_plain;
         role = same_role setup.link.role step facts.control r.role;
         none_gone = r.none_gone;
         payload = r.payload;
@@ -110,10 +112,15 @@ module _ (setup : Setup) (turns : ℕ) (facts : Facts) (r : IsAtRest setup turns
         number = r.number ∙ ap event_of (sym same);
         heard = subst (λ (t : TrackFacts). facts.event.heard ≡ true → (1 ≤ t.entered) × (facts.event.slot + 1 ≤ heard_turns setup facts)) (sym same) r.heard;
         past = r.past;
-        goes = host_agrees host step facts.control does r.goes;
+        goes =
+            goes_as setup.link.role (with_control facts (after step facts.control) lengths leaving) now_plain
+            ∙ host_agrees host step facts.control does (sym (goes_as setup.link.role facts r.plain) ∙ r.goes);
         stays = stays_open;
       }
     where
+      now_plain : IsPlain setup.link.role (with_control facts (after step facts.control) lengths leaving)
+      now_plain = record { encryption = r.plain.encryption; control = stays facts.control step r.plain.control none }
+
       same : (after step facts.control).track ≡ facts.control.track
       same = table_alone facts.control step (host_alone host step does)
 
@@ -121,7 +128,7 @@ module _ (setup : Setup) (turns : ℕ) (facts : Facts) (r : IsAtRest setup turns
   data_rests o fixed payload =
       record {
         fits = r.fits;
-        plain = r.plain;
+        plain = record { encryption = r.plain.encryption; control = r.plain.control };
         role = r.role;
         none_gone = ap is_control fixed ∙ r.none_gone;
         payload = payload ∙ r.payload;
@@ -231,6 +238,8 @@ module _ (central peripheral : Setup) (turns : ℕ) (answers : Bool) (c p : Fact
       central_does (Ends reason) (control_disconnects reason) c.lengths (record c.leaving { disconnected = Some slot }) (ending reason) tt refl m refl (λ stays. stays)
       (lasts_before central c (Disconnected reason slot))
   central_hosts DataReported m = central_gives (data_reported c.outgoing) refl refl
+  central_hosts (KeyAnswered key slot) m = absurd m
+  central_hosts (WordsGiven skd_s iv_s) m = absurd m
   central_hosts (EventEntered slot) m = absurd m
   central_hosts PduFixed m = absurd m
   central_hosts (PacketSent slot) m = absurd m
@@ -251,6 +260,8 @@ module _ (central peripheral : Setup) (turns : ℕ) (answers : Bool) (c p : Fact
       peripheral_does (Ends reason) (control_disconnects reason) p.lengths (record p.leaving { disconnected = Some slot }) (ending reason) tt refl m refl (λ stays. stays)
       (lasts_before peripheral p (Disconnected reason slot))
   peripheral_hosts DataReported m = peripheral_gives (data_reported p.outgoing) refl refl
+  peripheral_hosts (KeyAnswered key slot) m = absurd m
+  peripheral_hosts (WordsGiven skd_s iv_s) m = absurd m
   peripheral_hosts (EventEntered slot) m = absurd m
   peripheral_hosts PduFixed m = absurd m
   peripheral_hosts (PacketSent slot) m = absurd m

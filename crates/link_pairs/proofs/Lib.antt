@@ -16,6 +16,7 @@ pub mod HearingNothingNew
 pub mod Hosting
 pub mod Items
 pub mod JointRuns
+pub mod LastAnswers
 pub mod LastControl
 pub mod LastPdus
 pub mod Lasting
@@ -25,6 +26,7 @@ pub mod PartingBegins
 pub mod PartingEndings
 pub mod PeripheralHears
 pub mod PeripheralSteps
+pub mod PlainEnds
 pub mod ReachedRuns
 pub mod Reaching
 pub mod Reading

@@ -8,10 +8,12 @@ use Rattle.link_model.specs.Acknowledgement.{Acknowledgement, Pdu, is_acked}
 use Rattle.link_model.proofs.Hearing.{IsHeardWhole}
 use Rattle.link_model.specs.End.{notes_after}
 use Rattle.link_model.specs.Facts.{Facts}
-use Rattle.link_model.specs.Hearing.{IsUnderstood, pdu_heard}
+use Rattle.link_model.specs.Hearing.{IsUnderstood}
 use Rattle.link_model.specs.Packets.{good_pdu, header_sent, payload_sent, verdict_of}
-use Rattle.link_model.specs.Receiving.{facts_hearing, notes_hearing}
+use Rattle.link_model.specs.Plain.{IsPlain, plain_hearing as facts_hearing, plain_notes_hearing as notes_hearing}
+use Rattle.link_model.specs.Receiving.{facts_hearing as any_hearing, notes_hearing as any_notes_hearing}
 use Rattle.link_model.specs.Step.{PacketReceived}
+use Rattle.link_model.proofs.Plain.{hearing_plain, notes_hearing_plain, opened_plain}
 use Rattle.link_model.proofs.Received.{facts_heard, heard_good, judged_good, notes_heard}
 use Rattle.link_pairs.specs.Hearing.{IsPacketOf, received}
 use Rattle.link_pairs.specs.Parting.{HasFittingPdu}
@@ -31,15 +33,12 @@ pub record AreRead (to : Setup) (listener : Facts) (slot : ℕ) (octets : List �
 
 module _ (whole : IsHeardWhole) (from to : Setup) (slot : ℕ) (facts listener : Facts) (channel : ℕ) (octets : List ℕ)
     (fields : from.link.fields ≡ to.link.fields) (most : to.link.max_rx ≤ 251) (fits : HasFittingPdu to facts)
-    (is : IsPacketOf from slot facts channel octets) (same : channel ≡ listener.event.channel) where
+    (is : IsPacketOf from slot facts channel octets) (same : channel ≡ listener.event.channel) (plain : IsPlain to.link.role listener) where
   sent : HasSent is.before facts
   sent = subst (HasSent is.before) (sym is.sent) (has_sent slot is.before)
 
   payload_is : payload_sent is.before ≡ facts.acknowledgement.last.body
   payload_is = sym sent.payload ∙ fits.payload
-
-  pdu_is : pdu_heard is.before ≡ facts.acknowledgement.last
-  pdu_is = λ i. record { llid = (sym sent.last i).llid; body = payload_is i }
 
   short_at : (octets : ℕ) → to.link.max_rx ≤ octets → length (payload_sent is.before) ≤ octets
   short_at octets least =
@@ -53,7 +52,8 @@ module _ (whole : IsHeardWhole) (from to : Setup) (slot : ℕ) (facts listener :
         channel = sym is.on_channel ∙ same;
         llid = subst (λ (pdu : Pdu). pdu.llid < 4) sent.last fits.two_bits;
         octets = short_at 255 (omega (arith, most));
-        fits = short_at to.link.max_rx (omega arith);
+        fits = let short = short_at to.link.max_rx (omega arith) in omega (arith, short);
+        opens = opened_plain to.link.role is.before listener plain (payload_is ∙ ap (λ (pdu : Pdu). pdu.body) sent.last);
       }
 
   pub are_read : AreRead to listener slot octets facts.acknowledgement
@@ -69,9 +69,11 @@ module _ (whole : IsHeardWhole) (from to : Setup) (slot : ℕ) (facts listener :
         facts =
             λ room. ap (λ (o : List ℕ). received to slot o room listener) is.packet
             ∙ facts_heard whole from to is.before listener understood slot room
-            ∙ ap (λ (pdu : Pdu). facts_hearing to.link.role slot room (header_sent is.before) pdu listener) pdu_is;
+            ∙ ap (λ (pdu : Pdu). any_hearing to.link.role slot room (header_sent is.before) pdu listener) (sym sent.last)
+            ∙ hearing_plain to.link.role to.link.role slot room (header_sent is.before) facts.acknowledgement.last listener plain;
         notes =
             λ room. ap (λ (o : List ℕ). notes_after to listener (PacketReceived slot o room)) is.packet
             ∙ notes_heard whole from to is.before listener understood slot room
-            ∙ ap (λ (pdu : Pdu). notes_hearing to slot room (header_sent is.before) pdu listener) pdu_is;
+            ∙ ap (λ (pdu : Pdu). any_notes_hearing to slot room (header_sent is.before) pdu listener) (sym sent.last)
+            ∙ notes_hearing_plain to slot room (header_sent is.before) facts.acknowledgement.last listener plain;
       }

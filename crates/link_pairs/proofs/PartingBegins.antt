@@ -11,14 +11,18 @@ use Rattle.joint_laws.specs.joint_controls.Joint.{is_running}
 use Rattle.joint_laws.proofs.joint_controls.Running.{none_of}
 use Rattle.joint_laws.specs.joint_parameters.Turns.{Link}
 use Rattle.link_model.specs.Acknowledgement.{Pdu, is_acked}
-use Rattle.link_model.specs.Data.{Data as DataFacts, data_sent_if, is_control}
+use Rattle.link_model.specs.Data.{Data as DataFacts, is_control}
 use Rattle.link_model.specs.Setup.{Setup}
 use Rattle.link_model.proofs.Hearing.{IsHeardWhole}
 use Rattle.link_model.specs.Controls.{goes_on, next_control}
 use Rattle.link_model.specs.Facts.{Facts}
 use Rattle.link_model.specs.Packets.{good_pdu}
-use Rattle.link_model.specs.Receiving.{accepts, facts_before_taking, facts_hearing, replies_by, replies_of}
-use Rattle.link_model.specs.Sending.{facts_sent}
+use Rattle.link_model.specs.Payload.{payload_made}
+use Rattle.link_model.specs.Plain.{IsPlain, plain_before_taking as facts_before_taking, plain_hearing as facts_hearing}
+use Rattle.link_model.specs.Receiving.{accepts, replies_by, replies_of}
+use Rattle.link_model.specs.Sending.{data_sent_as, facts_sent}
+use Rattle.link_model.specs.Step.{PacketReceived}
+use Rattle.link_model.proofs.Plain.{step_plain}
 use Rattle.link_pairs.specs.Ends.{AreEnds, IsAtRest, is_lasting}
 use Rattle.link_pairs.specs.Hearing.{IsPacketOf, answered, received}
 use Rattle.link_pairs.specs.Parting.{ArePartingFrom, HasFittingPdu}
@@ -29,6 +33,7 @@ use Rattle.link_pairs.proofs.Counts.{acknowledged_by, is_fresh, says_right, turn
 use Rattle.link_pairs.proofs.FixingNext.{control_bits, control_short}
 use Rattle.link_pairs.proofs.LastControl.{EndsSo}
 use Rattle.link_pairs.proofs.PacketsRead.{AreRead, are_read}
+use Rattle.link_pairs.proofs.PlainEnds.{replies_as}
 use Rattle.link_pairs.proofs.ReachedRuns.{central_knows, ends_so, peripheral_knows, tied_link}
 use Rattle.link_pairs.proofs.Reaching.{IsReached, reached_by}
 use Rattle.link_pairs.proofs.SeenAcknowledged.{ends_nothing}
@@ -143,6 +148,7 @@ module _ (whole : IsHeardWhole) (central peripheral : Setup) (ends : AreEnds cen
   read =
       are_read whole peripheral central slot p c channel octets (sym ends.one_link.fields) ends.central_max.to
       (peripheral_fits central peripheral ends slot true c p l reached running shows (lasts c central_lasts) (lasts p peripheral_lasts) room) packet same
+      shows.central_rests.plain
 
   meets : Meets central peripheral slot room read.header c p l.joint.up
   meets =
@@ -161,7 +167,8 @@ module _ (whole : IsHeardWhole) (central peripheral : Setup) (ends : AreEnds cen
       part central peripheral heard p
       (subst (λ (f : Facts). AreToPart central peripheral f p) (sym (read.facts room))
       (to_part central peripheral slot room read.header c p role l.joint.up meets
-      (ap (λ (f : Facts). is_some f.leaving.ended_by_peer) (sym (read.facts room)) ∙ ended)))
+      (ap (λ (f : Facts). is_some f.leaving.ended_by_peer) (sym (read.facts room)) ∙ ended)
+      (subst (IsPlain role) (read.facts room) (step_plain central c (PacketReceived slot octets room) shows.central_rests.plain))))
       (ap (λ (f : Facts). is_control f.outgoing.fixed) (read.facts room)
       ∙ ap is_control (central_fixed role slot room read.header p.acknowledgement.last c ends.is_central) ∙ shows.central_rests.none_gone)
       (λ is. absurd (never_peripheral role ends.is_central is))
@@ -178,7 +185,7 @@ none_gone_then slot more acks facts accepted pdu none =
     now = taken slot more acks facts accepted pdu
 
     by : (all : Bool) → is_acked (taken slot more acks facts accepted pdu).acknowledgement ≡ all
-        → is_control (data_sent_if all (taken slot more acks facts accepted pdu).outgoing).fixed ≡ false
+        → is_control (data_sent_as (payload_made now.encryption.end now.outgoing.fixed) all (taken slot more acks facts accepted pdu).outgoing).fixed ≡ false
     by true is = refl
     by false is =
         ap (λ (o : DataFacts). is_control o.fixed) (took slot more acks facts accepted pdu).outgoing
@@ -206,7 +213,7 @@ module _ (whole : IsHeardWhole) (central peripheral : Setup) (ends : AreEnds cen
   read_down =
       are_read whole central peripheral slot c p channel octets ends.one_link.fields ends.peripheral_max.to
       (central_fits central peripheral ends slot false c p link_down reached_down running_down shows_down (lasts c central_lasts) (lasts p peripheral_lasts) room)
-      packet same
+      packet same shows_down.peripheral_rests.plain
 
   meets_down : Meets peripheral central slot room read_down.header p c link_down.joint.down
   meets_down =
@@ -257,12 +264,14 @@ module _ (whole : IsHeardWhole) (central peripheral : Setup) (ends : AreEnds cen
     parts =
         subst (λ (f : Facts). AreToPart peripheral central f c) (sym (read_down.facts room))
         (to_part peripheral central slot room header p c peripheral.link.role link_down.joint.down meets_down
-        (ap (λ (f : Facts). is_some f.leaving.ended_by_peer) (sym (read_down.facts room)) ∙ ended))
+        (ap (λ (f : Facts). is_some f.leaving.ended_by_peer) (sym (read_down.facts room)) ∙ ended)
+        (subst (IsPlain peripheral.link.role) (read_down.facts room)
+        (step_plain peripheral p (PacketReceived slot octets room) shows_down.peripheral_rests.plain)))
 
     replies_now : replies_of peripheral p slot octets room ≡ true
-    unfolding replies_of
     replies_now =
-        (λ i. replies_by (ends.is_peripheral i) (not (is_none (parts.goes_on i)) || parts.stays i) (good_pdu peripheral p octets))
+        replies_as peripheral p slot octets room shows_down.peripheral_rests.plain
+        ∙ (λ i. replies_by (ends.is_peripheral i) (not (is_none (parts.goes_on i)) || parts.stays i) (good_pdu peripheral p octets))
         ∙ ap (λ (b : Bool). b && true) read_down.good
 
     answered_is : answered peripheral slot octets room p ≡ facts_sent slot heard_down

@@ -9,13 +9,15 @@ use Rattle.control_octets.specs.procedure_stages.Queue.{next_by, next_disconnect
 use Rattle.control_octets.specs.procedures.Going.{terminate_step}
 use Rattle.control_octets.specs.control_model.Control.{Control, Disconnects, after, table_if}
 use Rattle.link_model.specs.Setup.{Setup}
-use Rattle.link_model.specs.Controls.{next_control, pdu_fixed}
+use Rattle.link_model.specs.Controls.{is_quiet_now, next_control, pdu_fixed}
 use Rattle.link_model.specs.Facts.{Facts}
 use Rattle.link_model.specs.Fixing.{data_goes}
 use Rattle.link_model.specs.Packets.{pdu_sent}
 use Rattle.link_model.specs.Times.{ended_by_peer, ended_by_procedures, ending_of}
+use Rattle.link_model.proofs.Plain.{quiet_plain}
 use Rattle.link_pairs.specs.Parting.{ArePartingFrom}
 use Rattle.link_pairs.proofs.Counts.{unseen_is_out}
+use Rattle.link_pairs.proofs.Items.{never}
 
 -- ---- how it ends
 
@@ -53,14 +55,16 @@ module _ (taker sender : Setup) (t s : Facts) (parting : ArePartingFrom taker se
       let c = s.control in
       let f = s.control.table in
       let over = parting.sent.sends_no_control in
+      let quiet = quiet_plain sender.link.role s parting.sender_plain in
       (λ i. if is_none (parting.sent.goes_on i)
       then ctrl_of_outgoing
-      (next_by (over.rejections i) (if over.closing i && true then next_disconnect (over.disconnect i) else next_draft f.progress (event_of c.track) f.queue.drafts))
+      (next_by (over.rejections i) (if over.closing i && quiet i then next_disconnect (over.disconnect i) else next_draft f.progress (event_of c.track) f.queue.drafts))
       (event_of c.track) c.track.params.latency
       else None)
 
   pub sends_no_data : data_goes s ≡ false
-  sends_no_data = ap not parting.sent.sends_no_control.closing
+  sends_no_data =
+      ap (λ (b : Bool). is_quiet_now s && not b) parting.sent.sends_no_control.closing ∙ never (is_quiet_now s)
 
 -- ---- a further Disconnect queues nothing
 

@@ -31,12 +31,14 @@ use Rattle.link_model.specs.OneLink.{AreInAgreement}
 use Rattle.link_model.specs.Setup.{Setup}
 use Rattle.link_model.specs.declared.state.Leaving.{Leaving}
 use Rattle.link_model.specs.declared.state.PeerFacts.{PeerFacts}
-use Rattle.link_model.specs.Controls.{is_terminate, next_control}
+use Rattle.link_model.specs.Controls.{is_quiet_now, is_terminate, next_control}
 use Rattle.link_model.specs.Facts.{Facts}
 use Rattle.link_model.specs.Packets.{good_pdu}
-use Rattle.link_model.specs.Receiving.{accepts, control_acked_if, facts_hearing, has_ended, replies_by, replies_of, taken_if}
+use Rattle.link_model.specs.Plain.{IsPlain, control_acked_if, plain_hearing as facts_hearing, plain_taken_if as taken_if}
+use Rattle.link_model.specs.Receiving.{accepts, has_ended, replies_by, replies_of}
 use Rattle.link_model.specs.Step.{PacketReceived, PacketSent}
-use Rattle.link_model.specs.Sending.{control_gone_if, fixed_sent, takes_leave}
+use Rattle.link_model.specs.Sending.{control_gone_if, takes_leave}
+use Rattle.link_model.proofs.Plain.{quiet_plain, step_plain}
 use Rattle.link_pairs.specs.Ends.{AreEnds, HasExchange, heard_turns, is_lasting, phased_of, turns_at}
 use Rattle.link_pairs.specs.Hearing.{IsPacketOf, received}
 use Rattle.link_pairs.specs.Hearing as hearing
@@ -49,6 +51,7 @@ use Rattle.link_pairs.proofs.Counts.{HasBitsOf, Says, acknowledged_by, heard_agr
 use Rattle.link_pairs.proofs.FixingNext.{Empty, FixesNext, Holds, IsAnswer, control_bits, control_short, fixed_by, fixes_next, fixing_of, may_fix_after}
 use Rattle.link_pairs.proofs.HeardTurns.{HearsIn, hears_in, in_exchange, last_heard, last_hears}
 use Rattle.link_pairs.proofs.PeripheralSteps.{may_parts, seen_after, sends_after, with_end}
+use Rattle.link_pairs.proofs.PlainEnds.{plain_sent, replies_as, sent_plain}
 use Rattle.link_pairs.proofs.LastPdus.{last_reached}
 use Rattle.link_pairs.proofs.Lasting.{lasts_before, lasts_before_if}
 use Rattle.link_pairs.proofs.Reaching.{IsReached, IsShown, comes, linked, paired, peripheral_transmits, reached_by, reached_next, shown}
@@ -67,16 +70,17 @@ seen_ends : (acked : Bool) (c : Control) → (control_acked_if acked c).ends ≡
 seen_ends true c = acked_ends c
 seen_ends false c = refl
 
-seen_next : (acked : Bool) (c : Control) → role_of c.table.progress ≡ Peripheral → next_ctrl true (held_of (control_acked_if acked c)) ≡ next_ctrl true (held_of c)
-seen_next true c role = acked_next c true role
-seen_next false c role = refl
+seen_next : (acked quiet : Bool) (c : Control) → role_of c.table.progress ≡ Peripheral
+    → next_ctrl quiet (held_of (control_acked_if acked c)) ≡ next_ctrl quiet (held_of c)
+seen_next true quiet c role = acked_next c quiet role
+seen_next false quiet c role = refl
 
 keeps_gone : (goes : Bool) (slot : ℕ) (facts : Facts) → Keeps facts.control (control_gone_if goes slot facts).control
-keeps_gone true slot facts = keeps_sent facts.control slot true
+keeps_gone true slot facts = keeps_sent facts.control slot (is_quiet_now facts)
 keeps_gone false slot facts = keeps_none facts.control
 
 gone_ends : (goes : Bool) (slot : ℕ) (facts : Facts) → (control_gone_if goes slot facts).control.ends ≡ facts.control.ends
-gone_ends true slot facts = sent_ends facts.control slot true
+gone_ends true slot facts = sent_ends facts.control slot (is_quiet_now facts)
 gone_ends false slot facts = refl
 
 room_for : (room has_data : Bool) → has_data ≡ false → (room || not has_data) ≡ true
@@ -215,7 +219,7 @@ module _ (central peripheral : Setup) (slot : ℕ) (l : Link) (c p : Facts) (hea
     is_role = s.peripheral_rests.role ∙ m.ends.is_peripheral
 
     next_same : next_control before ≡ next_control p
-    next_same = seen_next (acks && is_control p.acknowledgement.last) p.control is_role
+    next_same = seen_next (acks && is_control p.acknowledgement.last) (is_quiet_now p) p.control is_role
 
     fixed_same : before.outgoing.fixed ≡ p.outgoing.fixed
     fixed_same = seen_fixed slot header.md acks p
@@ -226,7 +230,7 @@ module _ (central peripheral : Setup) (slot : ℕ) (l : Link) (c p : Facts) (hea
     pub fixes : FixesNext (phased_of c) l.joint.down (cleared l.joint.up) slot before knows (is_acked before.acknowledgement) before.fixes_control fixing
     fixes =
         fixes_next (phased_of c) l.joint.down (cleared l.joint.up) slot before knows seen_lasts (seen_keeps.fits s.peripheral_rests.fits)
-        (seen_keeps.plain s.peripheral_rests.plain)
+        (seen_keeps.plain s.peripheral_rests.plain.control) (quiet_plain peripheral.link.role p s.peripheral_rests.plain)
         (clear_seen p.acknowledgement c.acknowledgement acks fresh says agreed l.joint.up s.up)
         (m.has_fixed.control ∙ ap (λ (next : Option Ctrl). is_some next) (sym next_same))
         (λ is. let first = m.has_fixed.data_first (sym (ap is_data fixed_same) ∙ is) in (
@@ -318,7 +322,7 @@ module _ (central peripheral : Setup) (slot : ℕ) (l : Link) (c p : Facts) (hea
     next_reached = reached_next central peripheral heard l m.reached m.running may_hear tt
 
     abbrev answered : Facts
-    answered = fixed_sent slot now
+    answered = plain_sent slot now
 
     hears : HearsIn l.turns next.turns (last_heard (room_now || not (is_free l.joint.down)) l.turns.last)
     hears = hears_in (room_now || not (is_free l.joint.down)) l.turns.last l.turns refl
@@ -542,6 +546,10 @@ module _ (central peripheral : Setup) (slot : ℕ) (l : Link) (c p : Facts) (hea
           heard_as ∙ ap (λ (role : Role). facts_hearing role slot room header pdu p) m.ends.is_peripheral
           ∙ ap (λ (takes : Bool). taken_if takes pdu slot after_fixing) accepts_same
 
+      now_plain : IsPlain peripheral.link.role now
+      now_plain =
+          subst (IsPlain peripheral.link.role) received_now (step_plain peripheral p (PacketReceived slot octets room) s.peripheral_rests.plain)
+
       abbrev replies : Bool
       replies = replies_of peripheral p slot octets room
 
@@ -549,9 +557,9 @@ module _ (central peripheral : Setup) (slot : ℕ) (l : Link) (c p : Facts) (hea
       answer = hearing.answered peripheral slot octets room p
 
       replies_now : replies ≡ not (has_ended now)
-      unfolding replies_of
       replies_now =
-          (λ i. replies_by (m.ends.is_peripheral i) (has_ended (received_now i)) (good_pdu peripheral p octets))
+          replies_as peripheral p slot octets room s.peripheral_rests.plain
+          ∙ (λ i. replies_by (m.ends.is_peripheral i) (has_ended (received_now i)) (good_pdu peripheral p octets))
           ∙ ap (λ (b : Bool). b && not (has_ended now)) good
 
       -- where the run goes on the peripheral answers
@@ -561,7 +569,8 @@ module _ (central peripheral : Setup) (slot : ℕ) (l : Link) (c p : Facts) (hea
           let replies_true : replies ≡ true =
           replies_now ∙ λ i. not (not (is_none (ends i)) || stays_now i) in
           let is : answer ≡ answered =
-          (λ i. sent_if (replies_true i) peripheral slot (received_now i)) ∙ answers_plainly slot header.md acks p accepted pdu in
+          (λ i. sent_if (replies_true i) peripheral slot (received_now i)) ∙ answers_plainly slot header.md acks p accepted pdu
+          ∙ sent_plain peripheral.link.role slot now now_plain in
           subst (λ (b : Bool). IsShown central peripheral (slot + 1) b c answer) (sym replies_true)
           (subst (IsShown central peripheral (slot + 1) true c) (sym is) (answers_shown still))
 
@@ -603,6 +612,7 @@ module _ (heard : AreHeard) (central peripheral : Setup) (slot : ℕ) (c p : Fac
       (s : Shows central peripheral (slot + 1) false l c p) where
     read : IsRead peripheral p slot octets c.acknowledgement
     read = is_read heard central peripheral slot (slot + 1) c p channel octets ends.one_link.fields s.central_fits s.central_rests packet same
+        s.peripheral_rests.plain
 
     meets : Meets central peripheral slot l c p read.header
     meets =

@@ -25,7 +25,7 @@ use Rattle.joint_laws.specs.joint_controls.Joint.{Clear, Control as control_item
 use Rattle.joint_laws.specs.joint_controls.Joint.{after as joint_after, may, may_all}
 use Rattle.joint_laws.specs.joint_parameters.Turns.{step_if}
 use Rattle.joint_laws.proofs.joint_parameters.Pairing.{after_may}
-use Rattle.link_model.specs.Receiving.{control_acked_if}
+use Rattle.link_model.specs.Plain.{control_acked_if}
 
 -- a link with a peripheral that encrypts nothing
 abbrev pub with_end : Phased → Way → Way → Bool → Control → Bool → Joint

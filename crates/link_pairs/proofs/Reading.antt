@@ -5,17 +5,19 @@ use Rattle.data_pdu.specs.declared.header.DataHeader.{DataHeader}
 use Rattle.ack_bit.specs.AckBits.{is_odd}
 use Rattle.link_model.specs.Setup.{Setup}
 use Rattle.link_model.specs.Acknowledgement.{Acknowledgement, Pdu, is_acked, next_sent}
-use Rattle.link_model.specs.Data.{Data, data_sent_if}
-use Rattle.link_model.specs.Payload.{payload_of}
+use Rattle.link_model.specs.Data.{Data}
+use Rattle.link_model.specs.Payload.{payload_made}
 use Rattle.link_model.proofs.Hearing.{IsHeardWhole}
 use Rattle.link_model.specs.Controls.{next_control, pdu_fixed, pdu_of_control}
 use Rattle.link_model.specs.Facts.{Facts}
 use Rattle.link_model.specs.End.{facts_after}
 use Rattle.link_model.specs.Packets.{good_pdu, header_sent, packet_sent, payload_sent, pdu_sent}
-use Rattle.link_model.specs.Receiving.{facts_hearing}
-use Rattle.link_model.specs.Sending.{control_gone, control_gone_if, facts_sent, fixed_sent, takes_leave}
+use Rattle.link_model.specs.Plain.{IsPlain, plain_hearing as facts_hearing}
+use Rattle.link_model.specs.Receiving.{facts_hearing as any_hearing}
+use Rattle.link_model.specs.Sending.{control_gone, control_gone_if, data_sent_as, facts_sent, fixed_sent, takes_leave}
 use Rattle.link_model.specs.Step.{PacketReceived}
 use Rattle.link_model.specs.Hearing.{IsUnderstood}
+use Rattle.link_model.proofs.Plain.{hearing_plain, opened_plain}
 use Rattle.link_model.proofs.Received.{facts_heard, heard_good}
 use Rattle.link_pairs.specs.Ends.{IsAtRest}
 use Rattle.link_pairs.specs.Hearing.{IsPacketOf, received}
@@ -31,10 +33,10 @@ pub record HasSent (before now : Facts) : Type 0 where
   pub accepted : now.acknowledgement.accepted ≡ before.acknowledgement.accepted
   pub out : is_acked now.acknowledgement ≡ false
 
-payload_if : (all : Bool) (outgoing : Data)
-    → (data_sent_if all outgoing).payload ≡ (if all then payload_of outgoing.fixed else outgoing.payload)
-payload_if true outgoing = refl
-payload_if false outgoing = refl
+payload_if : (payload : List ℕ) (all : Bool) (outgoing : Data)
+    → (data_sent_as payload all outgoing).payload ≡ (if all then payload else outgoing.payload)
+payload_if payload true outgoing = refl
+payload_if payload false outgoing = refl
 
 out_by : (all : Bool) (next : Pdu) (ack : Acknowledgement) → is_acked ack ≡ all → is_acked (next_sent all next ack) ≡ false
 out_by true next ack is =
@@ -55,7 +57,7 @@ module _ (slot : ℕ) (before : Facts) where
   sent_by true is =
       record {
         last = refl;
-        payload = payload_if (is_acked before.acknowledgement) (control_gone slot before).outgoing;
+        payload = payload_if (payload_made before.encryption.end (pdu_fixed before)) (is_acked before.acknowledgement) (control_gone slot before).outgoing;
         acked = refl;
         accepted = refl;
         out = out_by (is_acked before.acknowledgement) (pdu_fixed before) before.acknowledgement refl;
@@ -65,8 +67,8 @@ module _ (slot : ℕ) (before : Facts) where
         last =
             fixed_if (λ (pdu : Pdu). pdu) (is_acked before.acknowledgement) before.fixes_control (pdu_of_control (next_control before)) before.outgoing.fixed
             before.acknowledgement.last is;
-        payload = payload_if (is_acked before.acknowledgement) before.outgoing
-            ∙ fixed_if payload_of (is_acked before.acknowledgement) before.fixes_control (pdu_of_control (next_control before)) before.outgoing.fixed
+        payload = payload_if (payload_made before.encryption.end before.outgoing.fixed) (is_acked before.acknowledgement) before.outgoing
+            ∙ fixed_if (payload_made before.encryption.end) (is_acked before.acknowledgement) before.fixes_control (pdu_of_control (next_control before)) before.outgoing.fixed
             before.outgoing.payload is;
         acked = refl;
         accepted = refl;
@@ -84,7 +86,7 @@ pub record IsHeard (from to : Setup) (sender listener : Facts) : Type 0 where
   pub facts :
       (slot : ℕ) (room : Bool)
       → facts_after to listener (PacketReceived slot (packet_sent from sender) room)
-      ≡ facts_hearing to.link.role slot room (header_sent sender) (record { llid = (pdu_sent sender).llid; body = payload_sent sender }) listener
+      ≡ any_hearing to.link.role slot room (header_sent sender) (pdu_sent sender) listener
 
 -- each packet that is understood is heard so
 abbrev pub AreHeard : Type 0
@@ -107,15 +109,16 @@ pub record IsRead (to : Setup) (listener : Facts) (slot : ℕ) (octets : List �
 
 module _ (from to : Setup) (slot turns : ℕ) (facts listener : Facts) (channel : ℕ) (octets : List ℕ)
     (fields : from.link.fields ≡ to.link.fields) (fits : length facts.acknowledgement.last.body ≤ to.link.max_rx)
-    (rests : IsAtRest from turns facts) (is : IsPacketOf from slot facts channel octets) (same : channel ≡ listener.event.channel) where
+    (rests : IsAtRest from turns facts) (is : IsPacketOf from slot facts channel octets) (same : channel ≡ listener.event.channel)
+    (plain : IsPlain to.link.role listener) where
   sent : HasSent is.before facts
   sent = subst (HasSent is.before) (sym is.sent) (has_sent slot is.before)
 
   payload_is : payload_sent is.before ≡ facts.acknowledgement.last.body
   payload_is = sym sent.payload ∙ rests.payload
 
-  pdu_is : record { llid = (pdu_sent is.before).llid; body = payload_sent is.before } ≡ facts.acknowledgement.last
-  pdu_is = λ i. record { llid = (sym sent.last i).llid; body = payload_is i }
+  short : length (payload_sent is.before) ≤ to.link.max_rx
+  short = subst (λ (body : List ℕ). length body ≤ to.link.max_rx) (sym payload_is) fits
 
   pub understood : IsUnderstood from is.before to listener
   understood =
@@ -124,17 +127,19 @@ module _ (from to : Setup) (slot turns : ℕ) (facts listener : Facts) (channel 
         channel = sym is.on_channel ∙ same;
         llid = subst (λ (pdu : Pdu). pdu.llid < 4) sent.last rests.two_bits;
         octets = subst (λ (body : List ℕ). length body ≤ 255) (sym payload_is) (omega (arith, rests.fits_any));
-        fits = subst (λ (body : List ℕ). length body ≤ to.link.max_rx) (sym payload_is) fits;
+        fits = omega (arith, short);
+        opens = opened_plain to.link.role is.before listener plain (payload_is ∙ ap (λ (pdu : Pdu). pdu.body) sent.last);
       }
 
 module _ (heard : AreHeard) (from to : Setup) (slot turns : ℕ) (facts listener : Facts) (channel : ℕ) (octets : List ℕ)
     (fields : from.link.fields ≡ to.link.fields) (fits : length facts.acknowledgement.last.body ≤ to.link.max_rx)
-    (rests : IsAtRest from turns facts) (is : IsPacketOf from slot facts channel octets) (same : channel ≡ listener.event.channel) where
+    (rests : IsAtRest from turns facts) (is : IsPacketOf from slot facts channel octets) (same : channel ≡ listener.event.channel)
+    (plain : IsPlain to.link.role listener) where
   is_heard : IsHeard from to is.before listener
-  is_heard = heard from to is.before listener (understood from to slot turns facts listener channel octets fields fits rests is same)
+  is_heard = heard from to is.before listener (understood from to slot turns facts listener channel octets fields fits rests is same plain)
 
   sent_before : HasSent is.before facts
-  sent_before = sent from to slot turns facts listener channel octets fields fits rests is same
+  sent_before = sent from to slot turns facts listener channel octets fields fits rests is same plain
 
   pub is_read : IsRead to listener slot octets facts.acknowledgement
   is_read =
@@ -144,6 +149,6 @@ module _ (heard : AreHeard) (from to : Setup) (slot turns : ℕ) (facts listener
         out = sent_before.out;
         good = subst (λ (o : List ℕ). is_some (good_pdu to listener o) ≡ true) (sym is.packet) is_heard.good;
         facts = λ room. ap (λ (o : List ℕ). received to slot o room listener) is.packet ∙ is_heard.facts slot room
-            ∙ ap (λ (pdu : Pdu). facts_hearing to.link.role slot room (header_sent is.before) pdu listener)
-            (pdu_is from to slot turns facts listener channel octets fields fits rests is same);
+            ∙ ap (λ (pdu : Pdu). any_hearing to.link.role slot room (header_sent is.before) pdu listener) (sym sent_before.last)
+            ∙ hearing_plain to.link.role to.link.role slot room (header_sent is.before) facts.acknowledgement.last listener plain;
       }

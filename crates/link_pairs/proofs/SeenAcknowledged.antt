@@ -8,7 +8,7 @@ use Rattle.link_model.specs.Acknowledgement.{Acknowledgement, is_acked, with_ack
 use Rattle.link_model.specs.Data.{is_control, is_empty}
 use Rattle.link_model.specs.OneLink.{AreInAgreement}
 use Rattle.link_model.specs.Controls.{is_terminate}
-use Rattle.link_model.specs.Receiving.{control_acked_if}
+use Rattle.link_model.specs.Plain.{control_acked_if}
 use Rattle.link_pairs.specs.Ways.{IsUntaken, ShowsWay}
 use Rattle.link_pairs.proofs.Counts.{Says, unseen_is_out, unseen_is_taken, untaken_is_out}
 use Rattle.link_pairs.proofs.Items.{control_is_control, empty_terminates_nothing, item_terminates}

@@ -13,10 +13,11 @@ use Rattle.link_model.proofs.Hearing.{IsHeardWhole}
 use Rattle.link_model.specs.Controls.{goes_on, is_procedure_pdu, is_terminate}
 use Rattle.link_model.specs.Facts.{Facts}
 use Rattle.link_model.specs.Packets.{good_pdu}
-use Rattle.link_model.specs.Receiving.{accepted_if, facts_hearing, has_ended, procedures_take_if, replies_by, replies_of}
+use Rattle.link_model.specs.Plain.{plain_accepted_if as accepted_if, plain_hearing as facts_hearing, plain_takes_if as procedures_take_if}
+use Rattle.link_model.specs.Receiving.{has_ended, replies_by, replies_of}
 use Rattle.link_model.specs.Step.{PacketReceived}
 use Rattle.link_model.specs.Times.{ended_by_procedures}
-use Rattle.link_model.proofs.Ending.{heard_as_now, none_noted}
+use Rattle.link_model.proofs.Ending.{none_noted}
 use Rattle.link_pairs.specs.Hearing.{IsPacketOf, received}
 use Rattle.link_pairs.specs.Parting.{ArePartingFrom, HasSeenTerminate, HearsTheEnd}
 use Rattle.link_pairs.specs.Turns.{sent_if}
@@ -24,6 +25,8 @@ use Rattle.link_pairs.proofs.Counts.{acknowledged_by, says_right, turned}
 use Rattle.link_pairs.proofs.HeardCounts.{before, before_by_peer, before_nothing, before_stays, hearing_agreed, takes}
 use Rattle.link_pairs.proofs.Items.{empty_is_no_procedure, never}
 use Rattle.link_pairs.proofs.PacketsRead.{AreRead, are_read}
+use Rattle.link_pairs.proofs.PlainEnds.{replies_as}
+use Rattle.link_pairs.proofs.TakingPdus.{taken_same}
 
 -- ---- an end hears a packet that acknowledges its LL_TERMINATE_IND
 
@@ -52,7 +55,7 @@ module _ (role : Role) (slot : ℕ) (room : Bool) (header : DataHeader) (pdu : P
       ∙ (λ i. facts.leaving.acknowledged || (acks i && terminates i)) ∙ or_right facts.leaving.acknowledged true refl
 
   pub ended_now : now.leaving.acknowledged ≡ true
-  ended_now = heard_as_now role slot room header pdu facts ∙ ended_before
+  ended_now = (taken_same (accepted && is_procedure_pdu pdu) pdu slot (accepted_if accepted pdu earlier)).acknowledged ∙ ended_before
 
   none_given : (accepted && is_procedure_pdu pdu) ≡ false
   none_given = nothing_given pdu _ (is_empty pdu) earlier.leaving.acknowledged refl ended_before
@@ -72,7 +75,7 @@ module _ (whole : IsHeardWhole) (taker sender : Setup) (fields : taker.link.fiel
     (parting : ArePartingFrom taker sender t s) (slot channel : ℕ) (octets : List ℕ) (packet : IsPacketOf taker slot t channel octets)
     (same : channel ≡ s.event.channel) (room : Bool) where
   read : AreRead sender s slot octets t.acknowledgement
-  read = are_read whole taker sender slot t s channel octets fields most parting.took.fits packet same
+  read = are_read whole taker sender slot t s channel octets fields most parting.took.fits packet same parting.sender_plain
 
   agreed : AreInAgreement s.acknowledgement t.acknowledgement
   agreed = turned t.acknowledgement s.acknowledgement parting.agreement
@@ -120,8 +123,7 @@ module _ (whole : IsHeardWhole) (taker sender : Setup) (fields : taker.link.fiel
   ended_is = or_right (not (goes_on heard)) heard.leaving.acknowledged heard_ended
 
   no_reply : replies_of sender s slot octets room ≡ false
-  unfolding replies_of
-  no_reply = no_reply_by sender.link.role (has_ended heard) ended_is
+  no_reply = replies_as sender s slot octets room parting.sender_plain ∙ no_reply_by sender.link.role (has_ended heard) ended_is
 
   pub hears_the_end : HearsTheEnd sender s slot octets room
   hears_the_end =

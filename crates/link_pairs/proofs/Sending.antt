@@ -5,6 +5,7 @@ use Rattle.std.proofs.Math.Nat.{min-le_left}
 use Rattle.ack_bit.proofs.Directions.{not-false}
 use Rattle.data_pdu.specs.declared.ctrl.Ctrl.{Ctrl}
 use Rattle.unencrypted_ends.specs.enc_phase.Phases.{seals}
+use Rattle.ble_base.specs.declared.roles.Role.{Role}
 use Rattle.ble_base.specs.declared.roles.Role.TheVariants.{Central}
 use Rattle.instants.specs.declared.indications.Indication.{Indication}
 use Rattle.instants.specs.Track.{TrackFacts, event_of}
@@ -22,7 +23,7 @@ use Rattle.control_octets.proofs.Pdus.{written_short}
 use Rattle.control_octets.proofs.Steps.{stays_fitting}
 use Rattle.unencrypted_ends.specs.phased_control.Phased.{Phased}
 use Rattle.unencrypted_ends.specs.phased_control.Taken.{Sends, phased_after}
-use Rattle.unencrypted_ends.specs.Unencrypted.{IsUnencrypted}
+use Rattle.unencrypted_ends.specs.Unencrypted.{IsUnencrypted, plain_phased}
 use Rattle.unencrypted_ends.proofs.Going.{sends_goes}
 use Rattle.unencrypted_ends.proofs.Staying.{stays}
 use Rattle.joint_laws.specs.joint_controls.Joint.{CentralSends, CentralSendsData, Clear, Control as control_item, Data as data_item, Item, Joint, OnAir, Way, is_running, item_by, may, next_item, on_air, sends_data}
@@ -34,10 +35,14 @@ use Rattle.link_model.specs.Data.{data_sent_if, is_data, is_empty}
 use Rattle.link_model.specs.Events.{event_sent}
 use Rattle.link_model.specs.OneLink.{AreInAgreement}
 use Rattle.link_model.specs.Setup.{Setup}
-use Rattle.link_model.specs.Controls.{next_control, pdu_fixed, pdu_of_control}
+use Rattle.link_model.specs.Controls.{is_quiet_now, next_control, pdu_fixed, pdu_of_control}
 use Rattle.link_model.specs.Facts.{Facts}
 use Rattle.link_model.specs.Packets.{more_sent}
+use Rattle.link_model.specs.Plain.{IsPlain}
 use Rattle.link_model.specs.Sending.{control_gone, control_gone_if, facts_sent, fixed_sent, leaving_sent}
+use Rattle.link_model.specs.control_end.Answers.{next_ctrl}
+use Rattle.link_model.specs.control_end.Held.{held_of}
+use Rattle.link_model.proofs.Plain.{gone_stays, quiet_plain}
 use Rattle.link_pairs.specs.Ends.{AreEnds, IsAtRest, phased_of}
 use Rattle.link_pairs.specs.Shown.{Shows}
 use Rattle.link_pairs.specs.Turns.{HasFixed}
@@ -47,6 +52,7 @@ use Rattle.link_pairs.proofs.Counts.{sent_agreed}
 use Rattle.link_pairs.proofs.Fixing.{IsPiece}
 use Rattle.link_pairs.proofs.FixingNext.{next_is_control}
 use Rattle.link_pairs.proofs.PeripheralSteps.{next_item_is, sends_data_is}
+use Rattle.link_pairs.proofs.PlainEnds.{sent_plain}
 use Rattle.link_pairs.proofs.Reaching.{IsReached, IsShown, central_transmits, comes, paired, reached_next, shown}
 use Rattle.link_pairs.proofs.Showing.{central_shows}
 use Rattle.link_pairs.proofs.Ways.{acked_is_clear, last_sent, way_same, way_sent, way_sent_empty}
@@ -80,20 +86,24 @@ gone_sends : (goes : Bool) (slot : ℕ) (facts : Facts) → (control_gone_if goe
 gone_sends true slot facts = refl
 gone_sends false slot facts = refl
 
-fixed_is : (acked : Bool) (slot : ℕ) (facts : Facts) → is_acked facts.acknowledgement ≡ acked → fixed_sent slot facts ≡ sent_as acked slot facts
-fixed_is acked slot facts is =
-    λ i. record facts {
+fixed_is : (role : Role) (acked : Bool) (slot : ℕ) (facts : Facts) → IsPlain role facts → is_acked facts.acknowledgement ≡ acked
+    → fixed_sent slot facts ≡ sent_as acked slot facts
+fixed_is role acked slot facts plain is =
+    sent_plain role slot facts plain
+    ∙ λ i. record facts {
       event = event_sent slot (more_sent facts) facts.event;
       acknowledgement = next_sent (is i) facts.outgoing.fixed facts.acknowledgement;
       outgoing = data_sent_if (is i) facts.outgoing;
       leaving = leaving_sent facts.leaving;
     }
 
-sent_is : (acked fixes : Bool) (slot : ℕ) (facts : Facts) → is_acked facts.acknowledgement ≡ acked → facts.fixes_control ≡ fixes
+sent_is : (role : Role) (acked fixes : Bool) (slot : ℕ) (facts : Facts) → IsPlain role facts → is_acked facts.acknowledgement ≡ acked
+    → facts.fixes_control ≡ fixes
     → facts_sent slot facts ≡ sent_as acked slot (control_gone_if (acked && fixes) slot facts)
-sent_is acked fixes slot facts all control =
+sent_is role acked fixes slot facts plain all control =
     (λ i. fixed_sent slot (control_gone_if (all i && control i) slot facts))
-    ∙ fixed_is acked slot (control_gone_if (acked && fixes) slot facts) (ap is_acked (gone_sends (acked && fixes) slot facts) ∙ all)
+    ∙ fixed_is role acked slot (control_gone_if (acked && fixes) slot facts) (gone_stays role (acked && fixes) slot facts plain)
+    (ap is_acked (gone_sends (acked && fixes) slot facts) ∙ all)
 
 -- ---- one end
 
@@ -101,7 +111,7 @@ again_rests : (setup : Setup) (turns slot : ℕ) (facts : Facts) → IsAtRest se
 again_rests setup turns slot facts r =
     record {
       fits = r.fits;
-      plain = r.plain;
+      plain = record { encryption = r.plain.encryption; control = r.plain.control };
       role = r.role;
       none_gone = r.none_gone;
       payload = r.payload;
@@ -125,7 +135,7 @@ module _ (setup : Setup) (turns slot : ℕ) (facts : Facts) (r : IsAtRest setup 
   new_rests d fixes pdu kept fits plain role short two_bits =
       record {
         fits = fits;
-        plain = plain;
+        plain = record { encryption = r.plain.encryption; control = plain };
         role = role;
         none_gone = refl;
         payload = refl;
@@ -135,7 +145,8 @@ module _ (setup : Setup) (turns slot : ℕ) (facts : Facts) (r : IsAtRest setup 
         number = r.number ∙ ap (λ (n : ℕ). n - 1) (sym kept.entered);
         heard = λ heard. let before = r.heard heard in (subst (λ (n : ℕ). 1 ≤ n) (sym kept.entered) before.0, before.1);
         past = r.past;
-        goes = subst (λ (closing : Closing). not (is_disconnecting closing) ≡ is_open closing) (sym kept.closing) r.goes;
+        goes =
+            subst (λ (closing : Closing). (is_quiet_now facts && not (is_disconnecting closing)) ≡ is_open closing) (sym kept.closing) r.goes;
         stays = r.stays;
       }
 
@@ -208,6 +219,12 @@ module _ (central peripheral : Setup) (ends : AreEnds central peripheral) (turns
     lasts : c.control.ends ≡ None
     lasts = ap (λ (x : Phased). x.control.ends) (sym s.central_part) ∙ (goes_on l.joint running).central
 
+    quiet : is_quiet_now c ≡ true
+    quiet = quiet_plain central.link.role c s.central_rests.plain
+
+    next_is : next_ctrl true (held_of c.control) ≡ next_control c
+    next_is = ap (λ (b : Bool). next_ctrl b (held_of c.control)) (sym quiet)
+
     fits_peripheral : length c.outgoing.fixed.body ≤ peripheral.link.max_rx
     fits_peripheral =
         let most = subst (λ (x : Phased). tx_of x.control.table.lengths ≤ peripheral.link.max_rx) s.central_part (central_transmits central peripheral ends l reached running) in
@@ -234,7 +251,7 @@ module _ (central peripheral : Setup) (ends : AreEnds central peripheral) (turns
 
       data_rests : IsAtRest central turns (sent_as true slot c)
       data_rests =
-          new_rests central turns slot c s.central_rests c.control c.fixes_control c.outgoing.fixed (kept_none c.control) s.central_rests.fits s.central_rests.plain
+          new_rests central turns slot c s.central_rests c.control c.fixes_control c.outgoing.fixed (kept_none c.control) s.central_rests.fits s.central_rests.plain.control
           s.central_rests.role fits_any two_bits
 
       empty_goes : is_empty c.outgoing.fixed ≡ true → Goes (sent_as true slot c)
@@ -255,7 +272,7 @@ module _ (central peripheral : Setup) (ends : AreEnds central peripheral) (turns
           let first = fixed.data_first is in
           let sends : sends_data l.joint.central ≡ true =
           subst (λ (x : Phased). sends_data x ≡ true) (sym s.central_part)
-          (sends_data_is c.control (is_some c.peer.version) lasts first.0 (sym s.central_rests.goes ∙ first.1)) in
+          (sends_data_is c.control (is_some c.peer.version) lasts (next_is ∙ first.0) (sym s.central_rests.goes ∙ first.1)) in
           let may_link : MayLink SendsData l = (may_transmit, s.free all, sends) in
           let may_come = (and_parts (may CentralSendsData l.joint) true (comes central peripheral ends SendsData l reached running may_link)).0 in
           shown central peripheral turns answers (link_after SendsData l) (sent_as true slot c) p
@@ -274,12 +291,12 @@ module _ (central peripheral : Setup) (ends : AreEnds central peripheral) (turns
         item = control_item (next_of c.control.table (event_of c.control.track) true) ctrl
 
         abbrev gone : Control
-        gone = after (control_sends slot true) c.control
+        gone = after (control_sends slot (is_quiet_now c)) c.control
 
         item_next : next_item l.joint.central ≡ Some item
         item_next =
             ap next_item s.central_part ∙ next_item_is c.control (is_some c.peer.version) lasts
-            ∙ ap (item_by (next_of c.control.table (event_of c.control.track) true)) next
+            ∙ ap (item_by (next_of c.control.table (event_of c.control.track) true)) (next_is ∙ next)
 
         pdu_is : pdu_fixed c ≡ pdu_of_control (Some ctrl)
         pdu_is = λ i. if fixes i then pdu_of_control (next i) else c.outgoing.fixed
@@ -288,13 +305,14 @@ module _ (central peripheral : Setup) (ends : AreEnds central peripheral) (turns
         pdu_short = subst (λ (pdu : Pdu). length pdu.body ≤ 24) (sym pdu_is) (written_short ctrl)
 
         is_item : IsItem item (pdu_fixed c)
-        is_item = subst (IsItem item) (sym pdu_is) (next_is_control c.control ctrl lasts s.central_rests.fits s.central_rests.plain next)
+        is_item = subst (IsItem item) (sym pdu_is) (next_is_control c.control ctrl lasts s.central_rests.fits s.central_rests.plain.control (next_is ∙ next))
 
         gone_rests : IsAtRest central turns (sent_as true slot (control_gone slot c))
         gone_rests =
-            new_rests central turns slot c s.central_rests gone false (pdu_fixed c) (sent_kept c.control slot true)
-            (stays_fitting c.control (control_sends slot true) s.central_rests.fits tt) (stays c.control (control_sends slot true) s.central_rests.plain refl)
-            (same_role central.link.role (control_sends slot true) c.control s.central_rests.role) (omega (arith, pdu_short))
+            new_rests central turns slot c s.central_rests gone false (pdu_fixed c) (sent_kept c.control slot (is_quiet_now c))
+            (stays_fitting c.control (control_sends slot (is_quiet_now c)) s.central_rests.fits tt)
+            (stays c.control (control_sends slot (is_quiet_now c)) s.central_rests.plain.control refl)
+            (same_role central.link.role (control_sends slot (is_quiet_now c)) c.control s.central_rests.role) (omega (arith, pdu_short))
             (subst (λ (pdu : Pdu). pdu.llid < 4) (sym pdu_is) (omega arith))
 
         abbrev sealed : Bool
@@ -313,7 +331,8 @@ module _ (central peripheral : Setup) (ends : AreEnds central peripheral) (turns
             (sym (after_may (CentralSends slot) l.joint may_come))
             (new_shows central peripheral turns answers l c p s all slot (link_after (SendsControl slot) l).turns (phased_after (Sends slot) l.joint.central)
             (on_air (next_item l.joint.central) sealed) gone false (pdu_fixed c) (sends_new (next_indication l.joint.central) l.turns)
-            (ap (phased_after (Sends slot)) s.central_part ∙ sends_goes c.control (is_some c.peer.version) slot)
+            (ap (phased_after (Sends slot)) s.central_part ∙ sends_goes c.control (is_some c.peer.version) slot
+            ∙ ap (λ (b : Bool). plain_phased (after (control_sends slot b) c.control) (is_some c.peer.version)) (sym quiet))
             (subst (λ (o : Option Item). ShowsWay (on_air o sealed) (after_sending (pdu_fixed c) c.acknowledgement) p.acknowledgement) (sym item_next)
             (way_sent (pdu_fixed c) c.acknowledgement p.acknowledgement s.agreement all item sealed is_item))
             gone_rests (omega (arith, pdu_short, receives))))
@@ -335,5 +354,5 @@ module _ (central peripheral : Setup) (ends : AreEnds central peripheral) (turns
 
     pub packet_goes : Goes (facts_sent slot c)
     packet_goes =
-        subst Goes (sym (sent_is (is_acked c.acknowledgement) c.fixes_control slot c refl refl))
+        subst Goes (sym (sent_is central.link.role (is_acked c.acknowledgement) c.fixes_control slot c s.central_rests.plain refl refl))
         (goes_by (is_acked c.acknowledgement) c.fixes_control (is_data c.outgoing.fixed) refl refl refl)

@@ -15,6 +15,7 @@ use Rattle.link_pairs.proofs.Counts.{Says, acknowledged_by, is_fresh, says_right
 use Rattle.link_pairs.proofs.HearingNothingNew.{heard_control, heard_still, none_noted, sent_if_still}
 use Rattle.link_pairs.proofs.NothingNew.{HasNothingNew, taker_still}
 use Rattle.link_pairs.proofs.PacketsRead.{AreRead, are_read}
+use Rattle.link_pairs.proofs.PlainEnds.{replies_as}
 
 -- ---- what the packet says
 
@@ -29,7 +30,7 @@ module _ (whole : IsHeardWhole) (taker sender : Setup) (fields : sender.link.fie
     (parting : ArePartingFrom taker sender t s) (slot channel : ℕ) (octets : List ℕ) (packet : IsPacketOf sender slot s channel octets)
     (same : channel ≡ t.event.channel) (room : Bool) where
   read : AreRead taker t slot octets s.acknowledgement
-  read = are_read whole sender taker slot s t channel octets fields most parting.sent.fits packet same
+  read = are_read whole sender taker slot s t channel octets fields most parting.sent.fits packet same parting.taker_plain
 
   abbrev acks : Bool
   acks = acknowledged_by t.acknowledgement read.header
@@ -54,9 +55,9 @@ module _ (whole : IsHeardWhole) (taker sender : Setup) (fields : sender.link.fie
   abbrev heard : Facts
   heard = received taker slot octets room t
 
-  heard_nothing : HasNothingNew t heard
+  heard_nothing : HasNothingNew taker t heard
   heard_nothing =
-      subst (HasNothingNew t) (sym (read.facts room)) (heard_still taker.link.role slot room read.header s.acknowledgement.last t acks_none none_fresh out)
+      subst (HasNothingNew taker t) (sym (read.facts room)) (heard_still taker.link.role slot room read.header s.acknowledgement.last t acks_none none_fresh out taker)
 
   pub hears_nothing_new : HearsNothingNew taker t slot octets room
   hears_nothing_new =
@@ -79,8 +80,7 @@ module _ (whole : IsHeardWhole) (taker sender : Setup) (fields : sender.link.fie
       ∙ ap (λ (b : Bool). b && true) read.good
 
   pub replies_again : taker.link.role ≡ Peripheral → replies_of taker t slot octets room ≡ true
-  unfolding replies_of
-  replies_again is = replies_by_role taker.link.role is
+  replies_again is = replies_as taker t slot octets room parting.taker_plain ∙ replies_by_role taker.link.role is
 
   pub answered_parting : is_acked t.acknowledgement ≡ false → ArePartingFrom taker sender (answered taker slot octets room t) s
   answered_parting none_acked =

@@ -2,20 +2,24 @@
 use Rattle.std.proofs.Common.{◌≡◌, ◌≤◌, ◌<◌, ◌&&◌, ◌||◌, ℕ, Bool, true, false, List, length, Option, None, is_some, refl, sym, ap, ◌∙◌, subst, arith, if◌then◌else◌}
 use Rattle.std.proofs.lemmas.Bool.{or_right}
 use Rattle.std.proofs.Math.Nat.{min-le_right}
+use Rattle.ble_base.specs.declared.roles.Role.{Role}
 use Rattle.ble_base.specs.declared.roles.Role.TheVariants.{Peripheral}
 use Rattle.data_pdu.specs.declared.ctrl.Ctrl.{Ctrl}
 use Rattle.control_octets.specs.procedure_stages.Closing.{is_open}
 use Rattle.link_model.specs.Acknowledgement.{Acknowledgement, Pdu, is_acked}
-use Rattle.link_model.specs.Data.{data_sent_if, is_control}
+use Rattle.link_model.specs.Data.{is_control}
 use Rattle.link_model.specs.OneLink.{AreInAgreement}
-use Rattle.link_model.specs.Payload.{payload_of}
+use Rattle.link_model.specs.Payload.{payload_made}
+use Rattle.link_model.specs.Plain.{IsPlain}
 use Rattle.link_model.specs.Setup.{Setup}
 use Rattle.link_model.specs.declared.state.Leaving.{Leaving}
 use Rattle.link_model.specs.Controls.{next_control, pdu_fixed, pdu_of_control}
 use Rattle.link_model.specs.Facts.{Facts}
 use Rattle.link_model.specs.Fixing.{fixed_anew}
-use Rattle.link_model.specs.Sending.{control_gone_if, facts_sent, takes_leave}
+use Rattle.link_model.specs.Sending.{control_gone_if, data_sent_as, facts_sent, takes_leave}
+use Rattle.link_model.specs.Step.{PacketSent}
 use Rattle.link_model.proofs.Acknowledging.{ack_sent}
+use Rattle.link_model.proofs.Plain.{made_plain, step_plain}
 use Rattle.link_pairs.specs.Parting.{ArePartingFrom, HasAnswered, HasFittingPdu, HasSentTerminate}
 use Rattle.link_pairs.specs.Turns.{central_begun, entered_in, prepared, sent_if}
 use Rattle.link_pairs.specs.Ways.{IsUnseen}
@@ -55,13 +59,14 @@ anew_fits other facts least known =
 
 -- ---- what the end holds after it sent that, or the last one again
 
-module _ (other : Setup) (slot : ℕ) (facts : Facts) (fits : HasFittingPdu other facts) (fixed : FixedFits other facts) where
+module _ (role : Role) (other : Setup) (slot : ℕ) (facts : Facts) (plain : IsPlain role facts) (fits : HasFittingPdu other facts)
+    (fixed : FixedFits other facts) where
   sent : HasSent facts (facts_sent slot facts)
   sent = has_sent slot facts
 
-  payload_by : (all : Bool) → (if all then payload_of (pdu_fixed facts) else facts.outgoing.payload)
+  payload_by : (all : Bool) → (if all then payload_made facts.encryption.end (pdu_fixed facts) else facts.outgoing.payload)
       ≡ (if all then pdu_fixed facts else facts.acknowledgement.last).body
-  payload_by true = refl
+  payload_by true = made_plain role facts (pdu_fixed facts) plain
   payload_by false = fits.payload
 
   bits_by : (all : Bool) → (if all then pdu_fixed facts else facts.acknowledgement.last).llid < 4
@@ -83,17 +88,19 @@ module _ (other : Setup) (slot : ℕ) (facts : Facts) (fits : HasFittingPdu othe
         short = subst (λ (pdu : Pdu). length pdu.body ≤ other.link.max_rx) (sym sent.last) (short_by all_acked);
       }
 
-none_gone_by : (all fixes : Bool) (slot : ℕ) (facts : Facts) → is_control facts.outgoing.fixed ≡ false
-    → is_control (data_sent_if all (control_gone_if (all && fixes) slot facts).outgoing).fixed ≡ false
-none_gone_by true fixes slot facts none = refl
-none_gone_by false fixes slot facts none = none
+none_gone_by : (payload : List ℕ) (all fixes : Bool) (slot : ℕ) (facts : Facts) → is_control facts.outgoing.fixed ≡ false
+    → is_control (data_sent_as payload all (control_gone_if (all && fixes) slot facts).outgoing).fixed ≡ false
+none_gone_by payload true fixes slot facts none = refl
+none_gone_by payload false fixes slot facts none = none
 
 module _ (slot : ℕ) (facts : Facts) where
   none_gone_sent : is_control facts.outgoing.fixed ≡ false → is_control (facts_sent slot facts).outgoing.fixed ≡ false
   none_gone_sent none =
-      ap (λ (a : Acknowledgement). is_control (data_sent_if (is_acked a) (control_gone_if (takes_leave facts) slot facts).outgoing).fixed)
+      let gone = control_gone_if (takes_leave facts) slot facts in
+      let payload = payload_made gone.encryption.end gone.outgoing.fixed in
+      ap (λ (a : Acknowledgement). is_control (data_sent_as payload (is_acked a) gone.outgoing).fixed)
       (gone_same (takes_leave facts) slot facts).acknowledgement
-      ∙ none_gone_by (is_acked facts.acknowledgement) facts.fixes_control slot facts none
+      ∙ none_gone_by payload (is_acked facts.acknowledgement) facts.fixes_control slot facts none
 
 pub sent_by_peer : (sends : Bool) (setup : Setup) (slot : ℕ) (facts : Facts)
     → (sent_if sends setup slot facts).leaving.ended_by_peer ≡ facts.leaving.ended_by_peer
@@ -118,6 +125,8 @@ pub record AreToPart (taker sender : Setup) (t s : Facts) : Type 0 where
   pub agreement : AreInAgreement t.acknowledgement s.acknowledgement
   pub unseen : IsUnseen s.acknowledgement t.acknowledgement
   pub seen : t.acknowledgement.acked ≡ length s.acknowledgement.accepted
+  pub taker_plain : IsPlain taker.link.role t
+  pub sender_plain : IsPlain sender.link.role s
 
 module _ (taker sender : Setup) (t s : Facts) where
   pub part : AreToPart taker sender t s → is_control t.outgoing.fixed ≡ false → (taker.link.role ≡ Peripheral → HasAnswered t)
@@ -137,6 +146,8 @@ module _ (taker sender : Setup) (t s : Facts) where
         agreement = parts.agreement;
         unseen = parts.unseen;
         seen = parts.seen;
+        taker_plain = parts.taker_plain;
+        sender_plain = parts.sender_plain;
         answers = answers;
       }
 
@@ -153,6 +164,8 @@ module _ (taker sender : Setup) (t s : Facts) where
         agreement = parting.agreement;
         unseen = parting.unseen;
         seen = parting.seen;
+        taker_plain = parting.taker_plain;
+        sender_plain = parting.sender_plain;
       }
 
 module _ (taker sender : Setup) (t s : Facts) (slot : ℕ) (parts : AreToPart taker sender t s) (fixed : FixedFits sender t) where
@@ -180,7 +193,7 @@ module _ (taker sender : Setup) (t s : Facts) (slot : ℕ) (parts : AreToPart ta
         stays = ap (λ (l : Leaving). l.acknowledged) leaving ∙ parts.stays;
         closing = ap is_open (nothing.table.closing parts.closing) ∙ parts.closing;
         peer_receives = subst (λ (n : ℕ). n ≤ sender.link.max_rx) (sym nothing.table.peer_rx) parts.peer_receives;
-        fits = fits_sent sender slot t parts.fits fixed;
+        fits = fits_sent taker.link.role sender slot t parts.taker_plain parts.fits fixed;
         sent = parts.sent;
         agreement =
             subst (λ (a : Acknowledgement). AreInAgreement a s.acknowledgement) (sym (ack_sent slot t))
@@ -190,6 +203,8 @@ module _ (taker sender : Setup) (t s : Facts) (slot : ℕ) (parts : AreToPart ta
           unseen = parts.unseen.unseen;
         };
         seen = has_sent_it.acked ∙ parts.seen;
+        taker_plain = step_plain taker t (PacketSent slot) parts.taker_plain;
+        sender_plain = parts.sender_plain;
       }
 
   pub has_answered : HasAnswered now
@@ -208,7 +223,7 @@ module _ (taker sender : Setup) (least : 24 ≤ sender.link.max_rx) (t s : Facts
   entered_parting = taker_still taker sender t s parting entered (entered_in_still taker slot t)
 
   anew_parting : ArePartingFrom taker sender (fixed_anew entered) s
-  anew_parting = taker_still taker sender entered s entered_parting (fixed_anew entered) (anew_still entered)
+  anew_parting = taker_still taker sender entered s entered_parting (fixed_anew entered) (anew_still taker entered)
 
   anew_is : fixed_anew entered ≡ prepared taker slot true t
   anew_is = sym (fixing_is true taker entered entered_parting.took.none_gone)

@@ -20,7 +20,8 @@ use Rattle.link_model.specs.OneLink.{AreInAgreement}
 use Rattle.link_model.specs.Setup.{Setup}
 use Rattle.link_model.specs.Controls.{is_procedure_pdu, is_terminate, pdu_of_control}
 use Rattle.link_model.specs.Facts.{Facts}
-use Rattle.link_model.specs.Receiving.{accepted_if, acknowledged_if, answers_with_control, facts_hearing, heard_in_slot, procedures_take, procedures_take_if}
+use Rattle.link_model.specs.Plain.{IsPlain, plain_accepted_if as accepted_if, plain_acknowledged_if as acknowledged_if, plain_hearing as facts_hearing, plain_takes as procedures_take, plain_takes_if as procedures_take_if}
+use Rattle.link_model.specs.Receiving.{answers_with_control, heard_in_slot}
 use Rattle.link_model.specs.Sending.{control_gone_if}
 use Rattle.link_pairs.specs.Parting.{HasFittingPdu, HasSentTerminate, SendsNoControl}
 use Rattle.link_pairs.specs.Ways.{IsControlPdu, IsUnseen, IsUntaken, ShowsWay}
@@ -230,14 +231,14 @@ module _ (taker sender : Setup) (slot : ℕ) (room : Bool) (header : DataHeader)
     pub sender_fits : HasFittingPdu taker s
     pub last : s.control.table.out ≡ outgoing_on way
     pub sent : IsSentOn way
-    pub plain : IsUnencrypted s.control
+    pub plain : IsPlain sender.link.role s
     pub so : EndsSo s.control
 
   module _ (role : Role) (way : Way) (m : Meets way) where
     abbrev heard : Facts
     heard = facts_hearing role slot room header s.acknowledgement.last t
 
-    module _ (ended : is_some heard.leaving.ended_by_peer ≡ true) where
+    module _ (ended : is_some heard.leaving.ended_by_peer ≡ true) (heard_plain : IsPlain taker.link.role heard) where
       says : Says t.acknowledgement s.acknowledgement (acknowledged_by t.acknowledgement header) (is_fresh t.acknowledgement header)
       says = says_right t.acknowledgement s.acknowledgement m.agreement header m.bits m.out
 
@@ -259,7 +260,7 @@ module _ (taker sender : Setup) (slot : ℕ) (room : Bool) (header : DataHeader)
             took_none = m.sender_took_none;
             stays = m.sender_stays;
             terminates = control_terminates on.ctrl s.acknowledgement.last on.item ∙ ends_it;
-            sends_no_control = sends_none s.control way s.acknowledgement.last m.last m.sent m.plain m.so on ends_it;
+            sends_no_control = sends_none s.control way s.acknowledgement.last m.last m.sent m.plain.control m.so on ends_it;
             fits = m.sender_fits;
           }
 
@@ -282,6 +283,8 @@ module _ (taker sender : Setup) (slot : ℕ) (room : Bool) (header : DataHeader)
             peer_receives = subst (λ (n : ℕ). n ≤ sender.link.max_rx) (sym took.peer_rx) m.peer_receives;
             fits = fits_now role slot room header s.acknowledgement.last t sender m.fits;
             sent = sent_last;
+            taker_plain = heard_plain;
+            sender_plain = m.plain;
             agreement = hearing_agreed role slot room header t s.acknowledgement m.agreement m.bits m.out;
             unseen =
                 subst (IsUnseen s.acknowledgement) (sym counts)

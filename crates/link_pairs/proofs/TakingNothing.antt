@@ -1,13 +1,16 @@
 -- What the steps of the control part that take no PDU leave of an end whose link is to end.
-use Rattle.std.proofs.Common.{◌≡◌, ℕ, Bool, true, false, ◌&&◌, List, [], ◌∷◌, ◌++◌, remove, Option, Some, None, Result, Ok, Err, is_some, refl, sym, ap, ◌∙◌, if◌then◌else◌}
+use Rattle.std.proofs.Common.{◌≡◌, ℕ, Bool, true, false, ◌&&◌, List, [], ◌∷◌, ◌++◌, remove, Option, Some, None, Result, Ok, Err, is_none, is_some, refl, sym, ap, ◌∙◌, if◌then◌else◌}
 use Rattle.ble_base.specs.declared.error_codes.ErrCode.{ErrCode}
 use Rattle.ble_base.specs.declared.roles.Role.{Role}
 use Rattle.ble_base.specs.declared.roles.Role.TheVariants.{Central, Peripheral}
+use Rattle.data_pdu.specs.declared.ctrl.Ctrl.{Ctrl}
+use Rattle.data_pdu.specs.declared.ctrl.Ctrl.TheVariants.{EncReq, PauseEncReq}
 use Rattle.instants.specs.declared.indications.Indication.{Indication}
 use Rattle.instants.specs.Track.{next_number}
 use Rattle.control_octets.specs.procedure_values.declared.asks.Ask.{Ask}
-use Rattle.control_octets.specs.procedure_values.declared.asks.Ask.TheVariants.{Length, Update}
+use Rattle.control_octets.specs.procedure_values.declared.asks.Ask.TheVariants.{Encrypt, Length, Update}
 use Rattle.control_octets.specs.procedure_values.declared.drafts.Draft.{Draft}
+use Rattle.control_octets.specs.procedure_values.declared.drafts.Draft.TheVariants.{Cipher}
 use Rattle.control_octets.specs.procedure_values.declared.drafts.Outgoing.{Outgoing}
 use Rattle.control_octets.specs.procedure_values.declared.drafts.Outgoing.TheVariants.{Disconnect, Nothing, Other, Rejection}
 use Rattle.control_octets.specs.procedure_values.declared.drafts.Rejection.{Rejection as TheRejection}
@@ -20,13 +23,21 @@ use Rattle.control_octets.specs.procedure_stages.InProgress.{is_host_asked}
 use Rattle.control_octets.specs.procedure_stages.Kinds.{role_of}
 use Rattle.control_octets.specs.procedure_stages.Queue.{QueueFacts, with_draft, with_rejection, without_next}
 use Rattle.control_octets.specs.procedures.Beginning.{ask_at, begin_at, begin_step, first_draft, place_to_begin, with_first_draft}
-use Rattle.control_octets.specs.procedures.Going.{entered_step, host_answer_step, is_answer, terminate_step}
+use Rattle.control_octets.specs.procedures.Going.{closing_given, entered_step, host_answer_step, is_answer, owe_step, terminate_step}
 use Rattle.control_octets.specs.procedures.Queue.{next_of}
 use Rattle.control_octets.specs.procedures.Sending.{acked_step}
 use Rattle.control_octets.specs.procedures.Table.{TableFacts}
 use Rattle.instants.specs.Track.{event_of}
-use Rattle.control_octets.specs.control_model.Control.{Answers, Asks, Control, Disconnects, Enters, SeesAcknowledged, Sends, after, following, goes_out, table_if, went}
+use Rattle.control_octets.specs.control_model.Control.{Answers, Asks, Control, Disconnects, Enters, Owes, SeesAcknowledged, Sends, after, following, goes_out, table_if, went}
 use Rattle.control_octets.proofs.control_model.Calls.{any_step, either_way}
+use Rattle.link_model.specs.enc_phase.declared.facts.PhaseFacts.{PhaseFacts}
+use Rattle.link_model.specs.enc_phase.declared.facts.PhaseFacts.TheVariants.{Clear}
+use Rattle.link_model.specs.enc_phase.declared.facts.Transition.TheVariants.{Ask as AskTransition}
+use Rattle.link_model.specs.enc_phase.Phases.{phase_after}
+use Rattle.link_model.specs.phased_control.Phased.{Phased, ask_begun, encrypting, encrypting_if, entered, is_quiet_now, request_of, table_entered, with_owed_if, with_step}
+use Rattle.link_model.specs.keyed_control.KeyedSteps.{Enters as keyed_enters, keyed_moved}
+use Rattle.link_model.specs.Entering.{control_entered}
+use Rattle.link_model.specs.Facts.{Facts, keyed_of}
 
 -- ---- a queue where nothing more is queued
 
@@ -137,6 +148,42 @@ enters_nothing slot quiet c =
     any_step (TakesNothing c) (Enters slot quiet) c
     (record { ends = refl; table = table_then c.table f (begin_step f slot quiet).0 (entered_left c.table (is_some (next_number c.track))) (begun_left f slot quiet) })
     (takes_none c)
+
+-- a PDU of an encryption that is queued then, which is no LL_TERMINATE_IND
+owes_nothing : (ctrl : Ctrl) → ((closing : Closing) → closing_given ctrl closing ≡ closing) → (c : Control) → TakesNothing c (after (Owes ctrl) c)
+owes_nothing ctrl same c =
+    any_step (TakesNothing c) (Owes ctrl) c
+    (with_table c (owe_step c.table ctrl)
+    (queue_left c.table (owe_step c.table ctrl) refl (same c.table.closing) (λ shut. draft_left c.table.closing shut c.table.queue (Cipher ctrl))))
+    (takes_none c)
+
+requests_nothing : (asked : Option Ask) (s : Phased) → TakesNothing s.control (with_owed_if (request_of asked) s).control
+requests_nothing None s = takes_none s.control
+requests_nothing (Some (Encrypt rand ediv ltk skd_m iv_m)) s = owes_nothing (EncReq rand ediv skd_m iv_m) (λ closing. refl) s.control
+requests_nothing (Some ask) s = takes_none s.control
+
+encrypts_nothing_by : (phase : PhaseFacts) (asked : Option Ask) (s : Phased)
+    → TakesNothing s.control (encrypting phase (record s { request = request_of asked })).control
+encrypts_nothing_by Clear asked s = requests_nothing asked (record s { request = request_of asked; phase = phase_after AskTransition s.phase })
+encrypts_nothing_by phase asked s = owes_nothing PauseEncReq (λ closing. refl) s.control
+
+encrypts_nothing_if : (begins : Bool) (asked : Option Ask) (s : Phased)
+    → TakesNothing s.control (encrypting_if begins (request_of asked) s).control
+encrypts_nothing_if true asked s = encrypts_nothing_by s.phase asked s
+encrypts_nothing_if false asked s = takes_none s.control
+
+phased_nothing : (slot : ℕ) (s : Phased) → TakesNothing s.control (entered slot s).control
+phased_nothing slot s =
+    let next = with_step (Enters slot (is_quiet_now s)) s in
+    takes_then s.control next.control (entered slot s).control (enters_nothing slot (is_quiet_now s) s.control)
+    (encrypts_nothing_if _ (ask_begun (table_entered s) (is_quiet_now s)) next)
+
+pub entered_nothing : (slot : ℕ) (facts : Facts) → TakesNothing facts.control (control_entered slot facts)
+entered_nothing slot facts = by (is_none facts.control.ends)
+  where
+    by : (b : Bool) → TakesNothing facts.control (if b then keyed_moved (keyed_enters slot) (keyed_of facts) else keyed_of facts).phased.control
+    by true = phased_nothing slot (keyed_of facts).phased
+    by false = takes_none facts.control
 
 pub asks_nothing : (ask : Ask) (c : Control) → TakesNothing c (after (Asks ask) c)
 asks_nothing ask c =

@@ -2,6 +2,7 @@
 use Rattle.std.proofs.Common.{◌≡◌, ℕ, ◌&&◌, ◌||◌, Bool, true, false, Option, Some, None, is_none, is_some, refl, ap, sym, subst, ◌∙◌, if◌then◌else◌}
 use Rattle.std.proofs.lemmas.Bool.{and_from}
 use Rattle.ble_base.specs.declared.error_codes.ErrCode.{ErrCode}
+use Rattle.ble_base.specs.declared.roles.Role.{Role}
 use Rattle.data_pdu.specs.declared.ctrl.Ctrl.{Ctrl}
 use Rattle.data_pdu.specs.declared.ctrl.Ctrl.TheVariants.{EncReq, PauseEncReq, StartEncReq, VersionInd}
 use Rattle.data_pdu.specs.declared.ctrl.CtrlRead.{CtrlRead}
@@ -20,10 +21,12 @@ use Rattle.link_model.specs.declared.state.Leaving.{Leaving}
 use Rattle.link_model.specs.declared.state.PeerFacts.{PeerFacts}
 use Rattle.link_model.specs.Facts.{Facts}
 use Rattle.link_model.specs.Controls.{is_procedure_pdu, read_of}
-use Rattle.link_model.specs.Receiving.{accepted_if, code_of, leaving_by, peer_from, peer_from_if, procedures_give, procedures_take_if, taken_if}
+use Rattle.link_model.specs.Plain.{plain_accepted_if as accepted_if, plain_gives as procedures_give, plain_takes_if as procedures_take_if, plain_taken_if as taken_if}
+use Rattle.link_model.specs.Receiving.{code_of, leaving_by, peer_from, peer_from_if}
 use Rattle.link_pairs.specs.Ways.{IsControlPdu, IsItem, ShowsWay}
 use Rattle.link_pairs.proofs.ControlKept.{Keeps, keeps_none, keeps_taken}
 use Rattle.link_pairs.proofs.Items.{control_is_procedure, data_is_no_procedure, never}
+use Rattle.link_pairs.proofs.PlainEnds.{IsPlainEncryption, knowing}
 use Rattle.link_pairs.proofs.PeripheralSteps.{one_step, takes_after, takes_data_after, with_end}
 use Rattle.link_pairs.proofs.TerminatingPdus.{ends_nothing_yet}
 use Rattle.link_pairs.proofs.Ways.{Arrival, ItemTaken, NothingTaken}
@@ -76,6 +79,8 @@ pub record IsTakenBy (facts now : Facts) : Type 0 where
   pub fixes_control : now.fixes_control ≡ facts.fixes_control
   pub last_good : now.last_good ≡ facts.last_good
   pub acknowledged : now.leaving.acknowledged ≡ facts.leaving.acknowledged
+  -- it may know the version of its peer
+  pub encrypts : (role : Role) → IsPlainEncryption role facts.encryption → IsPlainEncryption role now.encryption
 
 pub taken_same : (takes : Bool) (pdu : Pdu) (slot : ℕ) (facts : Facts) → IsTakenBy facts (procedures_take_if takes pdu slot facts)
 taken_same true pdu slot facts =
@@ -86,9 +91,10 @@ taken_same true pdu slot facts =
       fixes_control = refl;
       last_good = refl;
       acknowledged = left_by (code_of (procedures_give pdu slot facts).effect) facts.leaving;
+      encrypts = λ role is. knowing role facts.encryption _ is;
     }
 taken_same false pdu slot facts =
-    record { acknowledgement = refl; event = refl; outgoing = refl; fixes_control = refl; last_good = refl; acknowledged = refl }
+    record { acknowledgement = refl; event = refl; outgoing = refl; fixes_control = refl; last_good = refl; acknowledged = refl; encrypts = λ role is. is }
 
 -- ---- both ends of the joint run, and what the peripheral holds
 

@@ -26,7 +26,8 @@ use Rattle.joint_laws.proofs.joint_phases.Outcomes.{keeps_open}
 use Rattle.link_model.specs.Acknowledgement.{Pdu}
 use Rattle.link_model.specs.Controls.{read_of}
 use Rattle.link_model.specs.Facts.{Facts}
-use Rattle.link_model.specs.Receiving.{code_of, leaving_by, procedures_give, procedures_take}
+use Rattle.link_model.specs.Plain.{plain_gives as procedures_give, plain_takes as procedures_take}
+use Rattle.link_model.specs.Receiving.{code_of, leaving_by}
 use Rattle.link_pairs.proofs.Items.{never}
 use Rattle.link_pairs.proofs.TerminatingPdus.{outcome_ends}
 

@@ -23,7 +23,8 @@ use Rattle.joint_laws.specs.joint_controls.Joint.{is_terminate}
 use Rattle.link_model.specs.Acknowledgement.{Pdu}
 use Rattle.link_model.specs.Controls.{read_of}
 use Rattle.link_model.specs.Facts.{Facts}
-use Rattle.link_model.specs.Receiving.{code_of, leaving_by, procedures_give, procedures_take}
+use Rattle.link_model.specs.Plain.{plain_gives as procedures_give, plain_takes as procedures_take}
+use Rattle.link_model.specs.Receiving.{code_of, leaving_by}
 use Rattle.link_pairs.proofs.Items.{never}
 
 module _ (f : TableFacts) (code slot : ℕ) (quiet : Bool) where

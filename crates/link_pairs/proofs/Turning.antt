@@ -7,7 +7,7 @@ use Rattle.joint_laws.specs.joint_parameters.Turns.{Begins, Link, link_after}
 use Rattle.link_model.specs.declared.events.Reception.{Reception}
 use Rattle.link_model.specs.Data.{is_control}
 use Rattle.link_model.specs.Setup.{Setup}
-use Rattle.link_model.specs.Controls.{goes_on}
+use Rattle.link_model.specs.Controls.{goes_on, is_quiet_now}
 use Rattle.link_model.specs.Entering.{facts_entered_if}
 use Rattle.link_model.specs.Facts.{Facts}
 use Rattle.link_model.specs.Fixing.{fixed_anew}
@@ -49,7 +49,7 @@ fixed_in_event true false facts = record { entered = refl; slot = refl; heard = 
 fixed_in_event false gone facts = same_event facts
 
 gone_in_event : (goes : Bool) (slot : ℕ) (facts : Facts) → IsInEvent facts (control_gone_if goes slot facts)
-gone_in_event true slot facts = record { entered = (sent_kept facts.control slot true).entered; slot = refl; heard = refl; last_good = refl }
+gone_in_event true slot facts = record { entered = (sent_kept facts.control slot (is_quiet_now facts)).entered; slot = refl; heard = refl; last_good = refl }
 gone_in_event false slot facts = same_event facts
 
 sent_in_event : (sends : Bool) (setup : Setup) (slot : ℕ) (facts : Facts) → IsInEvent facts (sent_if sends setup slot facts)

@@ -9,7 +9,7 @@ use Rattle.unencrypted_ends.specs.phased_control.Phased.{Phased}
 use Rattle.control_octets.specs.procedure_stages.Closing.{is_open}
 use Rattle.control_octets.specs.procedure_stages.Kinds.{role_of}
 use Rattle.control_octets.specs.procedure_values.Values.{IsPayloadMax}
-use Rattle.unencrypted_ends.specs.Unencrypted.{IsUnencrypted, plain_phased}
+use Rattle.unencrypted_ends.specs.Unencrypted.{plain_phased}
 use Rattle.link_model.specs.declared.events.Reception.{Reception}
 use Rattle.link_model.specs.Data.{is_control}
 use Rattle.link_model.specs.OneLink.{AreOneLink}
@@ -17,6 +17,7 @@ use Rattle.link_model.specs.Setup.{Setup}
 use Rattle.link_model.specs.Controls.{goes_on}
 use Rattle.link_model.specs.Facts.{Facts}
 use Rattle.link_model.specs.Fixing.{data_goes}
+use Rattle.link_model.specs.Plain.{IsPlain}
 
 -- two ends that one CONNECT_IND opened (section 2.3.3.1)
 pub record AreEnds (central peripheral : Setup) : Type 0 where
@@ -46,7 +47,8 @@ is_lasting facts = goes_on facts && is_none facts.leaving.ended_by_peer
 -- what one end has between two calls, after this number of turns began
 pub record IsAtRest (setup : Setup) (turns : ℕ) (facts : Facts) : Type 0 where
   pub fits : FitsOctets facts.control
-  pub plain : IsUnencrypted facts.control
+  -- it encrypts nothing, so it is plain
+  pub plain : IsPlain setup.link.role facts
   pub role : role_of facts.control.table.progress ≡ setup.link.role
   -- no control PDU has left its queue that was not sent
   pub none_gone : is_control facts.outgoing.fixed ≡ false

@@ -16,6 +16,7 @@ use Rattle.link_model.specs.Controls.{is_terminate}
 use Rattle.link_model.specs.End.{notes_after}
 use Rattle.link_model.specs.Facts.{Facts}
 use Rattle.link_model.specs.Packets.{verdict_of}
+use Rattle.link_model.specs.Plain.{IsPlain}
 use Rattle.link_model.specs.Receiving.{replies_of}
 use Rattle.link_model.specs.Step.{PacketReceived}
 use Rattle.link_model.specs.Times.{ending_of}
@@ -71,6 +72,9 @@ pub record HasAnswered (facts : Facts) : Type 0 where
 pub record ArePartingFrom (taker sender : Setup) (t s : Facts) : Type 0 where
   pub took : HasTakenTerminate sender t
   pub sent : HasSentTerminate taker s
+  -- both encrypt nothing
+  pub taker_plain : IsPlain taker.link.role t
+  pub sender_plain : IsPlain sender.link.role s
   pub agreement : AreInAgreement t.acknowledgement s.acknowledgement
   -- the taker accepted all that the sender sent
   pub unseen : IsUnseen s.acknowledgement t.acknowledgement

@@ -27,14 +27,15 @@ use Rattle.link_end.proofs.control_model.Sending.{may_of, own_of, owned}
 use Rattle.link_end.specs.link_model.Verdicts.{pdu_of}
 use Rattle.link_end.specs.link_model.Setup.{Setup}
 use Rattle.link_end.specs.link_model.Facts.{Facts}
-use Rattle.link_end.specs.link_model.Controls.{goes_on, is_procedure_pdu, is_quiet_now, read_of}
+use Rattle.link_end.specs.link_model.Controls.{goes_on, is_procedure_pdu, read_of}
 use Rattle.link_end.specs.link_model.ControlSteps.{control_steps_in, step_if, steps_received}
 use Rattle.link_end.specs.link_model.End.{facts_after}
 use Rattle.link_end.specs.link_model.Hosts.{is_to_come as is_map_to_come}
 use Rattle.link_end.specs.link_model.Packets.{good_pdu}
-use Rattle.link_end.specs.link_model.Receiving.{accepts, acknowledged_if, acks_control, answers_with_control, facts_before_taking, has_acknowledged, heard_in_slot}
+use Rattle.link_end.specs.link_model.Plain.{IsPlain, plain_acknowledged_if as acknowledged_if, plain_before_taking as facts_before_taking}
+use Rattle.link_end.specs.link_model.Receiving.{accepts, acks_control, answers_with_control, has_acknowledged, heard_in_slot}
 use Rattle.link_end.specs.link_model.Sending.{takes_leave}
-use Rattle.link_end.specs.link_model.Step.{Step, DataGiven, DataReported, Disconnected, EventEntered, PacketReceived, PacketSent, PduFixed, ProcedureAsked, RequestAnswered}
+use Rattle.link_end.specs.link_model.Step.{Step, DataGiven, DataReported, Disconnected, EventEntered, KeyAnswered, PacketReceived, PacketSent, PduFixed, ProcedureAsked, RequestAnswered, WordsGiven}
 use Rattle.link_end.proofs.link_model.ControlSteps.{one_step}
 use Rattle.open_links.proofs.Intervals.{HasIntervals, changed_interval, enters_track}
 
@@ -170,8 +171,8 @@ no_entry_received role slot room (Some octets) facts =
     let own = acknowledged_if (has_acknowledged facts header) (heard_in_slot slot header.md facts) in
     let now = facts_before_taking role slot header facts in
     both _ _ (both _ _ (perhaps (acks_control (has_acknowledged facts header) facts) SeesAcknowledged refl)
-    (perhaps (answers_with_control role own) (Sends slot (is_quiet_now own)) refl))
-    (perhaps (accepts room header pdu now && is_procedure_pdu pdu) (Takes (read_of pdu) slot (is_quiet_now now)) refl)
+    (perhaps (answers_with_control role own) (Sends slot true) refl))
+    (perhaps (accepts room header pdu now && is_procedure_pdu pdu) (Takes (read_of pdu) slot true) refl)
 
 abbrev pub enters : Step → Bool
 enters (EventEntered slot) = true
@@ -181,18 +182,20 @@ no_entry : (setup : Setup) (facts : Facts) (step : Step) → enters step ≡ fal
 no_entry setup facts (DataGiven start body) none = tt
 no_entry setup facts (ProcedureAsked ask) none = perhaps (not (is_map_to_come ask facts)) (Asks ask) refl
 no_entry setup facts (RequestAnswered answer) none = (refl, tt)
+no_entry setup facts (KeyAnswered key slot) none = tt
 no_entry setup facts (Disconnected reason slot) none = (refl, tt)
 no_entry setup facts (EventEntered slot) none = absurd cc
 no_entry setup facts PduFixed none = tt
-no_entry setup facts (PacketSent slot) none = perhaps (takes_leave facts) (Sends slot (is_quiet_now facts)) refl
+no_entry setup facts (PacketSent slot) none = perhaps (takes_leave facts) (Sends slot true) refl
+no_entry setup facts (WordsGiven skd_s iv_s) none = tt
 no_entry setup facts (PacketReceived slot octets room) none =
     no_entry_received setup.link.role slot room (good_pdu setup facts octets) facts
 no_entry setup facts DataReported none = tt
 
-pub stays_in_place : (setup : Setup) (facts : Facts) (step : Step) → enters step ≡ false
+pub stays_in_place : (setup : Setup) (facts : Facts) (step : Step) → IsPlain setup.link.role facts → enters step ≡ false
     → IsInPlace facts.control.track (facts_after setup facts step).control.track
-stays_in_place setup facts step none =
-    subst (StaysIn facts.control.track) (sym (one_step setup facts step))
+stays_in_place setup facts step plain none =
+    subst (StaysIn facts.control.track) (sym (one_step setup facts step plain))
     (all_stay facts.control.track (control_steps_in setup facts step) facts.control (no_entry setup facts step none) (in_place facts.control.track))
 
 -- ---- an indication that a central sends leaves the next anchor, or moves it on: its Instant is ahead
@@ -275,7 +278,7 @@ goes_before : (steps : List ControlStep) (c : Control) → is_none (after_all st
 goes_before [] c is = is
 goes_before (step ∷ steps) c is = over_by (is_none c.ends) step c refl (goes_before steps (after step c) is)
 
-pub went_on : (setup : Setup) (facts : Facts) (step : Step) → goes_on (facts_after setup facts step) ≡ true → goes_on facts ≡ true
-went_on setup facts step is =
+pub went_on : (setup : Setup) (facts : Facts) (step : Step) → IsPlain setup.link.role facts → goes_on (facts_after setup facts step) ≡ true → goes_on facts ≡ true
+went_on setup facts step plain is =
     goes_before (control_steps_in setup facts step) facts.control
-    (subst (λ (c : Control). is_none c.ends ≡ true) (one_step setup facts step) is)
+    (subst (λ (c : Control). is_none c.ends ≡ true) (one_step setup facts step plain) is)

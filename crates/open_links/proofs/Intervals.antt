@@ -33,14 +33,15 @@ use Rattle.link_end.proofs.control_model.Sending.{OwnsIf, owned}
 use Rattle.link_end.specs.link_model.Verdicts.{pdu_of}
 use Rattle.link_end.specs.link_model.Setup.{Setup, first_anchor, first_params}
 use Rattle.link_end.specs.link_model.Facts.{Facts, first_facts}
-use Rattle.link_end.specs.link_model.Controls.{goes_on, is_procedure_pdu, is_quiet_now, read_of}
+use Rattle.link_end.specs.link_model.Controls.{goes_on, is_procedure_pdu, read_of}
 use Rattle.link_end.specs.link_model.ControlSteps.{AreAsksInRange, control_steps_from, control_steps_in, control_steps_of, step_if, steps_received}
 use Rattle.link_end.specs.link_model.End.{facts_after, facts_of}
 use Rattle.link_end.specs.link_model.Hosts.{is_to_come as is_map_to_come}
 use Rattle.link_end.specs.link_model.Packets.{good_pdu}
-use Rattle.link_end.specs.link_model.Receiving.{accepts, acknowledged_if, acks_control, answers_with_control, facts_before_taking, has_acknowledged, heard_in_slot}
+use Rattle.link_end.specs.link_model.Plain.{plain_acknowledged_if as acknowledged_if, plain_before_taking as facts_before_taking}
+use Rattle.link_end.specs.link_model.Receiving.{accepts, acks_control, answers_with_control, has_acknowledged, heard_in_slot}
 use Rattle.link_end.specs.link_model.Sending.{takes_leave}
-use Rattle.link_end.specs.link_model.Step.{Step, DataGiven, DataReported, Disconnected, EventEntered, PacketReceived, PacketSent, PduFixed, ProcedureAsked, RequestAnswered}
+use Rattle.link_end.specs.link_model.Step.{Step, DataGiven, DataReported, Disconnected, EventEntered, KeyAnswered, PacketReceived, PacketSent, PduFixed, ProcedureAsked, RequestAnswered, WordsGiven}
 use Rattle.link_end.proofs.link_model.ControlSteps.{past_goes, past_in_range}
 use Rattle.open_links.proofs.Handed.{read_range, took_slots}
 
@@ -167,17 +168,19 @@ reads_received role slot room (Some octets) facts =
     let own = acknowledged_if (has_acknowledged facts header) (heard_in_slot slot header.md facts) in
     let now = facts_before_taking role slot header facts in
     both _ _ (both _ _ (perhaps (acks_control (has_acknowledged facts header) facts) SeesAcknowledged tt)
-    (perhaps (answers_with_control role own) (Sends slot (is_quiet_now own)) tt))
-    (perhaps (accepts room header pdu now && is_procedure_pdu pdu) (Takes (read_of pdu) slot (is_quiet_now now)) (read_range pdu))
+    (perhaps (answers_with_control role own) (Sends slot true) tt))
+    (perhaps (accepts room header pdu now && is_procedure_pdu pdu) (Takes (read_of pdu) slot true) (read_range pdu))
 
 pub reads_in : (setup : Setup) (facts : Facts) (step : Step) → AllByRecursion IsReadInRange (control_steps_in setup facts step)
 reads_in setup facts (DataGiven _ _) = tt
 reads_in setup facts (ProcedureAsked ask) = perhaps (not (is_map_to_come ask facts)) (Asks ask) tt
 reads_in setup facts (RequestAnswered answer) = (tt, tt)
+reads_in setup facts (KeyAnswered key slot) = tt
 reads_in setup facts (Disconnected reason slot) = (tt, tt)
-reads_in setup facts (EventEntered slot) = perhaps (goes_on facts) (Enters slot (is_quiet_now facts)) tt
+reads_in setup facts (EventEntered slot) = perhaps (goes_on facts) (Enters slot true) tt
 reads_in setup facts PduFixed = tt
-reads_in setup facts (PacketSent slot) = perhaps (takes_leave facts) (Sends slot (is_quiet_now facts)) tt
+reads_in setup facts (PacketSent slot) = perhaps (takes_leave facts) (Sends slot true) tt
+reads_in setup facts (WordsGiven skd_s iv_s) = tt
 reads_in setup facts (PacketReceived slot octets room) =
     reads_received setup.link.role slot room (good_pdu setup facts octets) facts
 reads_in setup facts DataReported = tt

@@ -10,6 +10,7 @@ pub mod Sweeps
 pub mod Taken
 pub mod Within
 pub mod Empty
+pub mod Leaving
 pub mod Steps
 pub mod Handed
 pub mod Intervals

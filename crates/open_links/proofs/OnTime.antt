@@ -7,7 +7,7 @@ use Rattle.instants.specs.Track.{TrackFacts, next_anchor_of, track_after_enter}
 use Rattle.ble_base.specs.declared.roles.Role.TheVariants.{Central}
 use Rattle.procedures.specs.procedure_stages.Kinds.{role_of}
 use Rattle.procedures.specs.procedure_values.declared.asks.Ask.{Ask}
-use Rattle.link_end.specs.control_model.Control.{Answers, Asks, Disconnects}
+use Rattle.link_end.specs.control_model.Control.{Control, Answers, Asks, Disconnects}
 use Rattle.link_end.proofs.control_model.Indicating.{Indicates}
 use Rattle.link_end.proofs.control_model.Moving.{enters_track as moves_track, table_alone}
 use Rattle.link_end.specs.link_model.Data.{is_control}
@@ -19,9 +19,11 @@ use Rattle.link_end.specs.link_model.End.{facts_after, facts_of}
 use Rattle.link_end.specs.link_model.Entering.{facts_entered_if}
 use Rattle.link_end.specs.link_model.Fixing.{fixed_anew}
 use Rattle.link_end.specs.link_model.Hosts.{asked_unless, is_to_come}
+use Rattle.link_end.specs.link_model.Plain.{IsPlain}
 use Rattle.link_end.specs.link_model.Sending.{control_gone_if, takes_leave}
 use Rattle.link_end.specs.link_model.Step.{Step, DataGiven, DataReported, Disconnected, EventEntered, PacketReceived, PacketSent, PduFixed, ProcedureAsked, RequestAnswered}
 use Rattle.link_end.proofs.link_model.Pasts.{grows}
+use Rattle.link_end.proofs.link_model.Plain.{entered_control_plain, past_plain}
 use Rattle.open_links.specs.OpenLinks.{OpenLink, facts_in, has_entered, link_after, new_link}
 use Rattle.open_links.specs.Slots.{Exchange, Given, Asked, Answered, Ended, Fixes, Sends, Hears, Reports, IsInReach, IsOnTime, MayExchange, MayGoThrough, link_exchanging, link_through, step_of}
 use Rattle.open_links.specs.Turns.{enters_in, entered_if, is_anchor, link_entered}
@@ -52,20 +54,22 @@ new_on_time setup = record { next = λ goes. omega arith }
 -- ---- it enters its event
 
 -- the track of an end that enters an event
-entered_track : (setup : Setup) (slot : ℕ) (facts : Facts) (goes : Bool) → goes_on facts ≡ goes → goes ≡ true
+entered_track : (setup : Setup) (slot : ℕ) (facts : Facts) (goes : Bool) → IsPlain setup.link.role facts → goes_on facts ≡ goes → goes ≡ true
     → (facts_entered_if goes setup slot facts).control.track ≡ track_after_enter facts.control.track
-entered_track setup slot facts true is goes = moves_track facts.control slot (is_quiet_now facts) (none_of facts.control.ends is)
+entered_track setup slot facts true plain is goes =
+    ap (λ (c : Control). c.track) (entered_control_plain setup.link.role slot facts plain)
+    ∙ moves_track facts.control slot true (none_of facts.control.ends is)
   where
     none_of : (ends : Option ErrCode) → is_none ends ≡ true → ends ≡ None
     none_of None is = refl
     none_of (Some code) is = absurd cc
-entered_track setup slot facts false is goes = absurd cc
+entered_track setup slot facts false plain is goes = absurd cc
 
 track_after_entry : (slot : ℕ) (link : OpenLink) → goes_on (facts_in link) ≡ true
     → (facts_in (link_after (EventEntered slot) link)).control.track ≡ track_after_enter (facts_in link).control.track
 track_after_entry slot link goes =
     ap (λ (facts : Facts). facts.control.track) (grows link.setup link.past (EventEntered slot))
-    ∙ entered_track link.setup slot (facts_in link) (goes_on (facts_in link)) refl goes
+    ∙ entered_track link.setup slot (facts_in link) (goes_on (facts_in link)) (past_plain link.setup link.past) refl goes
 
 entry_on_time : (slot : ℕ) (link : OpenLink) → IsSound link → goes_on (facts_in link) ≡ true → is_anchor slot link ≡ true
     → IsOnTime (slot + 1) (link_after (EventEntered slot) link)
@@ -110,11 +114,11 @@ place_after : (step : Step) (link : OpenLink) → enters step ≡ false
     → IsInPlace (facts_in link).control.track (facts_in (link_after step link)).control.track
 place_after step link none =
     subst (λ (facts : Facts). IsInPlace (facts_in link).control.track facts.control.track) (sym (grows link.setup link.past step))
-    (stays_in_place link.setup (facts_in link) step none)
+    (stays_in_place link.setup (facts_in link) step (past_plain link.setup link.past) none)
 
 went_on_before : (step : Step) (link : OpenLink) → goes_on (facts_in (link_after step link)) ≡ true → goes_on (facts_in link) ≡ true
 went_on_before step link goes =
-    went_on link.setup (facts_in link) step (subst (λ (facts : Facts). goes_on facts ≡ true) (grows link.setup link.past step) goes)
+    went_on link.setup (facts_in link) step (past_plain link.setup link.past) (subst (λ (facts : Facts). goes_on facts ≡ true) (grows link.setup link.past step) goes)
 
 -- the host leaves the track
 asked_track : (comes : Bool) (ask : Ask) (facts : Facts) → (asked_unless comes ask facts).control.track ≡ facts.control.track
@@ -233,7 +237,7 @@ still_entered (EventEntered slot) link true none is =
     by_test : (goes : Bool) → goes_on (facts_in link) ≡ goes
         → nat_lt 0 (facts_entered_if goes link.setup slot (facts_in link)).control.track.entered ≡ true
     by_test true goes =
-        subst (λ (t : TrackFacts). nat_lt 0 t.entered ≡ true) (sym (entered_track link.setup slot (facts_in link) true goes refl))
+        subst (λ (t : TrackFacts). nat_lt 0 t.entered ≡ true) (sym (entered_track link.setup slot (facts_in link) true (past_plain link.setup link.past) goes refl))
         (some_entered _ (omega (arith, one_more_entered (facts_in link).control.track)))
     by_test false goes = is
 still_entered other link true none is = absurd cc

@@ -10,17 +10,19 @@ use Rattle.data_pdu.specs.declared.header.DataHeader.{DataHeader}
 use Rattle.data_pdu.specs.Header.{header_in}
 use Rattle.link_end.specs.link_model.Setup.{Setup}
 use Rattle.link_end.specs.link_model.Acknowledgement.{Pdu, is_acked}
-use Rattle.link_end.specs.link_model.Data.{Data, data_acked_if, data_completed, data_given, data_sent_if, is_control, is_data}
+use Rattle.link_end.specs.link_model.Data.{Data, data_acked_if, data_completed, data_given, is_control, is_data}
 use Rattle.link_end.specs.link_model.Verdicts.{pdu_of}
 use Rattle.link_end.specs.link_model.declared.events.Reception.{Reception}
 use Rattle.link_end.specs.link_model.Facts.{Facts}
 use Rattle.link_end.specs.link_model.Controls.{is_procedure_pdu}
 use Rattle.link_end.specs.link_model.Fixing.{data_cut, data_fixed_by, data_goes, fixed_anew}
-use Rattle.link_end.specs.link_model.Packets.{good_pdu}
+use Rattle.link_end.specs.link_model.Packets.{good_pdu, is_forged}
+use Rattle.link_end.specs.link_model.Payload.{payload_made}
 use Rattle.link_end.specs.link_model.Receiving.{accepted_if, accepts, acknowledged_if, answers_with_control, facts_before_taking, facts_hearing, facts_received, has_acknowledged, heard_in_slot, procedures_take_if}
-use Rattle.link_end.specs.link_model.Sending.{control_gone_if, takes_leave}
+use Rattle.link_end.specs.link_model.Sending.{control_gone_if, data_sent_as, takes_leave}
 use Rattle.link_end.specs.link_model.Step.{Step, DataGiven, DataReported, EventEntered, PacketReceived, PacketSent, PduFixed, ProcedureAsked}
 use Rattle.link_end.specs.link_model.End.{facts_after, facts_of}
+use Rattle.link_end.proofs.link_model.Choices.{either_data, either_forged}
 use Rattle.link_end.proofs.link_model.Pasts.{grows}
 use Rattle.open_links.specs.declared.offers.Offer.{Offer}
 use Rattle.open_links.specs.declared.offers.Offer.TheVariants.{NoLink, Empty, Overflow, Kept}
@@ -66,11 +68,11 @@ within_given slot count start body link within =
 
 -- ---- it fixes a PDU, and sends
 
-fixed_complete : (control : Bool) (waiting : ℕ) (goes : Bool) (outgoing : Data)
-    → (data_fixed_by control waiting goes outgoing).complete ≡ outgoing.complete
-fixed_complete true waiting goes outgoing = refl
-fixed_complete false waiting true outgoing = refl
-fixed_complete false waiting false outgoing = refl
+fixed_complete : (control : Bool) (waiting : ℕ) (quiet goes : Bool) (outgoing : Data)
+    → (data_fixed_by control waiting quiet goes outgoing).complete ≡ outgoing.complete
+fixed_complete true waiting quiet goes outgoing = refl
+fixed_complete false waiting quiet true outgoing = refl
+fixed_complete false waiting quiet false outgoing = refl
 
 fixed_good : (stays : Bool) (facts : Facts) → (if stays then facts else fixed_anew facts).last_good ≡ facts.last_good
 fixed_good true facts = refl
@@ -78,7 +80,7 @@ fixed_good false facts = refl
 
 fixed_if_complete : (stays : Bool) (facts : Facts) → (if stays then facts else fixed_anew facts).outgoing.complete ≡ facts.outgoing.complete
 fixed_if_complete true facts = refl
-fixed_if_complete false facts = fixed_complete _ _ (data_goes facts) (data_cut facts)
+fixed_if_complete false facts = fixed_complete _ _ _ (data_goes facts) (data_cut facts)
 
 within_fixed : (slot count : ℕ) (link : OpenLink) → IsWithin slot count link → IsWithin slot count (link_after PduFixed link)
 within_fixed slot count link within =
@@ -93,16 +95,16 @@ gone_complete : (goes : Bool) (slot : ℕ) (facts : Facts) → (control_gone_if 
 gone_complete true slot facts = refl
 gone_complete false slot facts = refl
 
-sent_complete : (test : Bool) (outgoing : Data) → (data_sent_if test outgoing).complete ≡ outgoing.complete
-sent_complete true outgoing = refl
-sent_complete false outgoing = refl
+sent_complete : (payload : List ℕ) (is_new : Bool) (outgoing : Data) → (data_sent_as payload is_new outgoing).complete ≡ outgoing.complete
+sent_complete payload true outgoing = refl
+sent_complete payload false outgoing = refl
 
 within_sent : (slot count at : ℕ) (link : OpenLink) → IsWithin slot count link → IsWithin slot count (link_after (PacketSent at) link)
 within_sent slot count at link within =
     let facts = facts_in link in
     let now = control_gone_if (takes_leave facts) at facts in
     kept slot count (PacketSent at) link (gone_good (takes_leave facts) at facts)
-    (sent_complete (is_acked now.acknowledgement) now.outgoing ∙ gone_complete (takes_leave facts) at facts) within
+    (sent_complete (payload_made now.encryption.end now.outgoing.fixed) (is_acked now.acknowledgement) now.outgoing ∙ gone_complete (takes_leave facts) at facts) within
 
 pub within_fixed_in_event : (slot count : ℕ) (link : OpenLink) → IsWithin slot count link → IsWithin slot count (link_after_in_event PduFixed link)
 within_fixed_in_event slot count link within =
@@ -167,17 +169,25 @@ module _ (role : Role) (at : ℕ) (room : Bool) (header : DataHeader) (pdu : Pdu
   abbrev now : Facts
   now = facts_before_taking role at header facts
 
+  abbrev accepted : Facts
+  accepted = accepted_if (accepts room header pdu now) pdu now
+
   abbrev takes : Bool
   takes = accepts room header pdu now && is_procedure_pdu pdu
 
+  abbrev taken : Facts
+  taken = procedures_take_if takes pdu at accepted
+
   hearing_good : (facts_hearing role at room header pdu facts).last_good ≡ Some (record { slot = at; event = facts.event.number })
   hearing_good =
-      taken_good takes pdu at (accepted_if (accepts room header pdu now) pdu now) ∙ gone_good (answers_with_control role own) at own
+      either_data (λ f. f.last_good ≡ taken.last_good) (accepts room header pdu now && is_data pdu) taken refl refl
+      ∙ taken_good takes pdu at accepted ∙ gone_good (answers_with_control role own) at own
 
   hearing_more : (facts_hearing role at room header pdu facts).outgoing.complete ≤ facts.outgoing.complete + 1
   hearing_more =
-      let same = taken_complete takes pdu at (accepted_if (accepts room header pdu now) pdu now)
-      ∙ gone_complete (answers_with_control role own) at own in
+      let same =
+      either_data (λ f. f.outgoing.complete ≡ taken.outgoing.complete) (accepts room header pdu now && is_data pdu) taken refl refl
+      ∙ taken_complete takes pdu at accepted ∙ gone_complete (answers_with_control role own) at own in
       let more = acked_more (has_acknowledged facts header && is_data facts.acknowledgement.last) facts.outgoing in
       omega (arith, same, more)
 
@@ -199,9 +209,13 @@ within_heard : (slot count at : ℕ) (octets : List ℕ) (room : Bool) (link : O
 within_heard slot count at octets room link order within =
     let role = link.setup.link.role in
     let pdu = good_pdu link.setup (facts_in link) octets in
+    let next = facts_received role at room pdu (facts_in link) in
+    let forged = is_forged link.setup (facts_in link) octets in
+    let heard = heard_last role at room pdu (facts_in link) slot order within.heard in
+    let more : next.outgoing.complete ≤ count + 1 = omega (arith, within.complete, heard_more role at room pdu (facts_in link)) in
     stepped (at + 1) (count + 1) (PacketReceived at octets room) link
-    (heard_last role at room pdu (facts_in link) slot order within.heard)
-    (omega (arith, within.complete, heard_more role at room pdu (facts_in link)))
+    (either_forged (λ f. IfSome f.last_good (λ good. good.slot < at + 1)) forged next heard heard)
+    (either_forged (λ f. f.outgoing.complete ≤ count + 1) forged next more more)
 
 within_more : (slot count later more : ℕ) (link : OpenLink) → slot ≤ later → count ≤ more → IsWithin slot count link → IsWithin later more link
 within_more slot count later more link order fewer within =

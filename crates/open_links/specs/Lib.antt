@@ -15,3 +15,4 @@ pub use Rattle.link_end.specs.control_model as control_model
 pub use Rattle.link_end.specs.link_model as link_model
 pub use Rattle.link_end.specs.control_end as control_end
 pub use Rattle.link_end.specs.procedure_values as procedure_values
+pub use Rattle.link_end.specs as link_end

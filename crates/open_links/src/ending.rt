@@ -1,6 +1,7 @@
 //! Links that end, and their data.
 ghost use Rattle.std.specs.Prelude.{◌≡◌, ◌<◌, ◌≤◌, ◌+◌, ◌^◌, ◌++◌, fold, map, Option, [], length};
 ghost use Rattle.std.specs.Prelude.{if◌then◌else◌};
+ghost use Rattle.std.specs.Option.{option_map};
 ghost use Rattle.acl_banks.specs.Banks.{bank_after_drop};
 ghost use Rattle.open_links.specs.Ended.{received_ended, received_without};
 ghost use Rattle.open_links.specs.Ended.{end_by};
@@ -13,7 +14,7 @@ use crate::LinkEnded;
 use crate::places::OpenEnd;
 use acl_banks::{RxBank, TxBank};
 use arrayvec::ArrayVec;
-use ble_base::SlotNo;
+use ble_base::{ErrCode, SlotNo};
 
 /// The most links that a controller holds.
 pub const MOST_LINKS: usize = 6;
@@ -46,6 +47,17 @@ pub(crate) fn shut_due_from(
     shut_due_from(rest, handle + 1, slot, ended);
 }
 
+impl OpenEnd {
+    /// The reason for which it ends at the end of a turn. It changes nothing.
+    fn ending(&mut self) -> Option<ErrCode>
+        ensures reason { (link : OpenLink) → KnowsLink self.old link
+            → option_map (λ code. code.0) result ≡ ending_in link }
+        ensures same { self.new ≡ self.old }
+    {
+        self.end.end_turn()
+    }
+}
+
 /// The links from this handle on that end at the end of a turn are removed, and added to those that
 /// ended.
 pub(crate) fn shut_ended_from(
@@ -66,7 +78,7 @@ pub(crate) fn shut_ended_from(
         return;
     };
     if let Some(link) = first {
-        if let Some(reason) = link.end.end_turn() {
+        if let Some(reason) = link.ending() {
             ended.push(LinkEnded { handle, reason });
             *first = None;
         }

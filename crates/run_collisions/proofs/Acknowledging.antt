@@ -6,6 +6,7 @@ use Rattle.ble_base.specs.declared.notes.Note.TheVariants.{Took}
 use Rattle.ble_base.specs.declared.procedure_kinds.Kind.{Kind}
 use Rattle.ble_base.specs.declared.roles.Role.{Role}
 use Rattle.ble_base.specs.declared.roles.Role.TheVariants.{Central}
+use Rattle.data_pdu.specs.declared.ctrl.Ctrl.{Ctrl}
 use Rattle.data_pdu.specs.Header.{header_in}
 use Rattle.exclusive_stages.specs.declared.pdus.Pdu.{Pdu}
 use Rattle.exclusive_stages.specs.declared.pdus.Pdu.TheVariants.{PhyInd}
@@ -14,7 +15,9 @@ use Rattle.exclusive_stages.specs.declared.stages.CentralStage.TheVariants.{Idle
 use Rattle.exclusive_stages.specs.Acked.{done_by_ack_at_central, own_acked_at_central}
 use Rattle.exclusive_stages.specs.Kinds.{kind_of}
 use Rattle.collision_steps.specs.CentralPart.{central_of}
-use Rattle.link_pairs.specs.control_model.Control.{Control, table_if}
+use Rattle.link_pairs.specs.control_model.Control.{Control, Owes, SeesAcknowledged, after, table_if}
+use Rattle.link_pairs.specs.procedures.Encryption.{is_rejection}
+use Rattle.link_pairs.specs.procedures.Going.{owe_step}
 use Rattle.link_pairs.specs.procedures.Sending.{acked_step}
 use Rattle.link_pairs.specs.procedures.Table.{TableFacts}
 use Rattle.link_pairs.specs.procedure_stages.declared.stages.Central.{Central as CentralProgress}
@@ -27,12 +30,16 @@ use Rattle.link_pairs.specs.procedure_stages.Exclusive.{central_stage, on_centra
 use Rattle.link_pairs.specs.procedure_values.Drafts.{is_out}
 use Rattle.link_pairs.specs.link_model.Entering.{done_notes}
 use Rattle.link_pairs.specs.link_model.End.{notes_after}
-use Rattle.link_pairs.specs.link_model.Facts.{Facts}
+use Rattle.link_pairs.specs.link_model.keyed_control.KeyedSteps.{with_phased}
+use Rattle.link_pairs.specs.link_model.phased_control.Phased.{Phased, asks_again, with_step}
+use Rattle.link_pairs.specs.link_model.phased_control.Taken.{SeesAcknowledged as acknowledges}
+use Rattle.link_pairs.specs.link_model.Facts.{Facts, keyed_of}
 use Rattle.link_pairs.specs.link_model.Packets.{good_pdu}
-use Rattle.link_pairs.specs.link_model.Receiving.{accepts, acked_kind, acks_control, control_acked_if, facts_before_taking, has_acknowledged, received_notes, taken_notes}
+use Rattle.link_pairs.specs.link_model.Receiving.{accepts, acked_kind, acks_control, facts_before_taking, has_acknowledged, keyed_acked_if, received_notes, taken_notes}
 use Rattle.link_pairs.specs.link_model.Setup.{Setup}
 use Rattle.link_pairs.specs.link_model.Step.{PacketReceived}
 use Rattle.link_pairs.specs.link_model.Verdicts.{pdu_of}
+use Rattle.joint_laws.proofs.joint_controls.Keeping.{asking_keeps, choice as either_way}
 use Rattle.run_collisions.specs.Prevailing.{seen, seen_by}
 
 -- ---- the stage
@@ -84,9 +91,36 @@ control_by k true true none = table_same k.table none
 control_by k true false none = refl
 control_by k false out none = refl
 
-control_same : (acks : Bool) (facts : Facts) → acked_kind acks facts ≡ None → own_of (control_acked_if acks facts.control) ≡ own_of facts.control
-control_same true facts none = control_by facts.control (is_none facts.control.ends) (is_out facts.control.table.out) none
+-- a PDU of the encryption that is owed then leaves it too
+owed_by : (f : TableFacts) (progress : Progress) (ctrl : Ctrl) → (central_of (owe_step (record f { progress = progress }) ctrl)).own ≡ (central_of (record f { progress = progress })).own
+owed_by f (central x) ctrl = refl
+owed_by f (peripheral x) ctrl = by (is_rejection ctrl) (owe_step (record f { progress = peripheral x }) ctrl)
+  where
+    by : (rejects : Bool) (g : TableFacts)
+        → (central_of (record g { progress = if rejects then peripheral (record x { encrypting = false }) else peripheral x })).own
+        ≡ (central_of (record f { progress = peripheral x })).own
+    by true g = refl
+    by false g = refl
+
+owed_same : (stage : CentralStage) (ctrl : Ctrl) (k : Control) → own_of k ≡ stage → own_of (after (Owes ctrl) k) ≡ stage
+owed_same stage ctrl k is =
+    either_way (λ (c : Control). own_of c ≡ stage) (is_none k.ends) (record k { table = owe_step k.table ctrl }) k
+    (owed_by k.table k.table.progress ctrl ∙ is) is
+
+control_same : (acks : Bool) (facts : Facts) → acked_kind acks facts ≡ None → own_of (keyed_acked_if acks (keyed_of facts)).phased.control ≡ own_of facts.control
 control_same false facts none = refl
+control_same true facts none =
+    by (is_none facts.control.ends) (control_by facts.control (is_none facts.control.ends) (is_out facts.control.table.out) none)
+  where
+    s : Phased
+    s = (keyed_of facts).phased
+
+    by : (goes : Bool) → own_of (after SeesAcknowledged facts.control) ≡ own_of facts.control
+        → own_of (if goes then with_phased acknowledges facts.encryption.material (keyed_of facts) else keyed_of facts).phased.control ≡ own_of facts.control
+    by true same =
+        asking_keeps (λ (c : Control). own_of c ≡ own_of facts.control) (owed_same (own_of facts.control)) (asks_again s)
+        (with_step SeesAcknowledged s) same
+    by false same = refl
 
 -- ---- a packet
 

@@ -19,16 +19,16 @@ use Rattle.link_pairs.specs.procedure_stages.declared.stages.Progress.{Progress}
 use Rattle.link_pairs.specs.procedure_stages.declared.stages.Progress.TheVariants.{Central as central, Peripheral as peripheral}
 use Rattle.link_pairs.specs.procedure_stages.InProgress.{is_host_asked}
 use Rattle.link_pairs.specs.procedure_values.declared.asks.Ask.{Ask}
-use Rattle.link_calls.specs.link_model.Facts.{Facts as EndFacts}
-use Rattle.link_calls.specs.link_model.Setup.{Setup as EndSetup}
-use Rattle.link_calls.specs.open_links.OpenLinks.{OpenLink, facts_in, link_at}
-use Rattle.link_calls.specs.run_model.History.{Called, Event, past_of}
-use Rattle.link_calls.specs.run_model.Run.{Given, facts_at, setup_at}
-use Rattle.link_calls.specs.Phases.{HasPassed, IsNew, Stays, Takes, refusal, refuses_at}
-use Rattle.link_calls.specs.Uses.{listens_under, sends_under}
-use Rattle.link_calls.proofs.LinkCalls.{passes_under}
-use Rattle.link_calls.proofs.run_laws.TurnSteps.{IsListening}
-use Rattle.link_calls.proofs.run_model.Calls.{past_own}
+use Rattle.run_pairs.specs.link_calls.link_model.Facts.{Facts as EndFacts}
+use Rattle.run_pairs.specs.link_calls.link_model.Setup.{Setup as EndSetup}
+use Rattle.run_pairs.specs.link_calls.open_links.OpenLinks.{OpenLink, facts_in, link_at}
+use Rattle.run_pairs.specs.link_calls.run_model.History.{Called, Event, past_of}
+use Rattle.run_pairs.specs.link_calls.run_model.Run.{Given, facts_at, setup_at}
+use Rattle.run_pairs.specs.link_calls.Phases.{HasPassed, IsNew, Stays, Takes, refusal, refuses_at}
+use Rattle.run_pairs.specs.link_calls.Uses.{listens_under, sends_under}
+use Rattle.run_pairs.proofs.link_calls.LinkCalls.{passes_under}
+use Rattle.run_pairs.proofs.link_calls.run_laws.TurnSteps.{IsListening}
+use Rattle.run_pairs.proofs.link_calls.run_model.Calls.{past_own}
 use Rattle.link_runs.specs.link_pairs.Hearing.{received}
 use Rattle.link_runs.specs.link_pairs.Turns.{sent_if}
 use Rattle.run_pairs.proofs.EndCalls.{central_silent, refused_facts, taking_facts}

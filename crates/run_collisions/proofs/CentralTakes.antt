@@ -10,6 +10,7 @@ use Rattle.data_pdu.specs.declared.header.DataHeader.{DataHeader}
 use Rattle.data_pdu.specs.Reading.{ctrl_of}
 use Rattle.exclusive_stages.specs.declared.pdus.Exclusive.{Exclusive}
 use Rattle.exclusive_stages.specs.Kinds.{central_kind}
+use Rattle.instants.specs.Track.{event_of}
 use Rattle.collision_steps.specs.CentralPart.{central_of}
 use Rattle.joint_collisions.specs.Arrivals.{Collides, collided}
 use Rattle.joint_collisions.specs.Facts.{CentralFacts, Facts as ExclusiveFacts, IsState, fits_if, fits_up}
@@ -26,6 +27,7 @@ use Rattle.joint_laws.proofs.joint_parameters.Pairing.{after_may, running_from}
 use Rattle.joint_laws.proofs.joint_parameters.Runs.{after_joined}
 use Rattle.link_pairs.specs.control_model.Control.{Control, Takes, after}
 use Rattle.link_pairs.specs.control_model.Supported.{read_supported}
+use Rattle.link_pairs.specs.procedures.Queue.{next_of}
 use Rattle.link_pairs.specs.procedure_stages.Closing.{is_disconnecting, is_open}
 use Rattle.link_pairs.specs.procedure_stages.Queue.{next_disconnect}
 use Rattle.link_pairs.specs.unencrypted_ends.phased_control.Phased.{Phased}
@@ -36,9 +38,10 @@ use Rattle.link_pairs.specs.link_model.Controls.{is_procedure_pdu, read_of}
 use Rattle.link_pairs.specs.link_model.Data.{is_control, is_data, is_empty}
 use Rattle.link_pairs.specs.link_model.End.{notes_after}
 use Rattle.link_pairs.specs.link_model.Facts.{Facts}
-use Rattle.link_pairs.specs.link_model.Hearing.{IsUnderstood, pdu_heard, pdu_octets}
-use Rattle.link_pairs.specs.link_model.Packets.{good_pdu, header_sent}
-use Rattle.link_pairs.specs.link_model.Receiving.{accepts, control_acked_if, facts_before_taking, facts_hearing, notes_hearing}
+use Rattle.link_pairs.specs.link_model.Hearing.{IsUnderstood, pdu_octets}
+use Rattle.link_pairs.specs.link_model.Packets.{good_pdu, header_sent, pdu_sent}
+use Rattle.link_pairs.specs.link_model.Plain.{IsPlain, control_acked_if, plain_before_taking}
+use Rattle.link_pairs.specs.link_model.Receiving.{accepts, facts_before_taking, facts_hearing, notes_hearing}
 use Rattle.link_pairs.specs.link_model.Setup.{Setup, first_anchor, first_params}
 use Rattle.link_pairs.specs.link_model.Step.{PacketReceived}
 use Rattle.link_pairs.specs.Ends.{AreEnds, heard_turns, is_lasting}
@@ -46,6 +49,7 @@ use Rattle.link_pairs.specs.Hearing.{IsPacketOf, received}
 use Rattle.link_pairs.specs.Shown.{AreLinked, Shows}
 use Rattle.link_pairs.specs.Sound.{first_joint}
 use Rattle.link_pairs.proofs.link_model.Hearing.{IsHeardWhole}
+use Rattle.link_pairs.proofs.link_model.Plain.{before_taking_plain, hearing_plain, quiet_plain, step_plain}
 use Rattle.link_pairs.proofs.link_model.Received.{facts_heard, header_read, heard_good, notes_heard}
 use Rattle.link_pairs.proofs.CentralHears.{control_heard}
 use Rattle.link_pairs.proofs.Counts.{Says, acknowledged_by, is_fresh, says_right, turned}
@@ -62,7 +66,7 @@ use Rattle.link_pairs.proofs.TakingPdus.{asks_nothing}
 use Rattle.unencrypted_ends.proofs.Going.{acknowledged_goes}
 use Rattle.unencrypted_ends.proofs.Taking.{takes_goes}
 use Rattle.link_answers.specs.Owing.{Owes}
-use Rattle.run_collisions.specs.Prevailing.{Prevails, first_of, seen, seen_by}
+use Rattle.run_collisions.specs.Prevailing.{Prevails, first_of, next_outgoing, seen, seen_by}
 use Rattle.run_collisions.specs.Refused.{is_refusing}
 use Rattle.run_collisions.specs.Taking.{TakesControl}
 use Rattle.run_collisions.proofs.Crossing.{crosses_none, none_on_way, other_free}
@@ -115,17 +119,22 @@ module _ (whole : IsHeardWhole) (central peripheral : Setup) (slot : ℕ) (c p :
   abbrev has_room : Bool
   has_room = room || not (is_data last)
 
+  -- it encrypts nothing
+  plain : IsPlain central.link.role c
+  plain = s.central_rests.plain
+
   und : IsUnderstood peripheral packet.before central c
   und =
       understood peripheral central slot (slot + 1) p c channel octets (sym ends.one_link.fields) s.peripheral_fits s.peripheral_rests packet same
+      s.central_rests.plain
 
   sent : HasSent packet.before p
   sent = subst (HasSent packet.before) (sym packet.sent) (has_sent slot packet.before)
 
-  pdu_is : pdu_heard packet.before ≡ last
-  pdu_is = λ i. record { llid = (sym sent.last i).llid; body = (sym sent.payload ∙ s.peripheral_rests.payload) i }
+  pdu_is : pdu_sent packet.before ≡ last
+  pdu_is = sym sent.last
 
-  good_is : good_pdu central c octets ≡ Some (pdu_octets packet.before)
+  good_is : good_pdu central c octets ≡ Some (pdu_octets packet.before c)
   good_is = ap (good_pdu central c) packet.packet ∙ heard_good whole peripheral central packet.before c und
 
   abbrev read : IsRead central c slot octets p.acknowledgement
@@ -137,7 +146,8 @@ module _ (whole : IsHeardWhole) (central peripheral : Setup) (slot : ℕ) (c p :
         good = ap (λ (o : Option (List ℕ)). is_some o) good_is;
         facts =
             λ room. ap (λ (o : List ℕ). received central slot o room c) packet.packet ∙ facts_heard whole peripheral central packet.before c und slot room
-            ∙ ap (λ (pdu : Pdu). facts_hearing central.link.role slot room header pdu c) pdu_is;
+            ∙ ap (λ (pdu : Pdu). facts_hearing central.link.role slot room header pdu c) pdu_is
+            ∙ hearing_plain central.link.role central.link.role slot room header last c plain;
       }
 
   notes_are : notes_after central c (PacketReceived slot octets room) ≡ notes_hearing central slot room header last c
@@ -146,11 +156,12 @@ module _ (whole : IsHeardWhole) (central peripheral : Setup) (slot : ℕ) (c p :
       ∙ ap (λ (pdu : Pdu). notes_hearing central slot room header pdu c) pdu_is
 
   abbrev seen_facts : Facts
-  seen_facts = facts_before_taking Central slot header c
+  seen_facts = plain_before_taking Central slot header c
 
   seen_is : seen central slot octets c ≡ seen_facts
   seen_is =
-      (λ i. seen_by central slot (good_is i) c) ∙ (λ i. facts_before_taking (ends.is_central i) slot (header_read packet.before und.llid i) c)
+      (λ i. seen_by central slot (good_is i) c) ∙ (λ i. facts_before_taking (ends.is_central i) slot (header_read packet.before c und.llid i) c)
+      ∙ before_taking_plain central.link.role Central slot header c plain
 
   -- what it takes
 
@@ -362,6 +373,11 @@ module _ (whole : IsHeardWhole) (central peripheral : Setup) (slot : ℕ) (c p :
     central_now : j.central ≡ plain_phased now.control knows_then
     central_now = central_then ∙ ap (λ (k : Control). plain_phased k knows_then) (ap (λ (x : Phased). x.control) (sym central_then) ∙ j_control)
 
+    quiet_now : next_outgoing now ≡ next_out (plain_phased now.control knows_then)
+    quiet_now =
+        ap (next_of now.control.table (event_of now.control.track))
+        (quiet_plain central.link.role now (step_plain central c (PacketReceived slot octets room) plain))
+
     pub prevails_here : Prevails (seen central slot octets c) now own other
     prevails_here =
         record {
@@ -376,12 +392,12 @@ module _ (whole : IsHeardWhole) (central peripheral : Setup) (slot : ℕ) (c p :
               λ opened. let next = prevails_joint.rejected [] (ap (λ (k : Control). is_open k.table.closing) s1_control ∙ opened) refl in
               record {
                 rejection = next.rejection;
-                next = ap next_out (sym central_now) ∙ next.next;
+                next = quiet_now ∙ ap next_out (sym central_now) ∙ next.next;
                 opcode = next.opcode;
                 code = next.code;
               };
           closing =
-              λ closing. ap next_out (sym central_now)
+              λ closing. quiet_now ∙ ap next_out (sym central_now)
               ∙ prevails_joint.closing (ap (λ (k : Control). is_open k.table.closing) s1_control ∙ closing)
               ∙ ap (λ (x : Phased). next_disconnect x.control.table.queue.disconnect) central_now;
           ending =

@@ -11,23 +11,23 @@ use Rattle.controller_model.specs.declared.doing.Doing.{Doing}
 use Rattle.controller_model.specs.Facts.{Facts}
 use Rattle.controller_model.specs.Heard.{has_room}
 use Rattle.controller_model.specs.Step.{PacketHeard}
-use Rattle.link_calls.specs.link_model.Facts.{Facts as EndFacts}
-use Rattle.link_calls.specs.link_model.Numbers.{is_took_note}
-use Rattle.link_calls.specs.link_model.Setup.{Setup as EndSetup}
-use Rattle.link_calls.specs.open_links.OpenLinks.{OpenLink, facts_in, link_at}
-use Rattle.link_calls.specs.run_model.Feeding.{AreDistinct}
-use Rattle.link_calls.specs.run_model.History.{Called, Event, past_of}
-use Rattle.link_calls.specs.run_model.LinkEnds.{HaveAddresses}
-use Rattle.link_calls.specs.run_model.Run.{Given, facts_at, history_of, run_of, setup_at}
-use Rattle.link_calls.specs.run_laws.Ends.{AreEnds as AreEndsIn, IsOpen, OpenEnd, link_listened}
-use Rattle.link_calls.proofs.link_model.Hearing.{IsHeardWhole}
-use Rattle.link_calls.proofs.run_model.LinkEnds.{AreTaken, IsUnderstood}
-use Rattle.link_calls.proofs.run_model.Stations.{is_in}
-use Rattle.link_calls.proofs.run_laws.InAgreement.{OpenedBefore}
-use Rattle.link_calls.proofs.run_laws.LinkPhases.{in_phase}
-use Rattle.link_calls.proofs.run_laws.OpenSteps.{open_has}
-use Rattle.link_calls.proofs.run_laws.SameEvent.{apart_ends}
-use Rattle.link_calls.proofs.run_laws.TurnPlaces.{Within, at_stage, standing, turned}
+use Rattle.run_pairs.specs.link_calls.link_model.Facts.{Facts as EndFacts}
+use Rattle.run_pairs.specs.link_calls.link_model.Numbers.{is_took_note}
+use Rattle.run_pairs.specs.link_calls.link_model.Setup.{Setup as EndSetup}
+use Rattle.run_pairs.specs.link_calls.open_links.OpenLinks.{OpenLink, facts_in, link_at}
+use Rattle.run_pairs.specs.link_calls.run_model.Feeding.{AreDistinct}
+use Rattle.run_pairs.specs.link_calls.run_model.History.{Called, Event, past_of}
+use Rattle.run_pairs.specs.link_calls.run_model.LinkEnds.{HaveAddresses}
+use Rattle.run_pairs.specs.link_calls.run_model.Run.{Given, facts_at, history_of, run_of, setup_at}
+use Rattle.run_pairs.specs.link_calls.run_laws.Ends.{AreEnds as AreEndsIn, IsOpen, OpenEnd, link_listened}
+use Rattle.run_pairs.proofs.link_calls.link_model.Hearing.{IsHeardWhole}
+use Rattle.run_pairs.proofs.link_calls.run_model.LinkEnds.{AreTaken, IsUnderstood}
+use Rattle.run_pairs.proofs.link_calls.run_model.Stations.{is_in}
+use Rattle.run_pairs.proofs.link_calls.run_laws.InAgreement.{OpenedBefore}
+use Rattle.run_pairs.proofs.link_calls.run_laws.LinkPhases.{in_phase}
+use Rattle.run_pairs.proofs.link_calls.run_laws.OpenSteps.{open_has}
+use Rattle.run_pairs.proofs.link_calls.run_laws.SameEvent.{apart_ends}
+use Rattle.run_pairs.proofs.link_calls.run_laws.TurnPlaces.{Within, at_stage, standing, turned}
 use Rattle.link_runs.specs.link_pairs.Ends.{AreEnds, is_lasting}
 use Rattle.link_runs.specs.link_pairs.Hearing.{IsPacketOf, received}
 use Rattle.link_pairs.specs.link_model.Controls.{is_procedure_pdu}

@@ -10,21 +10,22 @@ use Rattle.ble_base.specs.declared.notes.Note.TheVariants.{Began, Done, Enter, R
 use Rattle.ble_base.specs.declared.procedure_kinds.Kind.{Kind}
 use Rattle.data_pdu.specs.Header.{header_in}
 use Rattle.link_pairs.specs.control_end.declared.answers.Entry.{Entry}
+use Rattle.link_pairs.specs.control_end.declared.answers.Taken.{Taken}
 use Rattle.link_pairs.specs.control_end.Answers.{entry_of}
 use Rattle.link_pairs.specs.control_end.Held.{held_of}
 use Rattle.link_pairs.specs.link_model.declared.events.ConnectionEvent.{ConnectionEvent}
 use Rattle.link_pairs.specs.link_model.Acknowledgement.{Pdu, is_acked}
-use Rattle.link_pairs.specs.link_model.Controls.{goes_on, is_procedure_pdu, next_control, pdu_of_control}
+use Rattle.link_pairs.specs.link_model.Controls.{goes_on, is_procedure_pdu, is_quiet_now, next_control, pdu_of_control}
 use Rattle.link_pairs.specs.link_model.Data.{is_control, is_empty, numbered}
 use Rattle.link_pairs.specs.link_model.End.{notes_after}
 use Rattle.link_pairs.specs.link_model.Entering.{began_notes, done_notes, event_notes, facts_entered}
 use Rattle.link_pairs.specs.link_model.Events.{applied_notes}
 use Rattle.link_pairs.specs.link_model.Facts.{Facts}
 use Rattle.link_pairs.specs.link_model.Packets.{good_pdu}
-use Rattle.link_pairs.specs.link_model.Receiving.{accepts, acked_kind, acks_control, facts_before_taking, given_if, given_notes, has_acknowledged, received_notes, refused_notes, taken_notes, took_notes_if}
+use Rattle.link_pairs.specs.link_model.Receiving.{accepts, acked_kind, acks_control, facts_before_taking, given_if, given_notes, has_acknowledged, kept_given_if, received_notes, refused_notes, taken_notes, took_notes_if}
 use Rattle.link_pairs.specs.link_model.Sending.{sent_notes_if}
 use Rattle.link_pairs.specs.link_model.Setup.{Setup}
-use Rattle.link_pairs.specs.link_model.Step.{Step, DataGiven, DataReported, Disconnected, EventEntered, PacketReceived, PacketSent, PduFixed, ProcedureAsked, RequestAnswered}
+use Rattle.link_pairs.specs.link_model.Step.{Step, DataGiven, DataReported, Disconnected, EventEntered, KeyAnswered, PacketReceived, PacketSent, PduFixed, ProcedureAsked, RequestAnswered, WordsGiven}
 use Rattle.link_pairs.specs.link_model.Verdicts.{pdu_of}
 use Rattle.run_collisions.specs.Waiting.{sends_control}
 
@@ -73,12 +74,17 @@ entered_none : (goes : Bool) (notes : List Note) → All NoControl notes → All
 entered_none true notes none = none
 entered_none false notes none = All-nil NoControl
 
+given_none : (handle : ℕ) (given : Taken) → All NoControl (given_notes handle given)
+given_none handle given =
+    All-append NoControl (refused_notes handle given.refused) (done_notes handle given.done) (refused_none handle given.refused) (done_none handle given.done)
+
 taken_none : (handle : ℕ) (accepted : Bool) (pdu : Pdu) (slot : ℕ) (facts : Facts) → All NoControl (taken_notes handle accepted pdu slot facts)
 taken_none handle accepted pdu slot facts =
     let given = given_if (accepted && is_procedure_pdu pdu) pdu slot facts in
-    All-append NoControl (took_notes_if (accepted && not (is_empty pdu)) handle pdu facts) (given_notes handle given)
+    let kept = kept_given_if (accepted && is_procedure_pdu pdu) pdu slot facts in
+    All-append NoControl (took_notes_if (accepted && not (is_empty pdu)) handle pdu facts) (given_notes handle given ++ given_notes handle kept)
     (took_none (accepted && not (is_empty pdu)) handle pdu facts)
-    (All-append NoControl (refused_notes handle given.refused) (done_notes handle given.done) (refused_none handle given.refused) (done_none handle given.done))
+    (All-append NoControl (given_notes handle given) (given_notes handle kept) (given_none handle given) (given_none handle kept))
 
 received_none : (setup : Setup) (slot : ℕ) (room : Bool) (pdu : Option (List ℕ)) (facts : Facts) → All NoControl (received_notes setup slot room pdu facts)
 received_none setup slot room None facts = All-nil NoControl
@@ -108,16 +114,18 @@ module _ (setup : Setup) (facts : Facts) (none : is_control facts.outgoing.fixed
   notes_none (DataGiven start body) quiet = All-nil NoControl
   notes_none (ProcedureAsked ask) quiet = All-nil NoControl
   notes_none (RequestAnswered answer) quiet = All-nil NoControl
+  notes_none (KeyAnswered key slot) quiet = All-nil NoControl
   notes_none (Disconnected reason slot) quiet = All-nil NoControl
   notes_none (EventEntered slot) quiet =
       let event = (facts_entered setup slot facts).event in
-      let entry = entry_of slot true (held_of facts.control) in
+      let entry = entry_of slot (is_quiet_now facts) (held_of facts.control) in
       entered_none (goes_on facts) (event_notes setup.link.handle event entry) (event_none setup.link.handle event entry)
   notes_none PduFixed quiet = All-nil NoControl
   notes_none (PacketSent slot) quiet =
       sent_none (is_acked facts.acknowledgement) facts.fixes_control setup.link.handle (numbered facts.acknowledgement.sent)
       (pdu_of_control (next_control facts))
       facts.outgoing.fixed quiet none
+  notes_none (WordsGiven skd_s iv_s) quiet = All-nil NoControl
   notes_none (PacketReceived slot octets room) quiet = received_none setup slot room (good_pdu setup facts octets) facts
   notes_none DataReported quiet = All-nil NoControl
 

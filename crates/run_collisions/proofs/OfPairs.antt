@@ -1,45 +1,55 @@
 -- In a run of two stations each packet from which an end takes a PDU is what the far end sent in that turn.
-use Rattle.std.proofs.Common.{◌≡◌, ◌⊎◌, inl, inr, ℕ, ◌==◌, Bool, true, false, List, [], ◌∷◌, ◌++◌, append_assoc, Option, Some, None, refl, sym, ap, ◌∙◌, if◌then◌else◌}
+use Rattle.std.proofs.Common.{◌≡◌, ◌⊎◌, inl, inr, ℕ, ◌==◌, Bool, true, false, List, [], ◌∷◌, ◌++◌, append_assoc, Option, Some, None, is_none, refl, sym, ap, ◌∙◌, if◌then◌else◌}
 use Rattle.ble_base.specs.declared.notes.Note.{Note}
-use Rattle.ble_base.specs.declared.verdicts.Verdict.TheVariants.{Good, Broken as BrokenPacket}
+use Rattle.ble_base.specs.declared.verdicts.Verdict.TheVariants.{Good, Forged, Broken as BrokenPacket}
 use Rattle.air_frame.specs.declared.Heard.{Heard}
 use Rattle.air_frame.specs.declared.Heard.TheVariants.{Broken, NotOurs, Whole}
 use Rattle.controller_model.specs.Step.{PacketHeard}
-use Rattle.link_calls.specs.link_model.End.{notes_after}
-use Rattle.link_calls.specs.link_model.Facts.{Facts as EndFacts}
-use Rattle.link_calls.specs.link_model.Packets.{good_pdu, heard_of, verdict_of}
-use Rattle.link_calls.specs.link_model.Receiving.{received_notes}
-use Rattle.link_calls.specs.link_model.Setup.{Setup as EndSetup}
-use Rattle.link_calls.specs.link_model.Step.{PacketReceived}
-use Rattle.link_calls.specs.link_model.Verdicts.{good_in, has_room_for, pdu_by, verdict_by}
-use Rattle.link_calls.specs.open_links.OpenLinks.{facts_in}
-use Rattle.link_calls.specs.run_model.Feeding.{AreDistinct}
-use Rattle.link_calls.specs.run_model.History.{Called, Event}
-use Rattle.link_calls.specs.run_model.LinkEnds.{HaveAddresses}
-use Rattle.link_calls.specs.run_model.Run.{Given, facts_at, history_of, run_of}
-use Rattle.link_calls.specs.run_laws.Ends.{AreEnds, HaveOneConnectInd, IsOpen, OpenEnd, link_listened}
-use Rattle.link_calls.proofs.run_model.LinkEnds.{AreTaken, IsUnderstood}
-use Rattle.link_calls.proofs.run_model.Stations.{is_in}
-use Rattle.link_calls.proofs.run_laws.DistinctAccess.{AreApart}
-use Rattle.link_calls.proofs.run_laws.SameEvent.{apart_ends, one_connect_ind}
-use Rattle.link_calls.proofs.run_laws.TwoStations.{AreTwo, differs_back}
+use Rattle.run_pairs.specs.link_calls.link_model.End.{notes_after}
+use Rattle.run_pairs.specs.link_calls.link_model.Facts.{Facts as EndFacts}
+use Rattle.run_pairs.specs.link_calls.link_model.Packets.{good_pdu, heard_of, is_forged_pdu, pdu_read, pdu_read_in, verdict_of, whole_pdu}
+use Rattle.run_pairs.specs.link_calls.link_model.Payload.{opens_now}
+use Rattle.run_pairs.specs.link_calls.link_model.Receiving.{received_notes}
+use Rattle.run_pairs.specs.link_calls.link_model.Setup.{Setup as EndSetup}
+use Rattle.run_pairs.specs.link_calls.link_model.Step.{PacketReceived}
+use Rattle.run_pairs.specs.link_calls.link_model.Verdicts.{has_room_for, pdu_by, verdict_by, whole_in}
+use Rattle.run_pairs.specs.link_calls.open_links.OpenLinks.{facts_in}
+use Rattle.run_pairs.specs.link_calls.run_model.Feeding.{AreDistinct}
+use Rattle.run_pairs.specs.link_calls.run_model.History.{Called, Event}
+use Rattle.run_pairs.specs.link_calls.run_model.LinkEnds.{HaveAddresses}
+use Rattle.run_pairs.specs.link_calls.run_model.Run.{Given, facts_at, history_of, run_of}
+use Rattle.run_pairs.specs.link_calls.run_laws.Ends.{AreEnds, HaveOneConnectInd, IsOpen, OpenEnd, link_listened}
+use Rattle.run_pairs.proofs.link_calls.run_model.LinkEnds.{AreTaken, IsUnderstood}
+use Rattle.run_pairs.proofs.link_calls.run_model.Stations.{is_in}
+use Rattle.run_pairs.proofs.link_calls.run_laws.DistinctAccess.{AreApart}
+use Rattle.run_pairs.proofs.link_calls.run_laws.SameEvent.{apart_ends, one_connect_ind}
+use Rattle.run_pairs.proofs.link_calls.run_laws.TwoStations.{AreTwo, differs_back}
 use Rattle.run_pairs.specs.InTurns.{HasSentNow, HearEachInTurn}
 use Rattle.run_pairs.proofs.FarEnds.{hear_in_turn, hears_in_turn}
 
 -- ---- a packet from which an end takes a PDU is good
 
 module _ (setup : EndSetup) (facts : EndFacts) (octets : List ℕ) where
-  at : (fits : Bool) (pdu : List ℕ) → ((if fits then Good else BrokenPacket) ≡ Good) ⊎ (pdu_by fits pdu ≡ None)
-  at true pdu = inl refl
+  abbrev opens : Bool
+  opens = opens_now facts.encryption.end
+
+  as_read : (read : Option (List ℕ)) → ((if is_none read then Forged else Good) ≡ Good) ⊎ (read ≡ None)
+  as_read None = inr refl
+  as_read (Some pdu) = inl refl
+
+  at : (fits : Bool) (pdu : List ℕ) → ((if fits then (if is_forged_pdu facts pdu then Forged else Good) else BrokenPacket) ≡ Good)
+      ⊎ (pdu_read_in facts (pdu_by fits pdu) ≡ None)
+  at true pdu = as_read (pdu_read facts pdu)
   at false pdu = inr refl
 
-  of : (heard : Heard) → (verdict_by setup.link.max_rx heard ≡ Good) ⊎ (good_in setup.link.max_rx heard ≡ None)
+  of : (heard : Heard) → (verdict_by setup.link.max_rx opens (is_forged_pdu facts) heard ≡ Good)
+      ⊎ (pdu_read_in facts (whole_in setup.link.max_rx opens heard) ≡ None)
   of NotOurs = inr refl
   of Broken = inr refl
-  of (Whole pdu) = at (has_room_for setup.link.max_rx pdu.items) pdu.items
+  of (Whole pdu) = at (has_room_for setup.link.max_rx opens pdu.items) pdu.items
 
   good_or_none : (verdict_of setup facts octets ≡ Good) ⊎ (good_pdu setup facts octets ≡ None)
-  unfolding good_pdu verdict_of
+  unfolding good_pdu verdict_of whole_pdu
   good_or_none = of (heard_of setup facts octets)
 
   not_empty : (earlier later : List Note) (note : Note) → [] ≡ earlier ++ note ∷ later → ⊥

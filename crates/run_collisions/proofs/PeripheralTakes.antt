@@ -49,9 +49,10 @@ use Rattle.link_pairs.specs.link_model.Data.{is_control, is_data, is_empty, numb
 use Rattle.link_pairs.specs.link_model.End.{notes_after}
 use Rattle.link_pairs.specs.link_model.Entering.{done_notes}
 use Rattle.link_pairs.specs.link_model.Facts.{Facts}
-use Rattle.link_pairs.specs.link_model.Hearing.{IsUnderstood, pdu_heard, pdu_octets}
-use Rattle.link_pairs.specs.link_model.Packets.{good_pdu, header_sent}
-use Rattle.link_pairs.specs.link_model.Receiving.{accepted_if, accepts, acked_kind, acks_control, facts_before_taking, facts_hearing, given_notes, has_acknowledged, notes_hearing, procedures_take_if, taken_notes, took_notes_if}
+use Rattle.link_pairs.specs.link_model.Hearing.{IsUnderstood, pdu_octets}
+use Rattle.link_pairs.specs.link_model.Packets.{good_pdu, header_sent, pdu_sent}
+use Rattle.link_pairs.specs.link_model.Plain.{IsPlain, plain_accepted_if, plain_before_taking, plain_hearing, plain_taken_notes, plain_takes_if}
+use Rattle.link_pairs.specs.link_model.Receiving.{accepts, acked_kind, acks_control, facts_before_taking, facts_hearing, given_notes, has_acknowledged, notes_hearing, took_notes_if}
 use Rattle.link_pairs.specs.link_model.Setup.{Setup, first_anchor, first_params}
 use Rattle.link_pairs.specs.link_model.Step.{PacketReceived}
 use Rattle.link_pairs.specs.Ends.{AreEnds, heard_turns, is_lasting, phased_of}
@@ -60,6 +61,7 @@ use Rattle.link_pairs.specs.Shown.{Shows}
 use Rattle.link_pairs.specs.Sound.{first_joint}
 use Rattle.link_pairs.specs.Turns.{AreReady, HaveBegun}
 use Rattle.link_pairs.proofs.link_model.Hearing.{IsHeardWhole}
+use Rattle.link_pairs.proofs.link_model.Plain.{before_taking_plain, hearing_plain, notes_hearing_plain}
 use Rattle.link_pairs.proofs.link_model.Received.{facts_heard, header_read, heard_good, notes_heard}
 use Rattle.link_pairs.proofs.Answering.{gone, seen as seen_end}
 use Rattle.link_pairs.proofs.Counts.{Says, acknowledged_by, is_fresh, says_right, turned}
@@ -114,22 +116,27 @@ module _ (whole : IsHeardWhole) (central peripheral : Setup) (slot : ℕ) (c p :
   abbrev has_room : Bool
   has_room = room || not (is_data last)
 
+  -- it encrypts nothing
+  plain : IsPlain peripheral.link.role p
+  plain = s.peripheral_rests.plain
+
   und : IsUnderstood central packet.before peripheral p
-  und = understood central peripheral slot (slot + 1) c p channel octets ends.one_link.fields s.central_fits s.central_rests packet same
+  und = understood central peripheral slot (slot + 1) c p channel octets ends.one_link.fields s.central_fits s.central_rests packet same plain
 
   sent : HasSent packet.before c
   sent = subst (HasSent packet.before) (sym packet.sent) (has_sent slot packet.before)
 
-  pdu_is : pdu_heard packet.before ≡ last
-  pdu_is = λ i. record { llid = (sym sent.last i).llid; body = (sym sent.payload ∙ s.central_rests.payload) i }
+  pdu_is : pdu_sent packet.before ≡ last
+  pdu_is = sym sent.last
 
-  good_is : good_pdu peripheral p octets ≡ Some (pdu_octets packet.before)
+  good_is : good_pdu peripheral p octets ≡ Some (pdu_octets packet.before p)
   good_is = ap (good_pdu peripheral p) packet.packet ∙ heard_good whole central peripheral packet.before p und
 
-  facts_are : received peripheral slot octets room p ≡ facts_hearing peripheral.link.role slot room header last p
+  facts_are : received peripheral slot octets room p ≡ plain_hearing peripheral.link.role slot room header last p
   facts_are =
       ap (λ (o : List ℕ). received peripheral slot o room p) packet.packet ∙ facts_heard whole central peripheral packet.before p und slot room
       ∙ ap (λ (pdu : Pdu). facts_hearing peripheral.link.role slot room header pdu p) pdu_is
+      ∙ hearing_plain peripheral.link.role peripheral.link.role slot room header last p plain
 
   notes_are : notes_after peripheral p (PacketReceived slot octets room) ≡ notes_hearing peripheral slot room header last p
   notes_are =
@@ -167,11 +174,15 @@ module _ (whole : IsHeardWhole) (central peripheral : Setup) (slot : ℕ) (c p :
   acked_facts = seen_end slot header.md acks p
 
   abbrev now : Facts
-  now = facts_before_taking Peripheral slot header p
+  now = plain_before_taking Peripheral slot header p
+
+  before_is : facts_before_taking Peripheral slot header p ≡ now
+  before_is = before_taking_plain peripheral.link.role Peripheral slot header p plain
 
   seen_is : seen peripheral slot octets p ≡ now
   seen_is =
-      (λ i. seen_by peripheral slot (good_is i) p) ∙ (λ i. facts_before_taking (ends.is_peripheral i) slot (header_read packet.before und.llid i) p)
+      (λ i. seen_by peripheral slot (good_is i) p) ∙ (λ i. facts_before_taking (ends.is_peripheral i) slot (header_read packet.before p und.llid i) p)
+      ∙ before_is
 
   took : IsTaken (is_noted peripheral slot room header last p) last 3 taking.body
   took =
@@ -182,7 +193,9 @@ module _ (whole : IsHeardWhole) (central peripheral : Setup) (slot : ℕ) (c p :
   accepted_parts = and_parts (accepts room header last (facts_before_taking peripheral.link.role slot header p)) (not (is_empty last)) took.taken_now
 
   accepted_now : accepts room header last now ≡ true
-  accepted_now = ap (λ (role : Role). accepts room header last (facts_before_taking role slot header p)) (sym ends.is_peripheral) ∙ accepted_parts.0
+  accepted_now =
+      ap (accepts room header last) (sym before_is)
+      ∙ ap (λ (role : Role). accepts room header last (facts_before_taking role slot header p)) (sym ends.is_peripheral) ∙ accepted_parts.0
 
   procedure : is_procedure_pdu last ≡ true
   procedure = and_from (is_control last) (not (is_empty last)) (eq-eqb last.llid 3 took.llid_is) accepted_parts.1
@@ -379,17 +392,18 @@ module _ (whole : IsHeardWhole) (central peripheral : Setup) (slot : ℕ) (c p :
         ≡ done_notes handle done ++ Took handle number last.llid (record { items = last.body }) ∷ Refused handle (kind_of q) code ∷ []
     notes_now =
         notes_are
+        ∙ notes_hearing_plain peripheral slot room header last p plain
         ∙ (λ i. done_notes handle done
-        ++ taken_notes handle (accepts room header last (facts_before_taking (ends.is_peripheral i) slot header p)) last slot
-        (facts_before_taking (ends.is_peripheral i) slot header p))
+        ++ plain_taken_notes handle (accepts room header last (plain_before_taking (ends.is_peripheral i) slot header p)) last slot
+        (plain_before_taking (ends.is_peripheral i) slot header p))
         ∙ ap (λ (notes : List Note). done_notes handle done ++ notes)
         (taken_are (accepts room header last now) (is_empty last) (is_procedure_pdu last) (read_of last) accepted_now accepted_parts.1 procedure (read_is ∙ ap (λ (x : Ctrl). Known x) rejects))
 
     table_now : (received peripheral slot octets room p).control.table ≡ refuses.table
     table_now =
         ap (λ (f : Facts). f.control.table) facts_are
-        ∙ ap (λ (role : Role). (facts_hearing role slot room header last p).control.table) ends.is_peripheral
-        ∙ (λ i. (procedures_take_if (accepted_now i && procedure i) last slot (accepted_if (accepts room header last now) last now)).control.table)
+        ∙ ap (λ (role : Role). (plain_hearing role slot room header last p).control.table) ends.is_peripheral
+        ∙ (λ i. (plain_takes_if (accepted_now i && procedure i) last slot (plain_accepted_if (accepts room header last now) last now)).control.table)
         ∙ ap (λ (read : CtrlRead). (after (Takes read slot true) now.control).table) (read_is ∙ ap (λ (x : Ctrl). Known x) rejects)
         ∙ ap (λ (k : Control). k.table) (control_after q code slot now.control lasts refuses)
 

@@ -14,7 +14,7 @@ use Rattle.link_pairs.specs.link_model.Controls.{is_procedure_pdu}
 use Rattle.link_pairs.specs.link_model.Data.{is_empty, numbered}
 use Rattle.link_pairs.specs.link_model.Entering.{done_notes}
 use Rattle.link_pairs.specs.link_model.Facts.{Facts}
-use Rattle.link_pairs.specs.link_model.Receiving.{accepts, acked_kind, acks_control, facts_before_taking, given_if, given_notes, has_acknowledged, notes_hearing, refused_notes, taken_notes, took_notes_if}
+use Rattle.link_pairs.specs.link_model.Receiving.{accepts, acked_kind, acks_control, facts_before_taking, given_if, given_notes, has_acknowledged, kept_given_if, notes_hearing, refused_notes, taken_notes, took_notes_if}
 use Rattle.link_pairs.specs.link_model.Setup.{Setup}
 
 -- the PDU is taken, with this LLID and these octets
@@ -66,10 +66,12 @@ module _ (setup : Setup) (slot : ℕ) (room : Bool) (header : DataHeader) (pdu :
       let handle = setup.link.handle in
       let done = done_notes handle (acked_kind (acks_control (has_acknowledged facts header) facts) facts) in
       let given = given_if (accepted && is_procedure_pdu pdu) pdu slot now in
+      let kept = kept_given_if (accepted && is_procedure_pdu pdu) pdu slot now in
       All-append (OfThis is_noted pdu) done (taken_notes handle accepted pdu slot now)
       (done_of is_noted pdu handle (acked_kind (acks_control (has_acknowledged facts header) facts) facts))
-      (All-append (OfThis is_noted pdu) (took_notes_if is_noted handle pdu now) (given_notes handle given) (took_of is_noted pdu handle now is_noted refl)
-      (given_of is_noted pdu handle given))
+      (All-append (OfThis is_noted pdu) (took_notes_if is_noted handle pdu now) (given_notes handle given ++ given_notes handle kept)
+      (took_of is_noted pdu handle now is_noted refl)
+      (All-append (OfThis is_noted pdu) (given_notes handle given) (given_notes handle kept) (given_of is_noted pdu handle given) (given_of is_noted pdu handle kept)))
 
   pub taken_at : (earlier later : List Note) (handle number llid : ℕ) (body : List ℕ)
       → notes_hearing setup slot room header pdu facts ≡ earlier ++ Took handle number llid (record { items = body }) ∷ later

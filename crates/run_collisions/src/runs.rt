@@ -7,16 +7,16 @@ ghost use Rattle.exclusive_stages.specs.declared.pdus.Exclusive.{Exclusive};
 ghost use Rattle.link_pairs.specs.Ends.{is_lasting};
 ghost use Rattle.link_pairs.specs.Hearing.{received};
 ghost use Rattle.link_pairs.specs.link_model.Controls.{is_procedure_pdu};
-ghost use Rattle.link_calls.specs.open_links.OpenLinks.{OpenLink, facts_in};
+ghost use Rattle.run_pairs.specs.link_calls.open_links.OpenLinks.{OpenLink, facts_in};
 ghost use Rattle.controller_model.specs.Heard.{has_room};
 ghost use Rattle.controller_model.specs.Step.{PacketHeard};
 ghost use Rattle.radio_replay.specs.Script.{Script};
-ghost use Rattle.link_calls.specs.run_model.Feeding.{AreDistinct};
-ghost use Rattle.link_calls.specs.run_model.History.{Called, Event};
-ghost use Rattle.link_calls.specs.run_model.LinkEnds.{HaveAddresses};
-ghost use Rattle.link_calls.specs.run_model.Pair.{given_of};
-ghost use Rattle.link_calls.specs.run_model.Run.{Given, facts_at, history_of, run_of, setup_at};
-ghost use Rattle.link_calls.specs.run_laws.Ends.{AreEnds, IsOpen, OpenEnd, link_listened};
+ghost use Rattle.run_pairs.specs.link_calls.run_model.Feeding.{AreDistinct};
+ghost use Rattle.run_pairs.specs.link_calls.run_model.History.{Called, Event};
+ghost use Rattle.run_pairs.specs.link_calls.run_model.LinkEnds.{HaveAddresses};
+ghost use Rattle.run_pairs.specs.link_calls.run_model.Pair.{given_of};
+ghost use Rattle.run_pairs.specs.link_calls.run_model.Run.{Given, facts_at, history_of, run_of, setup_at};
+ghost use Rattle.run_pairs.specs.link_calls.run_laws.Ends.{AreEnds, IsOpen, OpenEnd, link_listened};
 ghost use Rattle.run_pairs.specs.InTurns.{HasSentNow, HearEachInTurn};
 ghost use Rattle.run_collisions.specs.Prevailing.{Prevails, TakesColliding, seen};
 ghost use Rattle.run_collisions.specs.Refused.{IsRefused, TakesRejection, is_refusing};
@@ -65,7 +65,7 @@ pub fn the_central_prevails_in_each_run()
     air_frame::laws::packet_tells_its_pdu();
     controller_model::a_pdu_is_understood();
     advertise::laws::connections_are_taken();
-    known_ends::what_hosts_ask_may_come();
+    run_pairs::what_hosts_ask_may_come();
 }
 
 /// In a run of two stations, with any number of links each, the same holds of each packet that a
@@ -139,7 +139,7 @@ pub fn rejected_procedures_are_refused_in_each_run()
     air_frame::laws::packet_tells_its_pdu();
     controller_model::a_pdu_is_understood();
     advertise::laws::connections_are_taken();
-    known_ends::what_hosts_ask_may_come();
+    run_pairs::what_hosts_ask_may_come();
 }
 
 /// In a run of two stations, with any number of links each, the same holds of each packet that a
@@ -237,5 +237,5 @@ pub fn control_pdus_do_not_cross_in_each_run()
     air_frame::laws::packet_tells_its_pdu();
     controller_model::a_pdu_is_understood();
     advertise::laws::connections_are_taken();
-    known_ends::what_hosts_ask_may_come();
+    run_pairs::what_hosts_ask_may_come();
 }

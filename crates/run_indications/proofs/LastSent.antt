@@ -18,13 +18,13 @@ use Rattle.joint_laws.specs.joint_controls.Joint.{Clear, Control as control_item
 use Rattle.joint_laws.specs.joint_parameters.Indications.{indication_in as indication_of_ctrl, indication_read as read_on_air}
 use Rattle.joint_laws.specs.joint_parameters.Turns.{Link, step_if, takes_item}
 use Rattle.joint_laws.proofs.joint_parameters.Arriving.{read_there, same_event, test_is_late}
-use Rattle.link_calls.specs.link_model.Acknowledgement.{Acknowledgement, Pdu, is_acked}
-use Rattle.link_calls.specs.link_model.Data.{is_data, is_empty}
-use Rattle.link_calls.specs.link_model.End.{notes_after}
-use Rattle.link_calls.specs.link_model.Facts.{Facts}
-use Rattle.link_calls.specs.link_model.Setup.{Setup, first_anchor, first_params}
-use Rattle.link_calls.specs.link_model.Step.{PacketReceived}
-use Rattle.link_calls.proofs.link_model.Hearing.{IsHeardWhole}
+use Rattle.run_pairs.specs.link_calls.link_model.Acknowledgement.{Acknowledgement, Pdu, is_acked}
+use Rattle.run_pairs.specs.link_calls.link_model.Data.{is_data, is_empty}
+use Rattle.run_pairs.specs.link_calls.link_model.End.{notes_after}
+use Rattle.run_pairs.specs.link_calls.link_model.Facts.{Facts}
+use Rattle.run_pairs.specs.link_calls.link_model.Setup.{Setup, first_anchor, first_params}
+use Rattle.run_pairs.specs.link_calls.link_model.Step.{PacketReceived}
+use Rattle.run_pairs.proofs.link_calls.link_model.Hearing.{IsHeardWhole}
 use Rattle.link_runs.specs.control_model.Control.{Control}
 use Rattle.link_runs.specs.procedure_values.declared.drafts.Outgoing.{Outgoing}
 use Rattle.link_runs.specs.link_pairs.Ends.{AreEnds, heard_turns, is_lasting}
@@ -33,6 +33,7 @@ use Rattle.link_runs.specs.link_pairs.Parting.{HasFittingPdu}
 use Rattle.link_runs.specs.link_pairs.Shown.{Shows}
 use Rattle.link_runs.specs.link_pairs.Turns.{HaveBegun}
 use Rattle.link_runs.specs.link_pairs.Ways.{IsControlPdu, IsUntaken, ShowsWay}
+use Rattle.link_runs.proofs.link_pairs.link_model.Plain.{notes_hearing_plain}
 use Rattle.link_runs.proofs.link_pairs.Counts.{says_right, turned, unseen_is_taken}
 use Rattle.link_runs.proofs.link_pairs.Ending.{run_at}
 use Rattle.link_runs.proofs.link_pairs.Items.{data_is_no_control}
@@ -203,10 +204,12 @@ module _ (whole : IsHeardWhole) (central peripheral : Setup) (slot : ℕ) (c p :
 
   read : AreRead peripheral p slot octets c.acknowledgement
   read = are_read whole central peripheral slot c p channel octets ends.one_link.fields ends.peripheral_max.to fits packet on_channel
+      shows.peripheral_rests.plain
 
   coming : IsComing l.joint.down indication
   coming =
-      let new = took_new peripheral slot room read.header c.acknowledgement.last p before later handle number llid body (sym (read.notes room) ∙ noted) in
+      let heard = notes_hearing_plain peripheral slot room read.header c.acknowledgement.last p shows.peripheral_rests.plain in
+      let new = took_new peripheral slot room read.header c.acknowledgement.last p before later handle number llid body (heard ∙ sym (read.notes room) ∙ noted) in
       let agreed = turned c.acknowledgement p.acknowledgement shows.agreement in
       let untaken = (says_right p.acknowledgement c.acknowledgement agreed read.header read.bits read.out).untaken new.fresh in
       comes l.joint.down c.acknowledgement p.acknowledgement indication shows.down read.out new.has_octets untaken

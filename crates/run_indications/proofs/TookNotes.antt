@@ -1,5 +1,5 @@
 -- The note of a PDU that an end takes: it has the PDU of the packet, which is new and not empty.
-use Rattle.std.proofs.Common.{◌≡◌, ◌⊎◌, inl, inr, ℕ, ◌&&◌, not, Bool, true, false, List, [], ◌∷◌, ◌++◌, Option, Some, None, refl, ap, sym, subst, ◌||◌, ◌∙◌, if◌then◌else◌}
+use Rattle.std.proofs.Common.{◌≡◌, ◌⊎◌, inl, inr, ℕ, ◌&&◌, not, Bool, true, false, List, [], ◌∷◌, ◌++◌, Option, Some, None, is_none, refl, ap, sym, subst, ◌||◌, ◌∙◌, if◌then◌else◌}
 use Rattle.std.specs.Prelude.{⊤}
 use Rattle.std.specs.List.{AllByRecursion}
 use Rattle.std.proofs.lemmas.Bool.{and_parts}
@@ -10,21 +10,23 @@ use Rattle.ble_base.specs.declared.error_codes.ErrCode.{ErrCode}
 use Rattle.ble_base.specs.declared.notes.Note.{Note}
 use Rattle.ble_base.specs.declared.notes.Note.TheVariants.{Took}
 use Rattle.ble_base.specs.declared.procedure_kinds.Kind.{Kind}
-use Rattle.ble_base.specs.declared.verdicts.Verdict.TheVariants.{Broken as BrokenPacket, Good}
+use Rattle.ble_base.specs.declared.verdicts.Verdict.{Verdict}
+use Rattle.ble_base.specs.declared.verdicts.Verdict.TheVariants.{Broken as BrokenPacket, Forged, Good}
 use Rattle.data_pdu.specs.declared.header.DataHeader.{DataHeader}
-use Rattle.link_calls.specs.control_end.declared.answers.Taken.{Taken}
-use Rattle.link_calls.specs.link_model.Acknowledgement.{Pdu}
-use Rattle.link_calls.specs.link_model.Controls.{is_procedure_pdu}
-use Rattle.link_calls.specs.link_model.Data.{is_data, is_empty}
-use Rattle.link_calls.specs.link_model.End.{notes_after}
-use Rattle.link_calls.specs.link_model.Entering.{done_notes}
-use Rattle.link_calls.specs.link_model.Facts.{Facts}
-use Rattle.link_calls.specs.link_model.Packets.{good_pdu, heard_of, verdict_of}
-use Rattle.link_calls.specs.link_model.Receiving.{accepts, acked_kind, acks_control, facts_before_taking, given_if, given_notes, has_acknowledged, has_new_pdu, notes_hearing, received_notes, refused_notes, took_notes_if}
-use Rattle.link_calls.specs.link_model.Setup.{Setup}
-use Rattle.link_calls.specs.link_model.Step.{PacketReceived}
-use Rattle.link_calls.specs.link_model.Verdicts.{good_in, has_room_for, pdu_by, verdict_by}
-use Rattle.link_calls.proofs.link_model.Acknowledging.{ack_before_taking}
+use Rattle.run_pairs.specs.link_calls.control_end.declared.answers.Taken.{Taken}
+use Rattle.run_pairs.specs.link_calls.link_model.Acknowledgement.{Pdu}
+use Rattle.run_pairs.specs.link_calls.link_model.Controls.{is_procedure_pdu}
+use Rattle.run_pairs.specs.link_calls.link_model.Data.{is_data, is_empty}
+use Rattle.run_pairs.specs.link_calls.link_model.End.{notes_after}
+use Rattle.run_pairs.specs.link_calls.link_model.Entering.{done_notes}
+use Rattle.run_pairs.specs.link_calls.link_model.Facts.{Facts}
+use Rattle.run_pairs.specs.link_calls.link_model.Packets.{good_pdu, has_new_pdu, heard_of, is_forged_pdu, pdu_read, pdu_read_in, verdict_of, whole_pdu}
+use Rattle.run_pairs.specs.link_calls.link_model.Payload.{opens_now}
+use Rattle.run_pairs.specs.link_calls.link_model.Receiving.{accepts, acked_kind, acks_control, facts_before_taking, given_if, given_notes, has_acknowledged, kept_given_if, notes_hearing, received_notes, refused_notes, took_notes_if}
+use Rattle.run_pairs.specs.link_calls.link_model.Setup.{Setup}
+use Rattle.run_pairs.specs.link_calls.link_model.Step.{PacketReceived}
+use Rattle.run_pairs.specs.link_calls.link_model.Verdicts.{has_room_for, pdu_by, verdict_by, whole_in}
+use Rattle.run_pairs.proofs.link_calls.link_model.Acknowledging.{ack_before_taking}
 use Rattle.link_runs.proofs.link_pairs.Counts.{is_fresh}
 
 -- ---- a note in a list
@@ -88,10 +90,12 @@ module _ (setup : Setup) (slot : ℕ) (room : Bool) (header : DataHeader) (pdu :
       let acked = acked_kind (acks_control (has_acknowledged facts header) facts) facts in
       let noted = accepted && not (is_empty pdu) in
       let given = given_if (accepted && is_procedure_pdu pdu) pdu slot now in
-      both_each (SaysTaken accepted pdu) (done_notes handle acked) (took_notes_if noted handle pdu now ++ given_notes handle given)
+      let kept = kept_given_if (accepted && is_procedure_pdu pdu) pdu slot now in
+      both_each (SaysTaken accepted pdu) (done_notes handle acked) (took_notes_if noted handle pdu now ++ (given_notes handle given ++ given_notes handle kept))
       (done_each accepted pdu handle acked)
-      (both_each (SaysTaken accepted pdu) (took_notes_if noted handle pdu now) (given_notes handle given)
-      (took_each accepted pdu noted handle now refl) (given_each accepted pdu handle given))
+      (both_each (SaysTaken accepted pdu) (took_notes_if noted handle pdu now) (given_notes handle given ++ given_notes handle kept)
+      (took_each accepted pdu noted handle now refl)
+      (both_each (SaysTaken accepted pdu) (given_notes handle given) (given_notes handle kept) (given_each accepted pdu handle given) (given_each accepted pdu handle kept)))
 
   -- what is accepted is new by the counts of the end
   fresh_by : accepted ≡ true → is_fresh facts.acknowledgement header ≡ true
@@ -120,19 +124,30 @@ module _ (setup : Setup) (slot : ℕ) (room : Bool) (header : DataHeader) (pdu :
 
 pub good_or_silent : (setup : Setup) (slot : ℕ) (octets : List ℕ) (room : Bool) (facts : Facts)
     → (verdict_of setup facts octets ≡ Good) ⊎ (notes_after setup facts (PacketReceived slot octets room) ≡ [])
-unfolding good_pdu verdict_of
+unfolding good_pdu verdict_of whole_pdu
 good_or_silent setup slot octets room facts = got (of (heard_of setup facts octets))
   where
-    at : (fits : Bool) (pdu : List ℕ) → ((if fits then Good else BrokenPacket) ≡ Good) ⊎ (pdu_by fits pdu ≡ None)
-    at true pdu = inl refl
+    opens : Bool
+    opens = opens_now facts.encryption.end
+
+    GoodOrNone : Verdict → Option (List ℕ) → Type 0
+    GoodOrNone verdict pdu = (verdict ≡ Good) ⊎ (pdu ≡ None)
+
+    as_read : (read : Option (List ℕ)) → GoodOrNone (if is_none read then Forged else Good) read
+    as_read None = inr refl
+    as_read (Some pdu) = inl refl
+
+    at : (fits : Bool) (pdu : List ℕ) → GoodOrNone (if fits then (if is_forged_pdu facts pdu then Forged else Good) else BrokenPacket) (pdu_read_in facts (pdu_by fits pdu))
+    at true pdu = as_read (pdu_read facts pdu)
     at false pdu = inr refl
 
-    of : (heard : Heard) → (verdict_by setup.link.max_rx heard ≡ Good) ⊎ (good_in setup.link.max_rx heard ≡ None)
+    of : (heard : Heard) → GoodOrNone (verdict_by setup.link.max_rx opens (is_forged_pdu facts) heard) (pdu_read_in facts (whole_in setup.link.max_rx opens heard))
     of NotOurs = inr refl
     of Broken = inr refl
-    of (Whole pdu) = at (has_room_for setup.link.max_rx pdu.items) pdu.items
+    of (Whole pdu) = at (has_room_for setup.link.max_rx opens pdu.items) pdu.items
 
-    got : (verdict_by setup.link.max_rx (heard_of setup facts octets) ≡ Good) ⊎ (good_in setup.link.max_rx (heard_of setup facts octets) ≡ None)
+    got : GoodOrNone (verdict_by setup.link.max_rx opens (is_forged_pdu facts) (heard_of setup facts octets))
+        (pdu_read_in facts (whole_in setup.link.max_rx opens (heard_of setup facts octets)))
         → (verdict_of setup facts octets ≡ Good) ⊎ (notes_after setup facts (PacketReceived slot octets room) ≡ [])
     got (inl good) = inl good
     got (inr none) = inr (ap (λ (pdu : Option (List ℕ)). received_notes setup slot room pdu facts) none)

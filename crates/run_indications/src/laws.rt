@@ -10,14 +10,14 @@ ghost use Rattle.instants.specs.declared.indications.Indication.{Indication};
 ghost use Rattle.two_tracks.specs.TwoEnds.{change_of};
 ghost use Rattle.link_changes.specs.Noted.{indication_in};
 ghost use Rattle.controller_model.specs.Step.{PacketHeard};
-ghost use Rattle.link_calls.specs.link_model.End.{notes_after};
-ghost use Rattle.link_calls.specs.link_model.Step.{PacketReceived};
-ghost use Rattle.link_calls.specs.open_links.OpenLinks.{facts_in};
-ghost use Rattle.link_calls.specs.run_laws.Ends.{AreEnds, IsOpen, OpenEnd, link_listened};
-ghost use Rattle.link_calls.specs.run_model.Feeding.{AreDistinct};
-ghost use Rattle.link_calls.specs.run_model.History.{Called, Event};
-ghost use Rattle.link_calls.specs.run_model.LinkEnds.{HaveAddresses};
-ghost use Rattle.link_calls.specs.run_model.Run.{Given, facts_at, history_of, run_of};
+ghost use Rattle.run_pairs.specs.link_calls.link_model.End.{notes_after};
+ghost use Rattle.run_pairs.specs.link_calls.link_model.Step.{PacketReceived};
+ghost use Rattle.run_pairs.specs.link_calls.open_links.OpenLinks.{facts_in};
+ghost use Rattle.run_pairs.specs.link_calls.run_laws.Ends.{AreEnds, IsOpen, OpenEnd, link_listened};
+ghost use Rattle.run_pairs.specs.link_calls.run_model.Feeding.{AreDistinct};
+ghost use Rattle.run_pairs.specs.link_calls.run_model.History.{Called, Event};
+ghost use Rattle.run_pairs.specs.link_calls.run_model.LinkEnds.{HaveAddresses};
+ghost use Rattle.run_pairs.specs.link_calls.run_model.Run.{Given, facts_at, history_of, run_of};
 ghost use Rattle.link_runs.specs.joint_controls.Joint.{last_change};
 ghost use Rattle.run_pairs.specs.InTurns.{HearEachInTurn};
 
@@ -51,5 +51,5 @@ pub fn a_peripheral_takes_what_the_central_sent_last()
     air_frame::laws::packet_tells_its_pdu();
     controller_model::a_pdu_is_understood();
     advertise::laws::connections_are_taken();
-    known_ends::what_hosts_ask_may_come();
+    run_pairs::what_hosts_ask_may_come();
 }

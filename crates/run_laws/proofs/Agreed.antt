@@ -22,12 +22,11 @@ use Rattle.run_model.specs.link_model.Packets.{more_sent, packet_sent, payload_s
 use Rattle.run_model.specs.link_model.Step.{Step, DataGiven, DataReported, Disconnected, EventEntered, PacketReceived, PacketSent, PduFixed, ProcedureAsked, RequestAnswered}
 use Rattle.run_model.proofs.link_model.Acknowledging.{ack_sent as end_sent}
 use Rattle.run_model.proofs.link_model.Agreeing.{heard_agrees, others_leave}
-use Rattle.run_model.proofs.link_model.Repeating.{past_payload}
 use Rattle.run_model.specs.open_links.OpenLinks.{OpenLink, facts_in, link_after, link_served, new_link}
 use Rattle.run_model.specs.open_links.Turns.{enters_in, entered_if, link_entered}
 use Rattle.run_laws.specs.Ends.{HaveOneConnectInd}
 use Rattle.run_laws.specs.Ranges.{HasRanges}
-use Rattle.controller_model.proofs.Asked.{IsAskedStep}
+use Rattle.run_model.proofs.controller_model.Asked.{IsAskedStep}
 use Rattle.run_laws.proofs.Pieces.{ranged_understand}
 
 abbrev pub ack_of : OpenLink → Acknowledgement
@@ -170,7 +169,7 @@ agree_received whole slot now room one from octets ranges from_ranges packet cha
     let before : AreInAgreement (facts_after from.setup sender (PacketSent slot)).acknowledgement listener.acknowledgement =
     subst (λ a. AreInAgreement a (ack_of one)) (ack_sent now from ∙ sym (end_sent slot sender)) (exchange (ack_of one) (ack_of sent) (agree same)) in
     let heard = heard_agrees whole from.setup one.setup sender listener slot room
-    (ranged_understand from one from_ranges ranges (sym same.fields) channel) (past_payload from.setup from.past) before in
+    (ranged_understand from one from_ranges ranges (sym same.fields) channel) before in
     let received : ack_of after ≡ (facts_after one.setup listener (PacketReceived slot (packet_sent from.setup sender) room)).acknowledgement =
     ap (λ (f : Facts). f.acknowledgement) (step_facts one (PacketReceived slot octets room))
     ∙ ap (λ xs. (facts_after one.setup listener (PacketReceived slot xs room)).acknowledgement) packet in

@@ -3,9 +3,9 @@ use Rattle.std.proofs.Common.{◌≡◌, ℕ, suc, ◌+◌, ◌-◌, ◌==◌, B
 use Rattle.std.specs.Prelude.{map, take, if◌then◌else◌}
 use mathlib.Core.Path.{fun_ext}
 use Rattle.ble_base.specs.declared.notes.Note.{Note}
-use Rattle.controller_model.specs.Step.{Step, HostOctet, TurnBegins, TurnEnds}
-use Rattle.controller_model.specs.Facts.{Facts, Listens, first_facts}
-use Rattle.controller_model.specs.Side.{facts_after, facts_of, notes_after}
+use Rattle.run_model.specs.controller_model.Step.{Step, HostOctet, TurnBegins, TurnEnds}
+use Rattle.run_model.specs.controller_model.Facts.{Facts, Listens, first_facts}
+use Rattle.run_model.specs.controller_model.Side.{facts_after, facts_of, notes_after}
 use Rattle.run_model.specs.Due.{Each}
 use Rattle.run_model.specs.Feeding.{AreDistinct}
 use Rattle.run_model.specs.History.{Event, TurnBegan, HostFed, Called, Noted, Transmitted, past_of, packet_received, steps_in, turns_begun}

@@ -15,16 +15,16 @@ use Rattle.run_model.specs.link_model.Setup.{Setup as EndSetup}
 use Rattle.run_model.specs.link_model.declared.setup.LinkSetup.{LinkSetup}
 use Rattle.scan_init.specs.Initiating.{InitiatorFacts, is_accepted, is_connectable_to, is_sought}
 use Rattle.run_model.specs.open_links.OpenLinks.{OpenLink, free_from, link_at}
-use Rattle.controller_model.specs.declared.doing.Doing.{Doing}
-use Rattle.controller_model.specs.declared.doing.Doing.TheVariants.{Advertises, Requests, Initiates, Connects, CentralSends}
-use Rattle.controller_model.specs.declared.doing.Turn.{Turn}
-use Rattle.controller_model.specs.Step.{Step, HostOctet, TurnBegins, PacketHeard, TurnEnds}
-use Rattle.controller_model.specs.Facts.{Setup, Facts, Listens}
-use Rattle.controller_model.specs.Heard.{answers_by_connecting, connects, fields_sent, heard, if_pdu, initiator_heard, is_new_between, link_if, link_made, link_to, link_under, link_wanted, link_with, next_access_of, unheard}
-use Rattle.controller_model.specs.Packets.{pdu_heard}
-use Rattle.controller_model.specs.Side.{facts_after}
-use Rattle.controller_model.proofs.Always.{IsAdvertisingChannel, MayBegin}
-use Rattle.controller_model.proofs.DataChannels.{link_channel}
+use Rattle.run_model.specs.controller_model.declared.doing.Doing.{Doing}
+use Rattle.run_model.specs.controller_model.declared.doing.Doing.TheVariants.{Advertises, Requests, Initiates, Connects, CentralSends}
+use Rattle.run_model.specs.controller_model.declared.doing.Turn.{Turn}
+use Rattle.run_model.specs.controller_model.Step.{Step, HostOctet, TurnBegins, PacketHeard, TurnEnds}
+use Rattle.run_model.specs.controller_model.Facts.{Setup, Facts, Listens}
+use Rattle.run_model.specs.controller_model.Heard.{answers_by_connecting, connects, fields_sent, heard, if_pdu, initiator_heard, is_new_between, link_if, link_made, link_to, link_under, link_wanted, link_with, next_access_of, unheard}
+use Rattle.run_model.specs.controller_model.Packets.{pdu_heard}
+use Rattle.run_model.specs.controller_model.Side.{facts_after}
+use Rattle.run_model.proofs.controller_model.Always.{IsAdvertisingChannel, MayBegin}
+use Rattle.run_model.proofs.controller_model.DataChannels.{link_channel}
 use Rattle.run_model.specs.Feeding.{AreDistinct}
 use Rattle.run_model.specs.History.{Event}
 use Rattle.run_model.specs.LinkEnds.{HaveAddresses}

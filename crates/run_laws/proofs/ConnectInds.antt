@@ -9,16 +9,16 @@ use Rattle.adv_pdu.specs.declared.pdu.AdvPdu.TheVariants.{Connect}
 use Rattle.adv_pdu.specs.declared.pdu.ConnectFields.{ConnectFields}
 use Rattle.run_model.specs.link_model.declared.setup.LinkSetup.{LinkSetup}
 use Rattle.scan_init.specs.Access.{nth_access}
-use Rattle.controller_model.specs.declared.doing.Doing.{Doing}
-use Rattle.controller_model.specs.declared.doing.Doing.TheVariants.{Advertises, Connects, Rests}
-use Rattle.controller_model.specs.declared.doing.Turn.{Turn}
-use Rattle.controller_model.specs.Step.{Step, HostOctet, TurnBegins, TurnEnds}
-use Rattle.controller_model.specs.Facts.{Setup, Facts, Sends}
-use Rattle.controller_model.specs.Heard.{access_found}
-use Rattle.controller_model.specs.Packets.{advertising_packet, pdu_heard}
-use Rattle.controller_model.specs.Sent.{SendsOn}
-use Rattle.controller_model.specs.Side.{facts_after, facts_of, notes_after}
-use Rattle.controller_model.proofs.DataChannels.{link_channel}
+use Rattle.run_model.specs.controller_model.declared.doing.Doing.{Doing}
+use Rattle.run_model.specs.controller_model.declared.doing.Doing.TheVariants.{Advertises, Connects, Rests}
+use Rattle.run_model.specs.controller_model.declared.doing.Turn.{Turn}
+use Rattle.run_model.specs.controller_model.Step.{Step, HostOctet, TurnBegins, TurnEnds}
+use Rattle.run_model.specs.controller_model.Facts.{Setup, Facts, Sends}
+use Rattle.run_model.specs.controller_model.Heard.{access_found}
+use Rattle.run_model.specs.controller_model.Packets.{advertising_packet, pdu_heard}
+use Rattle.run_model.specs.controller_model.Sent.{SendsOn}
+use Rattle.run_model.specs.controller_model.Side.{facts_after, facts_of, notes_after}
+use Rattle.run_model.proofs.controller_model.DataChannels.{link_channel}
 use Rattle.run_model.specs.Due.{Each, packet_in}
 use Rattle.run_model.specs.Feeding.{AreDistinct}
 use Rattle.run_model.specs.History.{Event, TurnBegan, HostFed, Called, Noted, Transmitted, Hearing, past_of, turns_begun, packet_received}

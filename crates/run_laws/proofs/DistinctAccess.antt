@@ -4,13 +4,13 @@ use Rattle.std.specs.Prelude.{fold, ◌&&◌, if◌then◌else◌}
 use Rattle.std.proofs.lemmas.List.Sums.{fold-append}
 use Rattle.scan_init.specs.Access.{nth_access}
 use Rattle.adv_pdu.specs.declared.pdu.ConnectFields.{ConnectFields}
-use Rattle.controller_model.specs.Heard.{access_found}
+use Rattle.run_model.specs.controller_model.Heard.{access_found}
 use Rattle.run_model.specs.Feeding.{AreDistinct}
 use Rattle.run_model.specs.History.{Event, Transmitted, Hearing}
 use Rattle.run_model.specs.LinkEnds.{HaveAddresses}
 use Rattle.run_model.specs.Links.{begins_link, is_advertising, is_connect_ind}
 use Rattle.run_model.specs.Run.{Given, setup_at, run_of, history_of}
-use Rattle.controller_model.specs.Packets.{pdu_heard}
+use Rattle.run_model.specs.controller_model.Packets.{pdu_heard}
 use Rattle.run_model.proofs.Calls.{same_station}
 use Rattle.run_model.proofs.LinkEnds.{IsUnderstood}
 use Rattle.run_laws.specs.Access.{IsConnectSent, connects_in, connects_sent}

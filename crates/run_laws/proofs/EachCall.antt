@@ -1,10 +1,10 @@
 -- Each call of a run: where its controller stands then, and that what it hears in it was on the air.
 use Rattle.std.proofs.Common.{◌≡◌, ℕ, suc, ◌+◌, ◌-◌, ◌==◌, true, false, Option, Some, None, List, [], ◌∷◌, ◌++◌, refl, sym, ap, subst, ◌∙◌, append-nil, append_assoc}
 use Rattle.std.specs.Prelude.{map, take, if◌then◌else◌}
-use Rattle.controller_model.specs.Step.{Step, HostOctet, TurnBegins, PacketHeard, NothingHeard, TurnEnds}
-use Rattle.controller_model.specs.Facts.{Facts}
-use Rattle.controller_model.specs.Side.{facts_of, notes_after}
-use Rattle.controller_model.proofs.Pasts.{facts_more}
+use Rattle.run_model.specs.controller_model.Step.{Step, HostOctet, TurnBegins, PacketHeard, NothingHeard, TurnEnds}
+use Rattle.run_model.specs.controller_model.Facts.{Facts}
+use Rattle.run_model.specs.controller_model.Side.{facts_of, notes_after}
+use Rattle.run_model.proofs.controller_model.Pasts.{facts_more}
 use Rattle.run_model.specs.Due.{Each}
 use Rattle.run_model.specs.Feeding.{AreDistinct}
 use Rattle.run_model.specs.History.{Event, TurnBegan, HostFed, Called, Noted, Transmitted, packet_received, past_of, turns_begun}

@@ -9,13 +9,13 @@ use Rattle.adv_pdu.specs.Ranges.{IsInRange}
 use Rattle.advertise.specs.declared.answers.AdvAnswer.TheVariants.{Ignore, Respond, Connect as Takes}
 use Rattle.advertise.specs.declared.params.AdvParams.{AdvParams}
 use Rattle.advertise.specs.Answers.{advertiser_answer, is_scan_answered}
-use Rattle.controller_model.specs.declared.doing.Doing.{Doing}
-use Rattle.controller_model.specs.declared.doing.Doing.TheVariants.{Rests}
-use Rattle.controller_model.specs.declared.doing.Turn.{Turn}
-use Rattle.controller_model.proofs.Always.{MayBegin}
-use Rattle.controller_model.specs.Step.{HostOctet}
-use Rattle.controller_model.specs.Facts.{Setup, Facts, first_facts}
-use Rattle.controller_model.specs.Side.{facts_after}
+use Rattle.run_model.specs.controller_model.declared.doing.Doing.{Doing}
+use Rattle.run_model.specs.controller_model.declared.doing.Doing.TheVariants.{Rests}
+use Rattle.run_model.specs.controller_model.declared.doing.Turn.{Turn}
+use Rattle.run_model.proofs.controller_model.Always.{MayBegin}
+use Rattle.run_model.specs.controller_model.Step.{HostOctet}
+use Rattle.run_model.specs.controller_model.Facts.{Setup, Facts, first_facts}
+use Rattle.run_model.specs.controller_model.Side.{facts_after}
 use Rattle.run_model.proofs.LinkEnds.{AreTaken}
 use Rattle.run_laws.proofs.TurnPlaces.{Between, IsTurned, Stage, Within}
 use Rattle.run_laws.proofs.TurnSteps.{FitsChannel, FitsFirst, IsListening, begins_listening, may_fit, phase_fits, phase_listens, initiates, pending, MakesWell, begins_begun, begins_make, begins_may, begins_slot, ends_turn, octet_turn, phase_makes, phase_turn}

@@ -7,17 +7,17 @@ use Rattle.adv_pdu.specs.Pdu.{IsPdu}
 use Rattle.run_model.specs.link_model.Packets.{packet_sent}
 use Rattle.run_model.specs.link_model.Step.{PacketSent}
 use Rattle.run_model.specs.open_links.OpenLinks.{OpenLink, facts_in, link_after, link_at}
-use Rattle.controller_model.specs.declared.doing.Doing.{Doing}
-use Rattle.controller_model.specs.declared.doing.Doing.TheVariants.{Advertises, CentralSends, PeripheralSends}
-use Rattle.controller_model.specs.Step.{Step, HostOctet, TurnBegins, NothingHeard, TurnEnds}
-use Rattle.controller_model.specs.Facts.{Setup, Facts, Sends, Listens}
-use Rattle.controller_model.specs.Heard.{unheard}
-use Rattle.controller_model.specs.Outcome.{facts_passed}
-use Rattle.controller_model.specs.Packets.{advertising_packet, use_of}
-use Rattle.controller_model.specs.Sent.{SendsOn}
-use Rattle.controller_model.specs.Side.{facts_after, facts_of, notes_after}
-use Rattle.controller_model.proofs.Always.{IsAdvertisingChannel}
-use Rattle.controller_model.proofs.Pasts.{facts_more}
+use Rattle.run_model.specs.controller_model.declared.doing.Doing.{Doing}
+use Rattle.run_model.specs.controller_model.declared.doing.Doing.TheVariants.{Advertises, CentralSends, PeripheralSends}
+use Rattle.run_model.specs.controller_model.Step.{Step, HostOctet, TurnBegins, NothingHeard, TurnEnds}
+use Rattle.run_model.specs.controller_model.Facts.{Setup, Facts, Sends, Listens}
+use Rattle.run_model.specs.controller_model.Heard.{unheard}
+use Rattle.run_model.specs.controller_model.Outcome.{facts_passed}
+use Rattle.run_model.specs.controller_model.Packets.{advertising_packet, use_of}
+use Rattle.run_model.specs.controller_model.Sent.{SendsOn}
+use Rattle.run_model.specs.controller_model.Side.{facts_after, facts_of, notes_after}
+use Rattle.run_model.proofs.controller_model.Always.{IsAdvertisingChannel}
+use Rattle.run_model.proofs.controller_model.Pasts.{facts_more}
 use Rattle.radio_replay.specs.declared.fates.Fate.{Fate}
 use Rattle.run_model.specs.Feeding.{AreDistinct}
 use Rattle.run_model.specs.History.{Event, TurnBegan, HostFed, Transmitted, has_received, past_of, packet_received, turns_begun}

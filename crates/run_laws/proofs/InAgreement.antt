@@ -9,14 +9,14 @@ use Rattle.run_model.specs.link_model.Step.{Step as EndStep, DataGiven, PduFixed
 use Rattle.run_model.specs.open_links.OpenLinks.{Links, OpenLink, link_after, link_at, link_served, new_link}
 use Rattle.run_model.specs.open_links.Turns.{link_entered}
 use Rattle.run_model.proofs.open_links.Unmoved.{entered_setup}
-use Rattle.controller_model.specs.declared.doing.Turn.{Turn}
-use Rattle.controller_model.specs.Step.{Step, HostOctet, TurnBegins, TurnEnds}
-use Rattle.controller_model.specs.Facts.{Setup, Facts, first_facts}
-use Rattle.controller_model.specs.Heard.{reply_if}
-use Rattle.controller_model.specs.Packets.{listens_on}
-use Rattle.controller_model.specs.Side.{facts_after, facts_of}
-use Rattle.controller_model.proofs.Always.{holds_step}
-use Rattle.controller_model.proofs.Handles.{HaveOwnHandles, handles_kept, own_handles}
+use Rattle.run_model.specs.controller_model.declared.doing.Turn.{Turn}
+use Rattle.run_model.specs.controller_model.Step.{Step, HostOctet, TurnBegins, TurnEnds}
+use Rattle.run_model.specs.controller_model.Facts.{Setup, Facts, first_facts}
+use Rattle.run_model.specs.controller_model.Heard.{reply_if}
+use Rattle.run_model.specs.controller_model.Packets.{listens_on}
+use Rattle.run_model.specs.controller_model.Side.{facts_after, facts_of}
+use Rattle.run_model.proofs.controller_model.Always.{holds_step}
+use Rattle.run_model.proofs.controller_model.Handles.{HaveOwnHandles, handles_kept, own_handles}
 use Rattle.run_model.specs.Run.{Given, setup_at, step_of}
 use Rattle.run_model.proofs.Stations.{is_in}
 use Rattle.run_laws.specs.Ends.{link_listened}

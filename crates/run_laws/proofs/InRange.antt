@@ -10,14 +10,14 @@ use Rattle.run_model.specs.link_model.ControlSteps.{AreAsksInRange, IsAskInRange
 use Rattle.run_model.specs.link_model.Step.{Step as EndStep, DataGiven, DataReported, EventEntered, PacketReceived, PacketSent, PduFixed, RequestAnswered}
 use Rattle.run_model.specs.open_links.OpenLinks.{OpenLink, link_after, link_at}
 use Rattle.run_model.specs.open_links.Turns.{entered_if, enters_in, link_entered}
-use Rattle.controller_model.specs.declared.doing.Doing.{Doing}
-use Rattle.controller_model.specs.declared.doing.Doing.TheVariants.{Advertises, Connects}
-use Rattle.controller_model.specs.Facts.{Facts, Setup, first_facts}
-use Rattle.controller_model.specs.Heard.{asks_if, has_room, replies_in, reply_if}
-use Rattle.controller_model.specs.Outcome.{facts_passed}
-use Rattle.controller_model.specs.Side.{facts_after, facts_of}
-use Rattle.controller_model.proofs.Always.{MayBegin}
-use Rattle.controller_model.proofs.Phases.{EachOutcome, heard_is, unheard_is}
+use Rattle.run_model.specs.controller_model.declared.doing.Doing.{Doing}
+use Rattle.run_model.specs.controller_model.declared.doing.Doing.TheVariants.{Advertises, Connects}
+use Rattle.run_model.specs.controller_model.Facts.{Facts, Setup, first_facts}
+use Rattle.run_model.specs.controller_model.Heard.{asks_if, has_room, replies_in, reply_if}
+use Rattle.run_model.specs.controller_model.Outcome.{facts_passed}
+use Rattle.run_model.specs.controller_model.Side.{facts_after, facts_of}
+use Rattle.run_model.proofs.controller_model.Always.{MayBegin}
+use Rattle.run_model.proofs.controller_model.Phases.{EachOutcome, heard_is, unheard_is}
 use Rattle.run_model.specs.Feeding.{AreDistinct}
 use Rattle.run_model.specs.History.{Event, past_of}
 use Rattle.run_model.specs.Run.{Given, facts_at, history_of, run_of, setup_at, step_of}

@@ -27,5 +27,5 @@ pub use Rattle.run_model.proofs.control_model as control_model
 pub use Rattle.run_model.proofs.link_model as link_model
 pub use Rattle.run_model.proofs.open_links as open_links
 pub use Rattle.run_model.proofs as run_model
-pub use Rattle.controller_model.proofs as controller_model
+pub use Rattle.run_model.proofs.controller_model as controller_model
 pub use Rattle.run_model.proofs.link_end as link_end

@@ -13,14 +13,14 @@ use Rattle.run_model.specs.link_model.declared.setup.LinkSetup.{LinkSetup}
 use Rattle.scan_init.specs.Initiating.{InitiatorFacts}
 use Rattle.scan_init.specs.Reports.{ScannerFacts, does_ask, scan_answer}
 use Rattle.run_model.specs.open_links.OpenLinks.{Links, free_from, link_after, link_at, with_change, with_link}
-use Rattle.controller_model.specs.declared.doing.Doing.{Doing}
-use Rattle.controller_model.specs.declared.doing.Doing.TheVariants.{Advertises, AwaitsRequest, Scans, Requests, AwaitsResponse, Initiates, Connects, CentralSends, CentralListens, PeripheralListens, PeripheralSends}
-use Rattle.controller_model.specs.Facts.{Setup, Facts}
-use Rattle.controller_model.specs.Heard.{advertiser_answers, advertiser_heard, asks_if, connects, effect_in, has_room, heard, if_pdu, initiator_heard, is_refused, link_taken, link_to, links_refusing, opens, reply_if, scanner_after, scanner_heard, taken_if, taken_under, unheard, with_scanner}
-use Rattle.controller_model.specs.Outcome.{Outcome, facts_passed}
-use Rattle.controller_model.specs.Packets.{facts_doing, links_sending, listens_on, pdu_heard}
-use Rattle.controller_model.specs.Side.{facts_after}
-use Rattle.controller_model.proofs.Always.{opening_is}
+use Rattle.run_model.specs.controller_model.declared.doing.Doing.{Doing}
+use Rattle.run_model.specs.controller_model.declared.doing.Doing.TheVariants.{Advertises, AwaitsRequest, Scans, Requests, AwaitsResponse, Initiates, Connects, CentralSends, CentralListens, PeripheralListens, PeripheralSends}
+use Rattle.run_model.specs.controller_model.Facts.{Setup, Facts}
+use Rattle.run_model.specs.controller_model.Heard.{advertiser_answers, advertiser_heard, asks_if, connects, effect_in, has_room, heard, if_pdu, initiator_heard, is_refused, link_taken, link_to, links_refusing, opens, reply_if, scanner_after, scanner_heard, taken_if, taken_under, unheard, with_scanner}
+use Rattle.run_model.specs.controller_model.Outcome.{Outcome, facts_passed}
+use Rattle.run_model.specs.controller_model.Packets.{facts_doing, links_sending, listens_on, pdu_heard}
+use Rattle.run_model.specs.controller_model.Side.{facts_after}
+use Rattle.run_model.proofs.controller_model.Always.{opening_is}
 use Rattle.run_model.specs.Run.{step_of}
 use Rattle.run_laws.specs.Ends.{link_listened}
 use Rattle.run_laws.proofs.TurnSteps.{IsListening}

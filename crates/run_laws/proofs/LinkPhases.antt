@@ -16,17 +16,17 @@ use Rattle.run_model.proofs.open_links.Handles.{changed_is}
 use Rattle.slot_plan.specs.declared.Activity.{Activity}
 use Rattle.slot_plan.specs.declared.Activity.TheVariants.{Link, Advertise, Scan, Initiate}
 use Rattle.slot_plan.specs.Holding.{is_held_in, winner_of}
-use Rattle.controller_model.specs.declared.doing.Doing.{Doing}
-use Rattle.controller_model.specs.declared.doing.Doing.TheVariants.{Advertises, CentralSends, CentralListens, PeripheralListens, PeripheralSends, Rests}
-use Rattle.controller_model.specs.Step.{Step, TurnBegins}
-use Rattle.controller_model.specs.Facts.{Setup, Facts}
-use Rattle.controller_model.specs.Heard.{has_room, link_heard, links_refusing, replies_in, reply_if, heard, unheard}
-use Rattle.controller_model.specs.Links.{facts_ending}
-use Rattle.controller_model.specs.Outcome.{Outcome, facts_passed}
-use Rattle.controller_model.specs.Packets.{facts_doing}
-use Rattle.controller_model.specs.Radio.{advertises_at, advertises_on, doing_held, doing_won, exchange_begins, exchange_if, facts_entering, facts_won, first_exchange, initiates_on, initiator_channel, links_fixing, outcome_begun, plan_in, radio_served, scanner_channel, scans_on, second_exchange, served, slots_since, turn_begins, winner_served}
-use Rattle.controller_model.specs.Sent.{SendsOn}
-use Rattle.controller_model.specs.Side.{facts_after, facts_of}
+use Rattle.run_model.specs.controller_model.declared.doing.Doing.{Doing}
+use Rattle.run_model.specs.controller_model.declared.doing.Doing.TheVariants.{Advertises, CentralSends, CentralListens, PeripheralListens, PeripheralSends, Rests}
+use Rattle.run_model.specs.controller_model.Step.{Step, TurnBegins}
+use Rattle.run_model.specs.controller_model.Facts.{Setup, Facts}
+use Rattle.run_model.specs.controller_model.Heard.{has_room, link_heard, links_refusing, replies_in, reply_if, heard, unheard}
+use Rattle.run_model.specs.controller_model.Links.{facts_ending}
+use Rattle.run_model.specs.controller_model.Outcome.{Outcome, facts_passed}
+use Rattle.run_model.specs.controller_model.Packets.{facts_doing}
+use Rattle.run_model.specs.controller_model.Radio.{advertises_at, advertises_on, doing_held, doing_won, exchange_begins, exchange_if, facts_entering, facts_won, first_exchange, initiates_on, initiator_channel, links_fixing, outcome_begun, plan_in, radio_served, scanner_channel, scans_on, second_exchange, served, slots_since, turn_begins, winner_served}
+use Rattle.run_model.specs.controller_model.Sent.{SendsOn}
+use Rattle.run_model.specs.controller_model.Side.{facts_after, facts_of}
 use Rattle.run_model.specs.Run.{step_of}
 use Rattle.run_laws.proofs.LinkPasses.{IsPassingOn, LeavesAll, OpensOne, ReceivesOn, is_on_link, phase_passes_on}
 use Rattle.run_laws.proofs.Entering.{IsInTurn, turn_first, turn_kept}

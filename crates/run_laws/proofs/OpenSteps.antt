@@ -39,29 +39,29 @@ use Rattle.run_model.specs.open_links.OpenLinks.{Links, OpenLink, facts_in, link
 use Rattle.run_model.proofs.open_links.Handles.{here, later}
 use Rattle.run_model.specs.open_links.Turns.{due_in, ending_in, link_entered, links_without, staying_by}
 use Rattle.scan_init.specs.Reports.{does_ask, scan_answer}
-use Rattle.controller_model.specs.declared.doing.Doing.{Doing}
-use Rattle.controller_model.specs.declared.doing.Doing.TheVariants.{Advertises, Connects, CentralSends, PeripheralListens, PeripheralSends, Rests}
-use Rattle.controller_model.specs.Step.{HostOctet, TurnBegins, TurnEnds}
-use Rattle.controller_model.specs.Facts.{Setup, Facts}
-use Rattle.controller_model.specs.Commands.{facts_asking, facts_commanded, facts_known, links_after}
-use Rattle.controller_model.specs.link_commands.Commands.{AsksInRange, ask_unless, host_step_of, is_about, map_by, transmit_maximum, update_by}
-use Rattle.controller_model.specs.link_commands.LinksCommanded.{link_after_if, links_commanded_from, place_commanded}
+use Rattle.run_model.specs.controller_model.declared.doing.Doing.{Doing}
+use Rattle.run_model.specs.controller_model.declared.doing.Doing.TheVariants.{Advertises, Connects, CentralSends, PeripheralListens, PeripheralSends, Rests}
+use Rattle.run_model.specs.controller_model.Step.{HostOctet, TurnBegins, TurnEnds}
+use Rattle.run_model.specs.controller_model.Facts.{Setup, Facts}
+use Rattle.run_model.specs.controller_model.Commands.{facts_asking, facts_commanded, facts_known, links_after}
+use Rattle.run_model.specs.controller_model.link_commands.Commands.{AsksInRange, ask_unless, host_step_of, is_about, map_by, transmit_maximum, update_by}
+use Rattle.run_model.specs.controller_model.link_commands.LinksCommanded.{link_after_if, links_commanded_from, place_commanded}
 use Rattle.run_model.specs.open_links.declared.offers.Offer.{Offer}
 use Rattle.run_model.specs.open_links.declared.offers.Offer.TheVariants.{NoLink, Empty, Overflow, Kept}
-use Rattle.controller_model.specs.Data.{facts_handed, facts_offered, offer_of}
-use Rattle.controller_model.specs.Heard.{asks_if, effect_in, has_room, is_refused, link_taken, links_refusing, opens, replies_in, reply_if}
-use Rattle.controller_model.specs.Links.{facts_ending}
-use Rattle.controller_model.specs.Outcome.{Outcome, facts_passed}
-use Rattle.controller_model.specs.Packets.{links_sending}
-use Rattle.controller_model.specs.Radio.{facts_entering, links_fixing, outcome_begun, plan_in, served, radio_served, turn_begins, winner_served}
-use Rattle.controller_model.specs.Side.{facts_after, facts_fed, result_of}
-use Rattle.controller_model.proofs.Always.{ending_is, leaving_is, links_won, opening_passes, winning_is}
-use Rattle.controller_model.proofs.Phases.{EachOutcome, heard_is, unheard_is}
+use Rattle.run_model.specs.controller_model.Data.{facts_handed, facts_offered, offer_of}
+use Rattle.run_model.specs.controller_model.Heard.{asks_if, effect_in, has_room, is_refused, link_taken, links_refusing, opens, replies_in, reply_if}
+use Rattle.run_model.specs.controller_model.Links.{facts_ending}
+use Rattle.run_model.specs.controller_model.Outcome.{Outcome, facts_passed}
+use Rattle.run_model.specs.controller_model.Packets.{links_sending}
+use Rattle.run_model.specs.controller_model.Radio.{facts_entering, links_fixing, outcome_begun, plan_in, served, radio_served, turn_begins, winner_served}
+use Rattle.run_model.specs.controller_model.Side.{facts_after, facts_fed, result_of}
+use Rattle.run_model.proofs.controller_model.Always.{ending_is, leaving_is, links_won, opening_passes, winning_is}
+use Rattle.run_model.proofs.controller_model.Phases.{EachOutcome, heard_is, unheard_is}
 use Rattle.run_model.specs.Run.{step_of}
-use Rattle.controller_model.specs.Entering.{all_entered}
-use Rattle.controller_model.proofs.Accepted.{table_accepts}
-use Rattle.controller_model.proofs.Asked.{IsAskedStep}
-use Rattle.controller_model.proofs.link_commands.Ranges.{asked_in_range}
+use Rattle.run_model.specs.controller_model.Entering.{all_entered}
+use Rattle.run_model.proofs.controller_model.Accepted.{table_accepts}
+use Rattle.run_model.proofs.controller_model.Asked.{IsAskedStep}
+use Rattle.run_model.proofs.controller_model.link_commands.Ranges.{asked_in_range}
 
 -- ---- a fact of each open link
 

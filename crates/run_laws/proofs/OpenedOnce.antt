@@ -7,17 +7,17 @@ use Rattle.run_model.specs.link_model.Setup.{Setup as EndSetup}
 use Rattle.run_model.specs.open_links.OpenLinks.{Links, OpenLink, free_from, link_at}
 use Rattle.run_model.proofs.open_links.Handles.{two_handles}
 use Rattle.scan_init.specs.Reports.{does_ask, scan_answer}
-use Rattle.controller_model.specs.declared.doing.Doing.{Doing}
-use Rattle.controller_model.specs.declared.doing.Doing.TheVariants.{Advertises, AwaitsRequest, Initiates, Connects}
-use Rattle.controller_model.specs.Step.{Step, HostOctet, TurnBegins, TurnEnds}
-use Rattle.controller_model.specs.Facts.{Setup, Facts, first_facts}
-use Rattle.controller_model.specs.Heard.{asks_if, link_received, has_room, link_taken, replies_in, reply_if, scanner_after, with_scanner}
-use Rattle.controller_model.specs.Outcome.{facts_passed}
-use Rattle.controller_model.specs.Packets.{facts_doing}
-use Rattle.controller_model.specs.Side.{facts_after, facts_of}
-use Rattle.controller_model.proofs.Always.{holds_step, opening_passes}
-use Rattle.controller_model.proofs.Handles.{HaveOwnHandles, handles_kept, own_handles}
-use Rattle.controller_model.proofs.Phases.{EachOutcome, heard_is, unheard_is}
+use Rattle.run_model.specs.controller_model.declared.doing.Doing.{Doing}
+use Rattle.run_model.specs.controller_model.declared.doing.Doing.TheVariants.{Advertises, AwaitsRequest, Initiates, Connects}
+use Rattle.run_model.specs.controller_model.Step.{Step, HostOctet, TurnBegins, TurnEnds}
+use Rattle.run_model.specs.controller_model.Facts.{Setup, Facts, first_facts}
+use Rattle.run_model.specs.controller_model.Heard.{asks_if, link_received, has_room, link_taken, replies_in, reply_if, scanner_after, with_scanner}
+use Rattle.run_model.specs.controller_model.Outcome.{facts_passed}
+use Rattle.run_model.specs.controller_model.Packets.{facts_doing}
+use Rattle.run_model.specs.controller_model.Side.{facts_after, facts_of}
+use Rattle.run_model.proofs.controller_model.Always.{holds_step, opening_passes}
+use Rattle.run_model.proofs.controller_model.Handles.{HaveOwnHandles, handles_kept, own_handles}
+use Rattle.run_model.proofs.controller_model.Phases.{EachOutcome, heard_is, unheard_is}
 use Rattle.run_model.specs.Feeding.{AreDistinct}
 use Rattle.run_model.specs.History.{Event, past_of}
 use Rattle.run_model.specs.OnAir.{ends_phase}

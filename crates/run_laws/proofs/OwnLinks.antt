@@ -14,20 +14,21 @@ use Rattle.air_frame.specs.declared.Heard.TheVariants.{NotOurs, Broken, Whole}
 use Rattle.air_frame.specs.Hearing.{heard_in}
 use Rattle.air_frame.specs.Packet.{access_octets, is_packet, pdu_in}
 use Rattle.run_model.specs.link_model.Facts.{Facts as EndFacts}
-use Rattle.run_model.specs.link_model.Packets.{packet_sent, verdict_of}
+use Rattle.run_model.specs.link_model.Packets.{is_forged_pdu, packet_sent, verdict_of}
+use Rattle.run_model.specs.link_model.Payload.{opens_now}
 use Rattle.run_model.specs.link_model.Verdicts.{verdict_by}
 use Rattle.run_model.specs.link_model.Setup.{Setup as EndSetup}
 use Rattle.run_model.specs.link_model.Step.{PacketSent}
 use Rattle.run_model.specs.open_links.OpenLinks.{Links, OpenLink, facts_in, link_after, link_at}
 use Rattle.scan_init.specs.Access.{IsNthAccess, access_at, nth_access}
 use Rattle.scan_init.proofs.Numbers.{each_valid}
-use Rattle.controller_model.specs.declared.doing.Doing.{Doing}
-use Rattle.controller_model.specs.declared.doing.Doing.TheVariants.{Advertises, CentralListens, PeripheralListens}
-use Rattle.controller_model.specs.Facts.{Facts, Listens}
-use Rattle.controller_model.specs.Heard.{access_found}
-use Rattle.controller_model.specs.Packets.{listens_on}
-use Rattle.controller_model.specs.Step.{PacketHeard}
-use Rattle.controller_model.proofs.DataChannels.{link_channel}
+use Rattle.run_model.specs.controller_model.declared.doing.Doing.{Doing}
+use Rattle.run_model.specs.controller_model.declared.doing.Doing.TheVariants.{Advertises, CentralListens, PeripheralListens}
+use Rattle.run_model.specs.controller_model.Facts.{Facts, Listens}
+use Rattle.run_model.specs.controller_model.Heard.{access_found}
+use Rattle.run_model.specs.controller_model.Packets.{listens_on}
+use Rattle.run_model.specs.controller_model.Step.{PacketHeard}
+use Rattle.run_model.proofs.controller_model.DataChannels.{link_channel}
 use Rattle.run_model.specs.Feeding.{AreDistinct}
 use Rattle.run_model.specs.History.{Event, Called, Transmitted, turns_begun}
 use Rattle.run_model.specs.LinkEnds.{ConnectInd, HasConnectInd, HaveAddresses, IsAtEnd}
@@ -54,19 +55,21 @@ pub sent_begins : (setup : EndSetup) (facts : EndFacts) → take 4 (packet_sent 
 unfolding packet_sent
 sent_begins setup facts = refl
 
-pub good_begins : (max_rx channel access init : ℕ) (octets : List ℕ) → verdict_by max_rx (heard_in channel access init octets) ≡ Good → take 4 octets ≡ access_octets access
+pub good_begins : (max_rx : ℕ) (opens : Bool) (is_forged : List ℕ → Bool) (channel access init : ℕ) (octets : List ℕ)
+    → verdict_by max_rx opens is_forged (heard_in channel access init octets) ≡ Good → take 4 octets ≡ access_octets access
 unfolding heard_in
-good_begins max_rx channel access init octets good = by (bytes_eq (take 4 octets) (access_octets access)) refl good
+good_begins max_rx opens is_forged channel access init octets good = by (bytes_eq (take 4 octets) (access_octets access)) refl good
   where
     by : (same : Bool) → bytes_eq (take 4 octets) (access_octets access) ≡ same
-        → verdict_by max_rx (if same then (if is_packet channel access init octets then Whole (record { items = pdu_in channel octets }) else Broken) else NotOurs) ≡ Good
+        → verdict_by max_rx opens is_forged (if same then (if is_packet channel access init octets then Whole (record { items = pdu_in channel octets }) else Broken) else NotOurs) ≡ Good
         → take 4 octets ≡ access_octets access
     by true same is = (bytes_eq-Decides (take 4 octets) (access_octets access)).0 same
     by false same is = absurd cc
 
 pub is_addressed : (setup : EndSetup) (facts : EndFacts) (octets : List ℕ) → verdict_of setup facts octets ≡ Good → take 4 octets ≡ access_octets setup.link.fields.access
 unfolding verdict_of
-is_addressed setup facts octets good = good_begins setup.link.max_rx facts.event.channel setup.link.fields.access setup.link.fields.crc_init octets good
+is_addressed setup facts octets good =
+    good_begins setup.link.max_rx (opens_now facts.encryption.end) (is_forged_pdu facts) facts.event.channel setup.link.fields.access setup.link.fields.crc_init octets good
 
 -- each address that a station takes has 32 bits
 in_32_bits : (cursor travel : ℕ) → access_at cursor travel < 2 ^ 32

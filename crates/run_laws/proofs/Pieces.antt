@@ -1,7 +1,7 @@
 -- What an end sends whose host asks only for values in range: a PDU that counts as empty is the empty one, and no
 -- payload is too long, so each open end understands each packet.
 use Rattle.std.proofs.Common.{◌≡◌, ℕ, ◌≤◌, ◌<◌, ◌==◌, ◌&&◌, ◌||◌, not, Bool, true, false, Option, Some, None, List, [], ◌∷◌, ◌++◌, length, refl, sym, subst, ◌∙◌, arith, ap}
-use Rattle.std.specs.Prelude.{Result, Ok, Err, fold, if◌then◌else◌}
+use Rattle.std.specs.Prelude.{fold, if◌then◌else◌}
 use Rattle.std.specs.List.{AllByRecursion, find}
 use Rattle.std.specs.Option.{option_map}
 use Rattle.std.proofs.lemmas.Bool.{ne_eqb}
@@ -10,39 +10,39 @@ use Rattle.acl_banks.specs.Packets.{DataPacket, piece_of, sent_length}
 use Rattle.acl_banks.proofs.Octets.{length-piece_of, length-unsent_octets}
 use Rattle.acl_banks.proofs.Order.{is_left-head}
 use Rattle.ble_base.specs.Limits.{payload_octets}
-use Rattle.ble_base.specs.declared.error_codes.ErrCode.{ErrCode}
 use Rattle.ble_base.specs.declared.roles.Role.{Role}
 use Rattle.data_pdu.specs.Header.{header_in}
 use Rattle.data_pdu.specs.Layouts.{written}
 use Rattle.data_pdu.specs.declared.ctrl.Ctrl.{Ctrl}
 use Rattle.data_pdu.specs.declared.ctrl.Ctrl.TheVariants.{StartEncReq}
 use Rattle.wire_fields.specs.Field.{little_endian}
-use Rattle.run_model.specs.control_model.Control.{Control, Step as ControlStep, Answers, Asks, Enters, SeesAcknowledged, Sends, Takes, after, after_all}
-use Rattle.run_model.specs.link_end.Sound.{HasLengths, MayCome}
-use Rattle.run_model.proofs.link_end.Lengths.{lengths_after}
+use Rattle.run_model.specs.control_model.Control.{Control, Step as ControlStep, Asks, Enters, SeesAcknowledged, Sends, Takes, after, after_all}
+use Rattle.run_model.specs.link_model.phased_end.Lengths.{HasLengths}
+use Rattle.run_model.proofs.link_model.phased_end.Lengths.{IsFine, lengths_after}
 use Rattle.run_model.specs.procedure_values.declared.asks.Ask.{Ask}
 use Rattle.run_model.specs.procedure_values.Limits.{tx_of}
 use Rattle.run_model.specs.link_model.Acknowledgement.{Acknowledgement, Pdu, empty_pdu, is_acked}
 use Rattle.run_model.specs.link_model.ControlSteps.{AreAsksInRange, IsAskInRange, control_steps_in, step_if, steps_received}
-use Rattle.run_model.specs.link_model.Controls.{goes_on, is_procedure_pdu, is_quiet_now, next_control, pdu_fixed, pdu_of_control, read_of}
-use Rattle.run_model.specs.link_model.Data.{Data, data_acked_if, data_given, data_sent_if, is_control, is_data, is_empty, is_unsent, llid_of, pdu_with}
+use Rattle.run_model.specs.link_model.Controls.{goes_on, is_procedure_pdu, next_control, pdu_fixed, pdu_of_control, read_of}
+use Rattle.run_model.specs.link_model.Data.{Data, data_acked_if, data_given, is_control, is_data, is_empty, is_unsent, llid_of, pdu_with}
 use Rattle.run_model.specs.link_model.End.{facts_after, facts_of}
 use Rattle.run_model.specs.link_model.Entering.{facts_entered_if}
 use Rattle.run_model.specs.link_model.Facts.{Facts, first_facts}
 use Rattle.run_model.specs.link_model.Fixing.{data_cut, data_fixed_by, data_goes, fixed_anew}
 use Rattle.run_model.specs.link_model.Hosts.{asked_unless, is_to_come}
-use Rattle.run_model.specs.link_model.Packets.{good_pdu}
-use Rattle.run_model.specs.link_model.Receiving.{accepted_if, accepts, acknowledged_if, acks_control, answers_with_control, facts_before_taking, facts_received, has_acknowledged, heard_in_slot, procedures_take_if}
-use Rattle.run_model.specs.link_model.Sending.{control_gone_if, facts_sent, takes_leave}
+use Rattle.run_model.specs.link_model.Packets.{good_pdu, is_forged}
+use Rattle.run_model.specs.link_model.Receiving.{accepted_if, accepts, acknowledged_if, acks_control, answers_with_control, data_taken_if, facts_before_taking, facts_forged_if, facts_received, has_acknowledged, heard_in_slot, procedures_take_if}
+use Rattle.run_model.specs.link_model.Sending.{control_gone_if, data_sent_as, facts_sent, takes_leave}
 use Rattle.run_model.specs.link_model.Setup.{Setup}
-use Rattle.run_model.specs.link_model.Step.{Step, DataGiven, DataReported, Disconnected, EventEntered, PacketReceived, PacketSent, PduFixed, ProcedureAsked, RequestAnswered}
+use Rattle.run_model.specs.link_model.Step.{Step, DataGiven, DataReported, Disconnected, EventEntered, KeyAnswered, PacketReceived, PacketSent, PduFixed, ProcedureAsked, RequestAnswered, WordsGiven}
 use Rattle.run_model.specs.link_model.Verdicts.{pdu_of}
 use Rattle.run_model.specs.link_model.Hearing.{IsUnderstood}
 use Rattle.run_model.specs.link_model.Packets.{pdu_sent}
-use Rattle.run_model.specs.link_model.Payload.{opened_of}
+use Rattle.run_model.specs.link_model.Payload.{payload_made}
+use Rattle.run_model.specs.link_model.Plain.{IsPlain, plain_acknowledged_if, plain_before_taking}
 use Rattle.run_model.proofs.link_model.ControlSteps.{one_step}
 use Rattle.run_model.proofs.link_model.Llids.{past_llid}
-use Rattle.run_model.proofs.link_model.Repeating.{past_payload}
+use Rattle.run_model.proofs.link_model.Plain.{opened_plain, past_payload, past_plain, step_plain}
 use Rattle.run_model.proofs.link_model.Moves.{EachMoveKeeps, past_keeps}
 use Rattle.run_model.proofs.open_links.Handed.{read_range}
 use Rattle.run_model.specs.open_links.OpenLinks.{OpenLink, facts_in}
@@ -50,41 +50,39 @@ use Rattle.run_laws.specs.Ranges.{HasRanges, IsReadable}
 
 -- ---- the steps of the control part that may come
 
-both : (steps more : List ControlStep) → AllByRecursion MayCome steps → AllByRecursion MayCome more → AllByRecursion MayCome (steps ++ more)
+both : (steps more : List ControlStep) → AllByRecursion IsFine steps → AllByRecursion IsFine more → AllByRecursion IsFine (steps ++ more)
 both [] more here later = later
 both (step ∷ steps) more here later = (here.0, both steps more here.1 later)
 
-perhaps : (is_taken : Bool) (step : ControlStep) → MayCome step → AllByRecursion MayCome (step_if is_taken step)
+perhaps : (is_taken : Bool) (step : ControlStep) → IsFine step → AllByRecursion IsFine (step_if is_taken step)
 perhaps true step is = (is, tt)
 perhaps false step is = tt
 
-answer_comes : (answer : Result Ask ErrCode) → IsAskInRange (RequestAnswered answer) → MayCome (Answers answer)
-answer_comes (Ok ask) is = is
-answer_comes (Err code) is = tt
-
-received_come : (role : Role) (slot : ℕ) (room : Bool) (found : Option (List ℕ)) (facts : Facts) → AllByRecursion MayCome (steps_received role slot room found facts)
+received_come : (role : Role) (slot : ℕ) (room : Bool) (found : Option (List ℕ)) (facts : Facts) → AllByRecursion IsFine (steps_received role slot room found facts)
 received_come role slot room None facts = tt
 received_come role slot room (Some octets) facts =
     let header = header_in octets in
     let pdu = pdu_of octets in
-    let own = acknowledged_if (has_acknowledged facts header) (heard_in_slot slot header.md facts) in
-    let now = facts_before_taking role slot header facts in
+    let own = plain_acknowledged_if (has_acknowledged facts header) (heard_in_slot slot header.md facts) in
+    let now = plain_before_taking role slot header facts in
     both _ _ (both _ _ (perhaps (acks_control (has_acknowledged facts header) facts) SeesAcknowledged tt)
-    (perhaps (answers_with_control role own) (Sends slot (is_quiet_now own)) tt))
-    (perhaps (accepts room header pdu now && is_procedure_pdu pdu) (Takes (read_of pdu) slot (is_quiet_now now)) (read_range pdu))
+    (perhaps (answers_with_control role own) (Sends slot true) tt))
+    (perhaps (accepts room header pdu now && is_procedure_pdu pdu) (Takes (read_of pdu) slot true) (read_range pdu))
 
-steps_come : (setup : Setup) (facts : Facts) (step : Step) → IsAskInRange step → AllByRecursion MayCome (control_steps_in setup facts step)
+steps_come : (setup : Setup) (facts : Facts) (step : Step) → IsAskInRange step → AllByRecursion IsFine (control_steps_in setup facts step)
 steps_come setup facts (DataGiven start body) is = tt
 steps_come setup facts (ProcedureAsked ask) is = perhaps (not (is_to_come ask facts)) (Asks ask) is
-steps_come setup facts (RequestAnswered answer) is = (answer_comes answer is, tt)
+steps_come setup facts (RequestAnswered answer) is = (tt, tt)
+steps_come setup facts (KeyAnswered key slot) is = tt
 steps_come setup facts (Disconnected reason slot) is = (tt, tt)
-steps_come setup facts (EventEntered slot) is = perhaps (goes_on facts) (Enters slot (is_quiet_now facts)) tt
+steps_come setup facts (EventEntered slot) is = perhaps (goes_on facts) (Enters slot true) tt
 steps_come setup facts PduFixed is = tt
-steps_come setup facts (PacketSent slot) is = perhaps (takes_leave facts) (Sends slot (is_quiet_now facts)) tt
+steps_come setup facts (PacketSent slot) is = perhaps (takes_leave facts) (Sends slot true) tt
+steps_come setup facts (WordsGiven skd_s iv_s) is = tt
 steps_come setup facts (PacketReceived slot octets room) is = received_come setup.link.role slot room (good_pdu setup facts octets) facts
 steps_come setup facts DataReported is = tt
 
-all_lengths : (steps : List ControlStep) (c : Control) → AllByRecursion MayCome steps → HasLengths c.table.lengths → HasLengths (after_all steps c).table.lengths
+all_lengths : (steps : List ControlStep) (c : Control) → AllByRecursion IsFine steps → HasLengths c.table.lengths → HasLengths (after_all steps c).table.lengths
 all_lengths [] c come has = has
 all_lengths (step ∷ steps) c come has = all_lengths steps (after step c) come.1 (lengths_after step c come.0 has)
 
@@ -106,14 +104,14 @@ gone_limit : (goes : Bool) (slot : ℕ) (facts : Facts) → (control_gone_if goe
 gone_limit true slot facts = refl
 gone_limit false slot facts = refl
 
-went_limit : (is_new : Bool) (outgoing : Data) → (data_sent_if is_new outgoing).limit ≡ outgoing.limit
-went_limit true outgoing = refl
-went_limit false outgoing = refl
+went_limit : (payload : List ℕ) (is_new : Bool) (outgoing : Data) → (data_sent_as payload is_new outgoing).limit ≡ outgoing.limit
+went_limit payload true outgoing = refl
+went_limit payload false outgoing = refl
 
 sent_limit : (slot : ℕ) (facts : Facts) → (facts_sent slot facts).outgoing.limit ≡ facts.outgoing.limit
 sent_limit slot facts =
     let now = control_gone_if (takes_leave facts) slot facts in
-    went_limit (is_acked now.acknowledgement) now.outgoing ∙ gone_limit (takes_leave facts) slot facts
+    went_limit (payload_made now.encryption.end now.outgoing.fixed) (is_acked now.acknowledgement) now.outgoing ∙ gone_limit (takes_leave facts) slot facts
 
 acked_limit : (acked : Bool) (outgoing : Data) → (data_acked_if acked outgoing).limit ≡ outgoing.limit
 acked_limit true outgoing = refl
@@ -122,6 +120,14 @@ acked_limit false outgoing = refl
 taken_limit : (takes : Bool) (pdu : Pdu) (slot : ℕ) (facts : Facts) → (procedures_take_if takes pdu slot facts).outgoing.limit ≡ facts.outgoing.limit
 taken_limit true pdu slot facts = refl
 taken_limit false pdu slot facts = refl
+
+data_limit : (takes : Bool) (facts : Facts) → (data_taken_if takes facts).outgoing.limit ≡ facts.outgoing.limit
+data_limit true facts = refl
+data_limit false facts = refl
+
+forged_limit : (forged : Bool) (facts : Facts) → (facts_forged_if forged facts).outgoing.limit ≡ facts.outgoing.limit
+forged_limit true facts = refl
+forged_limit false facts = refl
 
 received_limit : (role : Role) (slot : ℕ) (room : Bool) (found : Option (List ℕ)) (facts : Facts) → (facts_received role slot room found facts).outgoing.limit ≡ facts.outgoing.limit
 received_limit role slot room None facts = refl
@@ -132,13 +138,14 @@ received_limit role slot room (Some octets) facts =
     let own = acknowledged_if acks (heard_in_slot slot header.md facts) in
     let now = facts_before_taking role slot header facts in
     let accepted = accepts room header pdu now in
-    taken_limit (accepted && is_procedure_pdu pdu) pdu slot (accepted_if accepted pdu now)
+    data_limit (accepted && is_data pdu) (procedures_take_if (accepted && is_procedure_pdu pdu) pdu slot (accepted_if accepted pdu now))
+    ∙ taken_limit (accepted && is_procedure_pdu pdu) pdu slot (accepted_if accepted pdu now)
     ∙ gone_limit (answers_with_control role own) slot own ∙ acked_limit (acks && is_data facts.acknowledgement.last) facts.outgoing
 
-fixed_by_limit : (control : Bool) (waiting : ℕ) (goes : Bool) (outgoing : Data) → (data_fixed_by control waiting goes outgoing).limit ≡ outgoing.limit
-fixed_by_limit true waiting goes outgoing = refl
-fixed_by_limit false waiting true outgoing = refl
-fixed_by_limit false waiting false outgoing = refl
+fixed_by_limit : (control : Bool) (waiting : ℕ) (quiet goes : Bool) (outgoing : Data) → (data_fixed_by control waiting quiet goes outgoing).limit ≡ outgoing.limit
+fixed_by_limit true waiting quiet goes outgoing = refl
+fixed_by_limit false waiting quiet true outgoing = refl
+fixed_by_limit false waiting quiet false outgoing = refl
 
 -- ---- an end transmits 27 octets at least
 
@@ -155,29 +162,34 @@ limit_after setup facts (ProcedureAsked ask) has = subst (λ n. 1 ≤ n) (sym (a
 limit_after setup facts (EventEntered slot) has = subst (λ n. 1 ≤ n) (sym (entered_limit (goes_on facts) setup slot facts)) has.limit
 limit_after setup facts (PacketSent slot) has = subst (λ n. 1 ≤ n) (sym (sent_limit slot facts)) has.limit
 limit_after setup facts (PacketReceived slot octets room) has =
-    subst (λ n. 1 ≤ n) (sym (received_limit setup.link.role slot room (good_pdu setup facts octets) facts)) has.limit
+    let pdu = good_pdu setup facts octets in
+    subst (λ n. 1 ≤ n)
+    (sym (forged_limit (is_forged setup facts octets) (facts_received setup.link.role slot room pdu facts) ∙ received_limit setup.link.role slot room pdu facts))
+    has.limit
 limit_after setup facts PduFixed has = by (is_control facts.outgoing.fixed)
   where
     by : (stays : Bool) → 1 ≤ (if stays then facts else fixed_anew facts).outgoing.limit
     by true = has.limit
-    by false = subst (λ n. 1 ≤ n) (sym (fixed_by_limit _ _ (data_goes facts) (data_cut facts))) (transmits facts has.lengths)
+    by false = subst (λ n. 1 ≤ n) (sym (fixed_by_limit _ _ _ (data_goes facts) (data_cut facts))) (transmits facts has.lengths)
 limit_after setup facts step has = has.limit
 
-room_after : (setup : Setup) (facts : Facts) (step : Step) → IsAskInRange step → HasRoom facts → HasRoom (facts_after setup facts step)
-room_after setup facts step is has = record {
-  lengths = subst (λ (c : Control). HasLengths c.table.lengths) (sym (one_step setup facts step))
+room_after : (setup : Setup) (facts : Facts) (step : Step) → IsPlain setup.link.role facts → IsAskInRange step → HasRoom facts → HasRoom (facts_after setup facts step)
+room_after setup facts step plain is has = record {
+  lengths = subst (λ (c : Control). HasLengths c.table.lengths) (sym (one_step setup facts step plain))
       (all_lengths (control_steps_in setup facts step) facts.control (steps_come setup facts step is) has.lengths);
   limit = limit_after setup facts step has;
 }
 
-steps_room : (setup : Setup) (facts : Facts) (steps : List Step) → AreAsksInRange steps → HasRoom facts → HasRoom (fold (facts_after setup) facts steps)
-steps_room setup facts [] are has = has
-steps_room setup facts (step ∷ steps) are has = steps_room setup (facts_after setup facts step) steps are.1 (room_after setup facts step are.0 has)
+steps_room : (setup : Setup) (facts : Facts) (steps : List Step) → IsPlain setup.link.role facts → AreAsksInRange steps → HasRoom facts
+    → HasRoom (fold (facts_after setup) facts steps)
+steps_room setup facts [] plain are has = has
+steps_room setup facts (step ∷ steps) plain are has =
+    steps_room setup (facts_after setup facts step) steps (step_plain setup facts step plain) are.1 (room_after setup facts step plain are.0 has)
 
 past_room : (setup : Setup) (past : List Step) → setup.link.max_rx ≡ payload_octets → AreAsksInRange past → HasRoom (facts_of setup past)
 unfolding facts_of
 past_room setup past max are =
-    steps_room setup (first_facts setup) past are (record {
+    steps_room setup (first_facts setup) past (past_plain setup []) are (record {
       lengths = record { own = omega arith; peer = omega arith; own_to = omega arith; own_rx_to = omega (arith, max) };
       limit = omega arith;
     })
@@ -224,15 +236,16 @@ whole_given : (handle : ℕ) (start : Bool) (body : List ℕ) (ack : Acknowledge
 whole_given handle start [] ack outgoing is = is
 whole_given handle start (octet ∷ octets) ack outgoing is = is
 
-whole_fixed : (control : Bool) (waiting : ℕ) (goes : Bool) (ack : Acknowledgement) (outgoing : Data) → IsWholeNext ack (data_fixed_by control waiting goes outgoing)
-whole_fixed true waiting goes ack outgoing = λ some empty. refl
-whole_fixed false waiting true ack outgoing = λ some. piece_whole outgoing.limit outgoing.packets (find is_unsent outgoing.packets) some refl
-whole_fixed false waiting false ack outgoing = λ some empty. refl
+whole_fixed : (control : Bool) (waiting : ℕ) (quiet goes : Bool) (ack : Acknowledgement) (outgoing : Data)
+    → IsWholeNext ack (data_fixed_by control waiting quiet goes outgoing)
+whole_fixed true waiting quiet goes ack outgoing = λ some empty. refl
+whole_fixed false waiting quiet true ack outgoing = λ some. piece_whole outgoing.limit outgoing.packets (find is_unsent outgoing.packets) some refl
+whole_fixed false waiting quiet false ack outgoing = λ some empty. refl
 
-whole_sent : (is_new : Bool) (ack : Acknowledgement) (outgoing : Data) → (1 ≤ outgoing.limit → IsWhole outgoing.fixed)
-    → 1 ≤ (data_sent_if is_new outgoing).limit → IsWhole (data_sent_if is_new outgoing).fixed
-whole_sent true ack outgoing is = λ some empty. refl
-whole_sent false ack outgoing is = is
+whole_sent : (payload : List ℕ) (is_new : Bool) (ack : Acknowledgement) (outgoing : Data) → (1 ≤ outgoing.limit → IsWhole outgoing.fixed)
+    → 1 ≤ (data_sent_as payload is_new outgoing).limit → IsWhole (data_sent_as payload is_new outgoing).fixed
+whole_sent payload true ack outgoing is = λ some empty. refl
+whole_sent payload false ack outgoing is = is
 
 whole_acked : (acked : Bool) (outgoing : Data) → (1 ≤ outgoing.limit → IsWhole outgoing.fixed)
     → 1 ≤ (data_acked_if acked outgoing).limit → IsWhole (data_acked_if acked outgoing).fixed
@@ -244,9 +257,9 @@ whole_kept = record {
   first = λ some empty. refl;
   given = whole_given;
   reported = λ ack outgoing is. is;
-  fixed = λ control waiting limit goes ack outgoing is. whole_fixed control waiting goes ack (record outgoing { limit = limit });
+  fixed = λ control waiting limit quiet goes ack outgoing is. whole_fixed control waiting quiet goes ack (record outgoing { limit = limit });
   gone = λ control ack outgoing acked is. λ some. control_whole control;
-  sent = λ ack outgoing is. whole_sent (is_acked ack) ack outgoing is;
+  sent = λ payload ack outgoing is. whole_sent payload (is_acked ack) ack outgoing is;
   acked = λ acked ack outgoing out is. whole_acked (acked && is_data ack.last) outgoing is;
   accepted = λ accepted pdu ack outgoing is. is;
 }
@@ -288,10 +301,11 @@ next_fits : (fixes : Bool) (control : Option Ctrl) (fixed : Pdu) → FitsAny fix
 next_fits true control fixed is = control_fits control
 next_fits false control fixed is = is
 
-anew_fits : (control : Bool) (waiting : ℕ) (goes : Bool) (outgoing : Data) → outgoing.limit ≤ payload_octets → FitsAny (data_fixed_by control waiting goes outgoing).fixed
-anew_fits true waiting goes outgoing most = omega arith
-anew_fits false waiting true outgoing most = piece_fits outgoing.limit (find is_unsent outgoing.packets) most
-anew_fits false waiting false outgoing most = omega arith
+anew_fits : (control : Bool) (waiting : ℕ) (quiet goes : Bool) (outgoing : Data) → outgoing.limit ≤ payload_octets
+    → FitsAny (data_fixed_by control waiting quiet goes outgoing).fixed
+anew_fits true waiting quiet goes outgoing most = omega arith
+anew_fits false waiting quiet true outgoing most = piece_fits outgoing.limit (find is_unsent outgoing.packets) most
+anew_fits false waiting quiet false outgoing most = omega arith
 
 transmits_most : (facts : Facts) → HasLengths facts.control.table.lengths → tx_of facts.control.table.lengths ≤ payload_octets
 transmits_most facts has = let own = has.own_to in omega (arith, own)
@@ -314,22 +328,23 @@ entered_fitting false setup slot facts are = are
 
 fixed_fitting : (stays : Bool) (facts : Facts) → HasLengths facts.control.table.lengths → AreFitting facts → AreFitting (if stays then facts else fixed_anew facts)
 fixed_fitting true facts has are = are
-fixed_fitting false facts has are = record { fixed = anew_fits _ _ (data_goes facts) (data_cut facts) (transmits_most facts has); last = are.last }
+fixed_fitting false facts has are = record { fixed = anew_fits _ _ _ (data_goes facts) (data_cut facts) (transmits_most facts has); last = are.last }
 
 gone_fitting : (goes : Bool) (slot : ℕ) (facts : Facts) → AreFitting facts → AreFitting (control_gone_if goes slot facts)
 gone_fitting true slot facts are = record { fixed = next_fits facts.fixes_control (next_control facts) facts.outgoing.fixed are.fixed; last = are.last }
 gone_fitting false slot facts are = are
 
-went_fitting : (is_new : Bool) (fixed last : Pdu) (outgoing : Data) → outgoing.fixed ≡ fixed → FitsAny fixed → FitsAny last
-    → FitsAny (data_sent_if is_new outgoing).fixed × FitsAny (if is_new then fixed else last)
-went_fitting true fixed last outgoing same fits fits_too = (omega arith, fits)
-went_fitting false fixed last outgoing same fits fits_too = (subst FitsAny (sym same) fits, fits_too)
+went_fitting : (payload : List ℕ) (is_new : Bool) (fixed last : Pdu) (outgoing : Data) → outgoing.fixed ≡ fixed → FitsAny fixed → FitsAny last
+    → FitsAny (data_sent_as payload is_new outgoing).fixed × FitsAny (if is_new then fixed else last)
+went_fitting payload true fixed last outgoing same fits fits_too = (omega arith, fits)
+went_fitting payload false fixed last outgoing same fits fits_too = (subst FitsAny (sym same) fits, fits_too)
 
 sent_fitting : (slot : ℕ) (facts : Facts) → AreFitting facts → AreFitting (facts_sent slot facts)
 sent_fitting slot facts are =
     let now = control_gone_if (takes_leave facts) slot facts in
     let gone = gone_fitting (takes_leave facts) slot facts are in
-    let went = went_fitting (is_acked now.acknowledgement) now.outgoing.fixed now.acknowledgement.last now.outgoing refl gone.fixed gone.last in
+    let payload = payload_made now.encryption.end now.outgoing.fixed in
+    let went = went_fitting payload (is_acked now.acknowledgement) now.outgoing.fixed now.acknowledgement.last now.outgoing refl gone.fixed gone.last in
     record { fixed = went.0; last = went.1 }
 
 acked_fixed : (acked : Bool) (outgoing : Data) → (data_acked_if acked outgoing).fixed ≡ outgoing.fixed
@@ -339,6 +354,14 @@ acked_fixed false outgoing = refl
 taken_fitting : (takes : Bool) (pdu : Pdu) (slot : ℕ) (facts : Facts) → AreFitting facts → AreFitting (procedures_take_if takes pdu slot facts)
 taken_fitting true pdu slot facts are = record { fixed = are.fixed; last = are.last }
 taken_fitting false pdu slot facts are = are
+
+data_fitting : (takes : Bool) (facts : Facts) → AreFitting facts → AreFitting (data_taken_if takes facts)
+data_fitting true facts are = record { fixed = are.fixed; last = are.last }
+data_fitting false facts are = are
+
+forged_fitting : (forged : Bool) (facts : Facts) → AreFitting facts → AreFitting (facts_forged_if forged facts)
+forged_fitting true facts are = record { fixed = are.fixed; last = are.last }
+forged_fitting false facts are = are
 
 received_fitting : (role : Role) (slot : ℕ) (room : Bool) (found : Option (List ℕ)) (facts : Facts) → AreFitting facts → AreFitting (facts_received role slot room found facts)
 received_fitting role slot room None facts are = are
@@ -351,7 +374,8 @@ received_fitting role slot room (Some octets) facts are =
     let accepted = accepts room header pdu now in
     let first = fitting_same facts own (acked_fixed (acks && is_data facts.acknowledgement.last) facts.outgoing) refl are in
     let gone = gone_fitting (answers_with_control role own) slot own first in
-    taken_fitting (accepted && is_procedure_pdu pdu) pdu slot (accepted_if accepted pdu now) (record { fixed = gone.fixed; last = gone.last })
+    data_fitting (accepted && is_data pdu) (procedures_take_if (accepted && is_procedure_pdu pdu) pdu slot (accepted_if accepted pdu now))
+    (taken_fitting (accepted && is_procedure_pdu pdu) pdu slot (accepted_if accepted pdu now) (record { fixed = gone.fixed; last = gone.last }))
 
 fitting_after : (setup : Setup) (facts : Facts) (step : Step) → HasLengths facts.control.table.lengths → AreFitting facts → AreFitting (facts_after setup facts step)
 fitting_after setup facts (DataGiven start body) has are = given_fitting setup.link.handle start body facts are
@@ -359,18 +383,23 @@ fitting_after setup facts (ProcedureAsked ask) has are = asked_fitting (is_to_co
 fitting_after setup facts (EventEntered slot) has are = entered_fitting (goes_on facts) setup slot facts are
 fitting_after setup facts PduFixed has are = fixed_fitting (is_control facts.outgoing.fixed) facts has are
 fitting_after setup facts (PacketSent slot) has are = sent_fitting slot facts are
-fitting_after setup facts (PacketReceived slot octets room) has are = received_fitting setup.link.role slot room (good_pdu setup facts octets) facts are
+fitting_after setup facts (PacketReceived slot octets room) has are =
+    let pdu = good_pdu setup facts octets in
+    forged_fitting (is_forged setup facts octets) (facts_received setup.link.role slot room pdu facts)
+    (received_fitting setup.link.role slot room pdu facts are)
 fitting_after setup facts step has are = record { fixed = are.fixed; last = are.last }
 
-steps_fitting : (setup : Setup) (facts : Facts) (steps : List Step) → AreAsksInRange steps → HasRoom facts → AreFitting facts → AreFitting (fold (facts_after setup) facts steps)
-steps_fitting setup facts [] asks has are = are
-steps_fitting setup facts (step ∷ steps) asks has are =
-    steps_fitting setup (facts_after setup facts step) steps asks.1 (room_after setup facts step asks.0 has) (fitting_after setup facts step has.lengths are)
+steps_fitting : (setup : Setup) (facts : Facts) (steps : List Step) → IsPlain setup.link.role facts → AreAsksInRange steps → HasRoom facts → AreFitting facts
+    → AreFitting (fold (facts_after setup) facts steps)
+steps_fitting setup facts [] plain asks has are = are
+steps_fitting setup facts (step ∷ steps) plain asks has are =
+    steps_fitting setup (facts_after setup facts step) steps (step_plain setup facts step plain) asks.1
+    (room_after setup facts step plain asks.0 has) (fitting_after setup facts step has.lengths are)
 
 past_fitting : (setup : Setup) (past : List Step) → setup.link.max_rx ≡ payload_octets → AreAsksInRange past → AreFitting (facts_of setup past)
 unfolding facts_of
 past_fitting setup past max asks =
-    steps_fitting setup (first_facts setup) past asks (past_room setup [] max tt) (record { fixed = omega arith; last = omega arith })
+    steps_fitting setup (first_facts setup) past (past_plain setup []) asks (past_room setup [] max tt) (record { fixed = omega arith; last = omega arith })
 
 one_fits : (acked : Bool) (next last : Pdu) → FitsAny next → FitsAny last → FitsAny (if acked then next else last)
 one_fits true next last is is_too = is
@@ -388,7 +417,7 @@ sent_readable link ranges =
     record {
       llid = (past_llid link.setup link.past).1;
       short = omega (arith, fits, ap length payload);
-      opened = ap opened_of payload;
+      opened = payload;
     }
 
 -- and each open end understands it
@@ -398,4 +427,11 @@ ranged_understand from to ranges ranges_too fields channel =
     let sent = sent_readable from ranges in
     let short = sent.short in
     let most = ranges_too.max_rx in
-    record { fields = fields; channel = channel; llid = sent.llid; octets = omega (arith, short); fits = omega (arith, short, most) }
+    record {
+      fields = fields;
+      channel = channel;
+      llid = sent.llid;
+      octets = omega (arith, short);
+      fits = omega (arith, short, most);
+      opens = opened_plain to.setup.link.role (facts_in from) (facts_in to) (past_plain to.setup to.past) sent.opened;
+    }

@@ -6,7 +6,7 @@ use Rattle.ble_base.specs.declared.addresses.Address.{Address}
 use Rattle.adv_pdu.specs.declared.pdu.AdvPdu.TheVariants.{Connect}
 use Rattle.adv_pdu.specs.declared.pdu.ConnectFields.{ConnectFields}
 use Rattle.run_model.specs.link_model.Setup.{Setup}
-use Rattle.controller_model.specs.Packets.{pdu_heard}
+use Rattle.run_model.specs.controller_model.Packets.{pdu_heard}
 use Rattle.run_model.specs.History.{Event, turns_begun}
 use Rattle.run_model.specs.LinkEnds.{ConnectInd, HasConnectInd, IsAtEnd}
 use Rattle.run_laws.specs.Ends.{AreEnds, HaveOneConnectInd, OpenEnd}

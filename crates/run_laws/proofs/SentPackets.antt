@@ -13,17 +13,17 @@ use Rattle.run_model.specs.link_model.Step.{PacketSent}
 use Rattle.run_model.specs.open_links.OpenLinks.{Links, OpenLink, facts_in, link_after, link_at, with_change}
 use Rattle.run_model.proofs.open_links.Handles.{changed_is}
 use Rattle.scan_init.specs.Reports.{ScannerFacts}
-use Rattle.controller_model.specs.declared.doing.Doing.{Doing}
-use Rattle.controller_model.specs.declared.doing.Doing.TheVariants.{Advertises, AwaitsRequest, Responds, Scans, Requests, AwaitsResponse, Initiates, Connects, CentralSends, CentralListens, PeripheralListens, PeripheralSends, Rests}
-use Rattle.controller_model.specs.Step.{Step, HostOctet}
-use Rattle.controller_model.specs.Facts.{Setup, Facts, Use, Sends, Listens, Idle}
-use Rattle.controller_model.specs.Heard.{heard, unheard}
-use Rattle.controller_model.specs.Packets.{advertising_packet, facts_doing, listens_on, sends_on, sends_pdu, use_for}
-use Rattle.controller_model.specs.Radio.{outcome_begun}
-use Rattle.controller_model.specs.Sent.{SendsOn}
-use Rattle.controller_model.specs.Side.{facts_after, facts_of}
-use Rattle.controller_model.proofs.Always.{IsAdvertisingChannel}
-use Rattle.controller_model.proofs.Sent.{AdvertisingFits, DoingFits, ScannerFits, SendsWell, SomePdu, advertisement_is, request_is, response_is, sends_well}
+use Rattle.run_model.specs.controller_model.declared.doing.Doing.{Doing}
+use Rattle.run_model.specs.controller_model.declared.doing.Doing.TheVariants.{Advertises, AwaitsRequest, Responds, Scans, Requests, AwaitsResponse, Initiates, Connects, CentralSends, CentralListens, PeripheralListens, PeripheralSends, Rests}
+use Rattle.run_model.specs.controller_model.Step.{Step, HostOctet}
+use Rattle.run_model.specs.controller_model.Facts.{Setup, Facts, Use, Sends, Listens, Idle}
+use Rattle.run_model.specs.controller_model.Heard.{heard, unheard}
+use Rattle.run_model.specs.controller_model.Packets.{advertising_packet, facts_doing, listens_on, sends_on, sends_pdu, use_for}
+use Rattle.run_model.specs.controller_model.Radio.{outcome_begun}
+use Rattle.run_model.specs.controller_model.Sent.{SendsOn}
+use Rattle.run_model.specs.controller_model.Side.{facts_after, facts_of}
+use Rattle.run_model.proofs.controller_model.Always.{IsAdvertisingChannel}
+use Rattle.run_model.proofs.controller_model.Sent.{AdvertisingFits, DoingFits, ScannerFits, SendsWell, SomePdu, advertisement_is, request_is, response_is, sends_well}
 use Rattle.run_model.specs.Links.{is_connect_ind}
 use Rattle.run_model.specs.Run.{step_of}
 use Rattle.run_laws.proofs.TurnPlaces.{Between, IsTurned, Stage, Standing, Within, standing, turned}

@@ -17,23 +17,23 @@ use Rattle.scan_init.specs.Reports.{does_ask, scan_answer}
 use Rattle.slot_plan.specs.declared.Activity.{Activity}
 use Rattle.slot_plan.specs.Holding.{is_held_in, winner_of}
 use Rattle.run_model.specs.open_links.OpenLinks.{link_at}
-use Rattle.controller_model.specs.declared.doing.Doing.{Doing}
-use Rattle.controller_model.specs.declared.doing.Doing.TheVariants.{Advertises, AwaitsRequest, Responds, AwaitsResponse, Initiates, Connects, CentralListens, Rests, PeripheralListens, Scans}
-use Rattle.controller_model.specs.declared.doing.Turn.{Turn}
-use Rattle.controller_model.specs.Step.{HostOctet, TurnBegins, TurnEnds}
-use Rattle.controller_model.specs.Facts.{Setup, Facts, Listens}
-use Rattle.controller_model.specs.Commands.{facts_asking, facts_commanded, facts_known, is_asking}
+use Rattle.run_model.specs.controller_model.declared.doing.Doing.{Doing}
+use Rattle.run_model.specs.controller_model.declared.doing.Doing.TheVariants.{Advertises, AwaitsRequest, Responds, AwaitsResponse, Initiates, Connects, CentralListens, Rests, PeripheralListens, Scans}
+use Rattle.run_model.specs.controller_model.declared.doing.Turn.{Turn}
+use Rattle.run_model.specs.controller_model.Step.{HostOctet, TurnBegins, TurnEnds}
+use Rattle.run_model.specs.controller_model.Facts.{Setup, Facts, Listens}
+use Rattle.run_model.specs.controller_model.Commands.{facts_asking, facts_commanded, facts_known, is_asking}
 use Rattle.run_model.specs.open_links.declared.offers.Offer.{Offer}
 use Rattle.run_model.specs.open_links.declared.offers.Offer.TheVariants.{NoLink, Empty, Overflow, Kept}
-use Rattle.controller_model.specs.Data.{facts_handed, facts_offered, offer_of}
-use Rattle.controller_model.specs.Heard.{access_found, asks_if, has_room, link_received, link_taken, opens, replies_in, reply_if, scanner_after, with_scanner, unheard, heard}
-use Rattle.controller_model.specs.Links.{facts_ending}
-use Rattle.controller_model.specs.Outcome.{facts_passed}
-use Rattle.controller_model.specs.Packets.{facts_doing, listens_on}
-use Rattle.controller_model.specs.Radio.{facts_entering, plan_in, radio_served, served, turn_begins, winner_served, outcome_begun}
-use Rattle.controller_model.specs.Side.{facts_after, facts_fed, result_of}
-use Rattle.controller_model.proofs.Always.{IsKeptAtStarts, MayBegin, facts_opening, leaving_is, opening_passes, start_keeps, winning_is, IsAdvertisingChannel}
-use Rattle.controller_model.proofs.Phases.{EachOutcome, heard_is, unheard_is}
+use Rattle.run_model.specs.controller_model.Data.{facts_handed, facts_offered, offer_of}
+use Rattle.run_model.specs.controller_model.Heard.{access_found, asks_if, has_room, link_received, link_taken, opens, replies_in, reply_if, scanner_after, with_scanner, unheard, heard}
+use Rattle.run_model.specs.controller_model.Links.{facts_ending}
+use Rattle.run_model.specs.controller_model.Outcome.{facts_passed}
+use Rattle.run_model.specs.controller_model.Packets.{facts_doing, listens_on}
+use Rattle.run_model.specs.controller_model.Radio.{facts_entering, plan_in, radio_served, served, turn_begins, winner_served, outcome_begun}
+use Rattle.run_model.specs.controller_model.Side.{facts_after, facts_fed, result_of}
+use Rattle.run_model.proofs.controller_model.Always.{IsKeptAtStarts, MayBegin, facts_opening, leaving_is, opening_passes, start_keeps, winning_is, IsAdvertisingChannel}
+use Rattle.run_model.proofs.controller_model.Phases.{EachOutcome, heard_is, unheard_is}
 use Rattle.run_model.specs.Run.{step_of}
 
 -- ---- an octet of the host changes neither the turn nor the number of access addresses

@@ -1,23 +1,26 @@
 -- In every run, both ends of one link stay in agreement, if each hears of its link only what the other sends.
-use Rattle.std.proofs.Common.{◌≡◌, ℕ, ◌==◌, ◌⊎◌, inl, inr, Bool, true, false, Option, Some, None, List, [], ◌∷◌, ◌++◌, replicate, refl, sym, ap, subst, ◌∙◌, append_assoc}
+use Rattle.std.proofs.Common.{◌≡◌, ℕ, ◌==◌, ◌⊎◌, inl, inr, Bool, true, false, Option, Some, None, is_none, List, [], ◌∷◌, ◌++◌, replicate, refl, sym, ap, subst, ◌∙◌, append_assoc}
 use Rattle.std.specs.Prelude.{if◌then◌else◌}
 use Rattle.std.proofs.lemmas.Bool.{eqb-true}
-use Rattle.ble_base.specs.declared.verdicts.Verdict.TheVariants.{Broken as BrokenPacket, Good}
+use Rattle.ble_base.specs.declared.verdicts.Verdict.{Verdict}
+use Rattle.ble_base.specs.declared.verdicts.Verdict.TheVariants.{Broken as BrokenPacket, Forged, Good}
 use Rattle.air_frame.specs.declared.Heard.{Heard}
 use Rattle.air_frame.specs.declared.Heard.TheVariants.{NotOurs, Broken, Whole}
 use Rattle.run_model.specs.link_model.Receiving.{facts_received}
 use Rattle.run_model.specs.link_model.Facts.{Facts as EndFacts}
-use Rattle.run_model.specs.link_model.Verdicts.{good_in, has_room_for, pdu_by, verdict_by}
-use Rattle.run_model.specs.link_model.Packets.{good_pdu, heard_of, verdict_of}
+use Rattle.run_model.specs.link_model.Verdicts.{has_room_for, pdu_by, verdict_by, whole_in}
+use Rattle.run_model.specs.link_model.Packets.{good_pdu, heard_of, is_forged_pdu, pdu_read, pdu_read_in, verdict_of, whole_pdu}
+use Rattle.run_model.specs.link_model.Payload.{opens_now}
 use Rattle.run_model.specs.link_model.OneLink.{AreInAgreement}
 use Rattle.run_model.specs.link_model.Setup.{Setup as EndSetup}
 use Rattle.run_model.specs.link_model.Step.{PacketReceived, PacketSent}
 use Rattle.run_model.proofs.link_model.Hearing.{IsHeardWhole}
+use Rattle.run_model.proofs.link_model.Plain.{past_plain, received_plain}
 use Rattle.run_model.specs.open_links.OpenLinks.{Links, OpenLink, facts_in, link_after, link_at, new_link}
 use Rattle.run_model.proofs.open_links.Unmoved.{entered_setup}
-use Rattle.controller_model.specs.Step.{Step, HostOctet, TurnBegins, PacketHeard, NothingHeard, TurnEnds}
-use Rattle.controller_model.specs.Facts.{Facts, Setup}
-use Rattle.controller_model.specs.Side.{facts_after, facts_of}
+use Rattle.run_model.specs.controller_model.Step.{Step, HostOctet, TurnBegins, PacketHeard, NothingHeard, TurnEnds}
+use Rattle.run_model.specs.controller_model.Facts.{Facts, Setup}
+use Rattle.run_model.specs.controller_model.Side.{facts_after, facts_of}
 use Rattle.run_model.specs.Feeding.{AreDistinct}
 use Rattle.run_model.specs.History.{Event, Called}
 use Rattle.run_model.specs.LinkEnds.{HaveAddresses}
@@ -74,25 +77,39 @@ on_kept end = record {
 -- a packet that is not good changes nothing
 good_or_kept : (slot : ℕ) (room : Bool) (octets : List ℕ) (link : OpenLink)
     → (verdict_of link.setup (facts_in link) octets ≡ Good) ⊎ (ack_of (link_after (PacketReceived slot octets room) link) ≡ ack_of link)
-unfolding good_pdu verdict_of
+unfolding good_pdu verdict_of whole_pdu
 good_or_kept slot room octets link = got (of (heard_of link.setup (facts_in link) octets))
   where
-    at : (fits : Bool) (pdu : List ℕ) → ((if fits then Good else BrokenPacket) ≡ Good)
-        ⊎ ((facts_received link.setup.link.role slot room (pdu_by fits pdu) (facts_in link)).acknowledgement ≡ ack_of link)
-    at true pdu = inl refl
+    listener : EndFacts
+    listener = facts_in link
+
+    opens : Bool
+    opens = opens_now listener.encryption.end
+
+    GoodOrKept : Verdict → Option (List ℕ) → Type 0
+    GoodOrKept verdict pdu = (verdict ≡ Good) ⊎ ((facts_received link.setup.link.role slot room pdu listener).acknowledgement ≡ ack_of link)
+
+    as_read : (read : Option (List ℕ)) → GoodOrKept (if is_none read then Forged else Good) read
+    as_read None = inr refl
+    as_read (Some pdu) = inl refl
+
+    at : (fits : Bool) (pdu : List ℕ) → GoodOrKept (if fits then (if is_forged_pdu listener pdu then Forged else Good) else BrokenPacket) (pdu_read_in listener (pdu_by fits pdu))
+    at true pdu = as_read (pdu_read listener pdu)
     at false pdu = inr refl
 
-    of : (heard : Heard) → (verdict_by link.setup.link.max_rx heard ≡ Good)
-        ⊎ ((facts_received link.setup.link.role slot room (good_in link.setup.link.max_rx heard) (facts_in link)).acknowledgement ≡ ack_of link)
+    of : (heard : Heard) → GoodOrKept (verdict_by link.setup.link.max_rx opens (is_forged_pdu listener) heard)
+        (pdu_read_in listener (whole_in link.setup.link.max_rx opens heard))
     of NotOurs = inr refl
     of Broken = inr refl
-    of (Whole pdu) = at (has_room_for link.setup.link.max_rx pdu.items) pdu.items
+    of (Whole pdu) = at (has_room_for link.setup.link.max_rx opens pdu.items) pdu.items
 
-    got : (verdict_by link.setup.link.max_rx (heard_of link.setup (facts_in link) octets) ≡ Good)
-        ⊎ ((facts_received link.setup.link.role slot room (good_in link.setup.link.max_rx (heard_of link.setup (facts_in link) octets)) (facts_in link)).acknowledgement ≡ ack_of link)
-        → (verdict_of link.setup (facts_in link) octets ≡ Good) ⊎ (ack_of (link_after (PacketReceived slot octets room) link) ≡ ack_of link)
+    got : GoodOrKept (verdict_by link.setup.link.max_rx opens (is_forged_pdu listener) (heard_of link.setup listener octets))
+        (pdu_read_in listener (whole_in link.setup.link.max_rx opens (heard_of link.setup listener octets)))
+        → (verdict_of link.setup listener octets ≡ Good) ⊎ (ack_of (link_after (PacketReceived slot octets room) link) ≡ ack_of link)
     got (inl good) = inl good
-    got (inr kept) = inr (ap (λ (f : EndFacts). f.acknowledgement) (step_facts link (PacketReceived slot octets room)) ∙ kept)
+    got (inr kept) =
+        inr (ap (λ (f : EndFacts). f.acknowledgement)
+        (step_facts link (PacketReceived slot octets room) ∙ received_plain link.setup listener slot octets room (past_plain link.setup link.past)) ∙ kept)
 
 one_some : (may : Option OpenLink) (one other : OpenLink) → may ≡ Some one → may ≡ Some other → one ≡ other
 one_some may one other is is_too = let same : Some one ≡ Some other = sym is ∙ is_too in cc

@@ -3,7 +3,7 @@ use Rattle.std.specs.Prelude.{◌≡◌, ℕ, ◌+◌, ◌==◌, ◌&&◌, Bool,
 use Rattle.ble_base.specs.declared.addresses.Address.{Address}
 use Rattle.adv_pdu.specs.declared.pdu.AdvPdu.TheVariants.{Connect}
 use Rattle.adv_pdu.specs.declared.pdu.ConnectFields.{ConnectFields}
-use Rattle.controller_model.specs.Packets.{pdu_heard}
+use Rattle.run_model.specs.controller_model.Packets.{pdu_heard}
 use Rattle.run_model.specs.History.{Event, TurnBegan, HostFed, Called, Noted, Transmitted, Hearing}
 use Rattle.run_model.specs.Links.{begins_link, is_advertising}
 

@@ -6,10 +6,10 @@ use Rattle.run_model.specs.link_model.Packets.{packet_sent, verdict_of}
 use Rattle.run_model.specs.link_model.Setup.{Setup}
 use Rattle.run_model.specs.link_model.Step.{PacketSent}
 use Rattle.run_model.specs.open_links.OpenLinks.{OpenLink, facts_in, link_after, link_at}
-use Rattle.controller_model.specs.declared.doing.Doing.{Doing}
-use Rattle.controller_model.specs.declared.doing.Doing.TheVariants.{CentralListens, PeripheralListens}
-use Rattle.controller_model.specs.Facts.{Facts}
-use Rattle.controller_model.specs.Step.{PacketHeard}
+use Rattle.run_model.specs.controller_model.declared.doing.Doing.{Doing}
+use Rattle.run_model.specs.controller_model.declared.doing.Doing.TheVariants.{CentralListens, PeripheralListens}
+use Rattle.run_model.specs.controller_model.Facts.{Facts}
+use Rattle.run_model.specs.controller_model.Step.{PacketHeard}
 use Rattle.run_model.specs.History.{Event, Called}
 use Rattle.run_model.specs.LinkEnds.{HasConnectInd}
 use Rattle.run_model.specs.Run.{Given, facts_at}

@@ -10,7 +10,7 @@ pub use Rattle.run_model.specs.link_model as link_model
 pub use Rattle.run_model.specs.open_links as open_links
 pub use Rattle.run_model.specs.procedure_stages as procedure_stages
 pub use Rattle.run_model.specs as run_model
-pub use Rattle.controller_model.specs as controller_model
+pub use Rattle.run_model.specs.controller_model as controller_model
 pub use Rattle.run_model.specs.control_model as control_model
 pub use Rattle.advertise.specs as advertise
 pub use Rattle.host_view.specs as host_view

@@ -6,7 +6,7 @@ use Rattle.ble_base.specs.declared.roles.Role.TheVariants.{Central, Peripheral}
 use Rattle.adv_pdu.specs.declared.pdu.ConnectFields.{ConnectFields}
 use Rattle.run_model.specs.link_model.Setup.{Setup}
 use Rattle.run_model.specs.link_model.Step.{EventEntered, PduFixed, PacketSent, PacketReceived}
-use Rattle.controller_model.specs.Rows.{address_a, address_b}
+use Rattle.run_model.specs.controller_model.Rows.{address_a, address_b}
 use Rattle.run_model.specs.History.{Event}
 use Rattle.run_model.specs.Rows.{first_packet, first_reply, one_event}
 use Rattle.run_model.specs.Run.{history_of, run_of}

@@ -3,7 +3,7 @@
 ghost use Rattle.std.specs.Prelude.{◌≡◌, ◌≢◌, ◌<◌, ℕ, List, Some, length};
 ghost use Rattle.adv_pdu.specs.declared.pdu.ConnectFields.{ConnectFields};
 ghost use Rattle.scan_init.specs.Access.{nth_access};
-ghost use Rattle.controller_model.specs.Heard.{access_found};
+ghost use Rattle.run_model.specs.controller_model.Heard.{access_found};
 ghost use Rattle.run_model.specs.Feeding.{AreDistinct};
 ghost use Rattle.run_model.specs.History.{Event};
 ghost use Rattle.run_model.specs.LinkEnds.{HaveAddresses};
@@ -26,6 +26,6 @@ pub fn access_addresses_are_taken_in_order()
         → IsConnectSent (history_of (run_of given)) later station other
         → length before < length later → fields.access ≢ other.access }
 {
-    controller_model::a_pdu_is_understood();
+    run_model::a_pdu_is_understood();
     scan_init::laws::searches_give_each_valid_address();
 }

@@ -26,7 +26,7 @@ pub fn both_ends_hear_each_other()
         → history_of (run_of given) ≡ before ++ rest → AreEnds before central peripheral
         → HearEachOther given before central peripheral }
 {
-    controller_model::a_pdu_is_understood();
+    run_model::a_pdu_is_understood();
     advertise::laws::connections_are_taken();
     scan_init::laws::searches_give_each_valid_address();
 }

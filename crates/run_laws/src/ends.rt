@@ -53,5 +53,5 @@ pub fn ends_of_one_link_agree()
         → IsOpen (given_of a b script) before peripheral
         → AreOneLink central.link.setup peripheral.link.setup }
 {
-    controller_model::a_pdu_is_understood();
+    run_model::a_pdu_is_understood();
 }

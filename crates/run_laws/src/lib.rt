@@ -20,3 +20,4 @@ pub use crate::ranges::{
     what_is_sent_is_empty_or_has_octets,
 };
 pub use crate::rows::worked_ends;
+pub use run_model::{a_pdu_is_understood, each_packet_on_the_air_is_due};

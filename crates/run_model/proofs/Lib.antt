@@ -35,3 +35,4 @@ pub use Rattle.controller_model.proofs.control_model as control_model
 pub use Rattle.controller_model.proofs.link_model as link_model
 pub use Rattle.controller_model.proofs.open_links as open_links
 pub use Rattle.controller_model.proofs.link_end as link_end
+pub use Rattle.controller_model.proofs as controller_model

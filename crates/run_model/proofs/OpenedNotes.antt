@@ -43,7 +43,7 @@ use Rattle.controller_model.specs.link_model.Verdicts.{pdu_of}
 use Rattle.controller_model.specs.link_model.Events.{applied_notes}
 use Rattle.controller_model.specs.link_model.Controls.{goes_on, is_procedure_pdu, pdu_fixed}
 use Rattle.controller_model.specs.link_model.Entering.{began_notes, done_notes, event_notes, facts_entered}
-use Rattle.controller_model.specs.link_model.Receiving.{accepts, acked_kind, acks_control, facts_before_taking, given_if, given_notes, has_acknowledged, received_notes, refused_notes, taken_notes, took_notes_if}
+use Rattle.controller_model.specs.link_model.Receiving.{accepts, acked_kind, acks_control, facts_before_taking, given_if, given_notes, has_acknowledged, kept_given_if, received_notes, refused_notes, taken_notes, took_notes_if}
 use Rattle.controller_model.specs.link_model.Sending.{sent_notes_if}
 use Rattle.scan_init.specs.Reports.{scan_answer}
 use Rattle.controller_model.specs.open_links.declared.ended.LinkEnded.{LinkEnded}
@@ -175,8 +175,10 @@ module _ (handle : ℕ) where
   pdu_open : (other slot : ℕ) (accepted : Bool) (pdu : Pdu) (facts : EndFacts) → is_opened handle (taken_notes other accepted pdu slot facts) ≡ false
   pdu_open other slot accepted pdu facts =
       let given = given_if (accepted && is_procedure_pdu pdu) pdu slot facts in
-      neither (took_notes_if (accepted && not (is_empty pdu)) other pdu facts) (given_notes other given)
-      (took_if_open (accepted && not (is_empty pdu)) other pdu facts) (given_open other given)
+      let kept = kept_given_if (accepted && is_procedure_pdu pdu) pdu slot facts in
+      neither (took_notes_if (accepted && not (is_empty pdu)) other pdu facts) (given_notes other given ++ given_notes other kept)
+      (took_if_open (accepted && not (is_empty pdu)) other pdu facts)
+      (neither (given_notes other given) (given_notes other kept) (given_open other given) (given_open other kept))
 
   received_open : (setup : EndSetup) (slot : ℕ) (room : Bool) (found : Option (List ℕ)) (facts : EndFacts)
       → is_opened handle (received_notes setup slot room found facts) ≡ false

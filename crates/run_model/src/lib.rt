@@ -20,3 +20,4 @@ pub use crate::links::{
     each_open_link_has_its_number,
 };
 pub use crate::rows::{worked_connection, worked_damage, worked_runs};
+pub use controller_model::a_pdu_is_understood;

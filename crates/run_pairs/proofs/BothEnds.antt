@@ -16,13 +16,13 @@ use Rattle.link_calls.specs.link_model.Times.{due_of, ending_of}
 use Rattle.link_calls.proofs.link_model.Hearing.{IsHeardWhole}
 use Rattle.link_calls.specs.open_links.Data.{complete_in}
 use Rattle.link_calls.specs.open_links.OpenLinks.{OpenLink, facts_in, link_after, link_at}
-use Rattle.controller_model.specs.declared.doing.Doing.{Doing}
-use Rattle.controller_model.specs.declared.doing.Doing.TheVariants.{Advertises, CentralListens, PeripheralListens}
-use Rattle.controller_model.specs.Facts.{Setup, Facts, first_facts}
-use Rattle.controller_model.specs.Heard.{has_room}
-use Rattle.controller_model.specs.Side.{facts_after, facts_of}
-use Rattle.controller_model.specs.Step.{Step, HostOctet, TurnBegins, PacketHeard, NothingHeard, TurnEnds}
-use Rattle.controller_model.proofs.Pasts.{facts_more}
+use Rattle.link_calls.specs.controller_model.declared.doing.Doing.{Doing}
+use Rattle.link_calls.specs.controller_model.declared.doing.Doing.TheVariants.{Advertises, CentralListens, PeripheralListens}
+use Rattle.link_calls.specs.controller_model.Facts.{Setup, Facts, first_facts}
+use Rattle.link_calls.specs.controller_model.Heard.{has_room}
+use Rattle.link_calls.specs.controller_model.Side.{facts_after, facts_of}
+use Rattle.link_calls.specs.controller_model.Step.{Step, HostOctet, TurnBegins, PacketHeard, NothingHeard, TurnEnds}
+use Rattle.link_calls.proofs.controller_model.Pasts.{facts_more}
 use Rattle.link_calls.specs.Phases.{HasPassed, IsNew, Stays, Takes, link_receiving, refuses_at}
 use Rattle.link_calls.specs.run_model.Feeding.{AreDistinct}
 use Rattle.link_calls.specs.run_model.History.{Event, Called, TurnBegan, HostFed, Noted, Transmitted, past_of, steps_in}

@@ -1,8 +1,8 @@
 -- At each call of a run: at which place of its turns the station that is called is, and at which any other one is.
 use Rattle.std.proofs.Common.{◌≡◌, ℕ, suc, ◌+◌, ◌-◌, ◌==◌, Bool, true, false, Option, Some, None, List, [], ◌∷◌, ◌++◌, append-nil, refl, sym, ap, ◌∙◌, arith}
 use Rattle.std.specs.Prelude.{fold, map, take, if◌then◌else◌}
-use Rattle.controller_model.specs.Step.{Step, HostOctet, TurnBegins, PacketHeard, NothingHeard, TurnEnds}
-use Rattle.controller_model.specs.Side.{notes_after}
+use Rattle.link_calls.specs.controller_model.Step.{Step, HostOctet, TurnBegins, PacketHeard, NothingHeard, TurnEnds}
+use Rattle.link_calls.specs.controller_model.Side.{notes_after}
 use Rattle.link_calls.specs.run_model.Due.{Each}
 use Rattle.link_calls.specs.run_model.Feeding.{AreDistinct}
 use Rattle.link_calls.specs.run_model.History.{Event, TurnBegan, HostFed, Called, Noted, Transmitted, packet_received, past_of, turns_begun}

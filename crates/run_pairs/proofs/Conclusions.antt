@@ -4,8 +4,8 @@ use Rattle.std.specs.Prelude.{if◌then◌else◌}
 use Rattle.std.proofs.lemmas.Bool.{eq-eqb}
 use Rattle.ble_base.specs.declared.verdicts.Verdict.TheVariants.{Good}
 use Rattle.link_calls.specs.link_model.Packets.{verdict_of}
-use Rattle.controller_model.specs.declared.doing.Doing.TheVariants.{Advertises, CentralListens, PeripheralListens}
-use Rattle.controller_model.specs.Step.{Step, PacketHeard}
+use Rattle.link_calls.specs.controller_model.declared.doing.Doing.TheVariants.{Advertises, CentralListens, PeripheralListens}
+use Rattle.link_calls.specs.controller_model.Step.{Step, PacketHeard}
 use Rattle.link_calls.specs.run_laws.Ends.{AreEnds as AreEndsIn, IsOpen, OpenEnd, link_listened}
 use Rattle.link_calls.proofs.run_laws.InAgreement.{OpenedBefore}
 use Rattle.link_calls.proofs.run_laws.LinkPhases.{in_phase}
@@ -13,7 +13,7 @@ use Rattle.run_pairs.specs.InTurns.{HasSentNow, HearEachInTurn}
 use Rattle.run_pairs.proofs.CallPlaces.{AllBetween, StandsInPhase, stands_called}
 use Rattle.run_pairs.proofs.EndCalls.{central_takes_in, peripheral_takes_in}
 use Rattle.run_pairs.proofs.BothEnds.{ByStanding, at_standing, both_new, kept_to, packet_now}
-use Rattle.controller_model.specs.Facts.{Facts}
+use Rattle.link_calls.specs.controller_model.Facts.{Facts}
 use Rattle.run_pairs.specs.Stages.{AreAnsweredEnds, AreBegunEnds, AreHeardEnds}
 use Rattle.run_pairs.proofs.PairSteps.{AreBothBegun, AtPlace, InTurn, IsCentralBegun, IsPeripheralBegun, IsPeripheralDone, NewOr}
 use Rattle.run_pairs.proofs.Stages.{central_judges, central_unheard, linked_agree, peripheral_judges, peripheral_unheard}
@@ -28,7 +28,7 @@ use Rattle.link_calls.specs.link_model.Setup.{Setup as EndSetup}
 use Rattle.link_calls.proofs.link_model.Acknowledging.{ack_sent}
 use Rattle.link_calls.proofs.link_model.Hearing.{IsHeardWhole}
 use Rattle.link_calls.specs.open_links.OpenLinks.{OpenLink, facts_in}
-use Rattle.controller_model.specs.declared.doing.Doing.{Doing}
+use Rattle.link_calls.specs.controller_model.declared.doing.Doing.{Doing}
 use Rattle.link_calls.specs.run_model.Feeding.{AreDistinct}
 use Rattle.link_calls.specs.run_model.History.{Event, Called, past_of}
 use Rattle.link_calls.specs.run_model.LinkEnds.{HaveAddresses}

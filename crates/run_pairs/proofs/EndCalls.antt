@@ -1,10 +1,10 @@
 -- What a call does to one end of a link, in the words of the laws of two ends.
-use Rattle.std.proofs.Common.{◌≡◌, ◌⊎◌, inl, inr, ℕ, ◌+◌, ◌≤◌, ◌==◌, ◌&&◌, Bool, true, false, Option, Some, None, List, refl, sym, ap, subst, ◌∙◌, arith}
+use Rattle.std.proofs.Common.{◌≡◌, ◌⊎◌, inl, inr, ℕ, ◌+◌, ◌≤◌, ◌==◌, ◌&&◌, Bool, true, false, Option, Some, None, is_none, List, refl, sym, ap, subst, ◌∙◌, arith}
 use Rattle.std.proofs.lemmas.Bool.{eqb-true, ltb-true}
 use Rattle.std.specs.Prelude.{if◌then◌else◌}
 use Rattle.ble_base.specs.declared.roles.Role.{Role}
 use Rattle.ble_base.specs.declared.roles.Role.TheVariants.{Central, Peripheral}
-use Rattle.ble_base.specs.declared.verdicts.Verdict.TheVariants.{Broken as BrokenPacket, Good}
+use Rattle.ble_base.specs.declared.verdicts.Verdict.TheVariants.{Broken as BrokenPacket, Forged, Good}
 use Rattle.air_frame.specs.declared.Heard.{Heard}
 use Rattle.air_frame.specs.declared.Heard.TheVariants.{NotOurs, Broken, Whole}
 use Rattle.link_calls.specs.link_model.Controls.{goes_on}
@@ -13,19 +13,22 @@ use Rattle.link_calls.specs.link_model.Entering.{facts_entered_if}
 use Rattle.link_calls.specs.link_model.Facts.{Facts as EndFacts}
 use Rattle.link_calls.specs.link_model.Data.{is_control}
 use Rattle.link_calls.specs.link_model.Fixing.{fixed_anew}
-use Rattle.link_calls.specs.link_model.Packets.{good_pdu, heard_of, verdict_of}
-use Rattle.link_calls.specs.link_model.Receiving.{facts_received, has_ended, replies_by, replies_of}
+use Rattle.link_calls.specs.link_model.Packets.{good_pdu, heard_of, is_forged, is_forged_in, is_forged_pdu, pdu_read_in, verdict_of, whole_pdu}
+use Rattle.link_calls.specs.link_model.Payload.{opens_now}
+use Rattle.link_calls.specs.link_model.Plain.{IsPlain}
+use Rattle.link_calls.specs.link_model.Receiving.{facts_forged_if, facts_received, has_ended, replies_by, replies_of}
 use Rattle.link_calls.specs.link_model.Setup.{Setup as EndSetup}
 use Rattle.link_calls.specs.link_model.Step.{EventEntered, PacketReceived, PacketSent, PduFixed, RequestAnswered}
-use Rattle.link_calls.specs.link_model.Verdicts.{good_in, has_room_for, pdu_by, verdict_by}
+use Rattle.link_calls.specs.link_model.Verdicts.{has_room_for, pdu_by, verdict_by, whole_in}
+use Rattle.link_calls.proofs.link_model.Plain.{read_plain}
 use Rattle.link_calls.specs.open_links.OpenLinks.{Links, OpenLink, facts_in, has_entered, link_after, link_at}
 use Rattle.link_calls.specs.open_links.Turns.{entered_if, is_anchor, link_entered}
 use Rattle.link_calls.proofs.open_links.Unmoved.{entered_setup}
-use Rattle.controller_model.specs.declared.doing.Doing.{Doing}
-use Rattle.controller_model.specs.declared.doing.Doing.TheVariants.{Advertises, CentralListens, CentralSends, PeripheralListens, PeripheralSends}
-use Rattle.controller_model.specs.Facts.{Setup, Facts}
-use Rattle.controller_model.specs.Side.{facts_after}
-use Rattle.controller_model.specs.Step.{TurnBegins}
+use Rattle.link_calls.specs.controller_model.declared.doing.Doing.{Doing}
+use Rattle.link_calls.specs.controller_model.declared.doing.Doing.TheVariants.{Advertises, CentralListens, CentralSends, PeripheralListens, PeripheralSends}
+use Rattle.link_calls.specs.controller_model.Facts.{Setup, Facts}
+use Rattle.link_calls.specs.controller_model.Side.{facts_after}
+use Rattle.link_calls.specs.controller_model.Step.{TurnBegins}
 use Rattle.link_calls.specs.Phases.{link_receiving, refusal, refused_if, refuses_at}
 use Rattle.link_runs.specs.link_pairs.Hearing.{received}
 use Rattle.link_runs.specs.link_pairs.Turns.{MayExchange, entered_in, prepared}
@@ -35,9 +38,9 @@ use Rattle.link_calls.proofs.run_laws.LinkPhases.{HasRole, IsInPhase}
 use Rattle.link_calls.proofs.run_laws.TurnPlaces.{Between}
 use Rattle.link_calls.proofs.Exchanging.{AreExchanging, begun_in_event}
 use Rattle.link_calls.proofs.RadioUses.{Listening, Sending, Uses}
-use Rattle.controller_model.proofs.Exchanges.{exchange_has_entered}
-use Rattle.controller_model.specs.Entering.{HasEntered, IsInEvent}
-use Rattle.controller_model.specs.Radio.{outcome_begun}
+use Rattle.link_calls.proofs.controller_model.Exchanges.{exchange_has_entered}
+use Rattle.link_calls.specs.controller_model.Entering.{HasEntered, IsInEvent}
+use Rattle.link_calls.specs.controller_model.Radio.{outcome_begun}
 use Rattle.link_calls.proofs.LinkCalls.{begins_under}
 use Rattle.run_pairs.proofs.OneSide.{LastBefore, begun_last}
 use Rattle.link_calls.specs.Turns.{fixed_if, sent_if}
@@ -190,26 +193,34 @@ none_replies : (role : Role) (ended : Bool) → replies_by role ended None ≡ f
 none_replies Central ended = refl
 none_replies Peripheral ended = refl
 
-pub good_or_unheard : (setup : EndSetup) (slot : ℕ) (octets : List ℕ) (room : Bool) (facts : EndFacts)
+-- one of an end that encrypts nothing
+pub good_or_unheard : (role : Role) (setup : EndSetup) (slot : ℕ) (octets : List ℕ) (room : Bool) (facts : EndFacts) → IsPlain role facts
     → (verdict_of setup facts octets ≡ Good) ⊎ IsUnheard setup slot octets room facts
-unfolding good_pdu verdict_of replies_of
-good_or_unheard setup slot octets room facts = got (of (heard_of setup facts octets))
+unfolding good_pdu verdict_of replies_of whole_pdu is_forged
+good_or_unheard role setup slot octets room facts plain = got (of (heard_of setup facts octets))
   where
-    at : (fits : Bool) (pdu : List ℕ) → ((if fits then Good else BrokenPacket) ≡ Good) ⊎ (pdu_by fits pdu ≡ None)
-    at true pdu = inl refl
+    most : ℕ
+    most = setup.link.max_rx
+
+    opens : Bool
+    opens = opens_now facts.encryption.end
+
+    at : (fits : Bool) (pdu : List ℕ) → ((if fits then (if is_forged_pdu facts pdu then Forged else Good) else BrokenPacket) ≡ Good) ⊎ (pdu_by fits pdu ≡ None)
+    at true pdu = inl (ap (λ (read : Option (List ℕ)). if is_none read then Forged else Good) (read_plain role facts pdu plain))
     at false pdu = inr refl
 
-    of : (heard : Heard) → (verdict_by setup.link.max_rx heard ≡ Good) ⊎ (good_in setup.link.max_rx heard ≡ None)
+    of : (heard : Heard) → (verdict_by most opens (is_forged_pdu facts) heard ≡ Good) ⊎ (whole_in most opens heard ≡ None)
     of NotOurs = inr refl
     of Broken = inr refl
-    of (Whole pdu) = at (has_room_for setup.link.max_rx pdu.items) pdu.items
+    of (Whole pdu) = at (has_room_for most opens pdu.items) pdu.items
 
-    got : (verdict_by setup.link.max_rx (heard_of setup facts octets) ≡ Good) ⊎ (good_in setup.link.max_rx (heard_of setup facts octets) ≡ None)
+    got : (verdict_by most opens (is_forged_pdu facts) (heard_of setup facts octets) ≡ Good) ⊎ (whole_in most opens (heard_of setup facts octets) ≡ None)
         → (verdict_of setup facts octets ≡ Good) ⊎ IsUnheard setup slot octets room facts
     got (inl good) = inl good
     got (inr none) = inr (record {
-      same = ap (λ (pdu : Option (List ℕ)). facts_received setup.link.role slot room pdu facts) none;
-      replies = ap (λ (pdu : Option (List ℕ)). replies_by setup.link.role (has_ended (facts_received setup.link.role slot room pdu facts)) pdu) none
+      same = ap (λ (pdu : Option (List ℕ)). facts_forged_if (is_forged_in facts pdu) (facts_received setup.link.role slot room (pdu_read_in facts pdu) facts)) none;
+      replies = ap (λ (pdu : Option (List ℕ)).
+          replies_by setup.link.role (has_ended (facts_received setup.link.role slot room (pdu_read_in facts pdu) facts)) (pdu_read_in facts pdu)) none
           ∙ none_replies setup.link.role _;
     })
 

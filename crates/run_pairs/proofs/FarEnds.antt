@@ -6,9 +6,9 @@ use Rattle.air_frame.specs.Packet.{access_octets}
 use Rattle.link_calls.specs.link_model.Setup.{Setup as EndSetup}
 use Rattle.link_calls.specs.link_model.Step.{PacketSent}
 use Rattle.link_calls.specs.open_links.OpenLinks.{OpenLink, facts_in, link_after, link_at}
-use Rattle.controller_model.specs.Facts.{Facts}
-use Rattle.controller_model.specs.Step.{PacketHeard}
-use Rattle.controller_model.proofs.DataChannels.{link_channel}
+use Rattle.link_calls.specs.controller_model.Facts.{Facts}
+use Rattle.link_calls.specs.controller_model.Step.{PacketHeard}
+use Rattle.link_calls.proofs.controller_model.DataChannels.{link_channel}
 use Rattle.link_calls.specs.run_model.Feeding.{AreDistinct}
 use Rattle.link_calls.specs.run_model.History.{Event, Called, Transmitted, turns_begun}
 use Rattle.link_calls.specs.run_model.LinkEnds.{HasConnectInd, HaveAddresses}

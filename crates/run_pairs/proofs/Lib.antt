@@ -11,3 +11,4 @@ pub mod Conclusions
 pub mod OnAirNow
 pub mod FarEnds
 pub mod OnTime
+pub use Rattle.link_calls.proofs as link_calls

@@ -6,14 +6,14 @@ use Rattle.link_calls.specs.link_model.Receiving.{replies_of}
 use Rattle.link_calls.specs.link_model.Setup.{Setup as EndSetup}
 use Rattle.link_calls.specs.link_model.Step.{Step as EndStep, DataGiven}
 use Rattle.link_calls.specs.open_links.OpenLinks.{OpenLink, facts_in, link_after, link_at}
-use Rattle.controller_model.specs.Step.{Step, HostOctet}
-use Rattle.controller_model.specs.declared.doing.Doing.{Doing}
-use Rattle.controller_model.specs.declared.doing.Doing.TheVariants.{Advertises, CentralListens, PeripheralListens}
-use Rattle.controller_model.specs.Facts.{Setup, Facts}
-use Rattle.controller_model.specs.Heard.{has_room, heard, replies_in, reply_if}
-use Rattle.controller_model.specs.Host.{commands_accepted_after}
-use Rattle.controller_model.specs.link_commands.Commands.{step_on}
-use Rattle.controller_model.specs.Side.{facts_after, facts_of}
+use Rattle.link_calls.specs.controller_model.Step.{Step, HostOctet}
+use Rattle.link_calls.specs.controller_model.declared.doing.Doing.{Doing}
+use Rattle.link_calls.specs.controller_model.declared.doing.Doing.TheVariants.{Advertises, CentralListens, PeripheralListens}
+use Rattle.link_calls.specs.controller_model.Facts.{Setup, Facts}
+use Rattle.link_calls.specs.controller_model.Heard.{has_room, heard, replies_in, reply_if}
+use Rattle.link_calls.specs.controller_model.Host.{commands_accepted_after}
+use Rattle.link_calls.specs.controller_model.link_commands.Commands.{step_on}
+use Rattle.link_calls.specs.controller_model.Side.{facts_after, facts_of}
 use Rattle.link_runs.specs.link_pairs.Hosts.{MayHost}
 use Rattle.link_runs.specs.Runs.{MayHostAll}
 use Rattle.link_runs.specs.Turn.{facts_hosted}

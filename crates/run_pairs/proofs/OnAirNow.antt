@@ -5,14 +5,14 @@ use Rattle.std.proofs.lemmas.Bool.{eqb-true}
 use Rattle.link_calls.specs.link_model.Packets.{packet_sent}
 use Rattle.link_calls.specs.link_model.Step.{PacketSent}
 use Rattle.link_calls.specs.open_links.OpenLinks.{OpenLink, facts_in, link_after, link_at}
-use Rattle.controller_model.specs.declared.doing.Doing.{Doing}
-use Rattle.controller_model.specs.declared.doing.Doing.TheVariants.{Advertises, CentralSends, PeripheralSends}
-use Rattle.controller_model.specs.Facts.{Setup, Facts, Sends, Listens}
-use Rattle.controller_model.specs.Heard.{unheard}
-use Rattle.controller_model.specs.Outcome.{facts_passed}
-use Rattle.controller_model.specs.Sent.{SendsOn}
-use Rattle.controller_model.specs.Side.{facts_after, facts_of, notes_after}
-use Rattle.controller_model.specs.Step.{Step, HostOctet, TurnBegins, PacketHeard, NothingHeard, TurnEnds}
+use Rattle.link_calls.specs.controller_model.declared.doing.Doing.{Doing}
+use Rattle.link_calls.specs.controller_model.declared.doing.Doing.TheVariants.{Advertises, CentralSends, PeripheralSends}
+use Rattle.link_calls.specs.controller_model.Facts.{Setup, Facts, Sends, Listens}
+use Rattle.link_calls.specs.controller_model.Heard.{unheard}
+use Rattle.link_calls.specs.controller_model.Outcome.{facts_passed}
+use Rattle.link_calls.specs.controller_model.Sent.{SendsOn}
+use Rattle.link_calls.specs.controller_model.Side.{facts_after, facts_of, notes_after}
+use Rattle.link_calls.specs.controller_model.Step.{Step, HostOctet, TurnBegins, PacketHeard, NothingHeard, TurnEnds}
 use Rattle.link_calls.specs.run_model.Due.{Each}
 use Rattle.link_calls.specs.run_model.Feeding.{AreDistinct}
 use Rattle.link_calls.specs.run_model.History.{Event, TurnBegan, HostFed, Called, Transmitted, packet_received, past_of, turns_begun}

@@ -16,6 +16,7 @@ use Rattle.link_calls.specs.link_model.Facts.{Facts as EndFacts}
 use Rattle.link_calls.specs.link_model.Fixing.{fixed_anew}
 use Rattle.link_calls.specs.link_model.Hosts.{asked_unless, is_to_come}
 use Rattle.link_calls.specs.link_model.Packets.{good_pdu}
+use Rattle.link_calls.specs.link_model.Plain.{IsPlain, plain_entered}
 use Rattle.link_calls.specs.link_model.Receiving.{facts_received}
 use Rattle.link_calls.specs.link_model.Sending.{control_gone_if, takes_leave}
 use Rattle.link_calls.specs.link_model.Setup.{Setup as EndSetup}
@@ -24,13 +25,14 @@ use Rattle.link_calls.specs.open_links.Data.{complete_in}
 use Rattle.link_calls.specs.open_links.OpenLinks.{OpenLink, facts_in, link_after, link_at, new_link}
 use Rattle.link_calls.specs.open_links.Turns.{entered_if, is_anchor, link_entered}
 use Rattle.link_calls.proofs.control_model.Moving.{enters_track, table_alone}
+use Rattle.link_calls.proofs.link_model.Plain.{entered_plain, past_plain, received_plain}
 use Rattle.link_calls.proofs.open_links.Anchors.{IsInPlace, enters, moves_on, next_after_enter, sent_later, stays_in_place, went_on}
 use Rattle.link_calls.proofs.open_links.Unmoved.{entered_setup}
 use Rattle.link_calls.proofs.open_links.Intervals.{HasIntervals, has_intervals, past_indicates}
-use Rattle.controller_model.specs.Facts.{Setup, Facts, Radio, first_facts}
-use Rattle.controller_model.specs.Heard.{has_room}
-use Rattle.controller_model.specs.Side.{facts_after}
-use Rattle.controller_model.specs.Step.{TurnBegins}
+use Rattle.link_calls.specs.controller_model.Facts.{Setup, Facts, Radio, first_facts}
+use Rattle.link_calls.specs.controller_model.Heard.{has_room}
+use Rattle.link_calls.specs.controller_model.Side.{facts_after}
+use Rattle.link_calls.specs.controller_model.Step.{TurnBegins}
 use Rattle.link_calls.specs.Hosts.{HasHeardHost, GetsData, IsAsked, Unchanged}
 use Rattle.link_calls.specs.Phases.{HasPassed, IsNew, Stays, Takes, refusal, refused_if, refuses_at}
 use Rattle.link_calls.specs.Ranges.{HasRanges}
@@ -43,7 +45,7 @@ use Rattle.link_calls.proofs.run_model.LinkEnds.{AreTaken}
 use Rattle.link_calls.proofs.run_model.Stations.{is_in}
 use Rattle.link_calls.proofs.run_laws.Agreed.{step_facts}
 use Rattle.link_calls.proofs.run_laws.InRange.{AreRanged, ranged_first, ranged_kept, ranges_before}
-use Rattle.controller_model.proofs.Asked.{IsAskedStep}
+use Rattle.link_calls.proofs.controller_model.Asked.{IsAskedStep}
 use Rattle.link_calls.proofs.run_laws.OpenSteps.{open_has}
 use Rattle.link_calls.proofs.run_laws.TurnPlaces.{Between, IsTurned, Stage, Within, stands_in_run, turned}
 use Rattle.link_calls.proofs.Exchanging.{AfterAnchor, AtAnchor, IsInSlot}
@@ -64,12 +66,12 @@ record IsTimed (slot : ℕ) (facts : EndFacts) : Type 0 where
 
 -- ---- steps in which it enters no event
 
-module _ (setup : EndSetup) (slot : ℕ) (facts : EndFacts) (step : EndStep) (none : enters step ≡ false) where
+module _ (setup : EndSetup) (slot : ℕ) (facts : EndFacts) (step : EndStep) (plain : IsPlain setup.link.role facts) (none : enters step ≡ false) where
   abbrev after : EndFacts
   after = end_after setup facts step
 
   place : IsInPlace facts.control.track after.control.track
-  place = stays_in_place setup facts step none
+  place = stays_in_place setup facts step plain none
 
   -- if its event stays in that slot, and the next anchor is where it was or later
   stays_timed : after.event.slot ≡ facts.event.slot → (goes_on after ≡ true → slot ≤ next_anchor_of after.control.track) → IsTimed slot facts → IsTimed slot after
@@ -85,7 +87,7 @@ module _ (setup : EndSetup) (slot : ℕ) (facts : EndFacts) (step : EndStep) (no
   track_stays : after.event.slot ≡ facts.event.slot → after.control.track ≡ facts.control.track → IsTimed slot facts → IsTimed slot after
   track_stays same track is =
       stays_timed same
-      (λ goes. subst (λ (t : TrackFacts). slot ≤ next_anchor_of t) (sym track) (is.on_track.next (went_on setup facts step goes))) is
+      (λ goes. subst (λ (t : TrackFacts). slot ≤ next_anchor_of t) (sym track) (is.on_track.next (went_on setup facts step plain goes))) is
 
 -- a host
 asked_track : (setup : EndSetup) (facts : EndFacts) (step : EndStep) → IsAskedStep step → (end_after setup facts step).control.track ≡ facts.control.track
@@ -106,9 +108,10 @@ asked_no_entry (Disconnected reason slot) by_host = refl
 asked_no_entry (DataGiven start body) by_host = refl
 asked_no_entry other by_host = absurd by_host
 
-asked_timed : (setup : EndSetup) (slot : ℕ) (facts : EndFacts) (step : EndStep) → IsAskedStep step → IsTimed slot facts → IsTimed slot (end_after setup facts step)
-asked_timed setup slot facts step by_host is =
-    track_stays setup slot facts step (asked_no_entry step by_host)
+asked_timed : (setup : EndSetup) (slot : ℕ) (facts : EndFacts) (step : EndStep) → IsPlain setup.link.role facts → IsAskedStep step → IsTimed slot facts
+    → IsTimed slot (end_after setup facts step)
+asked_timed setup slot facts step plain by_host is =
+    track_stays setup slot facts step plain (asked_no_entry step by_host)
     (ap (λ (e : ConnectionEvent). e.slot) (asked_leaves setup facts step by_host).event) (asked_track setup facts step by_host) is
 
 -- it fixes its PDU
@@ -116,9 +119,9 @@ fixed_track : (stays : Bool) (facts : EndFacts) → (if stays then facts else fi
 fixed_track true facts = refl
 fixed_track false facts = refl
 
-fixed_timed : (setup : EndSetup) (slot : ℕ) (facts : EndFacts) → IsTimed slot facts → IsTimed slot (end_after setup facts PduFixed)
-fixed_timed setup slot facts is =
-    track_stays setup slot facts PduFixed refl (ap (λ (e : ConnectionEvent). e.slot) (fixed_same facts).event)
+fixed_timed : (setup : EndSetup) (slot : ℕ) (facts : EndFacts) → IsPlain setup.link.role facts → IsTimed slot facts → IsTimed slot (end_after setup facts PduFixed)
+fixed_timed setup slot facts plain is =
+    track_stays setup slot facts PduFixed plain refl (ap (λ (e : ConnectionEvent). e.slot) (fixed_same facts).event)
     (fixed_track (is_control facts.outgoing.fixed) facts) is
 
 -- it sends: an indication that it sends moves its next anchor to a later slot, if at all
@@ -133,9 +136,10 @@ sent_timed : (slot now : ℕ) (link : OpenLink) → IsInRange link.setup.link.fi
     → IsTimed slot (end_after link.setup (facts_in link) (PacketSent now))
 sent_timed slot now link fields ranges is =
     let facts = facts_in link in
+    let plain = past_plain link.setup link.past in
     let later = gone_later (takes_leave facts) now link fields ranges in
-    stays_timed link.setup slot facts (PacketSent now) refl (ap (λ (e : ConnectionEvent). e.slot) (sent_in now facts).event)
-    (λ goes. let next = is.on_track.next (went_on link.setup facts (PacketSent now) goes) in omega (arith, next, later)) is
+    stays_timed link.setup slot facts (PacketSent now) plain refl (ap (λ (e : ConnectionEvent). e.slot) (sent_in now facts).event)
+    (λ goes. let next = is.on_track.next (went_on link.setup facts (PacketSent now) plain goes) in omega (arith, next, later)) is
 
 -- it receives in an exchange of its event
 received_slot : (setup : EndSetup) (now : ℕ) (room : Bool) (may : Option (List ℕ)) (facts : EndFacts)
@@ -169,11 +173,14 @@ received_timed now octets room link fields ranges reach is =
     let facts = facts_in link in
     let step = PacketReceived now octets room in
     let track = (end_after link.setup facts step).control.track in
+    let plain = past_plain link.setup link.past in
     let spaced = has_intervals link.setup (link.past ++ step ∷ []) fields ranges.asks in
-    stays_timed link.setup (now + 1) facts step refl (received_slot link.setup now room (good_pdu link.setup facts octets) facts)
-    (λ goes. stays_later facts.control.track track now (place link.setup (now + 1) facts step refl)
+    stays_timed link.setup (now + 1) facts step plain refl
+    (ap (λ (f : EndFacts). f.event.slot) (received_plain link.setup facts now octets room plain)
+    ∙ received_slot link.setup now room (good_pdu link.setup facts octets) facts)
+    (λ goes. stays_later facts.control.track track now (place link.setup (now + 1) facts step plain refl)
     (subst (λ (f : EndFacts). HasIntervals f.control.track) (step_facts link step) spaced)
-    (λ some. subst (λ n. now ≤ n + 1) (is.event some) reach) (is.on_track.next (went_on link.setup facts step goes))) is
+    (λ some. subst (λ n. now ≤ n + 1) (is.event some) reach) (is.on_track.next (went_on link.setup facts step plain goes))) is
 
 -- a step of an open link
 step_timed : (slot : ℕ) (link : OpenLink) (step : EndStep) → IsTimed slot (end_after link.setup (facts_in link) step) → IsTimed slot (facts_in (link_after step link))
@@ -201,9 +208,10 @@ entry_timed : (slot : ℕ) (link : OpenLink) → IsInRange link.setup.link.field
 entry_timed slot link fields ranges goes at =
     let facts = facts_in link in
     let t = facts.control.track in
-    let entered : facts_in (link_after (EventEntered slot) link) ≡ facts_entered_if true link.setup slot facts =
-    step_facts link (EventEntered slot) ∙ ap (λ b. facts_entered_if b link.setup slot facts) goes in
-    let track = enters_track facts.control slot (is_quiet_now facts) (none_of facts.control.ends goes) in
+    let entered : facts_in (link_after (EventEntered slot) link) ≡ plain_entered link.setup slot facts =
+    step_facts link (EventEntered slot) ∙ ap (λ b. facts_entered_if b link.setup slot facts) goes
+    ∙ entered_plain link.setup slot facts (past_plain link.setup link.past) in
+    let track = enters_track facts.control slot true (none_of facts.control.ends goes) in
     let here : next_anchor_of t ≡ slot = eqb-true (next_anchor_of t) slot at in
     let later = next_after_enter t (has_intervals link.setup link.past fields ranges.asks) in
     let anchor = ap (λ (now : TrackFacts). now.anchor) track ∙ anchor_entered t ∙ here in
@@ -261,11 +269,11 @@ heard_timed slot facts octet handle now (Unchanged was) each = each now was
 heard_timed slot facts octet handle now (GetsData link start body was is) each =
     subst (λ (l : OpenLink). IsTimed slot (facts_in l)) (sym is)
     (step_timed slot link (DataGiven start body)
-    (track_stays link.setup slot (facts_in link) (DataGiven start body) refl refl refl (each link was)))
+    (track_stays link.setup slot (facts_in link) (DataGiven start body) (past_plain link.setup link.past) refl refl refl (each link was)))
 heard_timed slot facts octet handle now (IsAsked link command step was accepted asks is) each =
     let well = asked_is_well facts octet handle command link.setup.link.role (facts_in link).peer step accepted asks in
     subst (λ (l : OpenLink). IsTimed slot (facts_in l)) (sym is)
-    (step_timed slot link step (asked_timed link.setup slot (facts_in link) step well.by_host (each link was)))
+    (step_timed slot link step (asked_timed link.setup slot (facts_in link) step (past_plain link.setup link.past) well.by_host (each link was)))
 
 -- it may fix its PDU, and may send
 module _ (slot now : ℕ) (link : OpenLink) (fields : IsInRange link.setup.link.fields) where
@@ -274,7 +282,7 @@ module _ (slot now : ℕ) (link : OpenLink) (fields : IsInRange link.setup.link.
   sends_timed false ranges is = is
 
 fixes_timed : (slot : ℕ) (fixes : Bool) (link : OpenLink) → IsTimed slot (facts_in link) → IsTimed slot (facts_in (fixed_if fixes link))
-fixes_timed slot true link is = step_timed slot link PduFixed (fixed_timed link.setup slot (facts_in link) is)
+fixes_timed slot true link is = step_timed slot link PduFixed (fixed_timed link.setup slot (facts_in link) (past_plain link.setup link.past) is)
 fixes_timed slot false link is = is
 
 fixed_fields : (fixes : Bool) (link : OpenLink) → IsInRange link.setup.link.fields → IsInRange (fixed_if fixes link).setup.link.fields
@@ -310,7 +318,7 @@ in_reach slot handle link radio (AfterAnchor is heard) = omega (arith, is)
 
 refused_timed : (slot : ℕ) (refuses : Bool) (link : OpenLink) → IsTimed slot (facts_in link) → IsTimed slot (facts_in (refused_if refuses link))
 refused_timed slot true link is =
-    step_timed slot link (RequestAnswered refusal) (asked_timed link.setup slot (facts_in link) (RequestAnswered refusal) tt is)
+    step_timed slot link (RequestAnswered refusal) (asked_timed link.setup slot (facts_in link) (RequestAnswered refusal) (past_plain link.setup link.past) tt is)
 refused_timed slot false link is = is
 
 refused_fields : (refuses : Bool) (link : OpenLink) → IsInRange link.setup.link.fields → IsInRange (refused_if refuses link).setup.link.fields
@@ -368,7 +376,7 @@ module _ (setup : Setup) (phases begun : ℕ) (received : Option (List ℕ)) (fa
 
 reported_timed : (slot : ℕ) (reports : Bool) (link : OpenLink) → IsTimed slot (facts_in link)
     → IsTimed slot (facts_in (if reports then link_after DataReported link else link))
-reported_timed slot true link is = step_timed slot link DataReported (track_stays link.setup slot (facts_in link) DataReported refl refl refl is)
+reported_timed slot true link is = step_timed slot link DataReported (track_stays link.setup slot (facts_in link) DataReported (past_plain link.setup link.past) refl refl refl is)
 reported_timed slot false link is = is
 
 timed_kept : AreTaken → (setup : Setup) → IsTurned setup (AreTimed setup)

@@ -13,23 +13,23 @@ use Rattle.link_calls.specs.open_links.OpenLinks.{OpenLink, facts_in, link_after
 use Rattle.link_calls.specs.open_links.Turns.{enters_in, entered_if, link_entered}
 use Rattle.link_calls.proofs.open_links.Unmoved.{entered_setup}
 use Rattle.scan_init.specs.Reports.{does_ask, scan_answer}
-use Rattle.controller_model.specs.declared.doing.Doing.{Doing}
-use Rattle.controller_model.specs.declared.doing.Doing.TheVariants.{Advertises, CentralListens, Connects, PeripheralListens}
-use Rattle.controller_model.specs.Facts.{Setup, Facts, first_facts}
-use Rattle.controller_model.specs.Heard.{asks_if, has_room, link_taken, replies_in, reply_if}
-use Rattle.controller_model.specs.Outcome.{facts_passed}
-use Rattle.controller_model.specs.Side.{facts_after}
-use Rattle.controller_model.specs.Step.{TurnBegins}
-use Rattle.controller_model.proofs.Always.{MayBegin, opening_passes}
-use Rattle.controller_model.proofs.LinkFields.{range_of_test}
-use Rattle.controller_model.proofs.Phases.{EachOutcome, heard_is, unheard_is}
+use Rattle.link_calls.specs.controller_model.declared.doing.Doing.{Doing}
+use Rattle.link_calls.specs.controller_model.declared.doing.Doing.TheVariants.{Advertises, CentralListens, Connects, PeripheralListens}
+use Rattle.link_calls.specs.controller_model.Facts.{Setup, Facts, first_facts}
+use Rattle.link_calls.specs.controller_model.Heard.{asks_if, has_room, link_taken, replies_in, reply_if}
+use Rattle.link_calls.specs.controller_model.Outcome.{facts_passed}
+use Rattle.link_calls.specs.controller_model.Side.{facts_after}
+use Rattle.link_calls.specs.controller_model.Step.{TurnBegins}
+use Rattle.link_calls.proofs.controller_model.Always.{MayBegin, opening_passes}
+use Rattle.link_calls.proofs.controller_model.LinkFields.{range_of_test}
+use Rattle.link_calls.proofs.controller_model.Phases.{EachOutcome, heard_is, unheard_is}
 use Rattle.link_calls.specs.Phases.{HasPassed, IsNew, Stays, Takes, link_receiving, refused_if, refuses_at}
 use Rattle.link_calls.specs.run_model.Run.{step_of}
 use Rattle.link_calls.proofs.run_model.LinkEnds.{AreTaken}
 use Rattle.link_calls.specs.Hosts.{HasHeardHost, GetsData, IsAsked, Unchanged}
 use Rattle.link_calls.proofs.run_laws.Entering.{taken_in_range}
 use Rattle.link_calls.proofs.run_laws.InAgreement.{IsStation, OpenedBefore, first_station, station_begins, station_ends, station_fed, station_passes}
-use Rattle.controller_model.proofs.Asked.{IsAskedStep}
+use Rattle.link_calls.proofs.controller_model.Asked.{IsAskedStep}
 use Rattle.link_calls.proofs.run_laws.OpenSteps.{EachOpen, IsKeptOpen, IsKeptServed, KeepsAsked, MayOpen, begin_open, end_open, none_open, octet_open, open_has, phase_open}
 use Rattle.link_calls.proofs.run_laws.TurnPlaces.{Between, IsTurned, Stage, Within}
 use Rattle.link_calls.proofs.run_laws.TurnSteps.{MakesWell, begins_may, begins_slot, phase_turn}

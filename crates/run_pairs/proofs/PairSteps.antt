@@ -10,9 +10,10 @@ use Rattle.link_calls.specs.link_model.Setup.{Setup as EndSetup}
 use Rattle.link_calls.specs.link_model.Step.{Step as EndStep, DataReported, PacketSent, RequestAnswered}
 use Rattle.link_calls.specs.link_model.Times.{due_of, ending_of}
 use Rattle.link_calls.proofs.link_model.Hearing.{IsHeardWhole}
+use Rattle.link_calls.proofs.link_model.Plain.{past_plain}
 use Rattle.link_calls.specs.open_links.OpenLinks.{OpenLink, facts_in}
-use Rattle.controller_model.specs.declared.doing.Doing.{Doing}
-use Rattle.controller_model.proofs.Places.{refusal}
+use Rattle.link_calls.specs.controller_model.declared.doing.Doing.{Doing}
+use Rattle.link_calls.proofs.controller_model.Places.{refusal}
 use Rattle.link_runs.specs.link_pairs.Ends.{AreEnds}
 use Rattle.link_runs.specs.link_pairs.Hosts.{MayHost}
 use Rattle.link_runs.specs.link_pairs.Hearing.{IsPacketOf, answered, received}
@@ -238,7 +239,7 @@ module _ (whole : IsHeardWhole) (c_end p_end : EndSetup) (ends : AreEnds c_end p
       → facts_in p ≡ turns.sent_if replies p_end slot (refused_facts refuses p_end (received p_end slot octets room (facts_in before)))
       → (replies ≡ false → LastBefore slot p.past)
       → (verdict_of p_end (facts_in before) octets ≡ Good → IsPacketNow c_end slot (facts_in before) c octets) → IsPeripheralDone c_end p_end p_handle slot c p
-  peripheral_takes slot octets room refuses replies doing c before p both listening are facts_are unsent now = by (good_or_unheard p_end slot octets room (facts_in before))
+  peripheral_takes slot octets room refuses replies doing c before p both listening are facts_are unsent now = by (good_or_unheard before.setup.link.role p_end slot octets room (facts_in before) (past_plain before.setup before.past))
     where
       as_sent : (b : Bool) → b ≡ replies → SentIf b slot p.past
       as_sent b is = unsent_if b slot p.past (λ none. unsent (sym is ∙ none))
@@ -276,7 +277,7 @@ module _ (whole : IsHeardWhole) (c_end p_end : EndSetup) (ends : AreEnds c_end p
   pub central_takes : (slot : ℕ) (octets : List ℕ) (room refuses : Bool) (before c p : OpenLink) → IsPeripheralDone c_end p_end p_handle slot before p
       → facts_in c ≡ refused_facts refuses c_end (received c_end slot octets room (facts_in before))
       → (verdict_of c_end (facts_in before) octets ≡ Good → IsPacketNow p_end slot (facts_in before) p octets) → AreHeardEnds c_end p_end slot (facts_in c) (facts_in p)
-  central_takes slot octets room refuses before c p done facts_are now = by (good_or_unheard c_end slot octets room (facts_in before))
+  central_takes slot octets room refuses before c p done facts_are now = by (good_or_unheard before.setup.link.role c_end slot octets room (facts_in before) (past_plain before.setup before.past))
     where
       made : AreHeardEnds c_end p_end slot (received c_end slot octets room (facts_in before)) (facts_in p) → AreHeardEnds c_end p_end slot (facts_in c) (facts_in p)
       made heard = subst (λ (f : EndFacts). AreHeardEnds c_end p_end slot f (facts_in p)) (sym facts_are)

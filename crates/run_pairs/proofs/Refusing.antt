@@ -9,11 +9,12 @@ use Rattle.link_runs.specs.procedure_values.declared.asks.Ask.{Ask}
 use Rattle.link_calls.specs.link_model.Acknowledgement.{Pdu, is_acked}
 use Rattle.link_calls.specs.link_model.Facts.{Facts}
 use Rattle.link_calls.specs.link_model.Hosts.{facts_answered}
-use Rattle.link_calls.specs.link_model.Packets.{good_pdu, more_sent}
-use Rattle.link_calls.specs.link_model.Receiving.{accepted_if, accepts, acknowledged_if, facts_before_taking, facts_hearing, facts_received, has_acknowledged, heard_in_slot, procedures_take_if, replies_by, replies_of}
+use Rattle.link_calls.specs.link_model.Packets.{good_pdu, is_forged, more_sent}
+use Rattle.link_calls.specs.link_model.Receiving.{accepted_if, accepts, acknowledged_if, data_taken_if, facts_before_taking, facts_forged_if, facts_hearing, facts_received, has_acknowledged, heard_in_slot, procedures_take_if, replies_by, replies_of}
 use Rattle.link_calls.specs.link_model.Sending.{control_gone_if, facts_sent, fixed_sent, takes_leave}
 use Rattle.link_calls.specs.link_model.Setup.{Setup}
 use Rattle.link_calls.specs.link_model.Controls.{is_procedure_pdu}
+use Rattle.link_calls.specs.link_model.Data.{is_data}
 use Rattle.link_calls.specs.link_model.Verdicts.{pdu_of}
 use Rattle.link_runs.specs.link_pairs.Hearing.{received}
 use Rattle.link_runs.proofs.link_pairs.Items.{never}
@@ -28,12 +29,21 @@ procedures_stay : (takes : Bool) (pdu : Pdu) (slot : ℕ) (facts : Facts) → ta
 procedures_stay true pdu slot facts = refl
 procedures_stay false pdu slot facts = refl
 
+data_stays : (takes : Bool) (facts : Facts) → takes_leave (data_taken_if takes facts) ≡ takes_leave facts
+data_stays true facts = refl
+data_stays false facts = refl
+
+forged_stays : (forged : Bool) (facts : Facts) → takes_leave (facts_forged_if forged facts) ≡ takes_leave facts
+forged_stays true facts = refl
+forged_stays false facts = refl
+
 hearing_stays : (slot : ℕ) (room : Bool) (header : DataHeader) (pdu : Pdu) (facts : Facts) → takes_leave (facts_hearing Peripheral slot room header pdu facts) ≡ false
 hearing_stays slot room header pdu facts =
     let acked = acknowledged_if (has_acknowledged facts header) (heard_in_slot slot header.md facts) in
     let now = facts_before_taking Peripheral slot header facts in
     let accepted = accepts room header pdu now in
-    procedures_stay (accepted && is_procedure_pdu pdu) pdu slot (accepted_if accepted pdu now) ∙ gone_stays (takes_leave acked) slot acked refl
+    data_stays (accepted && is_data pdu) (procedures_take_if (accepted && is_procedure_pdu pdu) pdu slot (accepted_if accepted pdu now))
+    ∙ procedures_stay (accepted && is_procedure_pdu pdu) pdu slot (accepted_if accepted pdu now) ∙ gone_stays (takes_leave acked) slot acked refl
 
 -- what it sends then is fixed already
 sent_fixed : (leaves : Bool) (slot : ℕ) (facts : Facts) → leaves ≡ false → fixed_sent slot (control_gone_if leaves slot facts) ≡ fixed_sent slot facts
@@ -69,4 +79,5 @@ pub received_stays : (setup : Setup) (slot : ℕ) (octets : List ℕ) (room : Bo
     → replies_of setup facts slot octets room ≡ true → takes_leave (received setup slot octets room facts) ≡ false
 unfolding replies_of
 received_stays setup slot octets room facts is replies =
-    good_stays setup setup.link.role slot room (good_pdu setup facts octets) facts is (some_by setup.link.role _ (good_pdu setup facts octets) replies)
+    forged_stays (is_forged setup facts octets) (facts_received setup.link.role slot room (good_pdu setup facts octets) facts)
+    ∙ good_stays setup setup.link.role slot room (good_pdu setup facts octets) facts is (some_by setup.link.role _ (good_pdu setup facts octets) replies)

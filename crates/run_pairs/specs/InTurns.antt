@@ -1,7 +1,7 @@
 -- What the two ends of a link hear of each other, turn by turn (Core 5.2, volume 6 part B, section 4.5.1).
 use Rattle.std.specs.Prelude.{◌≡◌, ℕ, List, ◌∷◌, ◌++◌}
 use Rattle.link_calls.specs.open_links.OpenLinks.{OpenLink, facts_in}
-use Rattle.controller_model.specs.Step.{PacketHeard}
+use Rattle.link_calls.specs.controller_model.Step.{PacketHeard}
 use Rattle.link_calls.specs.run_model.History.{Event, Called}
 use Rattle.link_calls.specs.run_model.Run.{Given, facts_at}
 use Rattle.link_calls.specs.run_laws.Ends.{HasSent, HaveOneConnectInd, OpenEnd, ReceivesGood}

@@ -6,7 +6,7 @@ ghost use Rattle.ble_base.specs.declared.verdicts.Verdict.TheVariants.{Good};
 ghost use Rattle.link_calls.specs.link_model.OneLink.{AreInAgreement};
 ghost use Rattle.link_calls.specs.link_model.Packets.{verdict_of};
 ghost use Rattle.link_calls.specs.open_links.OpenLinks.{facts_in};
-ghost use Rattle.controller_model.specs.Step.{PacketHeard};
+ghost use Rattle.link_calls.specs.controller_model.Step.{PacketHeard};
 ghost use Rattle.link_calls.specs.run_model.Feeding.{AreDistinct};
 ghost use Rattle.link_calls.specs.run_model.History.{Called, Event, TurnBegan, turns_begun};
 ghost use Rattle.link_calls.specs.run_model.LinkEnds.{HaveAddresses};
@@ -42,7 +42,7 @@ pub fn open_ends_are_linked()
         (facts_in central.link) (facts_in peripheral.link) }
 {
     air_frame::laws::packet_tells_its_pdu();
-    controller_model::a_pdu_is_understood();
+    link_calls::a_pdu_is_understood();
     advertise::laws::connections_are_taken();
     known_ends::what_hosts_ask_may_come();
 }
@@ -83,7 +83,7 @@ pub fn ends_that_last_are_sound()
         (facts_in peripheral.link).acknowledgement }
 {
     air_frame::laws::packet_tells_its_pdu();
-    controller_model::a_pdu_is_understood();
+    link_calls::a_pdu_is_understood();
     advertise::laws::connections_are_taken();
     known_ends::what_hosts_ask_may_come();
 }
@@ -116,7 +116,7 @@ pub fn no_procedure_ends_a_link_but_a_late_one()
         }) }
 {
     air_frame::laws::packet_tells_its_pdu();
-    controller_model::a_pdu_is_understood();
+    link_calls::a_pdu_is_understood();
     advertise::laws::connections_are_taken();
     known_ends::what_hosts_ask_may_come();
 }
@@ -147,7 +147,7 @@ pub fn packets_of_a_link_are_understood()
         → verdict_of central.link.setup (facts_in central.link) octets ≡ Good }
 {
     air_frame::laws::packet_tells_its_pdu();
-    controller_model::a_pdu_is_understood();
+    link_calls::a_pdu_is_understood();
     advertise::laws::connections_are_taken();
     known_ends::what_hosts_ask_may_come();
 }

@@ -15,3 +15,4 @@ pub use crate::pairs::{
     both_ends_hear_each_other_in_turns, ends_of_a_pair_are_linked, ends_of_a_pair_are_sound,
     packets_of_a_pair_are_understood,
 };
+pub use known_ends::what_hosts_ask_may_come;

@@ -6,7 +6,7 @@ ghost use Rattle.ble_base.specs.declared.verdicts.Verdict.TheVariants.{Good};
 ghost use Rattle.link_calls.specs.link_model.OneLink.{AreInAgreement};
 ghost use Rattle.link_calls.specs.link_model.Packets.{verdict_of};
 ghost use Rattle.link_calls.specs.open_links.OpenLinks.{facts_in};
-ghost use Rattle.controller_model.specs.Step.{PacketHeard};
+ghost use Rattle.link_calls.specs.controller_model.Step.{PacketHeard};
 ghost use Rattle.radio_replay.specs.Script.{Script};
 ghost use Rattle.link_calls.specs.run_model.Feeding.{AreDistinct};
 ghost use Rattle.link_calls.specs.run_model.History.{Called, Event, TurnBegan, turns_begun};
@@ -43,7 +43,7 @@ pub fn both_ends_hear_each_other_in_turns()
         → HasSent given before far (facts_in end.link).event.channel octets
         → HasSentNow given before end far (facts_in end.link).event.channel octets }
 {
-    controller_model::a_pdu_is_understood();
+    link_calls::a_pdu_is_understood();
     advertise::laws::connections_are_taken();
     scan_init::laws::searches_give_each_valid_address();
 }

@@ -27,7 +27,7 @@ none_encrypts : (ask : Ask) → AsksNone ask → is_encrypt (Some (kind_of_ask a
 none_encrypts (ask_encrypt rand ediv ltk skd_m iv_m) is = absurd (cc)
 none_encrypts ask is = refl
 
-begins_other : (f : TableFacts) (slot : ℕ) (place : Option ℕ) (ask : Option Ask) → ask_at place f.wanted ≡ ask → All AsksNone f.wanted → is_encrypt (begin_at f slot place ask).1 ≡ false
+pub begins_other : (f : TableFacts) (slot : ℕ) (place : Option ℕ) (ask : Option Ask) → ask_at place f.wanted ≡ ask → All AsksNone f.wanted → is_encrypt (begin_at f slot place ask).1 ≡ false
 begins_other f slot None ask is all = refl
 begins_other f slot (Some place) None is all = refl
 begins_other f slot (Some place) (Some ask) is all = none_encrypts ask (wanted_here place ask f.wanted is all)
@@ -72,7 +72,7 @@ module _ (c : Control) (knows : Bool) where
       by false encrypts is = refl
 
   -- nothing is asked for again
-  none_again : (pause lasts : Bool) → (pause && (lasts && false)) ≡ false
+  pub none_again : (pause lasts : Bool) → (pause && (lasts && false)) ≡ false
   none_again true true = refl
   none_again true false = refl
   none_again false lasts = refl

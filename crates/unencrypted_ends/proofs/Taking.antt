@@ -30,12 +30,12 @@ use Rattle.unencrypted_ends.specs.Unencrypted.{is_enc_req, plain_phased}
 
 -- ---- in phase Clear nothing is kept, and no PDU of the encryption but LL_ENC_REQ is answered
 
-none_kept : (pdu : PduClass) (role : Role) → keeps_class pdu role true ≡ false
+pub none_kept : (pdu : PduClass) (role : Role) → keeps_class pdu role true ≡ false
 none_kept Request Central = refl
 none_kept Request Peripheral = refl
 none_kept pdu role = refl
 
-none_answered : (role : Role) (ctrl : Ctrl) → is_enc_req (Known ctrl) ≡ false → is_answered_at role ctrl Clear ≡ false
+pub none_answered : (role : Role) (ctrl : Ctrl) → is_enc_req (Known ctrl) ≡ false → is_answered_at role ctrl Clear ≡ false
 none_answered Central StartEncReq is = refl
 none_answered Central PauseEncRsp is = refl
 none_answered Peripheral (EncReq rand ediv skd_m iv_m) is = absurd (cc)
@@ -118,7 +118,7 @@ module _ (c : Control) (slot : ℕ) where
   abbrev after_taking : CtrlRead → Control
   after_taking read = after (control_takes read slot true) c
 
-  seen_rejecting : (role : Role) (opcode code : ℕ) → is_unknown Clear role (ctrl_class (RejectExtInd opcode code)) ≡ false
+  pub seen_rejecting : (role : Role) (opcode code : ℕ) → is_unknown Clear role (ctrl_class (RejectExtInd opcode code)) ≡ false
   seen_rejecting Central opcode code = by (opcode == 3)
     where
       by : (b : Bool) → is_unknown Clear Central (if b then Refusal else Other) ≡ false

@@ -15,9 +15,9 @@ use Rattle.host_view.specs.Unbuilt.{status_of}
 use Rattle.host_view.specs.scan_init.Access.{bit_count, is_valid_access, next_access_of}
 use Rattle.chan_select.specs.Channel.{channel_of}
 use Rattle.chan_select.specs.PseudoRandom.{mam, perm, prn, reversed_octet, stage}
-use Rattle.link_model.specs.End.{facts_of as facts_of_end}
-use Rattle.link_model.specs.Receiving.{replies_of}
-use Rattle.link_model.specs.Packets.{good_pdu, packet_sent, verdict_of as verdict_of_end}
+use Rattle.link_commands.specs.open_links.link_model.End.{facts_of as facts_of_end}
+use Rattle.link_commands.specs.open_links.link_model.Receiving.{replies_of}
+use Rattle.link_commands.specs.open_links.link_model.Packets.{good_pdu, packet_sent, verdict_of as verdict_of_end}
 use Rattle.controller_model.specs.Packets.{pdu_heard, use_of, verdict_of}
 use Rattle.controller_model.specs.Side.{facts_of, notes_of, result_of}
 use Rattle.controller_model.proofs.rows.worked_advertisement.Goals as goal

@@ -2,8 +2,8 @@
 use Rattle.std.proofs.Common.{◌≡◌, refl}
 use Rattle.hci_evt.specs.declared.event.MaskBit.{MaskBit}
 use Rattle.hci_evt.specs.declared.event.MaskBit.TheVariants.{Always, Main, Meta}
-use Rattle.controller_model.specs.Events.{passes}
-use Rattle.controller_model.specs.host_view.View.{View}
+use Rattle.run_model.specs.controller_model.Events.{passes}
+use Rattle.run_model.specs.controller_model.host_view.View.{View}
 use Rattle.host_masks.specs.Masks.{lets_through, view_masks}
 use Rattle.host_masks.proofs.masks.masks_decide_what_passes.Goals as goal
 

@@ -1,7 +1,7 @@
 -- Proof of `events::each_side_enters_its_events_in_order`.
 use Rattle.std.proofs.Common.{refl}
-use Rattle.run_model.specs.Pair.{given_of}
-use Rattle.run_model.proofs.LinkEnds.{pair_addresses}
+use Rattle.link_calls.specs.run_model.Pair.{given_of}
+use Rattle.link_calls.proofs.run_model.LinkEnds.{pair_addresses}
 use Rattle.journal_acks.proofs.events.each_side_enters_its_events_in_order.Goals as goal
 
 pub returns : goal.returns

@@ -1,7 +1,7 @@
 -- Proof of `exchanges::each_end_counts_as_the_journal_says`.
 use Rattle.std.proofs.Common.{refl}
-use Rattle.run_model.specs.Pair.{given_of}
-use Rattle.run_model.proofs.LinkEnds.{pair_addresses}
+use Rattle.link_calls.specs.run_model.Pair.{given_of}
+use Rattle.link_calls.proofs.run_model.LinkEnds.{pair_addresses}
 use Rattle.journal_acks.proofs.exchanges.each_end_counts_as_the_journal_says.Goals as goal
 
 pub returns-clause-before_a_turn : goal.returns-clause-before_a_turn

@@ -1,7 +1,7 @@
 -- Proof of `packets::each_sent_line_is_of_a_new_pdu`.
 use Rattle.std.proofs.Common.{refl}
-use Rattle.run_model.specs.Pair.{given_of}
-use Rattle.run_model.proofs.LinkEnds.{pair_addresses}
+use Rattle.link_calls.specs.run_model.Pair.{given_of}
+use Rattle.link_calls.proofs.run_model.LinkEnds.{pair_addresses}
 use Rattle.journal_acks.proofs.packets.each_sent_line_is_of_a_new_pdu.Goals as goal
 
 pub returns : goal.returns

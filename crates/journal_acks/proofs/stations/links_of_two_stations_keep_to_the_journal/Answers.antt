@@ -1,5 +1,5 @@
 -- Proof of `stations::links_of_two_stations_keep_to_the_journal`.
-use Rattle.run_model.proofs.Stations.{contains_in}
+use Rattle.link_calls.proofs.run_model.Stations.{contains_in}
 use Rattle.journal_packets.proofs.journal_links.OfTwo.{are_distinct}
 use Rattle.journal_acks.proofs.EventsInOrder.{event_in_order}
 use Rattle.journal_acks.proofs.LinkPackets.{packet_of_line}

@@ -8,7 +8,7 @@ use Rattle.chan_select.specs.Channel.{channel_of}
 use Rattle.chan_select.specs.PseudoRandom.{mam, perm, prn, reversed_octet, stage}
 use Rattle.frame_bits.specs.Crc.{crc, crc_octets, crc_of_bits, remainder}
 use Rattle.frame_bits.specs.Whitening.{mask_of, next_mask, whitening_bit, whitening_of}
-use Rattle.controller_model.specs.Packets.{pdu_heard}
+use Rattle.run_laws.specs.controller_model.Packets.{pdu_heard}
 use Rattle.wire_fields.specs.Field.{little_endian}
 use Rattle.journal_links.specs.Begun.{links_begun}
 use Rattle.journal_links.proofs.rows.worked_links.Goals as goal

@@ -1,10 +1,11 @@
 -- Proof of `controls::answer`.
-use Rattle.link_end.proofs.Events.{answers_stays}
-use Rattle.link_end.proofs.Sounds.{answers_sound}
+use Rattle.std.proofs.Common.{refl}
+use Rattle.keyed_control.specs.KeyedSteps.{Answers}
+use Rattle.link_end.proofs.Reaching.{stays_less}
 use Rattle.link_end.proofs.controls.answer.Goals as goal
 
-pub returns-clause-sound : goal.returns-clause-sound
-returns-clause-sound c = answers_sound c.args.answer c.args.control.now _ c.requires.in_range c.answer.ensures c.requires.sound
+pub returns-clause-sent : goal.returns-clause-sent
+returns-clause-sent c = (stays_less (Answers c.args.answer) c.args.control.now _ refl c.answer.ensures.step).sent
 
-pub returns-clause-entered : goal.returns-clause-entered
-returns-clause-entered c = answers_stays c.args.answer c.args.control.now _ c.answer.ensures
+pub returns-clause-opened : goal.returns-clause-opened
+returns-clause-opened c = (stays_less (Answers c.args.answer) c.args.control.now _ refl c.answer.ensures.step).opened

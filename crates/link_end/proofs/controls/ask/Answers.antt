@@ -1,10 +1,11 @@
 -- Proof of `controls::ask`.
-use Rattle.link_end.proofs.Events.{asks_stays}
-use Rattle.link_end.proofs.Sounds.{asks_sound}
+use Rattle.std.proofs.Common.{refl}
+use Rattle.keyed_control.specs.KeyedSteps.{Asks}
+use Rattle.link_end.proofs.Reaching.{stays_less}
 use Rattle.link_end.proofs.controls.ask.Goals as goal
 
-pub returns-clause-sound : goal.returns-clause-sound
-returns-clause-sound c = asks_sound c.args.ask c.args.control.now _ c.requires.in_range c.ask.ensures c.requires.sound
+pub returns-clause-sent : goal.returns-clause-sent
+returns-clause-sent c = (stays_less (Asks c.args.ask) c.args.control.now _ refl c.ask.ensures.step).sent
 
-pub returns-clause-entered : goal.returns-clause-entered
-returns-clause-entered c = asks_stays c.args.ask c.args.control.now _ c.ask.ensures
+pub returns-clause-opened : goal.returns-clause-opened
+returns-clause-opened c = (stays_less (Asks c.args.ask) c.args.control.now _ refl c.ask.ensures.step).opened

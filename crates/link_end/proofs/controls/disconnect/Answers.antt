@@ -1,10 +1,11 @@
 -- Proof of `controls::disconnect`.
-use Rattle.link_end.proofs.Events.{disconnects_stays}
-use Rattle.link_end.proofs.Sounds.{disconnects_sound}
+use Rattle.std.proofs.Common.{refl}
+use Rattle.keyed_control.specs.KeyedSteps.{Disconnects}
+use Rattle.link_end.proofs.Reaching.{stays_less}
 use Rattle.link_end.proofs.controls.disconnect.Goals as goal
 
-pub returns-clause-sound : goal.returns-clause-sound
-returns-clause-sound c = disconnects_sound c.args.reason c.args.control.now _ c.disconnect.ensures c.requires.sound
+pub returns-clause-sent : goal.returns-clause-sent
+returns-clause-sent c = (stays_less (Disconnects c.args.reason) c.args.control.now _ refl c.disconnect.ensures.step).sent
 
-pub returns-clause-entered : goal.returns-clause-entered
-returns-clause-entered c = disconnects_stays c.args.reason c.args.control.now _ c.disconnect.ensures
+pub returns-clause-opened : goal.returns-clause-opened
+returns-clause-opened c = (stays_less (Disconnects c.args.reason) c.args.control.now _ refl c.disconnect.ensures.step).opened

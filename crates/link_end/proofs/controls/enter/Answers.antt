@@ -1,11 +1,11 @@
 -- Proof of `controls::enter`.
-use Rattle.std.proofs.Common.{true}
-use Rattle.link_end.proofs.Events.{enters_stays}
-use Rattle.link_end.proofs.Sounds.{enters_sound}
+use Rattle.std.proofs.Common.{refl}
+use Rattle.keyed_control.specs.KeyedSteps.{Enters}
+use Rattle.link_end.proofs.Reaching.{stays_less}
 use Rattle.link_end.proofs.controls.enter.Goals as goal
 
-pub returns-clause-sound : goal.returns-clause-sound
-returns-clause-sound c = enters_sound c.args.slot true c.args.control.now _ c.enter.ensures.step c.requires.sound
+pub returns-clause-sent : goal.returns-clause-sent
+returns-clause-sent c = (stays_less (Enters c.args.slot) c.args.control.now _ refl c.enter.ensures.step).sent
 
-pub returns-clause-entered : goal.returns-clause-entered
-returns-clause-entered c = enters_stays c.args.slot true c.args.control.now _ c.enter.ensures.step
+pub returns-clause-opened : goal.returns-clause-opened
+returns-clause-opened c = (stays_less (Enters c.args.slot) c.args.control.now _ refl c.enter.ensures.step).opened

@@ -1,10 +1,11 @@
 -- Proof of `controls::see_acked`.
-use Rattle.link_end.proofs.Events.{acked_stays}
-use Rattle.link_end.proofs.Sounds.{acked_sound}
+use Rattle.std.proofs.Common.{refl}
+use Rattle.keyed_control.specs.KeyedSteps.{SeesAcknowledged}
+use Rattle.link_end.proofs.Reaching.{stays_less}
 use Rattle.link_end.proofs.controls.see_acked.Goals as goal
 
-pub returns-clause-sound : goal.returns-clause-sound
-returns-clause-sound c = acked_sound c.args.control.now _ c.acked.ensures.step c.requires.sound
+pub returns-clause-sent : goal.returns-clause-sent
+returns-clause-sent c = (stays_less SeesAcknowledged c.args.control.now _ refl c.acked.ensures.step).sent
 
-pub returns-clause-entered : goal.returns-clause-entered
-returns-clause-entered c = acked_stays c.args.control.now _ c.acked.ensures.step
+pub returns-clause-opened : goal.returns-clause-opened
+returns-clause-opened c = (stays_less SeesAcknowledged c.args.control.now _ refl c.acked.ensures.step).opened

@@ -8,11 +8,11 @@ use Rattle.data_pdu.specs.Layouts.{makers}
 use Rattle.frame_bits.specs.Crc.{crc, crc_octets, crc_of_bits, remainder}
 use Rattle.frame_bits.specs.Whitening.{mask_of, whitening_bit, whitening_of}
 use Rattle.wire_fields.specs.Field.{little_endian}
-use Rattle.link_pairs.specs.link_model.Packets.{good_pdu, packet_sent}
+use Rattle.link_pairs.specs.link_model.Packets.{good_pdu, is_forged, packet_sent, whole_pdu}
 use Rattle.link_pairs.specs.link_model.Receiving.{replies_of}
 use Rattle.link_runs.proofs.rows.a_central_ends_a_link.Goals as goal
 
 pub returns : goal.returns
 unfolding heard_in crc crc_octets crc_of_bits remainder mask_of whitening_bit whitening_of ctrl_of makers little_endian channel_of mam perm prn
-    reversed_octet stage good_pdu packet_sent replies_of
+    reversed_octet stage good_pdu is_forged packet_sent whole_pdu replies_of
 returns c = record { shut = refl; peripheral = refl; central = refl; timeout = refl }

@@ -1,5 +1,5 @@
 -- The proof of the law `control_pdus_do_not_cross_in_each_run`.
-use Rattle.link_calls.proofs.run_model.Stations.{contains_in}
+use Rattle.run_pairs.proofs.link_calls.run_model.Stations.{contains_in}
 use Rattle.run_pairs.proofs.LinkSteps.{asks_come}
 use Rattle.run_collisions.proofs.InRuns.{central_taken_in_run, peripheral_lasts_in_run, peripheral_taken_in_run, refuses_none_in_run}
 use Rattle.run_collisions.proofs.runs.control_pdus_do_not_cross_in_each_run.Goals as goal

@@ -1,14 +1,14 @@
 -- The proof of the law `rejected_procedures_are_refused_in_a_run_of_a_pair`.
 use Rattle.std.proofs.Common.{◌∷◌, refl}
 use Rattle.controller_model.specs.Step.{PacketHeard}
-use Rattle.link_calls.specs.open_links.OpenLinks.{facts_in}
-use Rattle.link_calls.specs.run_model.History.{Called}
-use Rattle.link_calls.specs.run_model.Pair.{given_of}
-use Rattle.link_calls.specs.run_model.Run.{facts_at}
-use Rattle.link_calls.proofs.run_model.LinkEnds.{pair_addresses}
-use Rattle.link_calls.proofs.run_model.Ordered.{pair_distinct}
-use Rattle.link_calls.proofs.run_model.Stations.{contains_in}
-use Rattle.link_calls.proofs.run_laws.TwoStations.{are_two}
+use Rattle.run_pairs.specs.link_calls.open_links.OpenLinks.{facts_in}
+use Rattle.run_pairs.specs.link_calls.run_model.History.{Called}
+use Rattle.run_pairs.specs.link_calls.run_model.Pair.{given_of}
+use Rattle.run_pairs.specs.link_calls.run_model.Run.{facts_at}
+use Rattle.run_pairs.proofs.link_calls.run_model.LinkEnds.{pair_addresses}
+use Rattle.run_pairs.proofs.link_calls.run_model.Ordered.{pair_distinct}
+use Rattle.run_pairs.proofs.link_calls.run_model.Stations.{contains_in}
+use Rattle.run_pairs.proofs.link_calls.run_laws.TwoStations.{are_two}
 use Rattle.run_collisions.proofs.OfPairs.{good_taken, hear_before, sent_to_peripheral}
 use Rattle.run_collisions.proofs.runs.rejected_procedures_are_refused_in_a_run_of_a_pair.Goals as goal
 

@@ -1,5 +1,5 @@
 -- The proof of the law `rejected_procedures_are_refused_in_each_run`.
-use Rattle.link_calls.proofs.run_model.Stations.{contains_in}
+use Rattle.run_pairs.proofs.link_calls.run_model.Stations.{contains_in}
 use Rattle.run_pairs.proofs.LinkSteps.{asks_come}
 use Rattle.run_collisions.proofs.InRuns.{refused_in_run}
 use Rattle.run_collisions.proofs.runs.rejected_procedures_are_refused_in_each_run.Goals as goal

@@ -1,5 +1,5 @@
 -- The proof of the law `the_central_prevails_in_each_run`.
-use Rattle.link_calls.proofs.run_model.Stations.{contains_in}
+use Rattle.run_pairs.proofs.link_calls.run_model.Stations.{contains_in}
 use Rattle.run_pairs.proofs.LinkSteps.{asks_come}
 use Rattle.run_collisions.proofs.InRuns.{prevails_after, prevails_in_run}
 use Rattle.run_collisions.proofs.runs.the_central_prevails_in_each_run.Goals as goal

@@ -1,5 +1,5 @@
 -- The proof of the law `a_peripheral_takes_what_the_central_sent_last`.
-use Rattle.link_calls.proofs.run_model.Stations.{contains_in}
+use Rattle.run_pairs.proofs.link_calls.run_model.Stations.{contains_in}
 use Rattle.run_pairs.proofs.LinkSteps.{asks_come}
 use Rattle.run_indications.proofs.Calls.{takes_last}
 use Rattle.run_indications.proofs.laws.a_peripheral_takes_what_the_central_sent_last.Goals as goal

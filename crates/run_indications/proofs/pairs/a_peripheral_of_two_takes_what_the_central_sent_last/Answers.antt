@@ -2,13 +2,13 @@
 use Rattle.std.proofs.Common.{[], ◌∷◌, ◌++◌, sym, ◌∙◌, refl}
 use Rattle.std.proofs.lemmas.List.{append_assoc}
 use Rattle.controller_model.specs.Step.{PacketHeard}
-use Rattle.link_calls.specs.run_model.History.{Called}
-use Rattle.link_calls.specs.run_model.Pair.{given_of}
-use Rattle.link_calls.proofs.run_model.LinkEnds.{pair_addresses}
-use Rattle.link_calls.proofs.run_model.Ordered.{pair_distinct}
-use Rattle.link_calls.proofs.run_model.Stations.{contains_in}
-use Rattle.link_calls.proofs.run_laws.SameEvent.{apart_ends, one_connect_ind}
-use Rattle.link_calls.proofs.run_laws.TwoStations.{are_two}
+use Rattle.run_pairs.specs.link_calls.run_model.History.{Called}
+use Rattle.run_pairs.specs.link_calls.run_model.Pair.{given_of}
+use Rattle.run_pairs.proofs.link_calls.run_model.LinkEnds.{pair_addresses}
+use Rattle.run_pairs.proofs.link_calls.run_model.Ordered.{pair_distinct}
+use Rattle.run_pairs.proofs.link_calls.run_model.Stations.{contains_in}
+use Rattle.run_pairs.proofs.link_calls.run_laws.SameEvent.{apart_ends, one_connect_ind}
+use Rattle.run_pairs.proofs.link_calls.run_laws.TwoStations.{are_two}
 use Rattle.run_pairs.proofs.FarEnds.{hear_in_turn}
 use Rattle.run_indications.proofs.pairs.a_peripheral_of_two_takes_what_the_central_sent_last.Goals as goal
 

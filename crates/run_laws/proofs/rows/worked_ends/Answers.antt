@@ -12,15 +12,15 @@ use Rattle.chan_select.specs.PseudoRandom.{mam, perm, prn, reversed_octet, stage
 use Rattle.run_model.specs.link_model.End.{facts_of as end_facts}
 use Rattle.run_model.specs.link_model.Receiving.{effect_of, replies_of}
 use Rattle.run_model.specs.link_end.Answers.{acked_of, given_of}
-use Rattle.run_model.specs.link_model.Packets.{good_pdu, packet_sent, verdict_of as end_verdict}
+use Rattle.run_model.specs.link_model.Packets.{good_pdu, is_forged, packet_sent, verdict_of as end_verdict, whole_pdu}
 use Rattle.scan_init.specs.Access.{bit_count, is_valid_access, next_access_of}
 use Rattle.frame_bits.specs.Crc.{crc, crc_octets, crc_of_bits, remainder}
 use Rattle.frame_bits.specs.Whitening.{mask_of, next_mask, whitening_bit, whitening_of}
 use Rattle.air_frame.specs.Hearing.{heard_in}
 use Rattle.adv_pdu.specs.Header.{kept_bits}
 use Rattle.adv_pdu.specs.Reading.{read_of}
-use Rattle.controller_model.specs.Packets.{pdu_heard, use_of, verdict_of}
-use Rattle.controller_model.specs.Side.{facts_of, result_of}
+use Rattle.run_model.specs.controller_model.Packets.{pdu_heard, use_of, verdict_of}
+use Rattle.run_model.specs.controller_model.Side.{facts_of, result_of}
 use Rattle.run_model.specs.History.{fates_used, packet_received, packets_on_air, turns_begun}
 use Rattle.run_model.specs.Run.{after_opening, after_phase, after_phases, after_turn, run_of}
 use Rattle.std.specs.Prelude.{true, drop, take, Some, slice_get}
@@ -30,7 +30,7 @@ use Rattle.ble_base.specs.declared.verdicts.Verdict.TheVariants.{Good}
 use Rattle.radio_replay.specs.declared.fates.Fate.TheVariants.{Pass}
 use Rattle.run_model.specs.LinkEnds.{ConnectInd, HasConnectInd}
 use Rattle.run_model.specs.Rows.{connect_packet}
-use Rattle.controller_model.specs.Rows.{address_a, address_b}
+use Rattle.run_model.specs.controller_model.Rows.{address_a, address_b}
 use Rattle.run_laws.specs.Rows.{central_end, one_event_fields, one_event_history, peripheral_end, public}
 use Rattle.run_laws.proofs.rows.worked_ends.Goals as goal
 
@@ -48,11 +48,11 @@ connect = record {
 }
 
 pub returns-clause-central : goal.returns-clause-central
-unfolding facts_of result_of frames little_endian command_of layout_of layouts view_after status_of use_of fates_used packet_received packets_on_air turns_begun after_opening after_phase after_phases after_turn run_of verdict_of pdu_heard heard_in read_of kept_bits crc crc_octets crc_of_bits remainder mask_of next_mask whitening_bit whitening_of bit_count is_valid_access next_access_of view_noted data_channels used_channels end_facts effect_of replies_of acked_of given_of packet_sent good_pdu end_verdict reversed_octet perm mam stage prn channel_of
+unfolding facts_of result_of frames little_endian command_of layout_of layouts view_after status_of use_of fates_used packet_received packets_on_air turns_begun after_opening after_phase after_phases after_turn run_of verdict_of pdu_heard heard_in read_of kept_bits crc crc_octets crc_of_bits remainder mask_of next_mask whitening_bit whitening_of bit_count is_valid_access next_access_of view_noted data_channels used_channels end_facts effect_of replies_of acked_of given_of packet_sent good_pdu is_forged whole_pdu end_verdict reversed_octet perm mam stage prn channel_of
 returns-clause-central c = refl
 
 pub returns-clause-peripheral : goal.returns-clause-peripheral
-unfolding facts_of result_of frames little_endian command_of layout_of layouts view_after status_of use_of fates_used packet_received packets_on_air turns_begun after_opening after_phase after_phases after_turn run_of verdict_of pdu_heard heard_in read_of kept_bits crc crc_octets crc_of_bits remainder mask_of next_mask whitening_bit whitening_of bit_count is_valid_access next_access_of view_noted data_channels used_channels end_facts effect_of replies_of acked_of given_of packet_sent good_pdu end_verdict reversed_octet perm mam stage prn channel_of
+unfolding facts_of result_of frames little_endian command_of layout_of layouts view_after status_of use_of fates_used packet_received packets_on_air turns_begun after_opening after_phase after_phases after_turn run_of verdict_of pdu_heard heard_in read_of kept_bits crc crc_octets crc_of_bits remainder mask_of next_mask whitening_bit whitening_of bit_count is_valid_access next_access_of view_noted data_channels used_channels end_facts effect_of replies_of acked_of given_of packet_sent good_pdu is_forged whole_pdu end_verdict reversed_octet perm mam stage prn channel_of
 returns-clause-peripheral c = refl
 
 split_at : (place : ℕ) (events : List Event) (event : Event) → slice_get events place ≡ Some event → events ≡ take place events ++ event ∷ drop (suc place) events
@@ -61,15 +61,15 @@ split_at zero (first ∷ events) event is = let same : first ≡ event = cc in a
 split_at (suc place) (first ∷ events) event is = ap (λ (xs : List Event). first ∷ xs) (split_at place events event is)
 
 connect_at : slice_get one_event_history 44 ≡ Some (Transmitted connect.sender connect.channel connect.octets connect.hearings)
-unfolding facts_of result_of frames little_endian command_of layout_of layouts view_after status_of use_of fates_used packet_received packets_on_air turns_begun after_opening after_phase after_phases after_turn run_of verdict_of pdu_heard heard_in read_of kept_bits crc crc_octets crc_of_bits remainder mask_of next_mask whitening_bit whitening_of bit_count is_valid_access next_access_of view_noted data_channels used_channels end_facts effect_of replies_of acked_of given_of packet_sent good_pdu end_verdict reversed_octet perm mam stage prn channel_of
+unfolding facts_of result_of frames little_endian command_of layout_of layouts view_after status_of use_of fates_used packet_received packets_on_air turns_begun after_opening after_phase after_phases after_turn run_of verdict_of pdu_heard heard_in read_of kept_bits crc crc_octets crc_of_bits remainder mask_of next_mask whitening_bit whitening_of bit_count is_valid_access next_access_of view_noted data_channels used_channels end_facts effect_of replies_of acked_of given_of packet_sent good_pdu is_forged whole_pdu end_verdict reversed_octet perm mam stage prn channel_of
 connect_at = refl
 
 turn_at : turns_begun (take 44 one_event_history) ≡ 1
-unfolding facts_of result_of frames little_endian command_of layout_of layouts view_after status_of use_of fates_used packet_received packets_on_air turns_begun after_opening after_phase after_phases after_turn run_of verdict_of pdu_heard heard_in read_of kept_bits crc crc_octets crc_of_bits remainder mask_of next_mask whitening_bit whitening_of bit_count is_valid_access next_access_of view_noted data_channels used_channels end_facts effect_of replies_of acked_of given_of packet_sent good_pdu end_verdict reversed_octet perm mam stage prn channel_of
+unfolding facts_of result_of frames little_endian command_of layout_of layouts view_after status_of use_of fates_used packet_received packets_on_air turns_begun after_opening after_phase after_phases after_turn run_of verdict_of pdu_heard heard_in read_of kept_bits crc crc_octets crc_of_bits remainder mask_of next_mask whitening_bit whitening_of bit_count is_valid_access next_access_of view_noted data_channels used_channels end_facts effect_of replies_of acked_of given_of packet_sent good_pdu is_forged whole_pdu end_verdict reversed_octet perm mam stage prn channel_of
 turn_at = refl
 
 connect_says : pdu_heard connect.channel connect.octets ≡ Some (Connect connect.from connect.to connect.ch_sel connect.fields)
-unfolding facts_of result_of frames little_endian command_of layout_of layouts view_after status_of use_of fates_used packet_received packets_on_air turns_begun after_opening after_phase after_phases after_turn run_of verdict_of pdu_heard heard_in read_of kept_bits crc crc_octets crc_of_bits remainder mask_of next_mask whitening_bit whitening_of bit_count is_valid_access next_access_of view_noted data_channels used_channels end_facts effect_of replies_of acked_of given_of packet_sent good_pdu end_verdict reversed_octet perm mam stage prn channel_of
+unfolding facts_of result_of frames little_endian command_of layout_of layouts view_after status_of use_of fates_used packet_received packets_on_air turns_begun after_opening after_phase after_phases after_turn run_of verdict_of pdu_heard heard_in read_of kept_bits crc crc_octets crc_of_bits remainder mask_of next_mask whitening_bit whitening_of bit_count is_valid_access next_access_of view_noted data_channels used_channels end_facts effect_of replies_of acked_of given_of packet_sent good_pdu is_forged whole_pdu end_verdict reversed_octet perm mam stage prn channel_of
 connect_says = refl
 
 of_central : HasConnectInd one_event_history central_end.station central_end.link.setup

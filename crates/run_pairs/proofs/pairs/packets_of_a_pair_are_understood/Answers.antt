@@ -1,6 +1,6 @@
 -- The proof of the law `packets_of_a_pair_are_understood`.
 use Rattle.std.proofs.Common.{◌∷◌, refl, sym}
-use Rattle.controller_model.specs.Step.{PacketHeard}
+use Rattle.link_calls.specs.controller_model.Step.{PacketHeard}
 use Rattle.link_calls.specs.run_model.History.{Called}
 use Rattle.link_calls.specs.run_model.Pair.{given_of}
 use Rattle.link_calls.proofs.run_model.LinkEnds.{pair_addresses}

@@ -7,4 +7,4 @@ use Rattle.link_end.proofs.ends.LinkEnd.awaits_host.Goals as goal
 
 pub returns : goal.returns
 returns c = λ setup past knows.
-    c.awaits_host.ensures ∙ ap (λ (h : Held). awaits_host h.control) (c.self.view_is ∙ held_is setup c.args.self.now past knows)
+    c.awaits_host.ensures ∙ ap (λ (h : Held). awaits_host h.control.control) (c.self.view_is ∙ held_is setup c.args.self.now past knows)

@@ -8,4 +8,4 @@ use Rattle.link_end.proofs.ends.LinkEnd.lengths.Goals as goal
 pub returns : goal.returns
 returns c = λ setup past knows.
     c.lengths.ensures
-    ∙ ap (λ (h : Held). (rx_of h.control.table.lengths, tx_of h.control.table.lengths)) (c.self.view_is ∙ held_is setup c.args.self.now past knows)
+    ∙ ap (λ (h : Held). (rx_of h.control.control.table.lengths, tx_of h.control.control.table.lengths)) (c.self.view_is ∙ held_is setup c.args.self.now past knows)

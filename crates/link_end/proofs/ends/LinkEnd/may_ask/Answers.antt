@@ -7,4 +7,4 @@ use Rattle.link_end.proofs.ends.LinkEnd.may_ask.Goals as goal
 
 pub returns : goal.returns
 returns c = λ setup past knows.
-    c.may_ask.ensures ∙ ap (λ (h : Held). may_ask c.args.kind h.control) (c.self.view_is ∙ held_is setup c.args.self.now past knows)
+    c.may_ask.ensures ∙ ap (λ (h : Held). may_ask c.args.kind h.control.control) (c.self.view_is ∙ held_is setup c.args.self.now past knows)

@@ -7,4 +7,4 @@ use Rattle.link_end.proofs.ends.LinkEnd.next_anchor.Goals as goal
 
 pub returns-clause-known : goal.returns-clause-known
 returns-clause-known c = λ setup past knows.
-    c.next_anchor.ensures ∙ ap (λ (h : Held). next_anchor_of h.control.track) (c.self.view_is ∙ held_is setup c.args.self.now past knows)
+    c.next_anchor.ensures ∙ ap (λ (h : Held). next_anchor_of h.control.control.track) (c.self.view_is ∙ held_is setup c.args.self.now past knows)

@@ -6,4 +6,4 @@ use Rattle.link_end.proofs.ends.LinkEnd.params.Goals as goal
 
 pub returns : goal.returns
 returns c = λ setup past knows.
-    c.params.ensures.params ∙ ap (λ (h : Held). h.control.track.params) (c.self.view_is ∙ held_is setup c.args.self.now past knows)
+    c.params.ensures.params ∙ ap (λ (h : Held). h.control.control.track.params) (c.self.view_is ∙ held_is setup c.args.self.now past knows)

@@ -9,7 +9,7 @@ returns-clause-goes g c = λ setup past knows.
 
 pub returns-clause-packet : goal.returns-clause-packet
 returns-clause-packet g c = λ setup past knows.
-    packed setup c.args.self.now past knows c.args.slot.0 _ c.go.ensures.held _ c.next_packet-packet.ensures
+    packed setup c.args.self.now past knows c.args.slot.0 _ c.go.ensures.held _ _ _ c.send.ensures.held c.more_out-more.ensures c.packet_out.ensures
 
 pub returns-clause-holds : goal.returns-clause-holds
 returns-clause-holds g c = λ setup past knows holds.
