@@ -3,11 +3,12 @@ ghost use Rattle.std.specs.Prelude.{◌≡◌, ◌≤◌, ◌<◌, ◌^◌, ℕ,
 ghost use Rattle.acl_banks.specs.declared.pieces.Piece.{Piece};
 ghost use Rattle.open_links.specs.Knowing.{Knows as KnowsLinks};
 ghost use Rattle.open_links.specs.OpenLinks.{Links, link_at};
-ghost use Rattle.controller_model.specs.Answers.{map_of, next_word, returned};
+ghost use Rattle.controller_model.specs.Answers.{encrypted, map_of, next_word, returned};
 ghost use Rattle.controller_model.specs.Facts.{Setup, Facts};
 ghost use Rattle.controller.specs.Knowing.{IsAt};
 
 use crate::controllers::Controller;
+use aes_block::Aes;
 use ble_base::PAYLOAD_OCTETS;
 use hci_cmd::Command;
 use host_notes::{Fields, put_longest};
@@ -46,6 +47,20 @@ fn map_in_use<const L: usize, const T: usize, const R: usize>(
     }
 }
 
+/// The cipher text of a block. Key, block and answer of a host have the least significant octet
+/// first, and those of the cipher the most significant one (section 7.8.22).
+fn encrypted(key: &[u8; 16], text: &[u8; 16]) -> [u8; 16]
+    ensures { result ≡ encrypted key.now text.now }
+{
+    let mut key = *key;
+    let mut block = *text;
+    key.reverse();
+    block.reverse();
+    let mut answer = Aes::new(&key).encrypt(&block);
+    answer.reverse();
+    answer
+}
+
 impl<const L: usize, const T: usize, const R: usize> Controller<L, T, R> {
     /// The random word that is drawn next.
     pub(crate) fn random_word(&self) -> u64
@@ -71,6 +86,7 @@ impl<const L: usize, const T: usize, const R: usize> Controller<L, T, R> {
             }
             Command::LeReadFeatures => put_octets(fields, &LE_FEATURES),
             Command::LeReadListSize => fields.push(ACCEPT_LIST_SIZE as u8),
+            Command::LeEncrypt { key, text } => put_octets(fields, &encrypted(key, text)),
             Command::LeRand => put_u64(fields, self.random_word()),
             Command::LeReadMaxLength => {
                 put_longest(fields);

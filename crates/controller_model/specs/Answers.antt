@@ -1,10 +1,11 @@
 -- The answer to a command: Command Status or Command Complete, and what it returns (Core 5.2, volume 4 part E, sections
 -- 7.7.14 and 7.7.15).
-use Rattle.std.specs.Prelude.{◌≡◌, ℕ, ◌%◌, ◌==◌, ◌||◌, Bool, true, false, List, [], ◌∷◌, ◌++◌, length, replicate, slice_index, Option, Some, None, if◌then◌else◌}
+use Rattle.std.specs.Prelude.{◌≡◌, ℕ, ◌%◌, ◌==◌, ◌||◌, Bool, true, false, List, [], ◌∷◌, ◌++◌, length, replicate, reverse, slice_index, Option, Some, None, if◌then◌else◌}
 use Rattle.wire_fields.specs.Field.{little_endian}
+use Rattle.aes_block.specs.Cipher.{cipher}
 use Rattle.ble_base.specs.Limits.{payload_octets}
 use Rattle.hci_cmd.specs.declared.command.Command.{Command}
-use Rattle.hci_cmd.specs.declared.command.Command.TheVariants.{HostCompleted, ReadLocalVersion, ReadLocalFeatures, ReadBdAddr, LeReadBufferSize, LeReadFeatures, LeReadListSize, LeReadChannelMap, LeRand, LeKeyReply, LeKeyNegative, LeParamReply, LeParamNegative, LeSetDataLength, LeReadMaxLength, LeReadPhy}
+use Rattle.hci_cmd.specs.declared.command.Command.TheVariants.{HostCompleted, ReadLocalVersion, ReadLocalFeatures, ReadBdAddr, LeReadBufferSize, LeReadFeatures, LeReadListSize, LeReadChannelMap, LeEncrypt, LeRand, LeKeyReply, LeKeyNegative, LeParamReply, LeParamNegative, LeSetDataLength, LeReadMaxLength, LeReadPhy}
 use Rattle.hci_cmd.specs.declared.command.CmdRead.{CmdRead}
 use Rattle.hci_cmd.specs.declared.command.CmdRead.TheVariants.{Known, UnknownOpcode, BadLength}
 use Rattle.hci_evt.specs.declared.event.Event.{Event}
@@ -42,6 +43,11 @@ abbrev pub map_of : Option OpenLink → ℕ
 map_of None = 0
 map_of (Some link) = (params_of (facts_in link)).map
 
+-- a block as LE Encrypt encrypts it: key, text and answer have the least significant octet first (section 7.8.22), and
+-- the cipher has the most significant one first
+abbrev pub encrypted : List ℕ → List ℕ → List ℕ
+encrypted key text = reverse (cipher (reverse key) (reverse text))
+
 -- what an accepted command returns after its status (sections 7.3, 7.4 and 7.8); a command on a link returns the handle
 abbrev pub returned : Setup → Facts → Command → List ℕ
 returned setup facts ReadLocalVersion = 0x0B ∷ 0x01 ∷ 0x00 ∷ 0x0B ∷ 0xFF ∷ 0xFF ∷ 0x01 ∷ 0x00 ∷ []
@@ -50,6 +56,7 @@ returned setup facts ReadBdAddr = setup.public
 returned setup facts LeReadBufferSize = little_endian 2 payload_octets ++ setup.host_buffers ∷ []
 returned setup facts LeReadFeatures = features
 returned setup facts LeReadListSize = 8 ∷ []
+returned setup facts (LeEncrypt key text) = encrypted key text
 returned setup facts LeRand = little_endian 8 (next_word setup facts.drawn)
 returned setup facts LeReadMaxLength =
     little_endian 2 payload_octets ++ little_endian 2 2120 ++ little_endian 2 payload_octets ++ little_endian 2 2120

@@ -72,9 +72,6 @@ a host 01330c07fb000008000000 = up 040f040101330c
 start
 a host 01350c0100 = up 040f040101350c
 start
-a host 011720200000000000000000000000000000000000000000000000000000000000000000 = up \
-    040f0401011720
-start
 a host 01ffff00 = up 040f040101ffff
 start
 # Commands that return more.
@@ -91,6 +88,11 @@ start
 a host 010f2000 = up 040e05010f200008
 start
 a host 01152002010e = up 040e0b01152002010e0000000000
+start
+# The long term key, session key diversifier and session key of the sample data of Core 5.2, volume
+# 6 part C, section 1.
+a host 01172020bf01fb9d4ef3bc36d874f5394138684c1302f1e0dfcebdac7968574635241302 = up \
+    040e140117200066c6c2278e3b8e053e7ea326521bad99
 start
 a host 01182000 = up 040e0c011820000100000000000000
 start

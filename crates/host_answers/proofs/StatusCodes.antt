@@ -4,7 +4,7 @@ use Rattle.std.specs.Prelude.{◌&&◌, nat_lt}
 use Rattle.std.proofs.lemmas.Bool.{and_parts, ltb-true}
 use Rattle.std.proofs.Math.Nat.{mod-eq_of_lt}
 use Rattle.hci_cmd.specs.declared.command.Command.{Command}
-use Rattle.hci_cmd.specs.declared.command.Command.TheVariants.{LeEncrypt, LeSetAdvEnable, LeSetScanEnable}
+use Rattle.hci_cmd.specs.declared.command.Command.TheVariants.{LeEnableEncryption, LeSetAdvEnable, LeSetScanEnable}
 use Rattle.host_view.specs.Refusals.{first_refusal}
 use Rattle.host_view.specs.Status.{advertising_on_rows, if_turned_on, rows_of, scan_on_rows}
 use Rattle.host_view.specs.Unbuilt.{status_of, unbuilt_status_of}
@@ -35,7 +35,7 @@ first_code (row ∷ rows) are =
     code_by row.0 row.1 (first_refusal rows) both.0 (first_code rows both.1)
 
 unbuilt_code : (command : Command) → nat_lt (unbuilt_status_of command) 256 ≡ true
-unbuilt_code (LeEncrypt key text) = refl
+unbuilt_code (LeEnableEncryption handle rand ediv key) = refl
 unbuilt_code other = refl
 
 status_code : (view : View) (command : Command) → nat_lt (status_of view command) 256 ≡ true

@@ -12,8 +12,7 @@ pub(crate) fn unbuilt_status(command: &Command) -> ErrCode
 {
     match command {
         Command::LeEnableEncryption { .. } => ErrCode::COMMAND_DISALLOWED,
-        Command::LeEncrypt { .. }
-        | Command::SetHostFlow { .. }
+        Command::SetHostFlow { .. }
         | Command::HostBufferSize { .. }
         | Command::HostCompleted { .. } => ErrCode::UNKNOWN_HCI_COMMAND,
         _ => ErrCode::SUCCESS,
