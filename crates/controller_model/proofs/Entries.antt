@@ -22,15 +22,15 @@ use Rattle.link_commands.specs.open_links.link_model.Step.{EventEntered}
 use Rattle.link_commands.specs.open_links.link_model.Facts.{Facts as EndFacts}
 use Rattle.link_commands.specs.open_links.link_model.control_end.Answers.{entry_of as entry_of_end}
 use Rattle.link_commands.specs.open_links.link_model.control_end.Held.{held_of}
-use Rattle.link_commands.specs.open_links.link_model.control_model.Control.{Control}
-use Rattle.link_commands.proofs.open_links.link_model.control_model.Moving.{enters_track}
-use Rattle.link_commands.proofs.open_links.link_model.Plain.{entered_control_plain, past_plain}
-use Rattle.instants.specs.Track.{TrackFacts, event_of}
+use Rattle.link_commands.specs.open_links.link_model.control_model.Control.{Control, Owes}
+use Rattle.link_commands.proofs.open_links.link_model.control_model.Moving.{enters_track, table_alone}
+use Rattle.link_commands.proofs.open_links.link_model.Views.{Owing, Owed, Same, entered_view}
+use Rattle.instants.specs.Track.{TrackFacts, event_of, track_after_enter}
 use Rattle.link_commands.specs.open_links.link_model.Events.{applied_notes}
 use Rattle.link_commands.proofs.open_links.link_model.Pasts.{grows}
 use Rattle.link_commands.specs.open_links.link_model.Controls.{goes_on, is_quiet_now}
 use Rattle.link_commands.specs.open_links.link_model.End.{notes_after as end_notes}
-use Rattle.link_commands.specs.open_links.link_model.Entering.{began_notes, done_notes, event_notes, facts_entered, facts_entered_if}
+use Rattle.link_commands.specs.open_links.link_model.Entering.{began_notes, control_entered, done_notes, event_notes, facts_entered, facts_entered_if}
 use Rattle.link_commands.specs.open_links.declared.ended.LinkEnded.{LinkEnded}
 use Rattle.link_commands.specs.open_links.OpenLinks.{Links, OpenLink, HasHandle, HaveHandles, facts_in, handles_from, link_at, link_from}
 use Rattle.link_commands.specs.open_links.Turns.{due_in, ending_in, entered_if, enters_in, is_anchor, link_entered, links_without, notes_entering, notes_if, place_without, staying_by}
@@ -66,14 +66,22 @@ none_of : (ends : Option ErrCode) → is_none ends ≡ true → ends ≡ None
 none_of None is = refl
 none_of (Some code) is = absurd cc
 
+-- a PDU of the encryption may be queued
+owing_track : (c d : Control) → Owing c d → d.track ≡ c.track
+owing_track c d (Same is) = ap (λ (x : Control). x.track) is
+owing_track c d (Owed ctrl may is) = ap (λ (x : Control). x.track) is ∙ table_alone c (Owes ctrl) refl
+
+-- the event that an end enters is the next one on its track
+pub entered_track : (slot : ℕ) (facts : EndFacts) → goes_on facts ≡ true → (control_entered slot facts).track ≡ track_after_enter facts.control.track
+entered_track slot facts goes =
+    owing_track _ _ (entered_view slot facts) ∙ enters_track facts.control slot (is_quiet_now facts) (none_of facts.control.ends goes)
+
 number_is : (slot : ℕ) (link : OpenLink) → goes_on (facts_in link) ≡ true
     → (next_in slot link).event.number ≡ (facts_in link).control.track.entered
 number_is slot link goes =
-    let control = (facts_in link).control in
-    let more = one_more_entered control.track in
-    ap (λ (c : Control). event_of c.track)
-    (entered_control_plain link.setup.link.role slot (facts_in link) (past_plain link.setup link.past))
-    ∙ ap (λ (t : TrackFacts). event_of t) (enters_track control slot true (none_of control.ends goes)) ∙ omega (arith, more)
+    let facts = facts_in link in
+    let more = one_more_entered facts.control.track in
+    ap (λ (t : TrackFacts). event_of t) (entered_track slot facts goes) ∙ omega (arith, more)
 
 -- the tests of a link that enters
 both_are : (goes anchor : Bool) → (goes && anchor) ≡ true → (goes ≡ true) × (anchor ≡ true)

@@ -39,7 +39,7 @@ use Rattle.open_links.specs.link_model.Rows.{central_with}
 use Rattle.open_links.specs.link_model.Setup.{Setup}
 use Rattle.open_links.specs.link_model.Step.{Step, ProcedureAsked}
 use Rattle.open_links.specs.link_model.End.{facts_after}
-use Rattle.open_links.specs.link_model.Plain.{IsPlain}
+use Rattle.open_links.proofs.link_model.KnownEnds.{IsPast}
 use Rattle.host_view.specs.declared.links.Link.{Link}
 use Rattle.host_view.specs.View.{View}
 use Rattle.host_view.specs.declared.links.Asked.{Asked}
@@ -53,8 +53,8 @@ use Rattle.host_asks.specs.Commands.{MayComeIf}
 use Rattle.host_asks.specs.Knowing.{KnowsAsks, KnowsTable}
 use Rattle.host_asks.specs.Noting.{effect_after, is_of_host, link_after_step, link_after_notes, link_with_request}
 use Rattle.host_asks.proofs.Controls.{ends_before}
-use Rattle.host_asks.proofs.Ends.{step_knows}
 use Rattle.host_asks.proofs.Keeping.{asked_with, same_kinds}
+use Rattle.host_asks.proofs.Reported.{reported_knows}
 use Rattle.host_asks.proofs.Tables.{may_ask_new, table_asks}
 
 -- ---- the steps of the host, one end
@@ -82,6 +82,7 @@ disconnect_knows link facts reason slot knows lasts =
           (sym (table_is (is_open facts.control.table.closing) (terminate_step facts.control.table reason) facts.control))
           (disconnect_table link facts.control.table reason facts.control.table.closing refl knows.table));
       disconnecting = refl;
+      version = knows.version;
     }
 
 -- it asks for a procedure that it did not ask for before
@@ -98,6 +99,7 @@ asked_knows link facts ask new knows lasts not_come = by (is_to_come ask facts) 
               open_step (λ (c : Control). KnowsTable (asking (kind_of_ask ask) link) c.table) (Asks ask) facts.control
               (ends_before (Asks ask) facts.control lasts) (table_asks link facts.control.table ask new knows.table);
           disconnecting = knows.disconnecting;
+          version = knows.version;
         }
 
 -- a map, which the view of a link does not keep
@@ -113,6 +115,7 @@ map_knows link facts map knows lasts = by (is_to_come (Map map) facts) lasts
               open_step (λ (c : Control). KnowsTable link c.table) (Asks (Map map)) facts.control
               (ends_before (Asks (Map map)) facts.control lasts) (table_asks link facts.control.table (Map map) refl knows.table);
           disconnecting = knows.disconnecting;
+          version = knows.version;
         }
 
 -- it answers a request, whatever the view keeps of that
@@ -167,6 +170,7 @@ answer_knows link facts answer waits answers knows lasts =
           (sym (table_is (is_host_asked facts.control.table.progress && is_answer answer) (host_answer_step facts.control.table answer) facts.control))
           (answered_table link facts.control.table answer waits (is_host_asked facts.control.table.progress) answers refl knows.table));
       disconnecting = knows.disconnecting;
+      version = knows.version;
     }
 
 -- ---- values
@@ -207,9 +211,10 @@ asks_out setup link facts ask knows new fits plain other no_map unknown comes =
             in_range = fits;
             plain = plain;
             may =
-                ap (λ (b : Bool). b || (may_ask_of facts.control.table (kind_of_ask ask) && not (is_same_kind (kind_of_ask ask) version_kind && is_some facts.peer.version))) no_map
-                ∙ may_by (may_ask_of facts.control.table (kind_of_ask ask)) (is_same_kind (kind_of_ask ask) version_kind) (is_some facts.peer.version)
-                (may_ask_new facts.control.table (kind_of_ask ask) link.asked other knows.table.asked new) unknown;
+                ap (λ (b : Bool). b || (may_ask_of facts.control.table (kind_of_ask ask) && not (is_same_kind (kind_of_ask ask) version_kind && facts.encryption.knows_version))) no_map
+                ∙ may_by (may_ask_of facts.control.table (kind_of_ask ask)) (is_same_kind (kind_of_ask ask) version_kind) facts.encryption.knows_version
+                (may_ask_new facts.control.table (kind_of_ask ask) link.asked other knows.table.asked new)
+                (ap (λ (known : Bool). is_same_kind (kind_of_ask ask) version_kind && known) knows.version ∙ unknown);
           };
       keeps = λ lasts. asked_knows link facts ask new knows lasts comes;
     }
@@ -240,6 +245,7 @@ known_out setup link facts k knows new =
                   parameters = knows.table.parameters;
                 };
             disconnecting = knows.disconnecting;
+            version = knows.version;
           };
     }
 
@@ -367,13 +373,13 @@ pub request_withdrawn : (effect : Effect) (link : Link) → record (link_with_re
 request_withdrawn (AskHost min max latency timeout) link = refl
 request_withdrawn effect link = refl
 
-pub withheld_knows : (setup : Setup) (step : Step) (link : Link) (facts : Facts) (code : ErrCode) → IsPlain setup.link.role facts → is_of_host step ≡ false
+pub withheld_knows : (setup : Setup) (step : Step) (link : Link) (facts : Facts) (code : ErrCode) → IsPast setup facts → is_of_host step ≡ false
     → KnowsAsks link facts
     → (facts_answered (Err code) (facts_after setup facts step)).control.ends ≡ None
     → KnowsAsks (link_after_notes setup facts step link) (facts_answered (Err code) (facts_after setup facts step))
-withheld_knows setup step link facts code plain other knows lasts =
+withheld_knows setup step link facts code p other knows lasts =
     let next = facts_after setup facts step in
     let noted = link_after_notes setup facts step link in
     subst (λ (l : Link). KnowsAsks l (facts_answered (Err code) next)) (request_withdrawn (effect_after setup facts step) noted)
     (refused_knows (link_after_step setup facts step link) next code noted.waits_for_parameters
-    (step_knows setup step link facts plain other knows (ends_before (Answers (Err code)) next.control lasts)) lasts)
+    (reported_knows setup step link facts p other knows (ends_before (Answers (Err code)) next.control lasts)) lasts)

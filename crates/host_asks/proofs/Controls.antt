@@ -4,7 +4,9 @@ use Rattle.ble_base.specs.ErrorCodes.{instant_passed}
 use Rattle.ble_base.specs.declared.error_codes.ErrCode.{ErrCode}
 use Rattle.ble_base.specs.declared.roles.Role.{Role}
 use Rattle.ble_base.specs.declared.roles.Role.TheVariants.{Central, Peripheral}
+use Rattle.data_pdu.specs.declared.ctrl.Ctrl.{Ctrl}
 use Rattle.data_pdu.specs.declared.ctrl.CtrlRead.{CtrlRead}
+use Rattle.data_pdu.specs.declared.ctrl.CtrlRead.TheVariants.{Known}
 use Rattle.instants.specs.declared.indications.Indication.{Indication}
 use Rattle.instants.specs.Track.{event_of, next_number, track_after_take}
 use Rattle.open_links.specs.procedure_values.Drafts.{is_out}
@@ -17,16 +19,18 @@ use Rattle.procedure_events.specs.procedures.Queue.{next_of}
 use Rattle.procedure_events.specs.procedures.Sending.{acked_step}
 use Rattle.procedure_events.specs.procedures.Table.{TableFacts}
 use Rattle.procedure_events.specs.procedures.Taking.{facts_with, lacks_room, outcome_of, took_step}
-use Rattle.open_links.specs.control_model.Control.{Control, Step, Enters, SeesAcknowledged, Sends, Takes, after, ended, following, goes_out, is_to_come, indicated_by, moved, table_if, taken, went}
+use Rattle.open_links.specs.control_model.Control.{Control, Step, Enters, Owes, SeesAcknowledged, Sends, Takes, after, ended, following, goes_out, is_to_come, indicated_by, moved, table_if, taken, went}
 use Rattle.open_links.proofs.control_model.Calls.{open_step, settled_as}
 use Rattle.open_links.specs.control_end.declared.answers.Taken.{Taken}
 use Rattle.open_links.specs.control_end.Answers.{done_by_acknowledgement, effect_shown, nothing_taken, step_shown, taken_of}
 use Rattle.open_links.specs.control_end.Held.{Held, held_after, held_of}
 use Rattle.open_links.proofs.control_end.Depending.{step_held}
+use Rattle.open_links.proofs.link_model.Views.{Owing, Taking, TakingKept}
+use Rattle.open_links.proofs.link_model.Views.{Ended, Handed, NoneKept, Over, Owed, Same, TakesKept, Withheld}
 use Rattle.host_view.specs.declared.links.Link.{Link}
 use Rattle.host_asks.specs.Knowing.{KnowsTable}
 use Rattle.host_asks.specs.Noting.{link_with_request}
-use Rattle.host_asks.proofs.Tables.{link_done, link_refused, table_acked, table_begun, table_entered, table_sent, table_takes}
+use Rattle.host_asks.proofs.Tables.{link_done, link_refused, table_acked, table_begun, table_entered, table_owes, table_sent, table_takes}
 
 -- an end that did not end the link did not before
 pub ends_before : (step : Step) (c : Control) → (after step c).ends ≡ None → c.ends ≡ None
@@ -35,6 +39,24 @@ ends_before step c lasts = by c.ends refl lasts
     by : (ends : Option ErrCode) → c.ends ≡ ends → (if is_none ends then moved step c else c).ends ≡ None → c.ends ≡ None
     by None is h = is
     by (Some code) is h = h
+
+-- ---- a PDU of the encryption may be queued
+
+control_owes_knows : (link : Link) (ctrl : Ctrl) (c : Control) → KnowsTable link c.table → KnowsTable link (after (Owes ctrl) c).table
+control_owes_knows link ctrl c knows = by (is_none c.ends)
+  where
+    by : (lasts : Bool) → KnowsTable link (if lasts then moved (Owes ctrl) c else c).table
+    by true = table_owes link c.table ctrl knows
+    by false = knows
+
+pub owing_knows : (link : Link) (c d : Control) → Owing c d → KnowsTable link c.table → KnowsTable link d.table
+owing_knows link c d (Same is) knows = subst (λ (e : Control). KnowsTable link e.table) (sym is) knows
+owing_knows link c d (Owed ctrl may is) knows =
+    subst (λ (e : Control). KnowsTable link e.table) (sym is) (control_owes_knows link ctrl c knows)
+
+owing_before : (c d : Control) → Owing c d → d.ends ≡ None → c.ends ≡ None
+owing_before c d (Same is) lasts = ap (λ (e : Control). e.ends) (sym is) ∙ lasts
+owing_before c d (Owed ctrl may is) lasts = ends_before (Owes ctrl) c (ap (λ (e : Control). e.ends) (sym is) ∙ lasts)
 
 -- ---- an event is entered
 
@@ -136,3 +158,44 @@ control_taken_knows link c read slot quiet knows lasts =
   where
     goes : is_none (held_after (Takes read slot quiet) (held_of c)).ends ≡ true
     goes = ap (λ (h : Held). is_none h.ends) (sym (step_held (Takes read slot quiet) c)) ∙ ap (λ (ends : Option ErrCode). is_none ends) lasts
+
+-- ---- in any phase of encryption: the procedures see it or not, and then the one that was kept
+
+kept_knows : (link : Link) (slot : ℕ) (kept : Taken) (middle d : Control) → TakingKept slot kept middle d → KnowsTable link middle.table → d.ends ≡ None
+    → KnowsTable (link_given kept link) d.table
+kept_knows link slot kept middle d (NoneKept none is) knows lasts =
+    subst (λ (given : Taken). KnowsTable (link_given given link) d.table) (sym none) (subst (λ (e : Control). KnowsTable link e.table) (sym is) knows)
+kept_knows link slot kept middle d (TakesKept ctrl class given is) knows lasts =
+    subst (λ (shown : Taken). KnowsTable (link_given shown link) d.table) (sym given)
+    (subst (λ (e : Control). KnowsTable (link_given (taken_of (Known ctrl) slot true (held_of middle)) link) e.table) (sym is)
+    (control_taken_knows link middle (Known ctrl) slot true knows (ap (λ (e : Control). e.ends) (sym is) ∙ lasts)))
+
+-- what goes on after it went on before it
+kept_before : (slot : ℕ) (kept : Taken) (middle d : Control) → TakingKept slot kept middle d → d.ends ≡ None → middle.ends ≡ None
+kept_before slot kept middle d (NoneKept none is) lasts = ap (λ (e : Control). e.ends) (sym is) ∙ lasts
+kept_before slot kept middle d (TakesKept ctrl class given is) lasts =
+    ends_before (Takes (Known ctrl) slot true) middle (ap (λ (e : Control). e.ends) (sym is) ∙ lasts)
+
+none_knows : (link : Link) (taken kept : Taken) (c d : Control) → taken ≡ nothing_taken → kept ≡ nothing_taken → d ≡ c → KnowsTable link c.table
+    → KnowsTable (link_given kept (link_given taken link)) d.table
+none_knows link taken kept c d none none_kept same knows =
+    subst (λ (given : Taken). KnowsTable (link_given kept (link_given given link)) d.table) (sym none)
+    (subst (λ (given : Taken). KnowsTable (link_given given link) d.table) (sym none_kept)
+    (subst (λ (e : Control). KnowsTable link e.table) (sym same) knows))
+
+pub taking_knows : (link : Link) (quiet : Bool) (c : Control) (read : CtrlRead) (slot : ℕ) (taken kept : Taken) (d : Control)
+    → Taking quiet c read slot taken kept d → KnowsTable link c.table → d.ends ≡ None
+    → KnowsTable (link_given kept (link_given taken link)) d.table
+taking_knows link quiet c read slot taken kept d (Over over none none_kept is) knows lasts = none_knows link taken kept c d none none_kept is knows
+taking_knows link quiet c read slot taken kept d (Withheld goes loud class none none_kept is) knows lasts =
+    none_knows link taken kept c d none none_kept is knows
+taking_knows link quiet c read slot taken kept d (Ended code goes class none none_kept is) knows lasts =
+    absurd (let h : Some code ≡ None = ap (λ (e : Control). e.ends) (sym is) ∙ lasts in cc)
+taking_knows link quiet c read slot taken kept d (Handed seen middle goes is_seen class owing given later) knows lasts =
+    let first = after (Takes seen slot quiet) c in
+    let lasting : middle.ends ≡ None = kept_before slot kept middle d later lasts in
+    kept_knows (link_given taken link) slot kept middle d later
+    (owing_knows (link_given taken link) first middle owing
+    (subst (λ (shown : Taken). KnowsTable (link_given shown link) first.table) (sym given)
+    (control_taken_knows link c seen slot quiet knows (owing_before first middle owing lasting))))
+    lasts

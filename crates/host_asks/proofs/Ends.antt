@@ -1,5 +1,6 @@
 -- What the view knows of an end, step by step.
 use Rattle.std.proofs.Common.{◌≡◌, ℕ, Bool, true, false, ◌&&◌, not, if◌then◌else◌, List, [], ◌∷◌, ◌++◌, ◌==◌, fold, Option, Some, None, is_some, is_none, refl, ap, sym, ◌∙◌, subst}
+use Rattle.ble_base.specs.ErrorCodes.{mic_failure}
 use Rattle.ble_base.specs.declared.error_codes.ErrCode.{ErrCode}
 use Rattle.ble_base.specs.declared.procedure_kinds.Kind.{Kind}
 use Rattle.ble_base.specs.declared.addresses.Address.{Address}
@@ -20,28 +21,27 @@ use Rattle.open_links.specs.control_end.declared.answers.Entry.{Entry}
 use Rattle.open_links.specs.control_end.declared.answers.Taken.{Taken}
 use Rattle.open_links.specs.control_end.Answers.{entry_of, entry_step, is_update_waiting, no_entry}
 use Rattle.open_links.specs.control_end.Held.{Held, held_of}
-use Rattle.open_links.specs.control_model.Control.{Control}
+use Rattle.open_links.specs.control_model.Control.{Control, Enters, after, ended}
 use Rattle.open_links.specs.link_model.declared.events.ConnectionEvent.{ConnectionEvent}
 use Rattle.open_links.specs.link_model.declared.state.KnownLengths.{KnownLengths}
 use Rattle.open_links.specs.link_model.declared.state.Leaving.{Leaving}
 use Rattle.open_links.specs.link_model.Acknowledgement.{Pdu}
 use Rattle.open_links.specs.link_model.Controls.{goes_on, is_procedure_pdu, is_quiet_now, pdu_fixed, read_of}
-use Rattle.open_links.specs.link_model.Data.{is_control, is_empty}
+use Rattle.open_links.specs.link_model.Data.{is_control, is_data, is_empty}
 use Rattle.open_links.specs.link_model.End.{facts_after}
-use Rattle.open_links.specs.link_model.Entering.{began_notes, done_notes, event_notes, facts_entered_if}
+use Rattle.open_links.specs.link_model.Entering.{began_notes, control_entered, done_notes, event_notes, facts_entered}
 use Rattle.open_links.specs.link_model.Events.{applied_notes}
-use Rattle.open_links.specs.link_model.Facts.{Facts, first_facts}
-use Rattle.open_links.specs.link_model.Hosts.{facts_key_answered, leaving_from_if}
+use Rattle.open_links.specs.link_model.Facts.{Facts, first_facts, keyed_of}
+use Rattle.open_links.specs.link_model.Hosts.{ends_without_key, facts_key_answered, leaving_from_if}
 use Rattle.open_links.specs.link_model.Fixing.{fixed_anew}
-use Rattle.open_links.specs.link_model.Packets.{good_pdu}
-use Rattle.open_links.specs.link_model.Plain.{IsPlain, control_acked_if, plain_accepted_if as accepted_if, plain_acknowledged_if as acknowledged_if, plain_before_taking as facts_before_taking, plain_entered as facts_entered, plain_entry_notes, plain_given_if as given_if, plain_gives as procedures_give, plain_hearing as facts_hearing, plain_notes_hearing as notes_hearing, plain_takes_if as procedures_take_if}
-use Rattle.open_links.specs.link_model.Receiving.{accepts, acked_kind, acks_control, answers_with_control, code_of, effect_hearing, effect_of, effect_received, effect_unless_known, facts_received, given_notes, has_acknowledged, heard_in_slot, leaving_by, notes_hearing as all_notes, received_notes, refused_notes, took_notes_if}
+use Rattle.open_links.specs.link_model.Packets.{good_pdu, is_forged}
+use Rattle.open_links.specs.link_model.Receiving.{accepted_if, accepts, acked_kind, acknowledged_if, acks_control, answers_with_control, code_of, control_taken, data_taken, data_taken_if, effect_hearing, effect_of, effect_received, effect_unless_known, ended_by_forgery, facts_before_taking, facts_forged_if, facts_hearing, facts_received, given_if, given_notes, has_acknowledged, heard_in_slot, kept_effect_hearing, kept_effect_of, kept_effect_received, kept_give, kept_given_if, leaving_by, notes_hearing, procedures_give, procedures_take_if, received_notes, refused_notes, took_notes_if}
 use Rattle.open_links.specs.link_model.Sending.{control_gone_if, sent_notes, sent_notes_if, takes_leave}
 use Rattle.open_links.specs.link_model.Setup.{Setup}
 use Rattle.open_links.specs.link_model.Step.{Step, DataGiven, DataReported, Disconnected, EventEntered, KeyAnswered, PacketReceived, PacketSent, PduFixed, ProcedureAsked, RequestAnswered, WordsGiven}
 use Rattle.open_links.specs.link_model.Verdicts.{pdu_of}
-use Rattle.open_links.proofs.link_model.ControlSteps.{one_step}
-use Rattle.open_links.proofs.link_model.Plain.{effect_hearing_plain, entered_plain, entry_notes_plain, hearing_plain, notes_hearing_plain, on_plain, received_plain}
+use Rattle.open_links.proofs.link_model.KnownEnds.{IsPast, knows_accepted, knows_before_taking, past_knows}
+use Rattle.open_links.proofs.link_model.Views.{DataTaking, Ended, Knows, Same, acked_control, acked_view, data_view, entered_view, key_view, taken_accepted, taken_view}
 use Rattle.host_view.specs.declared.links.Link.{Link}
 use Rattle.host_view.specs.Links.{is_asked}
 use Rattle.host_view.specs.Noted.{nothing_asked, opened_link}
@@ -49,7 +49,8 @@ use Rattle.host_view.specs.Refusals.{count_if}
 use Rattle.host_asks.specs.Knowing.{KnowsAsks, KnowsTable}
 use Rattle.host_asks.specs.Noting.{is_of_host, link_after_step, link_after_note, link_with_request}
 use Rattle.host_asks.proofs.Tables.{link_done, link_refused}
-use Rattle.host_asks.proofs.Controls.{control_acked_knows, control_entered_knows, control_sent_knows, control_taken_knows, link_given}
+use Rattle.host_asks.proofs.Versions.{acked_version, data_version, entered_version, gone_version, key_version, taken_version}
+use Rattle.host_asks.proofs.Controls.{control_acked_knows, control_entered_knows, control_sent_knows, link_given, owing_knows, taking_knows}
 
 -- ---- notes, one list after the other
 
@@ -92,18 +93,26 @@ noted_event handle event entry link =
     ∙ ap (λ (l : Link). fold link_after_note l (done_notes handle entry.done)) (noted_more link applied enter ∙ noted_applied handle event.number entry.applied link)
     ∙ noted_done handle entry.done link
 
-noted_hearing : (handle : ℕ) (acked : Option Kind) (took : List Note) (given : Taken) (link : Link)
+noted_given : (handle : ℕ) (given : Taken) (link : Link)
+    → fold link_after_note link (given_notes handle given) ≡ link_done given.done (link_refused given.refused link)
+noted_given handle given link =
+    noted_more link (refused_notes handle given.refused) (done_notes handle given.done)
+    ∙ ap (λ (l : Link). fold link_after_note l (done_notes handle given.done)) (noted_refused handle given.refused link)
+    ∙ noted_done handle given.done (link_refused given.refused link)
+
+noted_hearing : (handle : ℕ) (acked : Option Kind) (took : List Note) (given kept : Taken) (link : Link)
     → ((l : Link) → fold link_after_note l took ≡ l)
-    → fold link_after_note link (done_notes handle acked ++ (took ++ given_notes handle given))
-    ≡ link_done given.done (link_refused given.refused (link_done acked link))
-noted_hearing handle acked took given link none =
-    noted_more link (done_notes handle acked) (took ++ given_notes handle given)
-    ∙ ap (λ (l : Link). fold link_after_note l (took ++ given_notes handle given)) (noted_done handle acked link)
-    ∙ noted_more (link_done acked link) took (given_notes handle given)
-    ∙ ap (λ (l : Link). fold link_after_note l (given_notes handle given)) (none (link_done acked link))
-    ∙ noted_more (link_done acked link) (refused_notes handle given.refused) (done_notes handle given.done)
-    ∙ ap (λ (l : Link). fold link_after_note l (done_notes handle given.done)) (noted_refused handle given.refused (link_done acked link))
-    ∙ noted_done handle given.done (link_refused given.refused (link_done acked link))
+    → fold link_after_note link (done_notes handle acked ++ (took ++ (given_notes handle given ++ given_notes handle kept)))
+    ≡ link_done kept.done (link_refused kept.refused (link_done given.done (link_refused given.refused (link_done acked link))))
+noted_hearing handle acked took given kept link none =
+    let both = given_notes handle given ++ given_notes handle kept in
+    noted_more link (done_notes handle acked) (took ++ both)
+    ∙ ap (λ (l : Link). fold link_after_note l (took ++ both)) (noted_done handle acked link)
+    ∙ noted_more (link_done acked link) took both
+    ∙ ap (λ (l : Link). fold link_after_note l both) (none (link_done acked link))
+    ∙ noted_more (link_done acked link) (given_notes handle given) (given_notes handle kept)
+    ∙ ap (λ (l : Link). fold link_after_note l (given_notes handle kept)) (noted_given handle given (link_done acked link))
+    ∙ noted_given handle kept (link_done given.done (link_refused given.refused (link_done acked link)))
 
 -- ---- what the view keeps of a Disconnect
 
@@ -113,6 +122,13 @@ done_stays over link = refl
 request_disconnecting : (effect : Effect) (link : Link) → (link_with_request effect link).disconnecting ≡ link.disconnecting
 request_disconnecting (AskHost min max latency timeout) link = refl
 request_disconnecting effect link = refl
+
+-- a request is kept apart from what is done and refused
+request_apart : (effect : Effect) (given : Taken) (link : Link)
+    → link_with_request effect (link_done given.done (link_refused given.refused link))
+    ≡ link_done given.done (link_refused given.refused (link_with_request effect link))
+request_apart (AskHost min max latency timeout) given link = refl
+request_apart effect given link = refl
 
 known_same : (lengths : KnownLengths) (effect : Effect) (link : Link) → link_with_request (effect_unless_known lengths effect) link ≡ link_with_request effect link
 known_same lengths (new_lengths rx tx) link = by ((rx == lengths.reported_rx) && (tx == lengths.reported_tx))
@@ -130,6 +146,10 @@ pub gone_leaving : (goes : Bool) (slot : ℕ) (facts : Facts) → (control_gone_
 gone_leaving true slot facts = refl
 gone_leaving false slot facts = refl
 
+data_leaving : (takes : Bool) (facts : Facts) → (data_taken_if takes facts).leaving ≡ facts.leaving
+data_leaving true facts = refl
+data_leaving false facts = refl
+
 take_leaving : (takes : Bool) (pdu : Pdu) (slot : ℕ) (facts : Facts) → (procedures_take_if takes pdu slot facts).leaving.disconnected ≡ facts.leaving.disconnected
 take_leaving true pdu slot facts = leaving_stays (code_of (procedures_give pdu slot facts).effect) facts.leaving
 take_leaving false pdu slot facts = refl
@@ -146,11 +166,16 @@ enter_knows : (setup : Setup) (slot : ℕ) (link : Link) (facts : Facts) (goes :
     → KnowsAsks (fold link_after_note link (if goes then event_notes setup.link.handle (facts_entered setup slot facts).event entry else []))
     (if goes then facts_entered setup slot facts else facts)
 enter_knows setup slot link facts true entry goes is knows =
+    let over = (entered_step facts.control.table (is_some (next_number facts.control.track))).1 in
+    let quiet = is_quiet_now facts in
     subst (λ (l : Link). KnowsAsks l (facts_entered setup slot facts))
-    (sym (noted_event setup.link.handle (facts_entered setup slot facts).event entry link ∙ ap (λ (over : Option Kind). link_done over link) (is refl)))
+    (sym (noted_event setup.link.handle (facts_entered setup slot facts).event entry link ∙ ap (λ (done : Option Kind). link_done done link) (is refl)))
     (record {
-      table = control_entered_knows link facts.control slot true (none_by facts.control.ends goes) knows.table;
+      table =
+          owing_knows (link_done over link) (after (Enters slot quiet) facts.control) (control_entered slot facts) (entered_view slot facts)
+          (control_entered_knows link facts.control slot quiet (none_by facts.control.ends goes) knows.table);
       disconnecting = knows.disconnecting;
+      version = entered_version slot facts ∙ knows.version;
     })
   where
     none_by : (ends : Option ErrCode) → is_none ends ≡ true → ends ≡ None
@@ -162,7 +187,7 @@ enter_knows setup slot link facts false entry goes is knows = knows
 
 -- an acknowledgement of the last control PDU
 acked_stage : (link : Link) (acks : Bool) (facts : Facts) → KnowsTable link facts.control.table
-    → KnowsTable (link_done (acked_kind acks facts) link) (control_acked_if acks facts.control).table
+    → KnowsTable (link_done (acked_kind acks facts) link) (acked_control acks facts.control).table
 acked_stage link true facts knows = control_acked_knows link facts.control knows
 acked_stage link false facts knows = knows
 
@@ -172,96 +197,154 @@ gone_stage : (link : Link) (goes : Bool) (slot : ℕ) (facts : Facts) → KnowsT
 gone_stage link true slot facts knows = control_sent_knows link facts.control slot (is_quiet_now facts) knows
 gone_stage link false slot facts knows = knows
 
--- the new PDU is taken
-taken_stage : (link : Link) (takes accepted : Bool) (pdu : Pdu) (slot : ℕ) (facts : Facts) → KnowsTable link facts.control.table
+-- the new PDU is taken, and then perhaps the one that was kept
+taken_stage : (link : Link) (takes accepted : Bool) (pdu : Pdu) (slot : ℕ) (facts : Facts) → Knows (keyed_of facts) → KnowsTable link facts.control.table
     → (procedures_take_if takes pdu slot (accepted_if accepted pdu facts)).control.ends ≡ None
-    → KnowsTable (link_given (given_if takes pdu slot facts) link) (procedures_take_if takes pdu slot (accepted_if accepted pdu facts)).control.table
-taken_stage link true accepted pdu slot facts knows lasts = control_taken_knows link facts.control (read_of pdu) slot true knows lasts
-taken_stage link false accepted pdu slot facts knows lasts = knows
+    → KnowsTable (link_given (kept_given_if takes pdu slot facts) (link_given (given_if takes pdu slot facts) link))
+    (procedures_take_if takes pdu slot (accepted_if accepted pdu facts)).control.table
+taken_stage link true accepted pdu slot facts fits knows lasts =
+    let same = taken_accepted accepted pdu slot facts in
+    let given = procedures_give pdu slot facts in
+    let kept = kept_give pdu slot facts in
+    subst (λ (c : Control). KnowsTable (link_given kept (link_given given link)) c.table) (sym same)
+    (taking_knows link (is_quiet_now facts) facts.control (read_of pdu) slot given kept (control_taken pdu slot facts) (taken_view pdu slot facts fits) knows
+    (ap (λ (c : Control). c.ends) (sym same) ∙ lasts))
+taken_stage link false accepted pdu slot facts fits knows lasts = knows
 
-hears : (setup : Setup) (slot : ℕ) (room : Bool) (header : DataHeader) (pdu : Pdu) (link : Link) (facts : Facts) → KnowsAsks link facts
-    → (facts_hearing setup.link.role slot room header pdu facts).control.ends ≡ None
-    → KnowsAsks
-    (link_with_request (effect_unless_known facts.lengths
-    (given_if (accepts room header pdu (facts_before_taking setup.link.role slot header facts) && is_procedure_pdu pdu) pdu slot (facts_before_taking setup.link.role slot header facts)).effect)
-    (fold link_after_note link (notes_hearing setup slot room header pdu facts)))
-    (facts_hearing setup.link.role slot room header pdu facts)
-hears setup slot room header pdu link facts knows lasts =
-    subst (λ (l : Link). KnowsAsks l (facts_hearing setup.link.role slot room header pdu facts)) (sym changed)
-    (record {
-      table = taken_stage (link_done over link) takes accepted pdu slot now gone lasts;
-      disconnecting =
-          request_disconnecting given.effect (link_done given.done (link_refused given.refused (link_done over link)))
-          ∙ knows.disconnecting
-          ∙ ap is_some (sym (take_leaving takes pdu slot (accepted_if accepted pdu now) ∙ ap (λ (l : Leaving). l.disconnected) (gone_leaving answers slot own)));
-    })
-  where
-    acks : Bool
-    acks = acks_control (has_acknowledged facts header) facts
+-- data may end the link
+data_same : (c d : Control) → DataTaking c d → d.ends ≡ None → d ≡ c
+data_same c d (Same is) lasts = is
+data_same c d (Ended code goes is) lasts = absurd (let h : Some code ≡ None = ap (λ (e : Control). e.ends) (sym is) ∙ lasts in cc)
 
-    own : Facts
-    own = acknowledged_if (has_acknowledged facts header) (heard_in_slot slot header.md facts)
+data_stage : (takes : Bool) (facts : Facts) → (data_taken_if takes facts).control.ends ≡ None → (data_taken_if takes facts).control ≡ facts.control
+data_stage true facts lasts = data_same facts.control (data_taken facts).control (data_view facts) lasts
+data_stage false facts lasts = refl
 
-    answers : Bool
-    answers = answers_with_control setup.link.role own
+module _ (setup : Setup) (slot : ℕ) (room : Bool) (header : DataHeader) (pdu : Pdu) (link : Link) (facts : Facts) (p : IsPast setup facts)
+    (knows : KnowsAsks link facts) where
+  abbrev acks : Bool
+  acks = acks_control (has_acknowledged facts header) facts
 
-    now : Facts
-    now = facts_before_taking setup.link.role slot header facts
+  abbrev own : Facts
+  own = acknowledged_if (has_acknowledged facts header) (heard_in_slot slot header.md facts)
 
-    accepted : Bool
-    accepted = accepts room header pdu now
+  abbrev answers : Bool
+  answers = answers_with_control setup.link.role own
 
-    takes : Bool
-    takes = accepted && is_procedure_pdu pdu
+  abbrev now : Facts
+  now = facts_before_taking setup.link.role slot header facts
 
-    given : Taken
-    given = given_if takes pdu slot now
+  abbrev accepted : Bool
+  accepted = accepts room header pdu now
 
-    over : Option Kind
-    over = acked_kind acks facts
+  abbrev takes : Bool
+  takes = accepted && is_procedure_pdu pdu
 
-    gone : KnowsTable (link_done over link) now.control.table
-    gone = gone_stage (link_done over link) answers slot own (acked_stage link acks facts knows.table)
+  abbrev taken : Facts
+  taken = procedures_take_if takes pdu slot (accepted_if accepted pdu now)
 
-    changed : link_with_request (effect_unless_known facts.lengths given.effect) (fold link_after_note link (notes_hearing setup slot room header pdu facts))
-        ≡ link_given given (link_done over link)
-    changed =
-        known_same facts.lengths given.effect _
-        ∙ ap (link_with_request given.effect)
-        (noted_hearing setup.link.handle over (took_notes_if (accepted && not (is_empty pdu)) setup.link.handle pdu now) given link
-        (noted_took (accepted && not (is_empty pdu)) setup.link.handle pdu now))
+  abbrev next : Facts
+  next = facts_hearing setup.link.role slot room header pdu facts
 
-receives : (setup : Setup) (slot : ℕ) (room : Bool) (octets : Option (List ℕ)) (link : Link) (facts : Facts) → IsPlain setup.link.role facts → KnowsAsks link facts
+  abbrev given : Taken
+  given = given_if takes pdu slot now
+
+  abbrev kept : Taken
+  kept = kept_given_if takes pdu slot now
+
+  abbrev over : Option Kind
+  over = acked_kind acks facts
+
+  -- what the notes of it and both its effects make of the view
+  changed : link_with_request (kept_effect_hearing setup.link.role slot room header pdu facts)
+      (link_with_request (effect_hearing setup.link.role slot room header pdu facts) (fold link_after_note link (notes_hearing setup slot room header pdu facts)))
+      ≡ link_given kept (link_given given (link_done over link))
+  changed =
+      known_same facts.lengths kept.effect _
+      ∙ ap (link_with_request kept.effect)
+      (known_same facts.lengths given.effect _
+      ∙ ap (link_with_request given.effect)
+      (noted_hearing setup.link.handle over (took_notes_if (accepted && not (is_empty pdu)) setup.link.handle pdu now) given kept link
+      (noted_took (accepted && not (is_empty pdu)) setup.link.handle pdu now))
+      ∙ request_apart given.effect kept (link_done given.done (link_refused given.refused (link_done over link))))
+
+  given_disconnecting : (link_given kept (link_given given (link_done over link))).disconnecting ≡ link.disconnecting
+  given_disconnecting =
+      request_disconnecting kept.effect (link_done kept.done (link_refused kept.refused (link_given given (link_done over link))))
+      ∙ request_disconnecting given.effect (link_done given.done (link_refused given.refused (link_done over link)))
+
+  gone : KnowsTable (link_done over link) now.control.table
+  gone =
+      gone_stage (link_done over link) answers slot own
+      (owing_knows (link_done over link) (acked_control acks facts.control) own.control (acked_view acks facts (past_knows setup facts p))
+      (acked_stage link acks facts knows.table))
+
+  hears : next.control.ends ≡ None
+      → KnowsAsks
+      (link_with_request (kept_effect_hearing setup.link.role slot room header pdu facts)
+      (link_with_request (effect_hearing setup.link.role slot room header pdu facts) (fold link_after_note link (notes_hearing setup slot room header pdu facts))))
+      next
+  hears lasts =
+      let same = data_stage (accepted && is_data pdu) taken lasts in
+      subst (λ (l : Link). KnowsAsks l next) (sym changed)
+      (record {
+        table =
+            subst (λ (c : Control). KnowsTable (link_given kept (link_given given (link_done over link))) c.table) (sym same)
+            (taken_stage (link_done over link) takes accepted pdu slot now (knows_before_taking setup facts p setup.link.role slot header) gone
+            (ap (λ (c : Control). c.ends) (sym same) ∙ lasts));
+        disconnecting =
+            given_disconnecting
+            ∙ knows.disconnecting
+            ∙ ap is_some (sym (ap (λ (l : Leaving). l.disconnected) (data_leaving (accepted && is_data pdu) taken)
+            ∙ take_leaving takes pdu slot (accepted_if accepted pdu now) ∙ ap (λ (l : Leaving). l.disconnected) (gone_leaving answers slot own)));
+        version =
+            data_version (accepted && is_data pdu) taken
+            (taken_version pdu slot (accepted_if accepted pdu now)
+            (knows_accepted accepted pdu now (knows_before_taking setup facts p setup.link.role slot header))
+            (gone_version answers slot own (acked_version (has_acknowledged facts header) (heard_in_slot slot header.md facts) knows.version))
+            takes (ap (λ (c : Control). c.ends) (sym same) ∙ lasts));
+      })
+
+receives : (setup : Setup) (slot : ℕ) (room : Bool) (octets : Option (List ℕ)) (link : Link) (facts : Facts) → IsPast setup facts → KnowsAsks link facts
     → (facts_received setup.link.role slot room octets facts).control.ends ≡ None
-    → KnowsAsks (link_with_request (effect_received setup.link.role slot room octets facts) (fold link_after_note link (received_notes setup slot room octets facts)))
+    → KnowsAsks
+    (link_with_request (kept_effect_received setup.link.role slot room octets facts)
+    (link_with_request (effect_received setup.link.role slot room octets facts) (fold link_after_note link (received_notes setup slot room octets facts))))
     (facts_received setup.link.role slot room octets facts)
-receives setup slot room None link facts plain knows lasts = knows
-receives setup slot room (Some octets) link facts plain knows lasts =
-    let role = setup.link.role in
-    let header = header_in octets in
-    let pdu = pdu_of octets in
-    let same = hearing_plain role role slot room header pdu facts plain in
-    let notes = notes_hearing_plain setup slot room header pdu facts plain in
-    let effect = effect_hearing_plain role role slot room header pdu facts plain in
-    subst (λ (next : Facts). KnowsAsks (link_with_request (effect_hearing role slot room header pdu facts) (fold link_after_note link (all_notes setup slot room header pdu facts))) next)
-    (sym same)
-    (subst (λ (xs : List Note). KnowsAsks (link_with_request (effect_hearing role slot room header pdu facts) (fold link_after_note link xs)) (facts_hearing role slot room header pdu facts))
-    (sym notes)
-    (subst (λ (e : Effect). KnowsAsks (link_with_request e (fold link_after_note link (notes_hearing setup slot room header pdu facts))) (facts_hearing role slot room header pdu facts))
-    (sym effect)
-    (hears setup slot room header pdu link facts knows (ap (λ (f : Facts). f.control.ends) (sym same) ∙ lasts))))
+receives setup slot room None link facts p knows lasts = knows
+receives setup slot room (Some octets) link facts p knows lasts = hears setup slot room (header_in octets) (pdu_of octets) link facts p knows lasts
 
--- ---- the host of an end that encrypts nothing has a key
+-- a forged packet ends the link
+forged_over : (c : Control) → (ended_by_forgery c).ends ≡ None → ⊥
+forged_over c lasts = by (is_none c.ends) refl lasts
+  where
+    by : (goes : Bool) → is_none c.ends ≡ goes → (if goes then ended (record { 0 = mic_failure }) c else c).ends ≡ None → ⊥
+    by true is h = absurd cc
+    by false is h = absurd (let g : false ≡ true = sym is ∙ ap (λ (ends : Option ErrCode). is_none ends) h in cc)
 
-no_key : (one other : Bool) → ((one && false) && other) ≡ false
-no_key true other = refl
-no_key false other = refl
+unless_forged : (forged : Bool) (link : Link) (facts : Facts) → (facts.control.ends ≡ None → KnowsAsks link facts)
+    → (facts_forged_if forged facts).control.ends ≡ None → KnowsAsks link (facts_forged_if forged facts)
+unless_forged true link facts knows lasts = absurd (forged_over facts.control lasts)
+unless_forged false link facts knows lasts = knows lasts
 
-key_leaving : (role : Role) (key : Option (List ℕ)) (slot : ℕ) (facts : Facts) → IsPlain role facts → (facts_key_answered key slot facts).leaving ≡ facts.leaving
-key_leaving role (Some ltk) slot facts plain = refl
-key_leaving role None slot facts plain =
-    on_plain role (λ (f : Facts). (facts_key_answered None slot f).leaving ≡ f.leaving) facts plain
-    (λ knows response. ap (λ b. leaving_from_if b slot facts.leaving) (no_key _ _))
+-- ---- the host of a peripheral has a key or none
+
+-- it has none, and that ends the link, which the view does not learn
+abbrev pub ends_by_key : Step → Facts → Bool
+ends_by_key (KeyAnswered key slot) facts = ends_without_key key facts
+ends_by_key other facts = false
+
+key_leaving : (key : Option (List ℕ)) (slot : ℕ) (facts : Facts) → ends_without_key key facts ≡ false → (facts_key_answered key slot facts).leaving ≡ facts.leaving
+key_leaving key slot facts stays = ap (λ (leaves : Bool). leaving_from_if leaves slot facts.leaving) stays
+
+key_knows : (key : Option (List ℕ)) (slot : ℕ) (link : Link) (facts : Facts) → ends_without_key key facts ≡ false → KnowsAsks link facts
+    → KnowsAsks link (facts_key_answered key slot facts)
+key_knows key slot link facts stays knows =
+    record {
+      table = owing_knows link facts.control (facts_key_answered key slot facts).control (key_view key facts) knows.table;
+      disconnecting = knows.disconnecting ∙ ap (λ (l : Leaving). is_some l.disconnected) (sym (key_leaving key slot facts stays));
+      version = key_version key facts ∙ knows.version;
+    }
 
 -- ---- every step that the host does not make
 
@@ -273,39 +356,41 @@ sent_knows setup slot link facts knows =
     (record {
       table = gone_stage link (takes_leave facts) slot facts knows.table;
       disconnecting = knows.disconnecting ∙ ap (λ (l : Leaving). is_some l.disconnected) (sym (gone_leaving (takes_leave facts) slot facts));
+      version = gone_version (takes_leave facts) slot facts knows.version;
     })
 
 fixed_knows : (stays : Bool) (link : Link) (facts : Facts) → KnowsAsks link facts → KnowsAsks link (if stays then facts else fixed_anew facts)
 fixed_knows true link facts knows = knows
-fixed_knows false link facts knows = record { table = knows.table; disconnecting = knows.disconnecting }
+fixed_knows false link facts knows = record { table = knows.table; disconnecting = knows.disconnecting; version = knows.version }
 
-pub step_knows : (setup : Setup) (step : Step) (link : Link) (facts : Facts) → IsPlain setup.link.role facts → is_of_host step ≡ false → KnowsAsks link facts
-    → (facts_after setup facts step).control.ends ≡ None → KnowsAsks (link_after_step setup facts step link) (facts_after setup facts step)
-unfolding effect_of
-step_knows setup (DataGiven start body) link facts plain other knows lasts = record { table = knows.table; disconnecting = knows.disconnecting }
-step_knows setup (ProcedureAsked ask) link facts plain other knows lasts = absurd (cc)
-step_knows setup (RequestAnswered answer) link facts plain other knows lasts = absurd (cc)
-step_knows setup (KeyAnswered key slot) link facts plain other knows lasts =
-    record {
-      table = subst (λ (c : Control). KnowsTable link c.table) (sym (one_step setup facts (KeyAnswered key slot) plain)) knows.table;
-      disconnecting = knows.disconnecting ∙ ap (λ (l : Leaving). is_some l.disconnected) (sym (key_leaving setup.link.role key slot facts plain));
-    }
-step_knows setup (Disconnected reason slot) link facts plain other knows lasts = absurd (cc)
-step_knows setup (EventEntered slot) link facts plain other knows lasts =
-    subst (λ (notes : List Note). KnowsAsks (fold link_after_note link notes) (facts_entered_if (goes_on facts) setup slot facts))
-    (sym (entry_notes_plain setup slot facts plain))
-    (subst (λ (next : Facts). KnowsAsks (fold link_after_note link (plain_entry_notes setup slot facts)) (if goes_on facts then next else facts))
-    (sym (entered_plain setup slot facts plain))
-    (enter_knows setup slot link facts (goes_on facts) (entry_of slot true (held_of facts.control)) refl
-    (entry_done (held_of facts.control) slot true) knows))
-step_knows setup PduFixed link facts plain other knows lasts = fixed_knows (is_control facts.outgoing.fixed) link facts knows
-step_knows setup (PacketSent slot) link facts plain other knows lasts = sent_knows setup slot link facts knows
-step_knows setup (WordsGiven skd_s iv_s) link facts plain other knows lasts = record { table = knows.table; disconnecting = knows.disconnecting }
-step_knows setup (PacketReceived slot octets room) link facts plain other knows lasts =
-    let same = received_plain setup facts slot octets room plain in
-    subst (λ (next : Facts). KnowsAsks (link_after_step setup facts (PacketReceived slot octets room) link) next) (sym same)
-    (receives setup slot room (good_pdu setup facts octets) link facts plain knows (ap (λ (f : Facts). f.control.ends) (sym same) ∙ lasts))
-step_knows setup DataReported link facts plain other knows lasts = record { table = knows.table; disconnecting = knows.disconnecting }
+-- what a step brings for the layer above of a PDU that was kept
+abbrev pub kept_effect_after : Setup → Facts → Step → Effect
+kept_effect_after setup facts (PacketReceived slot octets room) = kept_effect_of setup facts slot octets room
+kept_effect_after setup facts other = Nothing
+
+-- with the request of the PDU that was taken and of the one that was kept
+pub step_knows : (setup : Setup) (step : Step) (link : Link) (facts : Facts) → IsPast setup facts → ends_by_key step facts ≡ false
+    → is_of_host step ≡ false → KnowsAsks link facts → (facts_after setup facts step).control.ends ≡ None
+    → KnowsAsks (link_with_request (kept_effect_after setup facts step) (link_after_step setup facts step link)) (facts_after setup facts step)
+unfolding effect_of kept_effect_of
+step_knows setup (DataGiven start body) link facts p stays other knows lasts = record { table = knows.table; disconnecting = knows.disconnecting; version = knows.version }
+step_knows setup (ProcedureAsked ask) link facts p stays other knows lasts = absurd (cc)
+step_knows setup (RequestAnswered answer) link facts p stays other knows lasts = absurd (cc)
+step_knows setup (KeyAnswered key slot) link facts p stays other knows lasts = key_knows key slot link facts stays knows
+step_knows setup (Disconnected reason slot) link facts p stays other knows lasts = absurd (cc)
+step_knows setup (EventEntered slot) link facts p stays other knows lasts =
+    enter_knows setup slot link facts (goes_on facts) (entry_of slot (is_quiet_now facts) (held_of facts.control)) refl
+    (entry_done (held_of facts.control) slot (is_quiet_now facts)) knows
+step_knows setup PduFixed link facts p stays other knows lasts = fixed_knows (is_control facts.outgoing.fixed) link facts knows
+step_knows setup (PacketSent slot) link facts p stays other knows lasts = sent_knows setup slot link facts knows
+step_knows setup (WordsGiven skd_s iv_s) link facts p stays other knows lasts = record { table = knows.table; disconnecting = knows.disconnecting; version = knows.version }
+step_knows setup (PacketReceived slot octets room) link facts p stays other knows lasts =
+    let octets_read = good_pdu setup facts octets in
+    unless_forged (is_forged setup facts octets)
+    (link_with_request (kept_effect_received setup.link.role slot room octets_read facts)
+    (link_with_request (effect_received setup.link.role slot room octets_read facts) (fold link_after_note link (received_notes setup slot room octets_read facts))))
+    (facts_received setup.link.role slot room octets_read facts) (receives setup slot room octets_read link facts p knows) lasts
+step_knows setup DataReported link facts p stays other knows lasts = record { table = knows.table; disconnecting = knows.disconnecting; version = knows.version }
 
 -- ---- a new link
 
@@ -326,4 +411,4 @@ first_by Peripheral setup own peer is =
     none kind = ap count_if (sym (not_asked kind))
 
 pub first_knows : (setup : Setup) (own peer : Address) → KnowsAsks (opened_link setup.link.role own peer) (first_facts setup)
-first_knows setup own peer = record { table = first_by setup.link.role setup own peer refl; disconnecting = refl }
+first_knows setup own peer = record { table = first_by setup.link.role setup own peer refl; disconnecting = refl; version = refl }

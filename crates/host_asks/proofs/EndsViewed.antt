@@ -23,7 +23,7 @@ use Rattle.open_links.specs.link_model.Hosts.{facts_answered}
 use Rattle.open_links.specs.link_model.Setup.{Setup}
 use Rattle.open_links.specs.link_model.Step.{Step}
 use Rattle.open_links.specs.link_model.Facts.{Facts}
-use Rattle.open_links.specs.link_model.Plain.{IsPlain}
+use Rattle.open_links.proofs.link_model.KnownEnds.{IsPast}
 use Rattle.host_view.specs.Changes.{answered, view_after}
 use Rattle.host_view.specs.Refusals.{count_if, first_refusal}
 use Rattle.host_view.specs.Status.{rows_of}
@@ -39,8 +39,8 @@ use Rattle.host_asks.specs.Noting.{effect_after, is_of_host, link_after_notes, l
 use Rattle.link_commands.specs.Views.{events_at_once, events_if, kind_if, kind_known, view_answered, view_commanded}
 use Rattle.host_asks.specs.Views.{KnowsAt, KnowsOnceReported, leaves_other_links}
 use Rattle.host_asks.proofs.Accepting.{command_keeps, command_may_come, refused_knows, request_withdrawn}
-use Rattle.host_asks.proofs.Ends.{step_knows}
 use Rattle.host_asks.proofs.LinksViewed.{about_other, about_own, command_other, command_own, notes_of_step, notes_own}
+use Rattle.host_asks.proofs.Reported.{reported_knows}
 
 -- ---- a change that keeps what is known
 
@@ -70,6 +70,7 @@ handed_known link facts outstanding knows =
             parameters = knows.table.parameters;
           };
       disconnecting = knows.disconnecting;
+      version = knows.version;
     }
 
 pub key_known : (link : Link) (facts : Facts) (waits : Bool) → KnowsAsks link facts → KnowsAsks (record link { waits_for_key = waits }) facts
@@ -84,6 +85,7 @@ key_known link facts waits knows =
             parameters = knows.table.parameters;
           };
       disconnecting = knows.disconnecting;
+      version = knows.version;
     }
 
 parameters_known : (link : Link) (facts : Facts) → KnowsAsks link facts → KnowsAsks (record link { waits_for_parameters = true }) facts
@@ -98,6 +100,7 @@ parameters_known link facts knows =
             parameters = λ asks. refl;
           };
       disconnecting = knows.disconnecting;
+      version = knows.version;
     }
 
 -- what waits does not depend on these
@@ -192,16 +195,16 @@ request_refused_at_once effect view handle facts code known lasts =
 option_some : (f : Link → Link) (found : Option Link) (link : Link) → found ≡ Some link → option_map f found ≡ Some (f link)
 option_some f found link is = ap (option_map f) is
 
-pub step_known : (view : View) (setup : Setup) (facts : Facts) (step : Step) → IsPlain setup.link.role facts → is_of_host step ≡ false
+pub step_known : (view : View) (setup : Setup) (facts : Facts) (step : Step) → IsPast setup facts → is_of_host step ≡ false
     → KnowsAt view setup.link.handle facts → (facts_after setup facts step).control.ends ≡ None
     → KnowsOnceReported (effect_after setup facts step) (fold view_noted view (notes_after setup facts step)) setup.link.handle (facts_after setup facts step)
-step_known view setup facts step plain other known lasts =
+step_known view setup facts step p other known lasts =
     record {
       link = link_after_notes setup facts step known.link;
       is_open =
           notes_own setup.link.handle view (notes_after setup facts step) (notes_of_step setup facts step)
           ∙ option_some (link_after_notes setup facts step) (link_in view.links setup.link.handle) known.link known.is_open;
-      knows = step_knows setup step known.link facts plain other known.knows lasts;
+      knows = reported_knows setup step known.link facts p other known.knows lasts;
     }
 
 answered_view : (view : View) (handle : ℕ) (kind : Kind) (link : Link) → link_in view.links handle ≡ Some link

@@ -3,7 +3,9 @@ pub mod Keeping
 pub mod Outcomes
 pub mod Tables
 pub mod Controls
+pub mod Versions
 pub mod Ends
+pub mod Reported
 pub mod Accepting
 pub mod Lasting
 pub mod LinksViewed

@@ -19,7 +19,6 @@ use Rattle.open_links.proofs.link_model.Pasts.{grows}
 use Rattle.open_links.specs.Hosts.{links_answered}
 use Rattle.open_links.specs.OpenLinks.{Links, OpenLink, facts_in, link_after, link_at, new_link, with_change, with_link, without_link}
 use Rattle.open_links.proofs.Handles.{changed_have, changed_is, opened_at, opened_has, other_stays, shut_have}
-use Rattle.open_links.proofs.link_model.Plain.{past_plain}
 use Rattle.host_view.specs.View.{View}
 use Rattle.host_view.specs.Links.{link_in}
 use Rattle.host_view.specs.Noted.{opened_link, view_noted}
@@ -93,8 +92,8 @@ links_step view links link step other known is =
     own lasts =
         let goes : (facts_after link.setup (facts_in link) step).control.ends ≡ None = ap (λ (f : Facts). f.control.ends) (sym (after_facts link step)) ∙ lasts in
         subst (λ (f : Facts). KnowsOnceReported (effect_after link.setup (facts_in link) step) noted handle f) (sym (after_facts link step))
-        (step_known view link.setup (facts_in link) step (past_plain link.setup link.past) other
-        (known.each handle link is (lasted link.setup (facts_in link) step (past_plain link.setup link.past) goes)) goes)
+        (step_known view link.setup (facts_in link) step (record { past = link.past; is = refl }) other
+        (known.each handle link is (lasted link.setup (facts_in link) step (record { past = link.past; is = refl }) goes)) goes)
 
 -- ---- what the host receives
 
@@ -140,7 +139,7 @@ links_refused handle effect view links link code is known =
         let goes : (facts_answered (Err code) (facts_in link)).control.ends ≡ None =
         ap (λ (f : Facts). f.control.ends) (sym (after_facts link (RequestAnswered (Err code)))) ∙ lasts in
         subst (λ (f : Facts). KnowsAt view handle f) (sym (after_facts link (RequestAnswered (Err code))))
-        (request_refused_at_once effect view handle (facts_in link) code (known.own link is (lasted link.setup (facts_in link) (RequestAnswered (Err code)) (past_plain link.setup link.past) goes)) goes)
+        (request_refused_at_once effect view handle (facts_in link) code (known.own link is (lasted link.setup (facts_in link) (RequestAnswered (Err code)) (record { past = link.past; is = refl }) goes)) goes)
 
     own : IsKnownAt view (links_answered handle (Err code) links) handle
     own after found lasts =

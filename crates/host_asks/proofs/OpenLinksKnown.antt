@@ -9,11 +9,10 @@ use Rattle.procedure_events.specs.procedure_stages.Kinds.{role_of}
 use Rattle.open_links.specs.link_model.Setup.{Setup}
 use Rattle.open_links.specs.link_model.Facts.{Facts}
 use Rattle.open_links.specs.link_model.Step.{Step}
-use Rattle.open_links.proofs.link_model.ControlSteps.{keeps_role}
+use Rattle.open_links.proofs.link_model.KeyedPasts.{keeps_role}
 use Rattle.open_links.proofs.link_model.Pasts.{grows}
 use Rattle.open_links.specs.OpenLinks.{HasHandle, HaveHandles, Links, OpenLink, facts_in, link_at, link_from}
 use Rattle.open_links.proofs.Handles.{has_its_handle}
-use Rattle.open_links.proofs.link_model.Plain.{past_plain}
 use Rattle.host_view.specs.View.{View}
 use Rattle.host_view.specs.Changes.{view_after}
 use Rattle.host_view.specs.Refusals.{first_refusal}
@@ -142,7 +141,7 @@ module _ (view : View) (command : Command) (slot : ℕ) (links : Links) (ok : fi
       role = keeps_role link.setup link.past
 
       here_known : KnowsAt view handle (facts_in link)
-      here_known = known link is (lasted_if link.setup (facts_in link) step (past_plain link.setup link.past) goes)
+      here_known = known link is (lasted_if link.setup (facts_in link) step (record { past = link.past; is = refl }) goes)
 
       -- by the role of its end
       by_end : (h : ℕ) → link.setup.link.handle ≡ h → is_about h command ≡ true → KnowsAt view h (facts_in link)

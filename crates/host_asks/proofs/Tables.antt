@@ -6,6 +6,8 @@ use Rattle.std.proofs.lemmas.Option.{get_or_from_slice_get}
 use Rattle.ble_base.specs.declared.error_codes.ErrCode.{ErrCode}
 use Rattle.ble_base.specs.declared.procedure_kinds.Kind.{Kind}
 use Rattle.ble_base.specs.declared.procedure_kinds.Kind.TheVariants.{Update, Request, Map, Phy}
+use Rattle.data_pdu.specs.declared.ctrl.Ctrl.{Ctrl}
+use Rattle.data_pdu.specs.declared.ctrl.Ctrl.TheVariants.{TerminateInd}
 use Rattle.data_pdu.specs.declared.ctrl.CtrlRead.{CtrlRead}
 use Rattle.exclusive_stages.specs.declared.pdus.Pdu.{Pdu}
 use Rattle.exclusive_stages.specs.declared.pdus.Pdu.TheVariants.{GrantInd, MapInd, ParamReq, PhyInd as phy_ind_pdu, PhyReq as phy_req_pdu, UpdateInd}
@@ -52,7 +54,8 @@ use Rattle.procedure_events.specs.procedure_stages.Kinds.{begins, is_kind, kind_
 use Rattle.procedure_events.specs.procedure_stages.Sent.{exchange_sent, own_draft_sent_by_central, own_draft_sent_by_peripheral, peer_draft_sent_by_central, progress_after_sending}
 use Rattle.procedure_events.specs.procedure_stages.Steps.{closing_after}
 use Rattle.procedure_events.specs.procedures.Beginning.{ask_at, ask_step, begin_at, begin_step, may_ask_of, place_to_begin}
-use Rattle.procedure_events.specs.procedures.Going.{entered_step}
+use Rattle.procedure_events.specs.procedures.Encryption.{is_rejection, progress_given}
+use Rattle.procedure_events.specs.procedures.Going.{closing_given, entered_step, owe_step}
 use Rattle.procedure_events.specs.procedures.Sending.{acked_step, facts_sent}
 use Rattle.procedure_events.specs.procedures.Table.{TableFacts}
 use Rattle.procedure_events.specs.procedures.Taking.{facts_with, outcome_of}
@@ -356,6 +359,39 @@ table_takes link f read slot quiet knows =
 
     step : Step
     step = (outcome_of f quiet read).step
+
+-- ---- a PDU of the encryption is queued, or LL_TERMINATE_IND for want of a key
+
+given_opens : (ctrl : Ctrl) (closing : Closing) → is_open closing ≡ false → is_open (closing_given ctrl closing) ≡ false
+given_opens (TerminateInd code) Open is = refl
+given_opens (TerminateInd code) Closed is = refl
+given_opens (TerminateInd code) Disconnecting is = refl
+given_opens ctrl closing is = is
+
+given_disconnects : (ctrl : Ctrl) (closing : Closing) → is_disconnecting (closing_given ctrl closing) ≡ is_disconnecting closing
+given_disconnects (TerminateInd code) Open = refl
+given_disconnects (TerminateInd code) Closed = refl
+given_disconnects (TerminateInd code) Disconnecting = refl
+given_disconnects ctrl closing = refl
+
+given_kinds : (p : Progress) (ctrl : Ctrl) → SameKinds p (progress_given p ctrl)
+given_kinds (central c) ctrl = record { role = refl; own = refl; host = refl }
+given_kinds (peripheral p) ctrl = by (is_rejection ctrl)
+  where
+    by : (b : Bool) → SameKinds (peripheral p) (if b then peripheral (record p { encrypting = false }) else peripheral p)
+    by true = record { role = refl; own = refl; host = refl }
+    by false = record { role = refl; own = refl; host = refl }
+
+pub table_owes : (link : Link) (f : TableFacts) (ctrl : Ctrl) → KnowsTable link f → KnowsTable link (owe_step f ctrl)
+table_owes link f ctrl knows =
+    let same = given_kinds f.progress ctrl in
+    record {
+      role = same.role ∙ knows.role;
+      asked = λ kind other. ap (λ (own : Option Kind). count_of kind f.wanted + count_if (is_kind own kind)) same.own ∙ knows.asked kind other;
+      closes = λ is. given_opens ctrl f.closing (knows.closes is);
+      disconnects = λ is. knows.disconnects (sym (given_disconnects ctrl f.closing) ∙ is);
+      parameters = λ is. knows.parameters (sym same.host ∙ is);
+    }
 
 -- ---- the host asks for a procedure, answers a request, and ends the link
 

@@ -32,7 +32,13 @@ pub record KnowsTable (link : Link) (table : TableFacts) : Type 0 where
   -- where the end waits for the host, the host may answer
   pub parameters : is_host_asked table.progress ≡ true → link.waits_for_parameters ≡ true
 
+-- the end knows the version of its peer where it took LL_VERSION_IND
+abbrev pub KnowsVersion : Facts → Type 0
+KnowsVersion facts = facts.encryption.knows_version ≡ is_some facts.peer.version
+
 -- the view of a link knows this end of it
 pub record KnowsAsks (link : Link) (facts : Facts) : Type 0 where
   pub table : KnowsTable link facts.control.table
   pub disconnecting : link.disconnecting ≡ is_some facts.leaving.disconnected
+  -- what its host asks of the version of its peer goes by whether that is known
+  pub version : KnowsVersion facts

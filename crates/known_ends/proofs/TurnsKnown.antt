@@ -34,7 +34,7 @@ use Rattle.link_model.specs.Controls.{pdu_fixed}
 use Rattle.link_model.specs.Acknowledgement.{Pdu}
 use Rattle.link_model.specs.Step.{Step as EndStep, DataGiven, EventEntered, PduFixed, PacketSent, PacketReceived, RequestAnswered, DataReported}
 use Rattle.link_model.proofs.Pasts.{grows}
-use Rattle.link_model.proofs.Plain.{past_plain}
+use Rattle.link_model.proofs.KnownEnds.{IsPast}
 use Rattle.controller_model.specs.link_end.Answers.{acked_of, given_of}
 use Rattle.open_links.specs.Data.{complete_in, link_reported, received_past}
 use Rattle.open_links.specs.OpenLinks.{Links, OpenLink, HasHandle, HaveHandles, facts_in, link_after, link_at, link_from, link_served, new_link, with_change, with_link}
@@ -86,6 +86,9 @@ opened_stays view link other differs = get_or-set_other view.links link.handle o
 
 facts_grow : (link : OpenLink) (step : EndStep) → facts_in (link_after step link) ≡ end_after link.setup (facts_in link) step
 facts_grow link step = grows link.setup link.past step
+
+link_past : (link : OpenLink) → IsPast link.setup (facts_in link)
+link_past link = record { past = link.past; is = refl }
 
 still : (before after : View) (handle : ℕ) (facts : EndFacts) → link_in after.links handle ≡ link_in before.links handle → KnowsAt before handle facts
     → KnowsAt after handle facts
@@ -163,12 +166,12 @@ module _ (handle : ℕ) where
         → KnowsOnceReported (effect_after link.setup (facts_in link) step) (follow view (end_notes link.setup (facts_in link) step)) handle (facts_in (link_after step link))
     reported link view is lasts =
         let goes : (end_after link.setup (facts_in link) step).control.ends ≡ None = ap (λ (f : EndFacts). f.control.ends) (sym (facts_grow link step)) ∙ lasts in
-        let before = subst (λ (h : ℕ). KnowsAt view h (facts_in link)) (sym is.0) (is.1 (lasted link.setup (facts_in link) step (past_plain link.setup link.past) goes)) in
+        let before = subst (λ (h : ℕ). KnowsAt view h (facts_in link)) (sym is.0) (is.1 (lasted link.setup (facts_in link) step (link_past link) goes)) in
         let effect = effect_after link.setup (facts_in link) step in
         let noted = follow view (end_notes link.setup (facts_in link) step) in
         subst (λ (f : EndFacts). KnowsOnceReported effect noted handle f) (sym (facts_grow link step))
         (subst (λ (h : ℕ). KnowsOnceReported effect noted h (end_after link.setup (facts_in link) step)) is.0
-        (step_known view link.setup (facts_in link) step (past_plain link.setup link.past) other before goes))
+        (step_known view link.setup (facts_in link) step (link_past link) other before goes))
 
     module _ (silent : (setup : EndSetup) (facts : EndFacts) → asks_host (effect_after setup facts step) ≡ false) where
       stepped : (link : OpenLink) (view : View) → Known (Some link) view → KnownAfter (Some (link_after step link)) view (end_notes link.setup (facts_in link) step)
@@ -477,7 +480,7 @@ module _ (handle : ℕ) where
             let goes : (facts_answered refusal (facts_in now)).control.ends ≡ None = ap (λ (f : EndFacts). f.control.ends) (sym grown) ∙ lasts in
             subst (λ (f : EndFacts). KnowsAt seen handle f) (sym grown)
             (request_refused_at_once effect seen handle (facts_in now) _
-            (subst (λ (b : Bool). KnownWhere b effect seen (facts_in now)) refuses (all_seen (lasted now.setup (facts_in now) (RequestAnswered refusal) (past_plain now.setup now.past) goes))) goes)
+            (subst (λ (b : Bool). KnownWhere b effect seen (facts_in now)) refuses (all_seen (lasted now.setup (facts_in now) (RequestAnswered refusal) (link_past now) goes))) goes)
         ends_known_by false refuses lasts = subst (λ (b : Bool). KnownWhere b effect seen (facts_in now)) refuses (all_seen lasts)
 
   taken_at : (given : ℕ) (octets : List ℕ) (setup : Setup) (facts : Facts) → HaveHandles 0 facts.links → handle < 65536

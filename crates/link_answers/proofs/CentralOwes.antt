@@ -2,10 +2,13 @@
 use Rattle.std.proofs.Common.{◌≡◌, ◌+◌, ◌≤◌, ◌&&◌, not, Bool, true, false, List, [], ◌∷◌, ◌++◌, drop, Option, Some, None, if◌then◌else◌, refl, sym, subst, arith}
 use Rattle.std.specs.Prelude.{unwrap_or}
 use Rattle.std.proofs.lemmas.Bool.{and_parts}
+use Rattle.collision_steps.specs.CentralPart.{after_steps, step_of_given}
 use Rattle.collisions.specs.CentralTable
 use Rattle.collisions.specs.declared.central.Central.{Central}
 use Rattle.collisions.specs.declared.joint.End.{End}
 use Rattle.collisions.specs.declared.joint.End.TheVariants.{Collided, Open}
+use Rattle.data_pdu.specs.declared.ctrl.Ctrl.{Ctrl}
+use Rattle.data_pdu.specs.declared.ctrl.Ctrl.TheVariants.{TerminateInd}
 use Rattle.exclusive_stages.specs.Acked.{own_acked_at_central, peer_acked_at_central}
 use Rattle.exclusive_stages.specs.Awaited.{awaits_phy_rsp, peer_answered}
 use Rattle.exclusive_stages.specs.Begun.{begins_at_central, stage_begun_at_central}
@@ -317,3 +320,8 @@ entered_owes kind false t owes = owes
 
 pub terminated_owes : (kind : Exclusive) (t : Central) → Owes kind t → Owes kind (CentralTable.terminated t)
 terminated_owes kind t owes = record { few = owes.few; none = owes.none }
+
+-- a PDU of an encryption waits
+pub given_owes : (kind : Exclusive) (ctrl : Ctrl) (t : Central) → Owes kind t → Owes kind (after_steps (step_of_given ctrl) t)
+given_owes kind (TerminateInd code) t owes = terminated_owes kind t owes
+given_owes kind ctrl t owes = owes

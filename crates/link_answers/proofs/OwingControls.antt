@@ -1,6 +1,6 @@
 -- What each step of the control part of a central leaves of the indications that it owes.
 use Rattle.std.proofs.Common.{◌≡◌, ℕ, ◌&&◌, ◌||◌, not, Bool, true, false, List, [], ◌∷◌, Option, Some, None, is_some, if◌then◌else◌, Result, Ok, Err, refl, sym, ap, subst, ◌∙◌}
-use Rattle.std.specs.Prelude.{⊤, ◌==◌}
+use Rattle.std.specs.Prelude.{◌==◌}
 use Rattle.ble_base.specs.declared.error_codes.ErrCode.{ErrCode}
 use Rattle.ble_base.specs.declared.procedure_kinds.Kind.{Kind}
 use Rattle.ble_base.specs.declared.procedure_kinds.Kind.TheVariants.{Map as map_kind, Phy as phy_kind, Update as update_kind}
@@ -51,10 +51,11 @@ use Rattle.link_model.proofs.control_model.Moving.{same_role}
 use Rattle.collision_steps.specs.Answers.{stops_run}
 use Rattle.collision_steps.specs.CentralPart.{ack_of, after_steps, answer_to, central_of, may_begin_by, refusal_if, sending_of, step_of_answer, step_of_begun, step_of_read}
 use Rattle.collision_steps.specs.Parts.{drafts_part, outgoing_part, param_request_opcode, phy_request_opcode, reason_part, rejection_part, rejections_part, with_part}
-use Rattle.collision_steps.proofs.CentralGoing.{acked_one, answers_one, begun_may, begun_part, disconnects_one, enters_one, sends_one}
+use Rattle.collision_steps.proofs.CentralGoing.{acked_one, answers_one, begun_may, begun_part, disconnects_one, enters_one, owes_one, sends_one}
 use Rattle.collision_steps.proofs.CentralTaking.{over, took}
 use Rattle.link_answers.specs.Owing.{Owes, is_indication_of, is_opening_read, owing}
-use Rattle.link_answers.proofs.CentralOwes.{acked_owes, begun_owes, entered_owes, granted_owes, is_harmless, refusal_owes, refused_owes, sent_other_owes, sent_owes, taken_owes, terminated_owes}
+use Rattle.link_answers.proofs.CentralOwes.{acked_owes, begun_owes, entered_owes, given_owes, granted_owes, is_harmless, refusal_owes, refused_owes, sent_other_owes, sent_owes, taken_owes, terminated_owes}
+use Rattle.link_answers.proofs.EachPhase.{MayCome}
 
 -- ---- a central
 
@@ -183,12 +184,6 @@ module _ (kind : Exclusive) where
 
   abbrev OwesIn : Control → Type 0
   OwesIn c = Owes kind (central_of c.table)
-
-  -- a step that opens nothing; no PDU of an encryption is queued yet
-  abbrev pub MayCome : Step → Type 0
-  MayCome (Takes read slot quiet) = is_opening_read kind read ≡ false
-  MayCome (owes_step ctrl) = ⊥
-  MayCome step = ⊤
 
   table_owes : (may : Bool) (g : TableFacts) (c : Control) → Owes kind (central_of g) → OwesIn c → OwesIn (table_if may g c)
   table_owes true g c now before = now
@@ -351,7 +346,7 @@ module _ (kind : Exclusive) where
 
   -- ---- all of them
 
-  moved_owes : (step : Step) (c : Control) → MayCome step → Holds c → OwesIn (moved step c)
+  moved_owes : (step : Step) (c : Control) → MayCome (is_opening_read kind) step → Holds c → OwesIn (moved step c)
   moved_owes (Enters slot quiet) c may h =
       let holds = is_some (next_number c.track) in
       begins (entered_step c.table holds).0 slot quiet (held_role c.table holds h.role) (enters c.table holds h.role h.owes)
@@ -375,8 +370,10 @@ module _ (kind : Exclusive) where
   moved_owes (Takes read slot quiet) c may h =
       let step = took_step c.table read slot quiet in
       taken_control step.0 step.1.ends (indicated_by step.1.effect) c (took_owes c.table read slot quiet h.role may h.owes) h.owes
-  moved_owes (owes_step ctrl) c may h = absurd may
+  moved_owes (owes_step ctrl) c may h =
+      let x = is_central c.table.progress h.role in
+      subst (Owes kind) (sym (owes_one c.table x.0 ctrl x.1)) (given_owes kind ctrl (central_of c.table) h.owes)
 
-  pub control_owes : (step : Step) (c : Control) → MayCome step → Holds c → Holds (after step c)
+  pub control_owes : (step : Step) (c : Control) → MayCome (is_opening_read kind) step → Holds c → Holds (after step c)
   control_owes step c may h =
       record { role = same_role central_role step c h.role; owes = any_step OwesIn step c (moved_owes step c may h) h.owes }

@@ -10,7 +10,7 @@ use Rattle.collision_steps.specs.Parts.{drafts_part, with_part}
 use Rattle.data_pdu.specs.Layouts.{makers, written}
 use Rattle.data_pdu.specs.Reading.{ctrl_of}
 use Rattle.data_pdu.specs.declared.ctrl.Ctrl.{Ctrl}
-use Rattle.data_pdu.specs.declared.ctrl.Ctrl.TheVariants.{ChannelMapInd, ConnectionParamReq, ConnectionUpdateInd, LengthReq, LengthRsp, RejectExtInd, TerminateInd, UnknownRsp}
+use Rattle.data_pdu.specs.declared.ctrl.Ctrl.TheVariants.{ChannelMapInd, ConnectionParamReq, ConnectionUpdateInd, EncReq, EncRsp, LengthReq, LengthRsp, PauseEncReq, PauseEncRsp, RejectExtInd, StartEncReq, StartEncRsp, TerminateInd, UnknownRsp}
 use Rattle.data_pdu.specs.declared.ctrl.CtrlRead.TheVariants.{Known, Unknown}
 use Rattle.exclusive_stages.specs.Kinds.{central_kind}
 use Rattle.exclusive_stages.specs.declared.pdus.Exclusive.{Exclusive}
@@ -38,10 +38,11 @@ use Rattle.link_model.specs.procedure_stages.Kinds.{role_of}
 use Rattle.link_model.specs.procedure_stages.Queue.{waiting_in}
 use Rattle.link_model.specs.procedures.Queue.{next_of}
 use Rattle.link_model.specs.procedures.Table.{TableFacts}
+use Rattle.link_model.proofs.Views.{is_ciphering}
 use Rattle.wire_fields.specs.Field.{little_endian}
 use Rattle.link_answers.specs.Owing.{Owes, indicates, is_indication_of, number, one_if, owing}
 use Rattle.link_answers.proofs.OwingControls.{IsHead, head_of, is_central, view_queue}
-use Rattle.link_answers.proofs.PlainQueues.{IsPlain, IsPlainDraft}
+use Rattle.link_answers.proofs.CipherQueues.{MayAllWait, MayWait}
 
 -- ---- which PDU is read as an indication
 
@@ -99,6 +100,19 @@ terminate_says : (code : ℕ) → indicates (ctrl_of (written (TerminateInd code
 unfolding ctrl_of makers little_endian
 terminate_says code = refl
 
+-- the PDUs of an encryption
+cipher_says : (ctrl : Ctrl) → is_ciphering ctrl ≡ true → indicates (ctrl_of (written ctrl)) ≡ None
+unfolding ctrl_of makers little_endian
+cipher_says (EncReq rand ediv skd_m iv_m) is = refl
+cipher_says (EncRsp skd_s iv_s) is = refl
+cipher_says StartEncReq is = refl
+cipher_says StartEncRsp is = refl
+cipher_says PauseEncReq is = refl
+cipher_says PauseEncRsp is = refl
+cipher_says (RejectExtInd opcode code) is = reject_says opcode code
+cipher_says (TerminateInd code) is = terminate_says code
+cipher_says ctrl is = absurd cc
+
 -- the PDUs that have no values
 phy_req_says : (event skips : ℕ) → indicates (ctrl_of (written (ctrl_of_draft phy_req event skips))) ≡ None
 unfolding ctrl_of makers little_endian
@@ -135,38 +149,38 @@ module _ (event skips : ℕ) (kind : Exclusive) where
   none_of : (draft : Draft) → indicates (ctrl_of (written (ctrl_of_draft draft event skips))) ≡ None → Says draft → IsOf kind draft
   none_of draft none is = none_said (IsOf kind draft) kind (sym none ∙ is)
 
-  draft_says : (draft : Draft) → IsPlainDraft draft → Says draft → IsOf kind draft
-  draft_says (Update params) plain is =
+  draft_says : (draft : Draft) → MayWait draft → Says draft → IsOf kind draft
+  draft_says (Update params) may is =
       record {
         pdu = UpdateInd;
         part = refl;
         is = ap (λ (k : Exclusive). is_indication_of k UpdateInd) (sym (update_says params.interval params.latency params.timeout (instant_at event skips) kind is));
       }
-  draft_says (Grant params) plain is =
+  draft_says (Grant params) may is =
       record {
         pdu = GrantInd;
         part = refl;
         is = ap (λ (k : Exclusive). is_indication_of k GrantInd) (sym (update_says params.interval params.latency params.timeout (instant_at event skips) kind is));
       }
-  draft_says (Map map) plain is =
+  draft_says (Map map) may is =
       record { pdu = MapInd; part = refl; is = ap (λ (k : Exclusive). is_indication_of k MapInd) (sym (map_says map (instant_at event skips) kind is)) }
-  draft_says PhyInd plain is =
+  draft_says PhyInd may is =
       record {
         pdu = phy_ind;
         part = refl;
         is = ap (λ (k : Exclusive). is_indication_of k phy_ind) (sym (same_kind phy_kind kind (sym (phy_ind_says event skips) ∙ is)));
       }
-  draft_says (Cipher ctrl) plain is = absurd plain
-  draft_says (Request min max latency timeout) plain is = none_of (Request min max latency timeout) (request_says min max latency timeout _) is
-  draft_says (length_req rx tx) plain is = none_of (length_req rx tx) (length_req_says rx _ tx _) is
-  draft_says (length_rsp rx tx) plain is = none_of (length_rsp rx tx) (length_rsp_says rx _ tx _) is
-  draft_says (unknown_rsp opcode) plain is = none_of (unknown_rsp opcode) (unknown_says opcode) is
-  draft_says phy_req plain is = none_of phy_req (phy_req_says event skips) is
-  draft_says phy_rsp plain is = none_of phy_rsp (phy_rsp_says event skips) is
-  draft_says feature_req plain is = none_of feature_req (feature_req_says event skips) is
-  draft_says peripheral_feature_req plain is = none_of peripheral_feature_req (peripheral_feature_req_says event skips) is
-  draft_says feature_rsp plain is = none_of feature_rsp (feature_rsp_says event skips) is
-  draft_says version_draft plain is = none_of version_draft (version_says event skips) is
+  draft_says (Cipher ctrl) may is = none_of (Cipher ctrl) (cipher_says ctrl may) is
+  draft_says (Request min max latency timeout) may is = none_of (Request min max latency timeout) (request_says min max latency timeout _) is
+  draft_says (length_req rx tx) may is = none_of (length_req rx tx) (length_req_says rx _ tx _) is
+  draft_says (length_rsp rx tx) may is = none_of (length_rsp rx tx) (length_rsp_says rx _ tx _) is
+  draft_says (unknown_rsp opcode) may is = none_of (unknown_rsp opcode) (unknown_says opcode) is
+  draft_says phy_req may is = none_of phy_req (phy_req_says event skips) is
+  draft_says phy_rsp may is = none_of phy_rsp (phy_rsp_says event skips) is
+  draft_says feature_req may is = none_of feature_req (feature_req_says event skips) is
+  draft_says peripheral_feature_req may is = none_of peripheral_feature_req (peripheral_feature_req_says event skips) is
+  draft_says feature_rsp may is = none_of feature_rsp (feature_rsp_says event skips) is
+  draft_says version_draft may is = none_of version_draft (version_says event skips) is
 
 -- ---- an own procedure that owes one is in progress
 
@@ -188,20 +202,20 @@ module _ (f : TableFacts) (role : role_of f.progress ≡ central_role) (kind : E
       let one = ap one_if of.is in
       owes_one kind (central_of f).own (omega (arith, few, one))
 
-  out_runs : (plain : IsPlain f) (event skips : ℕ) (quiet : Bool) (ctrl : Ctrl) (out : Outgoing) → next_of f event quiet ≡ out
+  out_runs : (may : MayAllWait f) (event skips : ℕ) (quiet : Bool) (ctrl : Ctrl) (out : Outgoing) → next_of f event quiet ≡ out
       → ctrl_of_outgoing out event skips ≡ Some ctrl → indicates (ctrl_of (written ctrl)) ≡ Some kind → central_kind (central_of f).own ≡ Some kind
-  out_runs plain event skips quiet ctrl Nothing next sent is = absurd cc
-  out_runs plain event skips quiet ctrl (Rejection rejection) next sent is =
+  out_runs may event skips quiet ctrl Nothing next sent is = absurd cc
+  out_runs may event skips quiet ctrl (Rejection rejection) next sent is =
       let same : RejectExtInd rejection.opcode rejection.code.0 ≡ ctrl = cc in
       none_said _ kind (sym (reject_says rejection.opcode rejection.code.0) ∙ ap (λ (c : Ctrl). indicates (ctrl_of (written c))) same ∙ is)
-  out_runs plain event skips quiet ctrl (Disconnect code) next sent is =
+  out_runs may event skips quiet ctrl (Disconnect code) next sent is =
       let same : TerminateInd code.0 ≡ ctrl = cc in
       none_said _ kind (sym (terminate_says code.0) ∙ ap (λ (c : Ctrl). indicates (ctrl_of (written c))) same ∙ is)
-  out_runs plain event skips quiet ctrl (Other draft) next sent is =
+  out_runs may event skips quiet ctrl (Other draft) next sent is =
       let same : ctrl_of_draft draft event skips ≡ ctrl = cc in
       let head = head_of f event quiet draft next in
       waiting_runs draft head
-      (draft_says event skips kind draft (All-head IsPlainDraft draft head.rest (subst (All IsPlainDraft) head.first plain))
+      (draft_says event skips kind draft (All-head MayWait draft head.rest (subst (All MayWait) head.first may))
       (ap (λ (c : Ctrl). indicates (ctrl_of (written c))) same ∙ is))
 
 -- ---- what an end fixes and sends
@@ -232,13 +246,13 @@ noted_pdu true handle number pdu other count llid body is =
     record { llid_is = llids; body_is = ap (λ (v : ArrayVec ℕ). v.items) bodies }
 noted_pdu false handle number pdu other count llid body is = absurd cc
 
-module _ (setup : Setup) (facts : Facts) (role : role_of facts.control.table.progress ≡ central_role) (plain : IsPlain facts.control.table)
+module _ (setup : Setup) (facts : Facts) (role : role_of facts.control.table.progress ≡ central_role) (may : MayAllWait facts.control.table)
     (none_fixed : is_control facts.outgoing.fixed ≡ false) (kind : Exclusive) (owes : Owes kind (central_of facts.control.table)) where
   next_runs : (ctrl : Ctrl) (goes : Bool) → (if goes then ctrl_of_outgoing (next_of facts.control.table (event_of facts.control.track) (is_quiet_now facts))
       (event_of facts.control.track) facts.control.track.params.latency else None) ≡ Some ctrl
       → indicates (ctrl_of (written ctrl)) ≡ Some kind → central_kind (central_of facts.control.table).own ≡ Some kind
   next_runs ctrl true sent is =
-      out_runs facts.control.table role kind owes plain (event_of facts.control.track) facts.control.track.params.latency (is_quiet_now facts) ctrl
+      out_runs facts.control.table role kind owes may (event_of facts.control.track) facts.control.track.params.latency (is_quiet_now facts) ctrl
       (next_of facts.control.table (event_of facts.control.track) (is_quiet_now facts)) refl sent is
   next_runs ctrl false sent is = absurd cc
 

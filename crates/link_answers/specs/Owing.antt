@@ -5,6 +5,7 @@ use Rattle.ble_base.specs.declared.notes.Note.{Note}
 use Rattle.ble_base.specs.declared.notes.Note.TheVariants.{Took}
 use Rattle.collisions.specs.declared.central.Central.{Central}
 use Rattle.data_pdu.specs.Reading.{ctrl_of}
+use Rattle.data_pdu.specs.declared.ctrl.Ctrl.{Ctrl}
 use Rattle.data_pdu.specs.declared.ctrl.Ctrl.TheVariants.{ChannelMapInd, ConnectionParamReq, ConnectionUpdateInd, PhyReq as phy_req, PhyUpdateInd, RejectExtInd, RejectInd, UnknownRsp}
 use Rattle.data_pdu.specs.declared.ctrl.CtrlRead.{CtrlRead}
 use Rattle.data_pdu.specs.declared.ctrl.CtrlRead.TheVariants.{Known}
@@ -67,6 +68,15 @@ is_opening_read Phy (Known (UnknownRsp opcode)) = phy_req_opcode == opcode
 is_opening_read Phy (Known (RejectInd code)) = true
 is_opening_read Phy (Known (RejectExtInd opcode code)) = phy_req_opcode == opcode
 is_opening_read kind read = false
+
+-- a PDU that is kept, if there is one, passes such a test
+abbrev pub opens_by : (CtrlRead → Bool) → Option Ctrl → Bool
+opens_by opens None = false
+opens_by opens (Some ctrl) = opens (Known ctrl)
+
+-- a central keeps such a PDU outside Clear and Secure, and its procedures see it later (section 5.1.3; our choice)
+abbrev pub is_opening_kept : Exclusive → Option Ctrl → Bool
+is_opening_kept kind kept = opens_by (is_opening_read kind) kept
 
 -- the end takes such a control PDU (section 2.4.1)
 abbrev pub is_opening : Exclusive → Note → Bool

@@ -13,14 +13,13 @@ use Rattle.run_laws.specs.link_model.Controls.{goes_on}
 use Rattle.run_laws.specs.link_model.End.{facts_of as end_facts}
 use Rattle.run_laws.specs.link_model.Entering.{facts_entered_if}
 use Rattle.run_laws.specs.link_model.Facts.{Facts as EndFacts}
-use Rattle.run_laws.specs.link_model.Packets.{good_pdu}
+use Rattle.run_laws.specs.link_model.Packets.{good_pdu, is_forged}
 use Rattle.run_laws.specs.link_model.Receiving.{facts_received}
 use Rattle.run_laws.specs.link_model.Setup.{Setup as EndSetup}
 use Rattle.run_laws.specs.link_model.Step.{EventEntered, PacketReceived, PacketSent, PduFixed, RequestAnswered}
 use Rattle.run_laws.specs.link_model.Times.{has_second_exchange}
 use Rattle.run_laws.specs.open_links.OpenLinks.{Links, OpenLink, facts_in, has_entered, in_event, link_after, link_at, new_link}
 use Rattle.run_laws.specs.open_links.Turns.{entered_if, enters_in, is_anchor, link_entered, wants_entering, wants_if}
-use Rattle.run_laws.proofs.link_model.Plain.{past_plain, received_plain}
 use Rattle.run_laws.proofs.open_links.Unmoved.{entered_setup}
 use Rattle.run_laws.specs.controller_model.declared.doing.Doing.{Doing}
 use Rattle.run_laws.specs.controller_model.declared.doing.Doing.TheVariants.{Advertises, CentralListens, CentralSends, PeripheralListens, PeripheralSends, Rests}
@@ -45,9 +44,9 @@ use Rattle.link_calls.specs.Phases.{HasPassed, IsNew, Stays, Takes, link_receivi
 use Rattle.link_calls.specs.Turns.{fixed_if, sent_if}
 use Rattle.link_calls.specs.Uses.{listens_under, sends_under, uses_under}
 use Rattle.link_calls.proofs.EnteredLinks.{continued, entered_is, open_in_event}
-use Rattle.link_calls.proofs.HeardSteps.{fixed_same, received_same, sent_in}
+use Rattle.link_calls.proofs.HeardSteps.{fixed_same, forged_event, received_same, sent_in}
 use Rattle.link_calls.proofs.HeldRadio.{Holds, IsBegunSo, Keeps, Stays as KeepsOn, begins_so, end_keeps, ending_keeps, octet_keeps, phase_keeps}
-use Rattle.link_calls.proofs.Lengths.{fixed_lengths, is_lengthened, received_lengthened, sent_lengths}
+use Rattle.link_calls.proofs.Lengths.{fixed_lengths, forged_lengths, is_lengthened, received_lengthened, sent_lengths}
 use Rattle.link_calls.proofs.LinkCalls.{HasBegun, begins_under, phase_under, receiving_event}
 use Rattle.link_calls.proofs.LinkPhases.{IsPhased, phased_first, phased_kept}
 use Rattle.link_calls.proofs.RadioUses.{Listening, Sending, Uses, advertises_off, exchange_uses, initiates_off, no_link, off_uses, rests_uses, scans_off, winner_wants}
@@ -422,10 +421,16 @@ module _ (handle : ℕ) (room : Bool) (octets : List ℕ) (facts : Facts) (link 
       ap (λ (e : ConnectionEvent). e.heard) (received_same link.setup.link.role slot room pdu (facts_in link)).event
       ∙ ap (λ b. b || (slot == slot_of link)) heard
 
-  taken_facts : facts_in (link_after (PacketReceived slot octets room) link) ≡ facts_received link.setup.link.role slot room found (facts_in link)
-  taken_facts =
-      step_facts link (PacketReceived slot octets room)
-      ∙ received_plain link.setup (facts_in link) slot octets room (past_plain link.setup link.past)
+  -- a forged packet changes neither the event nor the lengths
+  taken_event : (facts_in (link_after (PacketReceived slot octets room) link)).event ≡ (facts_received link.setup.link.role slot room found (facts_in link)).event
+  taken_event =
+      ap (λ (f : EndFacts). f.event) (step_facts link (PacketReceived slot octets room))
+      ∙ forged_event (is_forged link.setup (facts_in link) octets) (facts_received link.setup.link.role slot room found (facts_in link))
+
+  taken_lengths : (facts_in (link_after (PacketReceived slot octets room) link)).lengths ≡ (facts_received link.setup.link.role slot room found (facts_in link)).lengths
+  taken_lengths =
+      ap (λ (f : EndFacts). f.lengths) (step_facts link (PacketReceived slot octets room))
+      ∙ forged_lengths (is_forged link.setup (facts_in link) octets) (facts_received link.setup.link.role slot room found (facts_in link))
 
   received_lengths : (facts_in received).lengths ≡ (facts_in (link_after (PacketReceived slot octets room) link)).lengths
   received_lengths = by (refuses_at handle room octets facts)
@@ -435,7 +440,7 @@ module _ (handle : ℕ) (room : Bool) (octets : List ℕ) (facts : Facts) (link 
       by false = refl
 
   event_now : (facts_in received).event ≡ (facts_received link.setup.link.role slot room found (facts_in link)).event
-  event_now = receiving_event handle room octets facts link ∙ ap (λ (f : EndFacts). f.event) taken_facts
+  event_now = receiving_event handle room octets facts link ∙ taken_event
 
   received_slot : slot_of received ≡ slot_of link
   received_slot = ap (λ (e : ConnectionEvent). e.slot) event_now ∙ event_with found
@@ -445,7 +450,7 @@ module _ (handle : ℕ) (room : Bool) (octets : List ℕ) (facts : Facts) (link 
 
   received_long : lengthened link ≡ true → lengthened received ≡ true
   received_long long =
-      ap is_lengthened (received_lengths ∙ ap (λ (f : EndFacts). f.lengths) taken_facts) ∙ received_lengthened link.setup.link.role slot room found (facts_in link) long
+      ap is_lengthened (received_lengths ∙ taken_lengths) ∙ received_lengthened link.setup.link.role slot room found (facts_in link) long
 
   received_holds : (first last : Radio) → Keeps first last → HoldsNow first handle link → HoldsNow last handle received
   received_holds first last keeps holds = λ hold is holder.

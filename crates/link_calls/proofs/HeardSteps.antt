@@ -13,7 +13,7 @@ use Rattle.run_laws.specs.link_model.Entering.{facts_entered_if}
 use Rattle.run_laws.specs.link_model.Facts.{Facts}
 use Rattle.run_laws.specs.link_model.Fixing.{facts_fixed, fixed_anew}
 use Rattle.run_laws.specs.link_model.Packets.{more_sent}
-use Rattle.run_laws.specs.link_model.Receiving.{accepted_if, accepts, acknowledged_if, answers_with_control, data_taken_if, facts_before_taking, facts_received, has_acknowledged, heard_in_slot, procedures_take_if}
+use Rattle.run_laws.specs.link_model.Receiving.{accepted_if, accepts, acknowledged_if, answers_with_control, data_taken_if, facts_before_taking, facts_forged_if, facts_received, has_acknowledged, heard_in_slot, procedures_take_if}
 use Rattle.run_laws.specs.link_model.Sending.{control_gone_if, facts_sent, fixed_sent, takes_leave}
 
 -- the event and the last good packet are the same
@@ -83,3 +83,8 @@ received_same role slot room octets facts =
     let taken = taken_same (accepted && is_procedure_pdu pdu) pdu slot (accepted_if accepted pdu now) in
     let after = data_same (accepted && is_data pdu) (procedures_take_if (accepted && is_procedure_pdu pdu) pdu slot (accepted_if accepted pdu now)) in
     record { event = after.event ∙ taken.event ∙ gone.event; good = after.good ∙ taken.good ∙ gone.good }
+
+-- a forged one
+pub forged_event : (forged : Bool) (facts : Facts) → (facts_forged_if forged facts).event ≡ facts.event
+forged_event true facts = refl
+forged_event false facts = refl

@@ -11,7 +11,7 @@ use Rattle.run_laws.specs.link_model.Controls.{is_procedure_pdu}
 use Rattle.run_laws.specs.link_model.Data.{is_control, is_data}
 use Rattle.run_laws.specs.link_model.Facts.{Facts}
 use Rattle.run_laws.specs.link_model.Fixing.{facts_fixed, fixed_anew}
-use Rattle.run_laws.specs.link_model.Receiving.{accepted_if, accepts, acknowledged_if, answers_with_control, control_taken, data_taken_if, facts_before_taking, facts_received, has_acknowledged, heard_in_slot, kept_give, lengths_reported, lengths_seen, procedures_give, procedures_take_if}
+use Rattle.run_laws.specs.link_model.Receiving.{accepted_if, accepts, acknowledged_if, answers_with_control, control_taken, data_taken_if, facts_before_taking, facts_forged_if, facts_received, has_acknowledged, heard_in_slot, kept_give, lengths_reported, lengths_seen, procedures_give, procedures_take_if}
 use Rattle.run_laws.specs.link_model.Sending.{control_gone_if, facts_sent, takes_leave}
 use Rattle.run_laws.specs.link_model.Verdicts.{pdu_of}
 
@@ -54,6 +54,10 @@ taken_lengthened true pdu slot facts is =
 data_lengths : (takes : Bool) (facts : Facts) → (data_taken_if takes facts).lengths ≡ facts.lengths
 data_lengths true facts = refl
 data_lengths false facts = refl
+
+pub forged_lengths : (forged : Bool) (facts : Facts) → (facts_forged_if forged facts).lengths ≡ facts.lengths
+forged_lengths true facts = refl
+forged_lengths false facts = refl
 
 -- it stays so as it receives a packet
 pub received_lengthened : (role : Role) (slot : ℕ) (room : Bool) (found : Option (List ℕ)) (facts : Facts) → is_lengthened facts.lengths ≡ true

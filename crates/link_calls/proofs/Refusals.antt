@@ -20,21 +20,24 @@ use Rattle.collision_steps.specs.procedures.Taking.{lacks_room, outcome_of, took
 use Rattle.collision_steps.specs.Answers.{stops_run}
 use Rattle.collision_steps.proofs.PeripheralTaking.{took}
 use Rattle.collision_steps.proofs.Stopping.{told}
-use Rattle.run_laws.specs.control_model.Control.{Control, SeesAcknowledged, Sends, Takes}
+use Rattle.run_laws.specs.control_model.Control.{Control, Owes, SeesAcknowledged, Sends, Takes}
 use Rattle.run_laws.proofs.control_model.Moving.{same_role}
+use Rattle.run_laws.specs.control_end.declared.answers.Taken.{Taken}
 use Rattle.run_laws.specs.control_end.Answers.{effect_shown, nothing_taken, step_shown, taken_of}
 use Rattle.run_laws.specs.control_end.Held.{Held, held_after, held_of}
 use Rattle.run_laws.specs.link_model.Acknowledgement.{Pdu}
 use Rattle.run_laws.specs.link_model.Controls.{is_procedure_pdu, is_quiet_now, read_of}
-use Rattle.run_laws.specs.link_model.Facts.{Facts as EndFacts}
+use Rattle.run_laws.specs.link_model.Facts.{Facts as EndFacts, keyed_of}
 use Rattle.run_laws.specs.link_model.Packets.{good_pdu}
-use Rattle.run_laws.specs.link_model.Plain.{IsPlain, control_acked_if, plain_acknowledged_if, plain_before_taking, plain_given_if}
-use Rattle.run_laws.specs.link_model.Receiving.{accepts, acks_control, answers_with_control, effect_of, effect_received, effect_unless_known, has_acknowledged, heard_in_slot}
+use Rattle.run_laws.specs.link_model.Receiving.{accepts, acknowledged_if, acks_control, answers_with_control, control_taken, effect_of, effect_received, effect_unless_known, facts_before_taking, given_if, has_acknowledged, heard_in_slot, kept_give, procedures_give}
 use Rattle.run_laws.specs.link_model.Sending.{control_gone_if}
+use Rattle.run_laws.specs.link_model.Setup.{Setup as EndSetup}
 use Rattle.run_laws.specs.link_model.Verdicts.{pdu_of}
 use Rattle.run_laws.specs.link_model.declared.state.KnownLengths.{KnownLengths}
-use Rattle.run_laws.proofs.link_model.ControlSteps.{keeps_role}
-use Rattle.run_laws.proofs.link_model.Plain.{effect_hearing_plain, past_plain}
+use Rattle.run_laws.proofs.link_model.KeyedPasts.{keeps_role}
+use Rattle.run_laws.proofs.link_model.KnownEnds.{IsPast, knows_before_taking, past_knows}
+use Rattle.run_laws.proofs.link_model.Views.{Knows, Owing, Taking, acked_control, acked_view, taken_view}
+use Rattle.run_laws.proofs.link_model.Views.{Ended, Handed, Over, Owed, Same, Withheld}
 use Rattle.run_laws.specs.open_links.OpenLinks.{OpenLink, facts_in, link_at}
 use Rattle.run_laws.specs.controller_model.Facts.{Facts}
 use Rattle.run_laws.specs.controller_model.Heard.{effect_in, is_refused}
@@ -80,13 +83,32 @@ taken_asks h read slot quiet role = by (is_none (held_after (Takes read slot qui
     by true = shown_asks (took_step h.table read slot quiet).1.effect (role_asks h.table h.table.progress read slot quiet refl role)
     by false = refl
 
-given_asks : (takes : Bool) (pdu : Pdu) (slot : ℕ) (facts : EndFacts) → role_of facts.control.table.progress ≡ Peripheral → asks_host (plain_given_if takes pdu slot facts).effect ≡ false
-given_asks true pdu slot facts role = taken_asks (held_of facts.control) (read_of pdu) slot true role
-given_asks false pdu slot facts role = refl
+-- nothing is given where its phase lets the procedures not see the PDU
+none_asks : (given : Taken) → given ≡ nothing_taken → asks_host given.effect ≡ false
+none_asks given none = ap (λ (t : Taken). asks_host t.effect) none
+
+taking_asks : (quiet : Bool) (c : Control) (read : CtrlRead) (slot : ℕ) (taken kept : Taken) (d : Control) → role_of c.table.progress ≡ Peripheral
+    → Taking quiet c read slot taken kept d → asks_host taken.effect ≡ false
+taking_asks quiet c read slot taken kept d role (Over over none none_kept is) = none_asks taken none
+taking_asks quiet c read slot taken kept d role (Withheld goes loud class none none_kept is) = none_asks taken none
+taking_asks quiet c read slot taken kept d role (Ended code goes class none none_kept is) = none_asks taken none
+taking_asks quiet c read slot taken kept d role (Handed seen middle goes is_seen class owing given later) =
+    ap (λ (t : Taken). asks_host t.effect) given ∙ taken_asks (held_of c) seen slot quiet role
+
+given_asks : (takes : Bool) (pdu : Pdu) (slot : ℕ) (facts : EndFacts) → Knows (keyed_of facts) → role_of facts.control.table.progress ≡ Peripheral
+    → asks_host (given_if takes pdu slot facts).effect ≡ false
+given_asks true pdu slot facts knows role =
+    taking_asks (is_quiet_now facts) facts.control (read_of pdu) slot (procedures_give pdu slot facts) (kept_give pdu slot facts) (control_taken pdu slot facts) role
+    (taken_view pdu slot facts knows)
+given_asks false pdu slot facts knows role = refl
 
 -- ---- its role as it looks at a new PDU
 
-acked_role : (acked : Bool) (control : Control) → role_of control.table.progress ≡ Peripheral → role_of (control_acked_if acked control).table.progress ≡ Peripheral
+owing_role : (c d : Control) → Owing c d → role_of c.table.progress ≡ Peripheral → role_of d.table.progress ≡ Peripheral
+owing_role c d (Same same) is = ap (λ (x : Control). role_of x.table.progress) same ∙ is
+owing_role c d (Owed ctrl may same) is = ap (λ (x : Control). role_of x.table.progress) same ∙ same_role Peripheral (Owes ctrl) c is
+
+acked_role : (acked : Bool) (control : Control) → role_of control.table.progress ≡ Peripheral → role_of (acked_control acked control).table.progress ≡ Peripheral
 acked_role true control is = same_role Peripheral SeesAcknowledged control is
 acked_role false control is = is
 
@@ -94,19 +116,22 @@ gone_role : (goes : Bool) (slot : ℕ) (facts : EndFacts) → role_of facts.cont
 gone_role true slot facts is = same_role Peripheral (Sends slot (is_quiet_now facts)) facts.control is
 gone_role false slot facts is = is
 
-effect_asks : (role : Role) (slot : ℕ) (room : Bool) (found : Option (List ℕ)) (facts : EndFacts) → IsPlain role facts → role_of facts.control.table.progress ≡ Peripheral
-    → asks_host (effect_received role slot room found facts) ≡ false
-effect_asks role slot room None facts plain is = refl
-effect_asks role slot room (Some octets) facts plain is =
+effect_asks : (setup : EndSetup) (slot : ℕ) (room : Bool) (found : Option (List ℕ)) (facts : EndFacts) → IsPast setup facts → role_of facts.control.table.progress ≡ Peripheral
+    → asks_host (effect_received setup.link.role slot room found facts) ≡ false
+effect_asks setup slot room None facts p is = refl
+effect_asks setup slot room (Some octets) facts p is =
+    let role = setup.link.role in
     let header = header_in octets in
     let pdu = pdu_of octets in
     let acks = has_acknowledged facts header in
-    let own = plain_acknowledged_if acks (heard_in_slot slot header.md facts) in
-    let now = plain_before_taking role slot header facts in
+    let own = acknowledged_if acks (heard_in_slot slot header.md facts) in
+    let now = facts_before_taking role slot header facts in
     let takes = accepts room header pdu now && is_procedure_pdu pdu in
-    ap asks_host (effect_hearing_plain role role slot room header pdu facts plain)
-    ∙ known_asks facts.lengths (plain_given_if takes pdu slot now).effect
-    (given_asks takes pdu slot now (gone_role (answers_with_control role own) slot own (acked_role (acks_control acks facts) facts.control is)))
+    let acked = acked_control (acks_control acks facts) facts.control in
+    known_asks facts.lengths (given_if takes pdu slot now).effect
+    (given_asks takes pdu slot now (knows_before_taking setup facts p role slot header)
+    (gone_role (answers_with_control role own) slot own
+    (owing_role acked own.control (acked_view (acks_control acks facts) facts (past_knows setup facts p)) (acked_role (acks_control acks facts) facts.control is))))
 
 -- ---- at its controller
 
@@ -124,6 +149,6 @@ only_central_refuses facts handle room octets link at refuses = by link.setup.li
     by Peripheral is =
         let asks = refused_asks facts.view handle (effect_in facts.turn.slot room (Some link) octets)
         (ap (λ found. is_refused facts.view handle (effect_in facts.turn.slot room found octets)) (sym at) ∙ refuses) in
-        let none = effect_asks link.setup.link.role facts.turn.slot room (good_pdu link.setup (facts_in link) octets) (facts_in link) (past_plain link.setup link.past)
+        let none = effect_asks link.setup facts.turn.slot room (good_pdu link.setup (facts_in link) octets) (facts_in link) (record { past = link.past; is = refl })
         (keeps_role link.setup link.past ∙ is) in
         absurd (let h : true ≡ false = sym asks ∙ none in absurd cc)

@@ -15,21 +15,20 @@ use Rattle.instants.specs.Parameters.{anchor_in, params_in}
 use Rattle.instants.specs.Track.{TrackFacts, event_of, is_due, next_anchor_of, next_number, track_after_enter, track_changed, track_in_next, track_unchanged}
 use Rattle.instants.specs.declared.track.Change.{Change}
 use Rattle.link_model.specs.control_model.Control.{Control}
-use Rattle.link_model.specs.Controls.{goes_on}
+use Rattle.link_model.specs.Controls.{goes_on, is_quiet_now}
 use Rattle.link_model.specs.End.{facts_of, notes_after, notes_of}
 use Rattle.link_model.specs.Entering.{began_notes, done_notes}
 use Rattle.link_model.specs.Events.{applied_notes}
 use Rattle.link_model.specs.Facts.{params_of}
 use Rattle.link_model.specs.Setup.{Setup, algorithm_of, first_anchor, first_params}
 use Rattle.link_model.specs.Step.{Step, EventEntered}
-use Rattle.link_model.proofs.Plain.{entry_notes_plain, past_plain}
 use Rattle.link_changes.specs.InForce.{HasRanges, IsAppliedInTime, IsEnteredBy}
 use Rattle.link_changes.specs.Noted.{applied_noted, changes_noted, event_noted, is_applied_note, taking_if, takings_noted}
 use Rattle.link_changes.proofs.Coming.{comes, entered_event, follows_now}
 use Rattle.link_changes.proofs.Knowing.{Knows, changes_in, enter_says_none, knows_entered}
 use Rattle.link_changes.proofs.Notes.{applied_more, takings_more}
 use Rattle.link_changes.proofs.Standing.{entered_more}
-use Rattle.link_changes.proofs.Steps.{entry_when, notes_when, past_known}
+use Rattle.link_changes.proofs.Steps.{entry_notes_are, entry_when, notes_when, past_known}
 
 -- ---- where in the notes of an event its own note is
 
@@ -160,9 +159,12 @@ module _ (setup : Setup) (past : List Step) (slot : ℕ) (ranges : setup.link.ro
   abbrev own_event : EventNo
   own_event = record { 0 = event_of u }
 
-  -- its notes, as those of an end that encrypts nothing
-  plain_notes : notes_after setup (facts_of setup past) (EventEntered slot) ≡ notes_when setup slot skips c (is_none c.ends)
-  plain_notes = entry_notes_plain setup slot (facts_of setup past) (past_plain setup past)
+  abbrev quiet : Bool
+  quiet = is_quiet_now (facts_of setup past)
+
+  -- its notes
+  own_notes : notes_after setup (facts_of setup past) (EventEntered slot) ≡ notes_when setup slot skips quiet c u (is_none c.ends)
+  own_notes = entry_notes_are setup slot (facts_of setup past)
 
   knows_before : is_none c.ends ≡ true → Knows setup.link.role (first_params setup.link.fields) (first_anchor setup) (notes_of setup past) true t
   knows_before is = subst (λ (b : Bool). Knows setup.link.role (first_params setup.link.fields) (first_anchor setup) (notes_of setup past) b t) is (past_known setup past ranges).part.knows
@@ -181,23 +183,23 @@ module _ (setup : Setup) (past : List Step) (slot : ℕ) (ranges : setup.link.ro
       (follows_now setup.link.role (first_params setup.link.fields) (first_anchor setup) (notes_of setup past ++ (applied ++ note ∷ [])) true u after (omega (arith, more)))
 
   -- the notes of an end that goes on
-  pub entry_are : is_none c.ends ≡ true → let entry = entry_when setup slot c true in
+  pub entry_are : is_none c.ends ≡ true → let entry = entry_when slot quiet c true in
       notes_after setup (facts_of setup past) (EventEntered slot)
       ≡ applied_notes setup.link.handle (event_of u) (next_number t) ++ Enter setup.link.handle own_event own_channel
       ∷ (done_notes setup.link.handle entry.done ++ began_notes setup.link.handle entry.began)
   entry_are is =
-      let entry = entry_when setup slot c true in
+      let entry = entry_when slot quiet c true in
       let done = done_notes setup.link.handle entry.done in
       let began = began_notes setup.link.handle entry.began in
       let applied = applied_notes setup.link.handle (event_of u) (next_number t) in
       let note = Enter setup.link.handle own_event own_channel in
-      plain_notes ∙ ap (λ b. notes_when setup slot skips c b) is ∙ append_assoc (applied ++ note ∷ []) done began ∙ append_assoc applied (note ∷ []) (done ++ began)
+      own_notes ∙ ap (λ b. notes_when setup slot skips quiet c u b) is ∙ append_assoc (applied ++ note ∷ []) done began ∙ append_assoc applied (note ∷ []) (done ++ began)
 
   entered_by : (b : Bool) → is_none c.ends ≡ b → (before later : List Note) (handle : ℕ) (event : EventNo) (channel : ℕ)
-      → notes_when setup slot skips c b ≡ before ++ Enter handle event channel ∷ later → IsEnteredBy setup past (notes_of setup past ++ before) event.0 channel
+      → notes_when setup slot skips quiet c u b ≡ before ++ Enter handle event channel ∷ later → IsEnteredBy setup past (notes_of setup past ++ before) event.0 channel
   entered_by false is before later handle event channel same = absurd (none_noted before later (Enter handle event channel) same)
   entered_by true is before later handle event channel same =
-      let entry = entry_when setup slot c true in
+      let entry = entry_when slot quiet c true in
       let done = done_notes setup.link.handle entry.done in
       let began = began_notes setup.link.handle entry.began in
       let applied = applied_notes setup.link.handle (event_of u) (next_number t) in
@@ -218,14 +220,14 @@ module _ (setup : Setup) (past : List Step) (slot : ℕ) (ranges : setup.link.ro
   pub enters : (before later : List Note) (handle : ℕ) (event : EventNo) (channel : ℕ)
       → notes_after setup (facts_of setup past) (EventEntered slot) ≡ before ++ Enter handle event channel ∷ later
       → IsEnteredBy setup past (notes_of setup past ++ before) event.0 channel
-  enters before later handle event channel same = entered_by (is_none c.ends) refl before later handle event channel (sym plain_notes ∙ same)
+  enters before later handle event channel same = entered_by (is_none c.ends) refl before later handle event channel (sym own_notes ∙ same)
 
   applied_by : (b : Bool) → is_none c.ends ≡ b → (before later : List Note) (handle number : ℕ) (event : EventNo)
-      → notes_when setup slot skips c b ≡ before ++ Applied handle number event ∷ later
+      → notes_when setup slot skips quiet c u b ≡ before ++ Applied handle number event ∷ later
       → IsAppliedInTime setup.link.role (notes_of setup past ++ before) handle number event later
   applied_by false is before later handle number event same = absurd (none_noted before later (Applied handle number event) same)
   applied_by true is before later handle number event same =
-      let entry = entry_when setup slot c true in
+      let entry = entry_when slot quiet c true in
       let found = find_applied setup.link.handle own_event own_channel entry.done entry.began (next_number t) before later handle number event same in
       let coming = comes setup.link.role (first_params setup.link.fields) (first_anchor setup) (notes_of setup past) t number (knows_before is) found.applied_is in
       let at : t.entered ≡ event.0 = sym (ap (λ (e : EventNo). e.0) found.number_is ∙ entered_event t.waits t) in
@@ -245,7 +247,7 @@ module _ (setup : Setup) (past : List Step) (slot : ℕ) (ranges : setup.link.ro
   pub applies : (before later : List Note) (handle number : ℕ) (event : EventNo)
       → notes_after setup (facts_of setup past) (EventEntered slot) ≡ before ++ Applied handle number event ∷ later
       → IsAppliedInTime setup.link.role (notes_of setup past ++ before) handle number event later
-  applies before later handle number event same = applied_by (is_none c.ends) refl before later handle number event (sym plain_notes ∙ same)
+  applies before later handle number event same = applied_by (is_none c.ends) refl before later handle number event (sym own_notes ∙ same)
 
 -- ---- where an end is
 

@@ -4,6 +4,8 @@ pub mod Alike
 pub mod Standing
 pub mod Readable
 pub mod Reading
+pub mod Requests
+pub mod Phases
 pub mod Taking
 pub mod Reached
 pub mod Knowing

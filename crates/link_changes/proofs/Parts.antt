@@ -18,8 +18,7 @@ use Rattle.link_model.specs.procedures.Queue.{next_of}
 use Rattle.link_model.specs.procedures.Sending.{next_ctrl_of}
 use Rattle.link_model.specs.procedures.Table.{TableFacts}
 use Rattle.link_model.specs.procedures.Taking.{took_step}
-use Rattle.link_model.specs.control_model.Control.{Control, Step, Sends, Takes, after, ended, following, goes_out, indicated_by, is_to_come, moved, taken, went}
-use Rattle.link_model.specs.control_model.Supported.{read_supported}
+use Rattle.link_model.specs.control_model.Control.{Control, Step, Owes, Sends, Takes, after, ended, following, goes_out, indicated_by, is_to_come, moved, taken, went}
 use Rattle.link_model.specs.control_model.Waits.{is_of_table_alone}
 use Rattle.link_model.proofs.control_model.Calls.{open_step}
 use Rattle.link_model.proofs.control_model.Moving.{table_alone}
@@ -27,22 +26,14 @@ use Rattle.link_model.proofs.control_model.Waiting.{free_to_take}
 use Rattle.link_changes.specs.Noted.{indication_noted, indication_read, taking_if}
 use Rattle.link_changes.proofs.Knowing.{Knows, knows_over, knows_silent, knows_taken}
 use Rattle.link_changes.proofs.Notes.{IsSilent, IsStill, silent_none}
-use Rattle.link_changes.proofs.Readable.{IsGood, next_goes}
-use Rattle.link_changes.proofs.Reached.{Reached, reached_awaits, reached_free, reached_reads, reached_role, reached_then}
+use Rattle.link_changes.proofs.Readable.{IsGood, IsOwed, next_goes}
+use Rattle.link_changes.proofs.Reached.{Reached, lasted, reached_awaits, reached_free, reached_over, reached_reads, reached_then}
 use Rattle.link_changes.proofs.Reading.{sent_read}
 use Rattle.link_changes.proofs.Taking.{handed}
 
 pub record Part (role : Role) (max_rx : ℕ) (first : Params) (slot : ℕ) (notes : List Note) (c : Control) : Type 0 where
   pub reached : Reached role max_rx first slot c
   pub knows : Knows role first slot notes (is_none c.ends) c.track
-
--- an end that goes on after a step went on before it
-goes_before : (step : Step) (c : Control) → is_none (after step c).ends ≡ true → is_none c.ends ≡ true
-goes_before step c goes = by (is_none c.ends) refl goes
-  where
-    by : (b : Bool) → is_none c.ends ≡ b → is_none (if b then moved step c else c).ends ≡ true → is_none c.ends ≡ true
-    by true is goes = is
-    by false is goes = goes
 
 -- ---- single notes
 
@@ -65,7 +56,7 @@ module _ (role : Role) (max_rx : ℕ) (first : Params) (slot : ℕ) where
       → IsSilent role more → PartOf (notes ++ more) (after step c)
   part_same notes more c step p good same silent = record {
     reached = reached_then role max_rx first slot c step p.reached good;
-    knows = knows_silent role first slot notes more (is_none c.ends) (is_none (after step c).ends) c.track (after step c).track p.knows same (goes_before step c) silent;
+    knows = knows_silent role first slot notes more (is_none c.ends) (is_none (after step c).ends) c.track (after step c).track p.knows same (lasted step c) silent;
   }
 
   pub part_alone : (notes : List Note) (c : Control) (step : Step) → PartOf notes c → (role ≡ Central → IsGood step) → is_of_table_alone step ≡ true
@@ -73,6 +64,25 @@ module _ (role : Role) (max_rx : ℕ) (first : Params) (slot : ℕ) where
   part_alone notes c step p good alone =
       subst (λ (all : List Note). PartOf all (after step c)) (append-nil notes)
       (part_same notes [] c step p good (table_alone c step alone) (silent_none role))
+
+  -- the link ends by its phase
+  pub part_over : (notes more : List Note) (c : Control) (code : ErrCode) → PartOf notes c → IsStill more → PartOf (notes ++ more) (ended code c)
+  part_over notes more c code p still = record {
+    reached = reached_over role max_rx first slot c code p.reached;
+    knows = knows_over role first slot notes more (is_none c.ends) c.track c.track p.knows refl still;
+  }
+
+  -- what is noted once the link ended never holds
+  pub part_ended : (notes more : List Note) (c : Control) → is_none c.ends ≡ false → PartOf notes c → IsStill more → PartOf (notes ++ more) c
+  part_ended notes more c over p still = record {
+    reached = p.reached;
+    knows = subst (λ (b : Bool). Knows role first slot (notes ++ more) b c.track) (sym over)
+        (knows_over role first slot notes more (is_none c.ends) c.track c.track p.knows refl still);
+  }
+
+  -- a PDU of an encryption is queued
+  pub part_owes : (notes : List Note) (ctrl : Ctrl) (c : Control) → IsOwed ctrl → PartOf notes c → PartOf notes (after (Owes ctrl) c)
+  part_owes notes ctrl c is p = part_alone notes c (Owes ctrl) p (λ central. (tt, is)) refl
 
   -- ---- a peripheral takes a control PDU
 
@@ -97,20 +107,20 @@ module _ (role : Role) (max_rx : ℕ) (first : Params) (slot : ℕ) where
 
     takes_knows : (read : CtrlRead) (now : ℕ) (quiet lasts : Bool) → is_none c.ends ≡ lasts → role ≡ Peripheral → PartOf notes c
         → indication_noted role note ≡ indication_read read
-        → let d = (if lasts then moved (Takes (read_supported read) now quiet) c else c) in Knows role first slot (notes ++ note ∷ []) (is_none d.ends) d.track
+        → let d = (if lasts then moved (Takes read now quiet) c else c) in Knows role first slot (notes ++ note ∷ []) (is_none d.ends) d.track
     takes_knows read now quiet true lasts is p noted =
-        let step = took_step c.table (read_supported read) now quiet in
+        let step = took_step c.table read now quiet in
         taken_knows step.0 step.1.ends (indicated_by step.1.effect) lasts p.knows
-        (λ none. handed c.table read now quiet (reached_role role max_rx first slot c p.reached ∙ is) none ∙ sym noted)
-        (free_to_take c (reached_awaits role max_rx first slot c p.reached is) (read_supported read) now quiet)
+        (λ none. handed c.table read now quiet (p.reached.is_role ∙ is) none ∙ sym noted)
+        (free_to_take c (reached_awaits role max_rx first slot c p.reached lasts is) read now quiet)
     takes_knows read now quiet false lasts is p noted =
         subst (λ (b : Bool). Knows role first slot (notes ++ note ∷ []) b c.track) (sym lasts)
         (knows_over role first slot notes (note ∷ []) (is_none c.ends) c.track c.track p.knows refl still)
 
     pub part_takes : (read : CtrlRead) (now : ℕ) (quiet : Bool) → role ≡ Peripheral → PartOf notes c → indication_noted role note ≡ indication_read read
-        → PartOf (notes ++ note ∷ []) (after (Takes (read_supported read) now quiet) c)
+        → PartOf (notes ++ note ∷ []) (after (Takes read now quiet) c)
     part_takes read now quiet is p noted = record {
-      reached = reached_then role max_rx first slot c (Takes (read_supported read) now quiet) p.reached (λ central. (tt, tt));
+      reached = reached_then role max_rx first slot c (Takes read now quiet) p.reached (λ central. (tt, tt));
       knows = takes_knows read now quiet (is_none c.ends) refl is p noted;
     }
 
@@ -135,11 +145,11 @@ module _ (role : Role) (max_rx : ℕ) (first : Params) (slot : ℕ) where
     sends_knows ctrl now quiet false goes next is latency lasts p noted =
         let no : ◌≡◌ {A = Bool} true false = ap (λ (some : Option Ctrl). is_some some) (sym next) ∙ goes in absurd (cc)
     sends_knows ctrl now quiet true goes next is latency lasts p noted =
-        let reads = reached_reads role max_rx first slot c p.reached is in
-        follows_knows (role_of c.table.progress) (went now quiet c).1 (went now quiet c).0 (reached_role role max_rx first slot c p.reached ∙ is) lasts p.knows
+        let reads = reached_reads role max_rx first slot c p.reached lasts is in
+        follows_knows (role_of c.table.progress) (went now quiet c).1 (went now quiet c).0 (p.reached.is_role ∙ is) lasts p.knows
         (noted ∙ sent_read (next_of c.table (event_of c.track) quiet) (event_of c.track) c.track.params.latency ctrl
         (next_goes c.table (event_of c.track) quiet reads.drafts).draft next)
-        (reached_free role max_rx first slot c p.reached is latency now quiet)
+        (reached_free role max_rx first slot c p.reached lasts is latency now quiet)
 
     pub part_sends : (ctrl : Ctrl) (now : ℕ) (quiet : Bool) → next_ctrl_of c.table (event_of c.track) c.track.params.latency quiet ≡ Some ctrl
         → role ≡ Central → first.latency ≤ 499 → c.ends ≡ None → PartOf notes c → indication_noted role note ≡ indication_read (ctrl_of (written ctrl))

@@ -10,6 +10,8 @@ use Rattle.ble_base.specs.declared.error_codes.ErrCode.{ErrCode}
 use Rattle.ble_base.specs.declared.procedure_kinds.Kind.TheVariants.{Version}
 use Rattle.ble_base.specs.declared.roles.Role.{Role}
 use Rattle.ble_base.specs.declared.roles.Role.TheVariants.{Central as central_role, Peripheral as peripheral_role}
+use Rattle.data_pdu.specs.declared.ctrl.Ctrl.{Ctrl}
+use Rattle.data_pdu.specs.declared.ctrl.Ctrl.TheVariants.{EncReq, EncRsp, PauseEncReq, PauseEncRsp, RejectExtInd, StartEncReq, StartEncRsp, TerminateInd}
 use Rattle.instants.specs.declared.indications.Indication.{Indication}
 use Rattle.instants.specs.declared.indications.Params.{Params}
 use Rattle.instants.specs.Track.{event_of, next_number, track_after_take}
@@ -51,17 +53,29 @@ IsGoodAsk (ask_update interval latency timeout) = IsParams (record { interval = 
 IsGoodAsk (ask_map map) = IsMap map
 IsGoodAsk other = ⊤
 
+-- the PDUs that an encryption queues
+abbrev pub IsOwed : Ctrl → Type 0
+IsOwed (EncReq rand ediv skd_m iv_m) = ⊤
+IsOwed (EncRsp skd_s iv_s) = ⊤
+IsOwed StartEncReq = ⊤
+IsOwed StartEncRsp = ⊤
+IsOwed PauseEncReq = ⊤
+IsOwed PauseEncRsp = ⊤
+IsOwed (RejectExtInd opcode code) = ⊤
+IsOwed (TerminateInd code) = ⊤
+IsOwed other = ⊥
+
 abbrev pub IsGoodDraft : Draft → Type 0
 IsGoodDraft (Update params) = IsParams params
 IsGoodDraft (Grant params) = IsParams params
 IsGoodDraft (Map map) = IsMap map
-IsGoodDraft (Cipher ctrl) = ⊥
+IsGoodDraft (Cipher ctrl) = IsOwed ctrl
 IsGoodDraft other = ⊤
 
 -- a step in which they do
 abbrev pub HasMap : Step → Type 0
 HasMap (Asks (ask_map map)) = IsMap map
-HasMap (Owes ctrl) = ⊥
+HasMap (Owes ctrl) = IsOwed ctrl
 HasMap other = ⊤
 
 abbrev pub IsGood : Step → Type 0
@@ -241,7 +255,8 @@ moves (Takes read slot quiet) c is r =
       wanted = wanted_less (is_version_effect o.step.effect) (place_of Version c.table.wanted) c.table.wanted r.wanted;
       drafts = replying c.table.closing (role_of c.table.progress) c.table.version_used o.reply c.table.queue (took_reply c.table quiet read).reply r.drafts;
     }))
-moves (Owes ctrl) c is r = absurd is.1
+moves (Owes ctrl) c is r =
+    record { wanted = r.wanted; drafts = with_draft (is_open c.table.closing) c.table.queue (Cipher ctrl) is.1 r.drafts }
 
 all_read : (steps : List Step) (c : Control) → AllByRecursion IsGood steps → Reads c → Reads (after_all steps c)
 all_read [] c are r = r

@@ -3,7 +3,7 @@ use Rattle.std.proofs.Common.{◌≡◌, ℕ, ◌+◌, ◌%◌, ◌^◌, ◌<◌
 use Rattle.data_pdu.specs.Layouts.{IsCtrl, makers, written}
 use Rattle.data_pdu.specs.Reading.{ctrl_of}
 use Rattle.data_pdu.specs.declared.ctrl.Ctrl.{Ctrl}
-use Rattle.data_pdu.specs.declared.ctrl.Ctrl.TheVariants.{ChannelMapInd, ConnectionUpdateInd, ConnectionParamReq, LengthReq, LengthRsp, RejectExtInd, TerminateInd, UnknownRsp}
+use Rattle.data_pdu.specs.declared.ctrl.Ctrl.TheVariants.{ChannelMapInd, ConnectionUpdateInd, ConnectionParamReq, EncReq, EncRsp, LengthReq, LengthRsp, PauseEncReq, PauseEncRsp, RejectExtInd, StartEncReq, StartEncRsp, TerminateInd, UnknownRsp}
 use Rattle.data_pdu.specs.declared.ctrl.CtrlRead.TheVariants.{Known, Unknown}
 use Rattle.data_pdu.proofs.Rows.{written_is_known}
 use Rattle.wire_fields.specs.Field.{little_endian}
@@ -14,7 +14,7 @@ use Rattle.link_model.specs.procedure_values.declared.drafts.Draft.TheVariants.{
 use Rattle.link_model.specs.procedure_values.declared.drafts.Outgoing.{Outgoing}
 use Rattle.link_model.specs.procedure_values.declared.drafts.Outgoing.TheVariants.{Disconnect, Nothing, Other, Rejection}
 use Rattle.link_changes.specs.Noted.{indication_read}
-use Rattle.link_changes.proofs.Readable.{IsGoodDraft}
+use Rattle.link_changes.proofs.Readable.{IsGoodDraft, IsOwed}
 
 -- ---- what is sent
 
@@ -60,6 +60,19 @@ terminate_read : (code : ℕ) → indication_read (ctrl_of (written (TerminateIn
 unfolding ctrl_of makers little_endian
 terminate_read code = refl
 
+-- a PDU of an encryption is no indication
+owed_read : (ctrl : Ctrl) → IsOwed ctrl → indication_read (ctrl_of (written ctrl)) ≡ None
+unfolding ctrl_of makers little_endian
+owed_read (EncReq rand ediv skd_m iv_m) is = refl
+owed_read (EncRsp skd_s iv_s) is = refl
+owed_read StartEncReq is = refl
+owed_read StartEncRsp is = refl
+owed_read PauseEncReq is = refl
+owed_read PauseEncRsp is = refl
+owed_read (RejectExtInd opcode code) is = reject_read opcode code
+owed_read (TerminateInd code) is = terminate_read code
+owed_read other is = absurd is
+
 draft_read : (draft : Draft) (event skips : ℕ) → IsGoodDraft draft
     → indication_read (ctrl_of (written (ctrl_of_draft draft event skips))) ≡ indication_of_draft draft event skips
 unfolding ctrl_of makers little_endian
@@ -72,7 +85,7 @@ draft_read (Map map) event skips is =
     let counter = instant_fits (event + 6 + skips) in
     ap indication_read (written_is_known (ChannelMapInd map (instant_at event skips))
     (record { fits = grind (arith, small, counter); six_offsets = tt; range = is }))
-draft_read (Cipher ctrl) event skips is = absurd is
+draft_read (Cipher ctrl) event skips is = owed_read ctrl is
 draft_read (Request min max latency timeout) event skips is = request_read min max latency timeout (event % 2 ^ 16)
 draft_read (length_req rx tx) event skips is = length_req_read rx _ tx _
 draft_read (length_rsp rx tx) event skips is = length_rsp_read rx _ tx _

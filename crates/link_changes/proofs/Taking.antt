@@ -4,7 +4,7 @@ use Rattle.ble_base.specs.declared.error_codes.ErrCode.{ErrCode}
 use Rattle.ble_base.specs.declared.procedure_kinds.Kind.{Kind}
 use Rattle.ble_base.specs.declared.roles.Role.{Role}
 use Rattle.ble_base.specs.declared.roles.Role.TheVariants.{Peripheral as peripheral_role}
-use Rattle.data_pdu.specs.Reading.{opcode_of}
+use Rattle.data_pdu.specs.Reading.{ctrl_of, opcode_of}
 use Rattle.data_pdu.specs.declared.ctrl.Ctrl.{Ctrl}
 use Rattle.data_pdu.specs.declared.ctrl.Ctrl.TheVariants.{TerminateInd, UnknownRsp, FeatureRsp, VersionInd, RejectInd, RejectExtInd, LengthReq, LengthRsp, ConnectionUpdateInd, ChannelMapInd, EncReq, FeatureReq, PauseEncReq, PauseEncRsp, StartEncRsp, PhyReq, PhyUpdateInd}
 use Rattle.data_pdu.specs.declared.ctrl.CtrlRead.{CtrlRead}
@@ -31,7 +31,8 @@ use Rattle.link_model.specs.procedures.Taking.{facts_with, lacks_room, outcome_o
 use Rattle.link_model.specs.procedures.Update.{follow}
 use Rattle.link_model.specs.procedures.declared.outcome.Outcome.{Outcome}
 use Rattle.link_model.specs.control_model.Control.{indicated_by}
-use Rattle.link_model.specs.control_model.Supported.{begins_encryption, read_supported}
+use Rattle.link_model.specs.Acknowledgement.{Pdu}
+use Rattle.link_model.specs.Controls.{read_of}
 use Rattle.link_model.proofs.control_model.Calls.{settled_as}
 use Rattle.link_changes.specs.Noted.{indication_read}
 
@@ -47,11 +48,6 @@ not_foreign : (ctrl : Ctrl) → is_foreign peripheral_role ctrl ≡ true → ind
 not_foreign (ConnectionUpdateInd win_size win_offset interval latency timeout instant) is = absurd (cc)
 not_foreign (ChannelMapInd map instant) is = absurd (cc)
 not_foreign other is = refl
-
-no_encryption : (ctrl : Ctrl) → begins_encryption ctrl ≡ true → indication_read (Known ctrl) ≡ None
-no_encryption (ConnectionUpdateInd win_size win_offset interval latency timeout instant) is = absurd (cc)
-no_encryption (ChannelMapInd map instant) is = absurd (cc)
-no_encryption other is = refl
 
 module _ (f : TableFacts) where
   refusal : (b : Bool) (code : ErrCode) → Says None (refused_if b f code).step
@@ -110,13 +106,8 @@ module _ (f : TableFacts) where
   known_at : (p : Progress) (quiet : Bool) (ctrl : Ctrl) → role_of p ≡ peripheral_role → Says (indication_read (Known ctrl)) (taken_by p f quiet ctrl).step
   known_at p quiet ctrl role = known p quiet ctrl (is_foreign (role_of p) ctrl) role (ap (λ (r : Role). is_foreign r ctrl) (sym role))
 
-  supported : (quiet : Bool) (ctrl : Ctrl) (b : Bool) → role_of f.progress ≡ peripheral_role → begins_encryption ctrl ≡ b
-      → Says (indication_read (Known ctrl)) (outcome_of f quiet (if b then Unknown (opcode_of ctrl) else Known ctrl)).step
-  supported quiet ctrl true role is = λ goes. sym (no_encryption ctrl is)
-  supported quiet ctrl false role is = known_at f.progress quiet ctrl role
-
-  outcome_says : (read : CtrlRead) (quiet : Bool) → role_of f.progress ≡ peripheral_role → Says (indication_read read) (outcome_of f quiet (read_supported read)).step
-  outcome_says (Known ctrl) quiet role = supported quiet ctrl (begins_encryption ctrl) role refl
+  outcome_says : (read : CtrlRead) (quiet : Bool) → role_of f.progress ≡ peripheral_role → Says (indication_read read) (outcome_of f quiet read).step
+  outcome_says (Known ctrl) quiet role = known_at f.progress quiet ctrl role
   outcome_says (Unknown opcode) quiet role = λ goes. refl
   outcome_says Bare quiet role = λ goes. refl
 
@@ -129,7 +120,18 @@ settled_says some false (Some code) f g step is says = says
 settled_says some false None f g step is says = says
 
 pub handed : (f : TableFacts) (read : CtrlRead) (slot : ℕ) (quiet : Bool) → role_of f.progress ≡ peripheral_role
-    → (took_step f (read_supported read) slot quiet).1.ends ≡ None → indicated_by (took_step f (read_supported read) slot quiet).1.effect ≡ indication_read read
+    → (took_step f read slot quiet).1.ends ≡ None → indicated_by (took_step f read slot quiet).1.effect ≡ indication_read read
 handed f read slot quiet role =
-    let o = outcome_of f quiet (read_supported read) in
+    let o = outcome_of f quiet read in
     settled_says (indication_read read) (lacks_room f o) o.step.ends f (facts_with f slot o) o.step refl (outcome_says f read quiet role)
+
+-- what an end reads of a PDU, and what is read of its octets, are the same indication, or none
+pub read_says : (pdu : Pdu) → indication_read (read_of pdu) ≡ indication_read (ctrl_of pdu.body)
+read_says pdu = by (ctrl_of pdu.body) refl
+  where
+    by : (read : CtrlRead) → ctrl_of pdu.body ≡ read → indication_read (read_of pdu) ≡ indication_read (ctrl_of pdu.body)
+    by (Known (ConnectionUpdateInd win_size win_offset interval latency timeout instant)) is = rw is refl
+    by (Known (ChannelMapInd map instant)) is = rw is refl
+    by (Known other) is = rw is refl
+    by (Unknown opcode) is = rw is refl
+    by Bare is = rw is refl

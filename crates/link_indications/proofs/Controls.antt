@@ -21,7 +21,6 @@ use Rattle.link_model.specs.procedures.Going.{is_answer}
 use Rattle.link_model.specs.procedures.Table.{TableFacts}
 use Rattle.link_model.specs.procedures.Taking.{facts_with, outcome_of, took_step}
 use Rattle.link_model.specs.control_model.Control.{Control, Step, Answers, Asks, Disconnects, Enters, Owes, SeesAcknowledged, Sends, Takes, after, after_all, ended, first_control, indicated_by, is_to_come, moved, table_if, taken, went}
-use Rattle.link_model.specs.control_model.Supported.{read_supported}
 use Rattle.link_model.specs.control_model.Waits.{AreInRange}
 use Rattle.link_model.proofs.control_model.Calls.{any_step, took_by}
 use Rattle.link_model.proofs.control_model.Central.{may}
@@ -110,10 +109,10 @@ in_range (step ∷ steps) are = (are.0.0, in_range steps are.1)
 
 -- a central sends an indication with an Instant that is near
 pub sent_in_time : (role : Role) (max_rx : ℕ) (first : Params) (slot : ℕ) (c : Control) → Reached role max_rx first slot c → role ≡ Central
-    → first.latency ≤ 499 → (now : ℕ) (quiet : Bool) → AreInTime (event_of c.track) (went now quiet c).1
-sent_in_time Peripheral max_rx first slot c r is latency now quiet = absurd (cc)
-sent_in_time Central max_rx first slot c r is latency now quiet =
-    subst (λ (d : Control). AreInTime (event_of d.track) (went now quiet d).1) (sym r.is)
+    → is_none c.ends ≡ true → first.latency ≤ 499 → (now : ℕ) (quiet : Bool) → AreInTime (event_of c.track) (went now quiet c).1
+sent_in_time Peripheral max_rx first slot c r is lasts latency now quiet = absurd (cc)
+sent_in_time Central max_rx first slot c r is lasts latency now quiet =
+    subst (λ (d : Control). AreInTime (event_of d.track) (went now quiet d).1) (sym (r.is lasts))
     (let d = after_all r.steps (first_control Central max_rx first slot) in
     may_in_time (both_ends d) (went now quiet d).1 (may max_rx first slot r.steps now quiet (both_ends d) latency (in_range r.steps (r.good refl)) refl refl))
 
@@ -135,12 +134,12 @@ taken_by_end table None some other c says goes =
     subst (λ (some : Option Indication). AreInTime (event_of c.track) some) (says refl) (taken_to_come table some c goes)
 
 pub taken_in_time : (c : Control) (read : CtrlRead) (slot : ℕ) (quiet : Bool) → role_of c.table.progress ≡ Peripheral
-    → (after (Takes (read_supported read) slot quiet) c).ends ≡ None → AreInTime (event_of c.track) (indication_read read)
+    → (after (Takes read slot quiet) c).ends ≡ None → AreInTime (event_of c.track) (indication_read read)
 taken_in_time c read slot quiet role goes = by (is_none c.ends) refl goes
   where
-    by : (b : Bool) → is_none c.ends ≡ b → (if b then moved (Takes (read_supported read) slot quiet) c else c).ends ≡ None
+    by : (b : Bool) → is_none c.ends ≡ b → (if b then moved (Takes read slot quiet) c else c).ends ≡ None
         → AreInTime (event_of c.track) (indication_read read)
     by true is goes =
-        let step = took_step c.table (read_supported read) slot quiet in
+        let step = took_step c.table read slot quiet in
         taken_by_end step.0 step.1.ends (indicated_by step.1.effect) (indication_read read) c (handed c.table read slot quiet role) goes
     by false is goes = let no : ◌≡◌ {A = Bool} true false = ap (λ (ends : Option ErrCode). is_none ends) (sym goes) ∙ is in absurd (cc)

@@ -3,16 +3,19 @@ use Rattle.std.proofs.Common.{◌≡◌, ℕ, false, List, [], ◌++◌, Option,
 use Rattle.std.specs.List.{All}
 use Rattle.std.proofs.lemmas.List.{append-nil, map-append}
 use Rattle.std.proofs.lemmas.List.Elements.{All-append, All-nil}
+use Rattle.ble_base.specs.declared.error_codes.ErrCode.{ErrCode}
 use Rattle.ble_base.specs.declared.notes.Note.{Note}
 use Rattle.ble_base.specs.declared.roles.Role.{Role}
 use Rattle.ble_base.specs.declared.roles.Role.TheVariants.{Central, Peripheral}
+use Rattle.data_pdu.specs.declared.ctrl.Ctrl.{Ctrl}
 use Rattle.instants.specs.Arrivals.{Taking}
 use Rattle.instants.specs.declared.indications.Indication.{Indication}
 use Rattle.instants.specs.declared.track.Change.{Change}
-use Rattle.link_model.specs.control_model.Control.{Control, Step, after}
+use Rattle.link_model.specs.control_model.Control.{Control, Step, Owes, after, ended}
 use Rattle.link_changes.specs.Noted.{event_noted, indications_noted, taking_if, takings_from, takings_noted}
 use Rattle.link_changes.proofs.Knowing.{changes_in}
 use Rattle.link_changes.proofs.Notes.{takings_more}
+use Rattle.link_changes.proofs.Readable.{IsOwed}
 use Rattle.link_indications.specs.InTime.{IsTakenInTime}
 use Rattle.link_indications.proofs.Controls.{AreInTime, goes_before, is_sending, same_sent}
 use Rattle.link_indications.proofs.Silent.{AreSilent, no_takings}
@@ -39,6 +42,14 @@ module _ (role : Role) where
 
   pub kept_at_peripheral : (step : Step) (c : Control) → role ≡ Peripheral → Kept role c (after step c)
   kept_at_peripheral step c is = record { sent = λ central. absurd (cc); goes = goes_before step c }
+
+  -- the link ends by its phase
+  pub kept_over : (code : ErrCode) (c : Control) → Kept role c (ended code c)
+  kept_over code c = record { sent = λ central. refl; goes = λ goes. absurd (cc) }
+
+  -- a PDU of an encryption is queued
+  pub kept_owes : (b : Control) (ctrl : Ctrl) (c : Control) → IsOwed ctrl → Kept role b c → Kept role b (after (Owes ctrl) c)
+  kept_owes b ctrl c is kept = kept_then b c (after (Owes ctrl) c) kept (kept_step (Owes ctrl) c refl)
 
   pub holds_first : (c : Control) → c.sent ≡ [] → Holds role [] c
   holds_first c none = record { sent = λ central. sym none; in_time = λ goes. All-nil IsTakenInTime }

@@ -1,11 +1,13 @@
 -- An end and its notes, step by step.
-use Rattle.std.proofs.Common.{◌≡◌, ℕ, ◌+◌, ◌≤◌, ◌==◌, ◌&&◌, not, Bool, true, false, List, [], ◌∷◌, ◌++◌, length, Option, Some, None, is_none, is_some, fold, refl, sym, ap, subst, ◌∙◌, if◌then◌else◌}
+use Rattle.std.proofs.Common.{◌≡◌, ℕ, ◌+◌, ◌≤◌, ◌==◌, ◌&&◌, not, Bool, true, false, List, [], ◌∷◌, ◌++◌, length, Option, Some, None, is_none, is_some, refl, sym, ap, subst, ◌∙◌, if◌then◌else◌}
 use Rattle.std.specs.List.{All, AllByRecursion}
 use Rattle.std.proofs.lemmas.List.{append-nil, append_assoc}
+use Rattle.ble_base.specs.ErrorCodes.{mic_failure}
 use Rattle.ble_base.specs.declared.notes.Note.{Note}
 use Rattle.ble_base.specs.declared.notes.Note.TheVariants.{Sent}
 use Rattle.ble_base.specs.declared.roles.Role.{Role}
 use Rattle.ble_base.specs.declared.roles.Role.TheVariants.{Central, Peripheral}
+use Rattle.data_pdu.specs.Header.{header_in}
 use Rattle.data_pdu.specs.Layouts.{written}
 use Rattle.data_pdu.specs.declared.ctrl.Ctrl.{Ctrl}
 use Rattle.data_pdu.specs.declared.ctrl.Ctrl.TheVariants.{StartEncReq}
@@ -14,51 +16,72 @@ use Rattle.instants.specs.Track.{event_of}
 use Rattle.link_model.specs.procedure_values.declared.asks.Ask.{Ask}
 use Rattle.link_model.specs.procedures.Queue.{next_of}
 use Rattle.link_model.specs.procedures.Sending.{next_ctrl_of}
-use Rattle.link_model.specs.control_model.Control.{Control, Answers, Asks, Disconnects, Enters, Sends, after, went}
+use Rattle.link_model.specs.control_model.Control.{Control, Answers, Asks, Disconnects, Enters, Sends, after, ended, went}
+use Rattle.link_model.specs.keyed_control.KeyedSteps.{Enters as KeyedEnters, GivesKey, LacksKey, keyed_after, keyed_moved}
 use Rattle.link_model.specs.control_end.Answers.{entry_of}
 use Rattle.link_model.specs.control_end.Held.{held_of}
 use Rattle.link_model.specs.Acknowledgement.{Pdu, is_acked}
 use Rattle.link_model.specs.ControlSteps.{IsAskInRange}
 use Rattle.link_model.specs.Controls.{goes_on, is_quiet_now, next_control, pdu_fixed, pdu_of_control}
 use Rattle.link_model.specs.Data.{is_control, is_empty, numbered}
-use Rattle.link_model.specs.End.{facts_after, facts_of, notes_after, notes_from, notes_of}
-use Rattle.link_model.specs.Entering.{event_notes}
-use Rattle.link_model.specs.Facts.{Facts, first_facts}
+use Rattle.link_model.specs.End.{facts_after, facts_of, notes_after, notes_of}
+use Rattle.link_model.specs.Entering.{event_notes, facts_entered, facts_entered_if}
+use Rattle.link_model.specs.Facts.{Facts, first_facts, keyed_of}
 use Rattle.link_model.specs.Fixing.{fixed_anew}
-use Rattle.link_model.specs.Hosts.{asked_unless, is_to_come}
-use Rattle.link_model.specs.Plain.{IsPlain, plain_entered, plain_entered_if, plain_entry_notes}
+use Rattle.link_model.specs.Hosts.{asked_unless, is_to_come, key_step}
+use Rattle.link_model.specs.Packets.{good_pdu, is_forged}
+use Rattle.link_model.specs.Receiving.{ended_by_forgery, facts_received, received_notes}
 use Rattle.link_model.specs.Sending.{control_gone_if, facts_sent, sent_notes, sent_notes_if, takes_leave}
 use Rattle.link_model.specs.Setup.{Setup, first_anchor, first_params}
 use Rattle.link_model.specs.Step.{Step, DataGiven, DataReported, Disconnected, EventEntered, KeyAnswered, PacketReceived, PacketSent, PduFixed, ProcedureAsked, RequestAnswered, WordsGiven}
-use Rattle.link_model.proofs.ControlSteps.{one_step}
-use Rattle.link_model.proofs.Plain.{step_plain}
+use Rattle.link_model.specs.Verdicts.{pdu_of}
+use Rattle.link_model.proofs.Choices.{either_forged}
+use Rattle.link_model.proofs.Pasts.{grows, notes_grow}
 use Rattle.link_changes.specs.InForce.{AsksMap, HasRanges}
 use Rattle.link_changes.specs.Noted.{indication_noted, indications_noted, taking_if, takings_noted}
-use Rattle.link_model.proofs.PlainEnds.{by_event, by_packet, first_plain}
 use Rattle.link_changes.proofs.Readable.{next_goes}
-use Rattle.link_changes.proofs.Reached.{reached_reads, reached_role}
+use Rattle.link_changes.proofs.Reached.{reached_reads}
+use Rattle.link_changes.proofs.Phases.{entered_by, given_by, lacking_by}
+use Rattle.link_changes.proofs.Requests.{Orderly, past_orderly}
 use Rattle.link_changes.proofs.Reading.{sent_read}
 use Rattle.link_changes.proofs.Steps.{IsGoodStep, IsKnown, past_known, step_known}
 use Rattle.link_indications.specs.InTime.{IsTakenInTime}
 use Rattle.link_indications.proofs.Controls.{goes_before, none_of, sent_in_time, sent_more}
-use Rattle.link_indications.proofs.Holding.{Holds, Kept, holds_first, holds_more, holds_silent, kept_same, kept_step}
-use Rattle.link_indications.proofs.Receiving.{holds_heard, kept_gone, no_control}
+use Rattle.link_indications.proofs.Holding.{Holds, Kept, holds_first, holds_more, holds_silent, kept_over, kept_owes, kept_same, kept_step}
+use Rattle.link_indications.proofs.Receiving.{holds_heard, kept_gone, no_control, whether}
 use Rattle.link_indications.proofs.Silent.{AreSilent, silent_event}
 
 -- ---- an event is entered
 
-entered_kept : (b : Bool) (setup : Setup) (slot : ℕ) (facts : Facts) → Kept setup.link.role facts.control (plain_entered_if b setup slot facts).control
-entered_kept true setup slot facts = kept_step setup.link.role (Enters slot true) facts.control refl
+entered_kept : (b : Bool) (setup : Setup) (slot : ℕ) (facts : Facts) → Kept setup.link.role facts.control (facts_entered_if b setup slot facts).control
+entered_kept true setup slot facts =
+    let role = setup.link.role in
+    let k = keyed_of facts in
+    let c = facts.control in
+    whether (Kept role c) (is_none c.ends) (keyed_moved (KeyedEnters slot) k) k
+    (λ lasts. entered_by (Kept role c) (kept_owes role c) slot k.phased (kept_step role (Enters slot (is_quiet_now facts)) c refl)) (λ ends. kept_same role c)
 entered_kept false setup slot facts = kept_same setup.link.role facts.control
 
 entered_silent : (b : Bool) (setup : Setup) (slot : ℕ) (facts : Facts)
     → AreSilent setup.link.role
-    (if b then event_notes setup.link.handle (plain_entered setup slot facts).event (entry_of slot true (held_of facts.control)) else [])
+    (if b then event_notes setup.link.handle (facts_entered setup slot facts).event (entry_of slot (is_quiet_now facts) (held_of facts.control)) else [])
 entered_silent true setup slot facts =
-    let event = (plain_entered setup slot facts).event in
-    let entry = entry_of slot true (held_of facts.control) in
+    let event = (facts_entered setup slot facts).event in
+    let entry = entry_of slot (is_quiet_now facts) (held_of facts.control) in
     silent_event setup.link.role setup.link.handle event.number event.channel entry.applied entry.done entry.began
 entered_silent false setup slot facts = tt
+
+-- ---- the host has a key, or none
+
+key_kept : (role : Role) (key : Option (List ℕ)) (facts : Facts) → Kept role facts.control (keyed_after (key_step key) (keyed_of facts)).phased.control
+key_kept role None facts =
+    let k = keyed_of facts in
+    let c = facts.control in
+    whether (Kept role c) (is_none c.ends) (keyed_moved LacksKey k) k (λ lasts. lacking_by (Kept role c) (kept_owes role c) k.phased (kept_same role c)) (λ ends. kept_same role c)
+key_kept role (Some ltk) facts =
+    let k = keyed_of facts in
+    let c = facts.control in
+    whether (Kept role c) (is_none c.ends) (keyed_moved (GivesKey ltk) k) k (λ lasts. given_by (Kept role c) (kept_owes role c) k.phased (kept_same role c)) (λ ends. kept_same role c)
 
 -- ---- a packet is sent
 
@@ -112,7 +135,7 @@ module _ (setup : Setup) (latency : setup.link.role ≡ Central → setup.link.f
       let anchor = first_anchor setup in
       let note = Sent setup.link.handle (number + 1) 3 (record { items = written ctrl }) in
       let parts = goes_if (is_none c.ends) (next_ctrl_of c.table (event_of c.track) c.track.params.latency quiet) ctrl goes in
-      let reads = reached_reads role setup.link.max_rx first anchor c reached is in
+      let reads = reached_reads role setup.link.max_rx first anchor c reached parts.0 is in
       let noted : indication_noted role note ≡ (went slot quiet c).1 =
       ap (λ (r : Role). indication_noted r note) is
       ∙ sent_read (next_of c.table (event_of c.track) quiet) (event_of c.track) c.track.params.latency ctrl
@@ -120,9 +143,9 @@ module _ (setup : Setup) (latency : setup.link.role ≡ Central → setup.link.f
       subst (λ (b : Bool). HoldsIt (notes ++ sent_notes_if (not b) setup.link.handle number (pdu_of_control (Some ctrl))) d) (sym (filled ctrl))
       (holds_more role notes (note ∷ []) c d (event_of c.track) (went slot quiet c).1 h
       ((λ i. taking_if (k.part.knows.event i) (noted i) ++ []) ∙ append-nil (taking_if (event_of c.track) (went slot quiet c).1))
-      (λ central. sent_more c slot quiet (reached_role role setup.link.max_rx first anchor c reached ∙ is) (none_of c.ends parts.0))
+      (λ central. sent_more c slot quiet (reached.is_role ∙ is) (none_of c.ends parts.0))
       (goes_before (Sends slot quiet) c)
-      (λ lasts. sent_in_time role setup.link.max_rx first anchor c reached is (latency is) slot quiet))
+      (λ lasts. sent_in_time role setup.link.max_rx first anchor c reached is parts.0 (latency is) slot quiet))
 
   sent_at_central : (notes : List Note) (slot number : ℕ) (facts : Facts) (acked fixes : Bool) → role ≡ Central → IsKnown setup notes facts
       → HoldsIt notes facts.control
@@ -155,57 +178,96 @@ module _ (setup : Setup) (latency : setup.link.role ≡ Central → setup.link.f
   asked_kept true ask facts = kept_same role facts.control
   asked_kept false ask facts = kept_step role (Asks ask) facts.control refl
 
-  step_holds : (notes : List Note) (facts : Facts) (step : Step) → IsPlain role facts → IsKnown setup notes facts → HoldsIt notes facts.control
+  -- octets are received
+
+  hearing_holds : (notes : List Note) (slot : ℕ) (room : Bool) (good : Option (List ℕ)) (facts : Facts) → Orderly setup.link.role facts → IsKnown setup notes facts
+      → HoldsIt notes facts.control → HoldsIt (notes ++ received_notes setup slot room good facts) (facts_received role slot room good facts).control
+  hearing_holds notes slot room None facts orderly k h = same notes facts.control facts.control h (kept_same role facts.control)
+  hearing_holds notes slot room (Some octets) facts orderly k h =
+      holds_heard setup notes slot room (header_in octets) (pdu_of octets) facts orderly k.part.reached.is_role k.part.knows.event h
+
+  forged_kept : (c : Control) → Kept role c (ended_by_forgery c)
+  forged_kept c = by (is_none c.ends)
+    where
+      by : (b : Bool) → Kept role c (if b then ended (record { 0 = mic_failure }) c else c)
+      by true = kept_over role (record { 0 = mic_failure }) c
+      by false = kept_same role c
+
+  packet_holds : (notes : List Note) (slot : ℕ) (octets : List ℕ) (room : Bool) (facts : Facts) → Orderly setup.link.role facts → IsKnown setup notes facts
+      → HoldsIt notes facts.control
+      → HoldsIt (notes ++ notes_after setup facts (PacketReceived slot octets room)) (facts_after setup facts (PacketReceived slot octets room)).control
+  packet_holds notes slot octets room facts orderly k h =
+      let good = good_pdu setup facts octets in
+      let all = notes ++ received_notes setup slot room good facts in
+      let next = facts_received role slot room good facts in
+      let holds = hearing_holds notes slot room good facts orderly k h in
+      either_forged (λ (later : Facts). HoldsIt all later.control) (is_forged setup facts octets) next
+      (subst (λ (notes : List Note). HoldsIt notes (ended_by_forgery next.control)) (append-nil all) (same all next.control (ended_by_forgery next.control) holds (forged_kept next.control)))
+      holds
+
+  step_holds : (notes : List Note) (facts : Facts) (step : Step) → Orderly setup.link.role facts → IsKnown setup notes facts → HoldsIt notes facts.control
       → HoldsIt (notes ++ notes_after setup facts step) (facts_after setup facts step).control
-  step_holds notes facts (DataGiven start body) plain k h = same notes facts.control facts.control h (kept_same role facts.control)
-  step_holds notes facts (ProcedureAsked ask) plain k h = same notes facts.control _ h (asked_kept (is_to_come ask facts) ask facts)
-  step_holds notes facts (RequestAnswered answer) plain k h = same notes facts.control _ h (kept_step role (Answers answer) facts.control refl)
-  step_holds notes facts (Disconnected reason slot) plain k h = same notes facts.control _ h (kept_step role (Disconnects reason) facts.control refl)
-  step_holds notes facts (KeyAnswered key slot) plain k h =
-      same notes facts.control _ h
-      (subst (λ (c : Control). Kept role facts.control c) (sym (one_step setup facts (KeyAnswered key slot) plain)) (kept_same role facts.control))
-  step_holds notes facts (EventEntered slot) plain k h =
-      by_event setup slot facts plain (λ (some : List Note) (next : Facts). HoldsIt (notes ++ some) next.control)
-      (holds_silent role notes (plain_entry_notes setup slot facts) facts.control _ h (entered_silent (goes_on facts) setup slot facts)
-      (entered_kept (goes_on facts) setup slot facts))
-  step_holds notes facts PduFixed plain k h =
+  step_holds notes facts (DataGiven start body) orderly k h = same notes facts.control facts.control h (kept_same role facts.control)
+  step_holds notes facts (ProcedureAsked ask) orderly k h = same notes facts.control _ h (asked_kept (is_to_come ask facts) ask facts)
+  step_holds notes facts (RequestAnswered answer) orderly k h = same notes facts.control _ h (kept_step role (Answers answer) facts.control refl)
+  step_holds notes facts (Disconnected reason slot) orderly k h = same notes facts.control _ h (kept_step role (Disconnects reason) facts.control refl)
+  step_holds notes facts (KeyAnswered key slot) orderly k h = same notes facts.control _ h (key_kept role key facts)
+  step_holds notes facts (EventEntered slot) orderly k h =
+      holds_silent role notes (notes_after setup facts (EventEntered slot)) facts.control _ h (entered_silent (goes_on facts) setup slot facts)
+      (entered_kept (goes_on facts) setup slot facts)
+  step_holds notes facts PduFixed orderly k h =
       same notes facts.control _ h
       (subst (λ (c : Control). Kept role facts.control c) (sym (kept (is_control facts.outgoing.fixed))) (kept_same role facts.control))
     where
       kept : (b : Bool) → (if b then facts else fixed_anew facts).control ≡ facts.control
       kept true = refl
       kept false = refl
-  step_holds notes facts (PacketSent slot) plain k h = holds_sent notes slot facts role refl k h
-  step_holds notes facts (WordsGiven skd_s iv_s) plain k h = same notes facts.control facts.control h (kept_same role facts.control)
-  step_holds notes facts (PacketReceived slot octets room) plain k h =
-      by_packet setup slot facts plain (λ (some : List Note) (next : Facts). HoldsIt (notes ++ some) next.control) octets room
-      (same notes facts.control facts.control h (kept_same role facts.control))
-      (λ header pdu. holds_heard setup notes slot room header pdu facts
-      (reached_role role setup.link.max_rx (first_params setup.link.fields) (first_anchor setup) facts.control k.part.reached) k.part.knows.event h)
-  step_holds notes facts DataReported plain k h = same notes facts.control facts.control h (kept_same role facts.control)
+  step_holds notes facts (PacketSent slot) orderly k h = holds_sent notes slot facts role refl k h
+  step_holds notes facts (WordsGiven skd_s iv_s) orderly k h = same notes facts.control facts.control h (kept_same role facts.control)
+  step_holds notes facts (PacketReceived slot octets room) orderly k h = packet_holds notes slot octets room facts orderly k h
+  step_holds notes facts DataReported orderly k h = same notes facts.control facts.control h (kept_same role facts.control)
 
   -- ---- all steps
 
   abbrev AreGood : List Step → Type 0
   AreGood past = role ≡ Central → AllByRecursion IsGoodStep past
 
-  steps_hold : (notes : List Note) (facts : Facts) (steps : List Step) → AreGood steps → IsPlain role facts → IsKnown setup notes facts → HoldsIt notes facts.control
-      → HoldsIt (notes ++ notes_from setup facts steps) (fold (facts_after setup) facts steps).control
-  steps_hold notes facts [] good plain k h = same notes facts.control facts.control h (kept_same role facts.control)
-  steps_hold notes facts (step ∷ steps) good plain k h =
-      let next = facts_after setup facts step in
-      let more = notes_after setup facts step in
-      subst (λ (all : List Note). HoldsIt all (fold (facts_after setup) next steps).control) (append_assoc notes more (notes_from setup next steps))
-      (steps_hold (notes ++ more) next steps (λ central. (good central).1) (step_plain setup facts step plain)
-      (step_known setup latency notes facts step (λ central. (good central).0) plain k) (step_holds notes facts step plain k h))
+  -- what is known after these steps, and holds
+  record IsHeld (past : List Step) : Type 0 where
+    known : IsKnown setup (notes_of setup past) (facts_of setup past)
+    holds : HoldsIt (notes_of setup past) (facts_of setup past).control
 
-  known_first : IsKnown setup [] (first_facts setup)
+  held_then : (past : List Step) (step : Step) → (role ≡ Central → IsGoodStep step) → IsHeld past → IsHeld (past ++ step ∷ [])
+  held_then past step good held =
+      let facts = facts_of setup past in
+      let notes = notes_of setup past in
+      let more = notes_after setup facts step in
+      let later = facts_of setup (past ++ step ∷ []) in
+      let orderly = past_orderly setup past in record {
+        known = subst (λ (all : List Note). IsKnown setup all later) (sym (notes_grow setup past step))
+            (subst (λ (later : Facts). IsKnown setup (notes ++ more) later) (sym (grows setup past step))
+            (step_known setup latency notes facts step good orderly held.known));
+        holds = subst (λ (all : List Note). HoldsIt all later.control) (sym (notes_grow setup past step))
+            (subst (λ (later : Facts). HoldsIt (notes ++ more) later.control) (sym (grows setup past step))
+            (step_holds notes facts step orderly held.known held.holds));
+      }
+
+  -- after these steps, and then the others
+  steps_hold : (past steps : List Step) → AreGood steps → IsHeld past → IsHeld (past ++ steps)
+  steps_hold past [] good held = subst (λ (all : List Step). IsHeld all) (sym (append-nil past)) held
+  steps_hold past (step ∷ steps) good held =
+      subst (λ (all : List Step). IsHeld all) (append_assoc past (step ∷ []) steps)
+      (steps_hold (past ++ step ∷ []) steps (λ central. (good central).1) (held_then past step (λ central. (good central).0) held))
+
+  first_held : IsHeld []
   unfolding facts_of notes_of
-  known_first = past_known setup [] (λ central. record { latency = latency central; asks = tt; maps = tt })
+  first_held = record {
+    known = past_known setup [] (λ central. record { latency = latency central; asks = tt; maps = tt });
+    holds = holds_first role (first_facts setup).control refl;
+  }
 
   all_hold : (past : List Step) → AreGood past → HoldsIt (notes_of setup past) (facts_of setup past).control
-  unfolding facts_of notes_of
-  all_hold past good = steps_hold [] (first_facts setup) past good (first_plain setup) known_first (holds_first role (first_facts setup).control refl)
+  all_hold past good = (steps_hold [] past good first_held).holds
 
 are_good : (past : List Step) → AllByRecursion IsAskInRange past → AllByRecursion AsksMap past → AllByRecursion IsGoodStep past
 are_good [] asks maps = tt

@@ -39,9 +39,9 @@ use Rattle.link_model.proofs.KeyedSteps.{forged_ends, joined, one_step}
 -- ---- an end that ended the link
 
 -- its procedures and the phase of its session stay
-record IsSame (one other : Keyed) : Type 0 where
-  phased : one.phased ≡ other.phased
-  phase : one.end.phase ≡ other.end.phase
+pub record IsSame (one other : Keyed) : Type 0 where
+  pub phased : one.phased ≡ other.phased
+  pub phase : one.end.phase ≡ other.end.phase
 
 session_same : (step : KeyedStep) (k : Keyed) → is_of_session step ≡ true → IsSame (keyed_moved step k) k
 session_same (Seals header body) k is = record { phased = refl; phase = refl }
@@ -63,7 +63,7 @@ over_once step k code over = by (is_of_session step) refl
         subst (λ (ends : Option ErrCode). IsSame (if is_none ends then keyed_moved step k else k) k) (sym over)
         (record { phased = refl; phase = refl })
 
-over : (steps : List KeyedStep) (k : Keyed) (code : ErrCode) → k.phased.control.ends ≡ Some code
+pub over : (steps : List KeyedStep) (k : Keyed) (code : ErrCode) → k.phased.control.ends ≡ Some code
     → IsSame (keyed_after_all steps k) k
 over [] k code is = record { phased = refl; phase = refl }
 over (step ∷ steps) k code is =

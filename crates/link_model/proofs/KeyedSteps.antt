@@ -44,7 +44,7 @@ joined [] more k = refl
 joined (step ∷ steps) more k = joined steps more (keyed_after step k)
 
 -- two lists of steps, one after the other
-two : (first second : List KeyedStep) (k now later : Keyed) → now ≡ keyed_after_all first k
+pub two : (first second : List KeyedStep) (k now later : Keyed) → now ≡ keyed_after_all first k
     → later ≡ keyed_after_all second now
     → later ≡ keyed_after_all (first ++ second) k
 two first second k now later now_is later_is =
@@ -69,7 +69,7 @@ asked : (comes : Bool) (ask : Ask) (facts : Facts)
 asked true ask facts = refl
 asked false ask facts = with_control facts.encryption (control_asks ask) facts.control
 
-gone : (goes : Bool) (slot : ℕ) (facts : Facts)
+pub gone : (goes : Bool) (slot : ℕ) (facts : Facts)
     → keyed_of (control_gone_if goes slot facts) ≡ keyed_after_all (step_if goes (Sends slot)) (keyed_of facts)
 gone true slot facts = with_control facts.encryption (control_sends slot (is_quiet_now facts)) facts.control
 gone false slot facts = refl
@@ -122,7 +122,7 @@ sent slot facts =
 
 -- ---- a packet is received
 
-acked : (is_acked : Bool) (k : Keyed)
+pub acked : (is_acked : Bool) (k : Keyed)
     → keyed_acked_if is_acked k ≡ keyed_after_all (step_if is_acked SeesAcknowledged) k
 acked true k = refl
 acked false k = refl
@@ -307,7 +307,7 @@ none_good : (facts : Facts) (air : Option (List ℕ)) → is_forged_in facts air
 none_good facts None is = refl
 none_good facts (Some air) is = none_read (pdu_read facts air) is
 
-forged_none : (setup : Setup) (facts : Facts) (octets : List ℕ) → is_forged setup facts octets ≡ true
+pub forged_none : (setup : Setup) (facts : Facts) (octets : List ℕ) → is_forged setup facts octets ≡ true
     → good_pdu setup facts octets ≡ None
 unfolding is_forged
 forged_none setup facts octets is = sym (good_is setup facts octets) ∙ none_good facts (whole_pdu setup facts octets) is

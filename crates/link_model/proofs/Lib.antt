@@ -1,6 +1,9 @@
 -- The lemmas of this crate.
 pub mod KeyedSteps
 pub mod KeyedPasts
+pub mod Views
+pub mod KnownEnds
+pub mod Receptions
 pub mod Choices
 pub mod Hearing
 pub mod Outgoing

@@ -1,20 +1,23 @@
 -- How far the request of a peripheral is at most after each step of its control part.
-use Rattle.std.proofs.Common.{◌≡◌, ◌+◌, ◌≤◌, ℕ, ◌&&◌, Bool, true, false, List, ◌∷◌, remove, Option, Some, None, is_some, if◌then◌else◌, Result, Ok, Err, refl, ap, ◌∙◌, arith}
+use Rattle.std.proofs.Common.{◌≡◌, ◌+◌, ◌≤◌, ℕ, ◌&&◌, not, Bool, true, false, List, ◌∷◌, remove, Option, Some, None, is_some, if◌then◌else◌, Result, Ok, Err, refl, ap, sym, subst, ◌∙◌, arith}
 use Rattle.std.specs.Prelude.{⊤}
 use Rattle.ble_base.specs.declared.error_codes.ErrCode.{ErrCode}
 use Rattle.ble_base.specs.declared.roles.Role.{Role}
 use Rattle.ble_base.specs.declared.roles.Role.TheVariants.{Central as central_role, Peripheral as peripheral_role}
+use Rattle.data_pdu.specs.declared.ctrl.Ctrl.{Ctrl}
 use Rattle.data_pdu.specs.declared.ctrl.CtrlRead.{CtrlRead}
+use Rattle.data_pdu.specs.declared.ctrl.CtrlRead.TheVariants.{Known}
+use Rattle.exclusive_stages.specs.declared.pdus.Exclusive.TheVariants.{Request as request}
 use Rattle.exclusive_stages.specs.declared.pdus.Pdu.{Pdu}
 use Rattle.instants.specs.Track.{event_of, next_number}
 use Rattle.instants.specs.declared.indications.Indication.{Indication}
-use Rattle.link_model.specs.control_model.Control.{Control, Step, Answers, Asks, Disconnects, Enters, Owes, SeesAcknowledged, Sends, Takes, after, following, goes_out, indicated_by, is_to_come, moved, table_if, taken, went}
+use Rattle.link_model.specs.control_model.Control.{Control, Step, Answers, Asks, Disconnects, Enters, Owes, SeesAcknowledged, Sends, Takes, after, ended, following, goes_out, indicated_by, is_to_come, moved, table_if, taken, went}
 use Rattle.link_model.specs.procedure_values.Asks.{kind_of_ask}
 use Rattle.link_model.specs.procedure_values.Drafts.{is_out}
 use Rattle.link_model.specs.procedure_values.declared.asks.Ask.{Ask}
 use Rattle.link_model.specs.procedure_values.declared.asks.Ask.TheVariants.{Update as ask_update, Request as ask_request, Map as ask_map, Phy as ask_phy, Features as ask_features, Version as ask_version, Length as ask_length, Encrypt as ask_encrypt}
 use Rattle.link_model.specs.procedure_values.declared.drafts.Draft.{Draft}
-use Rattle.link_model.specs.procedure_values.declared.drafts.Draft.TheVariants.{Grant, LengthReq, PeripheralFeatureReq, PhyReq, Request, VersionInd}
+use Rattle.link_model.specs.procedure_values.declared.drafts.Draft.TheVariants.{Cipher, Grant, LengthReq, PeripheralFeatureReq, PhyReq, Request, VersionInd}
 use Rattle.link_model.specs.procedure_values.declared.drafts.Outgoing.{Outgoing}
 use Rattle.link_model.specs.procedure_values.declared.drafts.Outgoing.TheVariants.{Disconnect, Nothing, Other, Rejection}
 use Rattle.link_model.specs.procedure_stages.Acked.{peripheral_acked, progress_acked}
@@ -34,7 +37,11 @@ use Rattle.link_model.specs.procedure_stages.declared.stages.Peripheral.{Periphe
 use Rattle.link_model.specs.procedure_stages.declared.stages.Progress.{Progress}
 use Rattle.link_model.specs.procedure_stages.declared.stages.Progress.TheVariants.{Central as central, Peripheral as peripheral}
 use Rattle.link_model.specs.procedures.Beginning.{ask_at, begin_at, begin_step, facts_begun, place_to_begin, with_first_draft}
-use Rattle.link_model.specs.procedures.Going.{entered_step, host_answer_step, is_answer, terminate_step}
+use Rattle.link_model.specs.control_end.declared.answers.Taken.{Taken}
+use Rattle.link_model.specs.enc_phase.declared.classes.PduClass.TheVariants.{Request as request_class}
+use Rattle.link_model.specs.enc_phase.Taking.{ctrl_class}
+use Rattle.link_model.specs.procedures.Encryption.{is_rejection, progress_given}
+use Rattle.link_model.specs.procedures.Going.{entered_step, host_answer_step, is_answer, owe_step, terminate_step}
 use Rattle.link_model.specs.procedures.Queue.{next_of}
 use Rattle.link_model.specs.procedures.Sending.{acked_step, facts_sent}
 use Rattle.link_model.specs.procedure_stages.Opcodes.{connection_param_req_opcode}
@@ -42,9 +49,11 @@ use Rattle.link_model.specs.procedures.Table.{TableFacts}
 use Rattle.link_model.specs.procedures.Taking.{facts_with, outcome_of}
 use Rattle.link_model.proofs.control_model.Calls.{any_step, either_way, held_over, took_by}
 use Rattle.link_model.proofs.control_model.Moving.{same_role}
+use Rattle.link_model.proofs.Views.{DataTaking, Owing, Taking, TakingKept, is_ciphering}
+use Rattle.link_model.proofs.Views.{Ended, Handed, NoneKept, Over, Owed, Same, TakesKept, Withheld}
 use Rattle.link_model.proofs.table_laws.Begun.{begins_of, no_room}
 use Rattle.link_model.proofs.table_laws.Outcomes.{encrypts, own_room, room_at_peripheral, took as took_reply}
-use Rattle.link_outcomes.proofs.Taking.{MayTake, late_at, late_in, takes_pdu}
+use Rattle.link_outcomes.proofs.Taking.{MayTake, answers_seen, first_answers, late_at, late_in, takes_pdu}
 use Rattle.link_outcomes.proofs.Requests.{Fits, IsFirst, acked_late, acked_room, asks, draft_late, draft_room, first_of, held_late, held_room, number, one_if, replying, with_end, with_one, with_rejection}
 
 abbrev at : TableFacts → Progress → TableFacts
@@ -205,16 +214,43 @@ module _ (n : ℕ) where
       let few = fits.few in
       record { few = omega (arith, more, few); low = fits.low }
 
+  -- ---- the layer above queues a PDU of an encryption
+
+  no_ask : (b : Bool) → b ≡ true → one_if (not b) ≤ 0
+  no_ask true is = omega arith
+  no_ask false is = absurd (cc)
+
+  given_progress : (f : TableFacts) (p : Progress) (ctrl : Ctrl) → (own_room p ≤ own_room (progress_given p ctrl)) × (late_in (progress_given p ctrl) ≤ late_in p)
+  given_progress f (central c) ctrl = (omega arith, omega arith)
+  given_progress f (peripheral p) ctrl = by (is_rejection ctrl)
+    where
+      by : (b : Bool)
+          → let later = (if b then peripheral (record p { encrypting = false }) else peripheral p) in
+          (room_at_peripheral p.own ≤ own_room later) × (late_in later ≤ late_at p.own)
+      by true = (omega arith, omega arith)
+      by false = (omega arith, omega arith)
+
+  owed_fit : (f : TableFacts) (p : Progress) (ctrl : Ctrl) → is_ciphering ctrl ≡ true → Fits n (at f p) → Fits n (owe_step (at f p) ctrl)
+  owed_fit f p ctrl may fits =
+      let more = with_one (is_open f.closing) f.queue (Cipher ctrl) in
+      let none = no_ask (is_ciphering ctrl) may in
+      let given = given_progress f p ctrl in
+      let room = given.0 in
+      let late = given.1 in
+      let few = fits.few in
+      let low = fits.low in
+      record { few = omega (arith, more, none, few, room); low = omega (arith, low, late) }
+
   -- ---- all steps
 
   abbrev FitsIn : Control → Type 0
   FitsIn c = Fits n c.table
 
-  -- no PDU of an encryption is queued yet
+  -- the layer above queues PDUs of an encryption alone
   abbrev pub MayCome : Step → Type 0
   MayCome SeesAcknowledged = 1 ≤ n
   MayCome (Takes read slot quiet) = MayTake n read
-  MayCome (Owes ctrl) = ⊥
+  MayCome (Owes ctrl) = is_ciphering ctrl ≡ true
   MayCome step = ⊤
 
   table_fit : (may : Bool) (g : TableFacts) (c : Control) → Fits n g → FitsIn c → FitsIn (table_if may g c)
@@ -249,7 +285,7 @@ module _ (n : ℕ) where
       let o = outcome_of c.table quiet read in
       took_by FitsIn c (λ code. fits) read slot quiet
       (taken_control (facts_with c.table slot o) (indicated_by o.step.effect) c (taken_fit c.table quiet read slot role may fits) fits)
-  moved_fit (Owes ctrl) c role may fits = absurd may
+  moved_fit (Owes ctrl) c role may fits = owed_fit c.table c.table.progress ctrl may fits
 
 -- a peripheral whose request is at most this far
 pub record Holds (n : ℕ) (c : Control) : Type 0 where
@@ -265,3 +301,39 @@ control_holds n step c may h =
 
 pub weaker : (n m : ℕ) (c : Control) → n ≤ m → Holds n c → Holds m c
 weaker n m c less h = let low = h.fits.low in record { role = h.role; fits = record { few = h.fits.few; low = omega (arith, less, low) } }
+
+-- ---- in any phase of encryption
+
+module _ (n : ℕ) where
+  same_holds : (c d : Control) → d ≡ c → Holds n c → Holds n d
+  same_holds c d is h = subst (Holds n) (sym is) h
+
+  pub owing_holds : (c d : Control) → Owing c d → Holds n c → Holds n d
+  owing_holds c d (Same is) h = same_holds c d is h
+  owing_holds c d (Owed ctrl may is) h = same_holds (after (Owes ctrl) c) d is (control_holds n (Owes ctrl) c may h)
+
+  ended_holds : (code : ErrCode) (c d : Control) → d ≡ ended code c → Holds n c → Holds n d
+  ended_holds code c d is h = same_holds (ended code c) d is (record { role = h.role; fits = h.fits })
+
+  pub data_holds : (c d : Control) → DataTaking c d → Holds n c → Holds n d
+  data_holds c d (Same is) h = same_holds c d is h
+  data_holds c d (Ended code goes is) h = ended_holds code c d is h
+
+  -- the first PDU of a procedure of the peer answers none
+  first_may : (ctrl : Ctrl) → ctrl_class ctrl ≡ request_class → MayTake n (Known ctrl)
+  first_may ctrl class answered = first_answers request ctrl class answered
+
+  kept_holds : (slot : ℕ) (kept : Taken) (c d : Control) → TakingKept slot kept c d → Holds n c → Holds n d
+  kept_holds slot kept c d (NoneKept none is) h = same_holds c d is h
+  kept_holds slot kept c d (TakesKept ctrl class given is) h =
+      same_holds (after (Takes (Known ctrl) slot true) c) d is (control_holds n (Takes (Known ctrl) slot true) c (first_may ctrl class) h)
+
+  pub taking_holds : (quiet : Bool) (c : Control) (read : CtrlRead) (slot : ℕ) (taken kept : Taken) (d : Control)
+      → Taking quiet c read slot taken kept d → MayTake n read → Holds n c → Holds n d
+  taking_holds quiet c read slot taken kept d (Over over none none_kept is) may h = same_holds c d is h
+  taking_holds quiet c read slot taken kept d (Withheld goes loud class none none_kept is) may h = same_holds c d is h
+  taking_holds quiet c read slot taken kept d (Ended code goes class none none_kept is) may h = ended_holds code c d is h
+  taking_holds quiet c read slot taken kept d (Handed seen middle goes is_seen class owing given later) may h =
+      kept_holds slot kept middle d later
+      (owing_holds (after (Takes seen slot quiet) c) middle owing
+      (control_holds n (Takes seen slot quiet) c (λ answered. may (answers_seen request read seen is_seen answered)) h))

@@ -1,5 +1,5 @@
 -- The first PDUs of own procedures that wait at a peripheral, and how far its request is.
-use Rattle.std.proofs.Common.{◌≡◌, ◌+◌, ◌≤◌, ℕ, ◌&&◌, Bool, true, false, List, [], ◌∷◌, ◌++◌, Option, Some, None, unwrap_or, option_map, if◌then◌else◌, refl, ap, ◌∙◌, arith}
+use Rattle.std.proofs.Common.{◌≡◌, ◌+◌, ◌≤◌, ℕ, ◌&&◌, not, Bool, true, false, List, [], ◌∷◌, ◌++◌, Option, Some, None, unwrap_or, option_map, if◌then◌else◌, refl, ap, ◌∙◌, arith}
 use Rattle.ble_base.specs.declared.error_codes.ErrCode.{ErrCode}
 use Rattle.ble_base.specs.declared.roles.Role.{Role}
 use Rattle.exclusive_stages.specs.Acked.{own_acked_at_peripheral}
@@ -26,10 +26,11 @@ use Rattle.link_model.specs.procedure_stages.declared.stages.OwnPeripheral.{OwnP
 use Rattle.link_model.specs.procedure_stages.declared.stages.OwnPeripheral.TheVariants.{Exclusive as exclusive, Exchange as exchange}
 use Rattle.link_model.specs.procedures.Queue.{next_of, next_other}
 use Rattle.link_model.specs.procedures.Table.{TableFacts}
+use Rattle.link_model.proofs.Views.{is_ciphering}
 use Rattle.link_model.proofs.table_laws.Outcomes.{is_reply, own_room, room_at_peripheral, room_of_exchange}
 use Rattle.link_outcomes.proofs.Taking.{late, late_at, late_in}
 
--- ---- the first PDUs of own procedures that wait; each PDU of an encryption counts as one
+-- ---- the first PDUs of own procedures that wait; a PDU that the layer above may queue is none
 
 abbrev pub asks : Draft → Bool
 asks (Update params) = true
@@ -39,7 +40,7 @@ asks PhyReq = true
 asks FeatureReq = true
 asks PeripheralFeatureReq = true
 asks (LengthReq rx tx) = true
-asks (Cipher ctrl) = true
+asks (Cipher ctrl) = not (is_ciphering ctrl)
 asks draft = false
 
 abbrev pub one_if : Bool → ℕ
@@ -197,7 +198,6 @@ other_stage PhyReq stage is = absurd (cc)
 other_stage FeatureReq stage is = absurd (cc)
 other_stage PeripheralFeatureReq stage is = absurd (cc)
 other_stage (LengthReq rx tx) stage is = absurd (cc)
-other_stage (Cipher ctrl) stage is = absurd (cc)
 other_stage VersionInd VersionUnsent is = omega arith
 other_stage VersionInd other is = omega arith
 other_stage draft stage is = omega arith
@@ -211,7 +211,6 @@ other_exclusive PhyReq stage is = absurd (cc)
 other_exclusive FeatureReq stage is = absurd (cc)
 other_exclusive PeripheralFeatureReq stage is = absurd (cc)
 other_exclusive (LengthReq rx tx) stage is = absurd (cc)
-other_exclusive (Cipher ctrl) stage is = absurd (cc)
 other_exclusive draft stage is = omega arith
 
 pub draft_room : (draft : Draft) (own : OwnPeripheral) → room_at_peripheral own ≤ room_at_peripheral (after_draft draft own) + one_if (asks draft)

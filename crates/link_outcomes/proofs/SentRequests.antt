@@ -1,10 +1,10 @@
 -- Where the next control PDU of a peripheral is LL_CONNECTION_PARAM_REQ, its request is not acknowledged.
-use Rattle.std.proofs.Common.{◌≡◌, ◌≤◌, ℕ, Bool, true, false, Option, Some, None, is_none, if◌then◌else◌, refl, ap, ◌∙◌, arith}
+use Rattle.std.proofs.Common.{◌≡◌, ◌≤◌, ℕ, not, Bool, true, false, Option, Some, None, is_none, if◌then◌else◌, refl, ap, ◌∙◌, arith}
 use Rattle.ble_base.specs.declared.roles.Role.TheVariants.{Peripheral as peripheral_role}
 use Rattle.data_pdu.specs.Layouts.{makers, written}
 use Rattle.data_pdu.specs.Reading.{ctrl_of}
 use Rattle.data_pdu.specs.declared.ctrl.Ctrl.{Ctrl}
-use Rattle.data_pdu.specs.declared.ctrl.Ctrl.TheVariants.{ConnectionUpdateInd, LengthRsp, RejectExtInd, TerminateInd, UnknownRsp}
+use Rattle.data_pdu.specs.declared.ctrl.Ctrl.TheVariants.{ConnectionUpdateInd, EncReq, EncRsp, LengthRsp, PauseEncReq, PauseEncRsp, RejectExtInd, StartEncReq, StartEncRsp, TerminateInd, UnknownRsp}
 use Rattle.data_pdu.specs.declared.ctrl.CtrlRead.TheVariants.{Known, Unknown}
 use Rattle.exclusive_stages.specs.Pdus.{is_kind}
 use Rattle.exclusive_stages.specs.declared.pdus.Exclusive.{Exclusive}
@@ -23,6 +23,7 @@ use Rattle.link_model.specs.procedure_stages.declared.stages.Progress.{Progress}
 use Rattle.link_model.specs.procedure_stages.declared.stages.Progress.TheVariants.{Central as central, Peripheral as peripheral}
 use Rattle.link_model.specs.procedures.Queue.{next_of}
 use Rattle.link_model.specs.procedures.Table.{TableFacts}
+use Rattle.link_model.proofs.Views.{is_ciphering}
 use Rattle.link_model.proofs.table_laws.Outcomes.{own_room}
 use Rattle.wire_fields.specs.Field.{little_endian}
 use Rattle.link_outcomes.specs.Answered.{kind_begun}
@@ -80,6 +81,42 @@ none_said : (X : Type 0) (begun : Option Exclusive) → begun ≡ None → is_ki
 none_said X None none is = absurd cc
 none_said X (Some kind) none is = absurd cc
 
+enc_req_begins : (rand ediv skd_m iv_m : ℕ) → kind_begun (ctrl_of (written (EncReq rand ediv skd_m iv_m))) ≡ None
+unfolding ctrl_of makers little_endian
+enc_req_begins rand ediv skd_m iv_m = refl
+
+enc_rsp_begins : (skd_s iv_s : ℕ) → kind_begun (ctrl_of (written (EncRsp skd_s iv_s))) ≡ None
+unfolding ctrl_of makers little_endian
+enc_rsp_begins skd_s iv_s = refl
+
+start_req_begins : kind_begun (ctrl_of (written StartEncReq)) ≡ None
+unfolding ctrl_of makers little_endian
+start_req_begins = refl
+
+start_rsp_begins : kind_begun (ctrl_of (written StartEncRsp)) ≡ None
+unfolding ctrl_of makers little_endian
+start_rsp_begins = refl
+
+pause_req_begins : kind_begun (ctrl_of (written PauseEncReq)) ≡ None
+unfolding ctrl_of makers little_endian
+pause_req_begins = refl
+
+pause_rsp_begins : kind_begun (ctrl_of (written PauseEncRsp)) ≡ None
+unfolding ctrl_of makers little_endian
+pause_rsp_begins = refl
+
+-- a PDU of an encryption is none
+cipher_asks : (ctrl : Ctrl) → is_request ctrl ≡ true → not (is_ciphering ctrl) ≡ true
+cipher_asks (EncReq rand ediv skd_m iv_m) is = none_said _ _ (enc_req_begins rand ediv skd_m iv_m) is
+cipher_asks (EncRsp skd_s iv_s) is = none_said _ _ (enc_rsp_begins skd_s iv_s) is
+cipher_asks StartEncReq is = none_said _ _ start_req_begins is
+cipher_asks StartEncRsp is = none_said _ _ start_rsp_begins is
+cipher_asks PauseEncReq is = none_said _ _ pause_req_begins is
+cipher_asks PauseEncRsp is = none_said _ _ pause_rsp_begins is
+cipher_asks (RejectExtInd opcode code) is = none_said _ _ (reject_begins opcode code) is
+cipher_asks (TerminateInd code) is = none_said _ _ (terminate_begins code) is
+cipher_asks ctrl is = refl
+
 draft_asks : (draft : Draft) (event skips : ℕ) → is_request (ctrl_of_draft draft event skips) ≡ true → asks draft ≡ true
 draft_asks (Update params) event skips is = refl
 draft_asks (Map map) event skips is = refl
@@ -88,7 +125,7 @@ draft_asks PhyReq event skips is = refl
 draft_asks FeatureReq event skips is = refl
 draft_asks PeripheralFeatureReq event skips is = refl
 draft_asks (LengthReq rx tx) event skips is = refl
-draft_asks (Cipher ctrl) event skips is = refl
+draft_asks (Cipher ctrl) event skips is = cipher_asks ctrl is
 draft_asks (Grant params) event skips is = none_said _ _ (update_begins params.interval params.latency params.timeout _) is
 draft_asks (length_rsp rx tx) event skips is = none_said _ _ (length_begins rx _ tx _) is
 draft_asks (unknown_rsp opcode) event skips is = none_said _ _ (unknown_begins opcode) is

@@ -15,13 +15,12 @@ use Rattle.exclusive_stages.specs.declared.pdus.Exclusive.TheVariants.{Request}
 use Rattle.link_model.specs.Acknowledgement.{Pdu, empty_pdu, is_acked}
 use Rattle.link_model.specs.Controls.{is_quiet_now, next_control, pdu_fixed, pdu_of_control}
 use Rattle.link_model.specs.Data.{Data, data_given, is_control, is_empty, numbered, pdu_with}
-use Rattle.link_model.specs.Entering.{began_notes, done_notes, event_notes}
+use Rattle.link_model.specs.Entering.{began_notes, done_notes, event_notes, facts_entered_if}
 use Rattle.link_model.specs.Events.{applied_notes}
 use Rattle.link_model.specs.Facts.{Facts}
 use Rattle.link_model.specs.Fixing.{data_cut, data_fixed_by, data_goes, fixed_anew}
 use Rattle.link_model.specs.Hosts.{asked_unless}
 use Rattle.link_model.specs.Payload.{payload_made}
-use Rattle.link_model.specs.Plain.{plain_entered_if}
 use Rattle.link_model.specs.Receiving.{given_notes, refused_notes}
 use Rattle.link_model.specs.Sending.{control_gone, control_gone_if, data_sent_as, fixed_sent, sent_notes_if, takes_leave}
 use Rattle.link_model.specs.Setup.{Setup}
@@ -33,7 +32,8 @@ use Rattle.link_model.specs.procedure_stages.Queue.{waiting_in}
 use Rattle.link_model.specs.procedure_values.declared.asks.Ask.{Ask}
 use Rattle.link_outcomes.specs.Answered.{kind_begun}
 use Rattle.link_outcomes.proofs.Awaiting.{opens, waits_after, waits_in}
-use Rattle.link_outcomes.proofs.Controls.{Holds, control_holds, weaker}
+use Rattle.link_model.proofs.Views.{entered_view}
+use Rattle.link_outcomes.proofs.Controls.{Holds, control_holds, owing_holds, weaker}
 use Rattle.link_outcomes.proofs.SentRequests.{request_low}
 
 -- ---- the invariant
@@ -130,19 +130,26 @@ pub same_refused : (q : Exclusive) (handle : ℕ) (refused : Option (Kind × Err
 same_refused q handle None waits = refl
 same_refused q handle (Some (kind, code)) waits = refl
 
--- of the notes of a reception that of a PDU counts alone
-pub heard_waits : (q : Exclusive) (handle : ℕ) (acked : Option Kind) (took : List Note) (given : Taken) (waits : Bool)
-    → waits_in q waits (done_notes handle acked ++ (took ++ given_notes handle given)) ≡ waits_in q waits took
-heard_waits q handle acked took given waits =
-    let done = done_notes handle acked in
+same_given : (q : Exclusive) (handle : ℕ) (given : Taken) (waits : Bool) → waits_in q waits (given_notes handle given) ≡ waits
+same_given q handle given waits =
     let refused = refused_notes handle given.refused in
-    let last = done_notes handle given.done in
-    fold-append (waits_after q) waits done (took ++ (refused ++ last))
-    ∙ ap (λ (w : Bool). waits_in q w (took ++ (refused ++ last))) (same_done q handle acked waits)
-    ∙ fold-append (waits_after q) waits took (refused ++ last)
-    ∙ fold-append (waits_after q) (waits_in q waits took) refused last
-    ∙ same_done q handle given.done (waits_in q (waits_in q waits took) refused)
-    ∙ same_refused q handle given.refused (waits_in q waits took)
+    fold-append (waits_after q) waits refused (done_notes handle given.done)
+    ∙ same_done q handle given.done (waits_in q waits refused)
+    ∙ same_refused q handle given.refused waits
+
+-- of the notes of a reception that of a PDU counts alone
+pub heard_waits : (q : Exclusive) (handle : ℕ) (acked : Option Kind) (took : List Note) (given kept : Taken) (waits : Bool)
+    → waits_in q waits (done_notes handle acked ++ (took ++ (given_notes handle given ++ given_notes handle kept))) ≡ waits_in q waits took
+heard_waits q handle acked took given kept waits =
+    let done = done_notes handle acked in
+    let first = given_notes handle given in
+    let last = given_notes handle kept in
+    fold-append (waits_after q) waits done (took ++ (first ++ last))
+    ∙ ap (λ (w : Bool). waits_in q w (took ++ (first ++ last))) (same_done q handle acked waits)
+    ∙ fold-append (waits_after q) waits took (first ++ last)
+    ∙ fold-append (waits_after q) (waits_in q waits took) first last
+    ∙ same_given q handle kept (waits_in q (waits_in q waits took) first)
+    ∙ same_given q handle given (waits_in q waits took)
 
 -- ---- the host asks, an event is entered, a PDU is fixed
 
@@ -155,9 +162,14 @@ asked_stands true ask waits facts s = s
 asked_stands false ask waits facts s =
     record { holds = control_holds (level (is_param facts.outgoing.fixed) waits) (Asks ask) facts.control tt s.holds; left = s.left }
 
-pub entered_stands : (goes : Bool) (setup : Setup) (slot : ℕ) (waits : Bool) (facts : Facts) → StandsIn waits facts → StandsIn waits (plain_entered_if goes setup slot facts)
+pub entered_stands : (goes : Bool) (setup : Setup) (slot : ℕ) (waits : Bool) (facts : Facts) → StandsIn waits facts → StandsIn waits (facts_entered_if goes setup slot facts)
 entered_stands true setup slot waits facts s =
-    record { holds = control_holds (level (is_param facts.outgoing.fixed) waits) (Enters slot true) facts.control tt s.holds; left = s.left }
+    let n = level (is_param facts.outgoing.fixed) waits in
+    record {
+      holds =
+          owing_holds n _ _ (entered_view slot facts) (control_holds n (Enters slot (is_quiet_now facts)) facts.control tt s.holds);
+      left = s.left;
+    }
 entered_stands false setup slot waits facts s = s
 
 pub entry_less : (q : Exclusive) (goes : Bool) (handle : ℕ) (event : ConnectionEvent) (entry : Entry) → Less q (if goes then event_notes handle event entry else [])

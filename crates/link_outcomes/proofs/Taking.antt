@@ -42,6 +42,9 @@ use Rattle.link_model.specs.procedures.Taking.{outcome_of, taken_by, taken_by_ei
 use Rattle.link_model.specs.procedures.Update.{follow, update_taken}
 use Rattle.link_model.specs.procedures.Version.{version_taken}
 use Rattle.link_procedures.proofs.Stages.{phy_ind_own}
+use Rattle.link_model.specs.enc_phase.declared.classes.PduClass.TheVariants.{Request as request_class}
+use Rattle.link_model.specs.enc_phase.Taking.{ctrl_class}
+use Rattle.link_model.proofs.Views.{SeenAs, AsRead, AsUnknown}
 use Rattle.link_outcomes.proofs.Awaiting.{answers}
 
 -- ---- how far a request of the peripheral is: acknowledged, or answered by an update
@@ -256,3 +259,17 @@ pub takes_pdu : (f : TableFacts) (quiet : Bool) (read : CtrlRead) → role_of f.
 takes_pdu f quiet (Known ctrl) role = by_role f f.progress quiet ctrl role
 takes_pdu f quiet (Unknown opcode) role = record { low = λ n may less. less; ends = none_ends f.progress (Unknown opcode) None }
 takes_pdu f quiet Bare role = record { low = λ n may less. less; ends = none_ends f.progress Bare None }
+
+-- ---- in any phase of encryption
+
+-- what is seen as an answer is read as one
+pub answers_seen : (q : Exclusive) (read seen : CtrlRead) → SeenAs read seen → answers q seen ≡ true → answers q read ≡ true
+answers_seen q read seen (AsRead is) answered = ap (answers q) (sym is) ∙ answered
+answers_seen q read seen (AsUnknown ctrl named is seen_is) answered =
+    let no : ◌≡◌ {A = Bool} false true = sym (ap (answers q) seen_is) ∙ answered in absurd (cc)
+
+-- the first PDU of a procedure of the peer is none
+pub first_answers : {X : Type 0} (q : Exclusive) (ctrl : Ctrl) → ctrl_class ctrl ≡ request_class → answers q (Known ctrl) ≡ true → X
+first_answers q (ConnectionUpdateInd win_size win_offset interval latency timeout instant) class answered = absurd (cc)
+first_answers q (PhyUpdateInd to_peripheral to_central instant) class answered = absurd (cc)
+first_answers q ctrl class answered = absurd (cc)

@@ -1,20 +1,25 @@
 -- What a peripheral holds after it heard a packet and answered it.
-use Rattle.std.proofs.Common.{◌≡◌, ◌⊎◌, inl, inr, ℕ, ◌+◌, ◌-◌, ◌<◌, ◌≤◌, ◌&&◌, ◌||◌, Bool, true, false, length, Some, refl, ap, sym, subst, ◌∙◌, arith}
+use Rattle.std.proofs.Common.{◌≡◌, ◌⊎◌, inl, inr, ℕ, ◌+◌, ◌-◌, ◌<◌, ◌≤◌, ◌&&◌, ◌||◌, Bool, true, false, not, length, Some, refl, ap, sym, subst, ◌∙◌, arith}
+use Rattle.data_pdu.specs.Layouts.{IsCtrl}
+use Rattle.control_octets.specs.procedure_stages.Closing.{is_disconnecting, is_open}
+use Rattle.control_octets.specs.procedure_stages.declared.closing.Closing.{Closing}
+use Rattle.joint_laws.specs.joint_controls.phased_control.Taken.{response_ctrl}
 use Rattle.link_model.specs.Acknowledgement.{Acknowledgement, Pdu, is_acked, next_sent, received_by, with_accepted}
 use Rattle.link_model.specs.Data.{Data, data_acked_if, data_sent_if, is_control, is_data}
 use Rattle.link_model.specs.Events.{event_heard, event_sent}
 use Rattle.link_model.specs.Setup.{Setup}
 use Rattle.link_model.specs.declared.events.ConnectionEvent.{ConnectionEvent}
 use Rattle.link_model.specs.declared.state.Leaving.{Leaving}
-use Rattle.link_model.specs.Facts.{Facts}
+use Rattle.link_model.specs.Facts.{Encryption, Facts}
 use Rattle.link_model.specs.Controls.{is_procedure_pdu, is_terminate}
 use Rattle.link_model.specs.Packets.{more_sent}
-use Rattle.link_model.specs.Plain.{IsPlain, plain_accepted_if as accepted_if, plain_acknowledged_if as acknowledged_if, plain_taken_if as taken_if}
-use Rattle.link_model.specs.Receiving.{heard_in_slot}
+use Rattle.link_model.specs.phased_end.Taking.{drawn}
+use Rattle.link_model.specs.phased_end.keyed_control.declared.material.Response.{Response}
+use Rattle.link_model.specs.Plain.{IsPlain}
+use Rattle.link_model.specs.Receiving.{accepted_if, acknowledged_if, heard_in_slot, taken_if}
 use Rattle.link_model.specs.Sending.{control_gone_if, facts_sent, fixed_sent, leaving_sent, takes_leave}
-use Rattle.link_pairs.specs.Ends.{HasExchange, IsAtRest, turns_at}
-use Rattle.link_pairs.proofs.ControlKept.{Keeps}
-use Rattle.link_pairs.proofs.PlainEnds.{IsPlainEncryption, goes_kept}
+use Rattle.link_pairs.specs.Ends.{HasExchange, IsAtRest, phased_of, turns_at}
+use Rattle.link_pairs.proofs.PhasedKept.{PhasedKeeps}
 use Rattle.link_pairs.proofs.TakingPdus.{IsTakenBy, taken_same}
 
 -- ---- what does not change
@@ -83,7 +88,7 @@ module _ (slot : ℕ) (more acks : Bool) (facts : Facts) (accepted : Bool) (pdu 
   taken = taken_if accepted pdu slot (fixed slot more acks facts)
 
   pub took : IsTakenBy (accepted_if accepted pdu (fixed slot more acks facts)) taken
-  took = taken_same (accepted && is_procedure_pdu pdu) pdu slot (accepted_if accepted pdu (fixed slot more acks facts))
+  took = taken_same (accepted && is_procedure_pdu pdu) (accepted && is_data pdu) pdu slot (accepted_if accepted pdu (fixed slot more acks facts))
 
   pub taken_acknowledgement : taken.acknowledgement ≡ received_by acks accepted pdu facts.acknowledgement
   taken_acknowledgement = took.acknowledgement ∙ ap (with_accepted accepted pdu) (gone slot more acks facts).acknowledgement
@@ -96,6 +101,9 @@ module _ (slot : ℕ) (more acks : Bool) (facts : Facts) (accepted : Bool) (pdu 
 
   pub taken_stays : taken.leaving.acknowledged ≡ (facts.leaving.acknowledged || (acks && is_terminate facts.acknowledgement.last))
   taken_stays = took.acknowledged ∙ ap (λ (l : Leaving). l.acknowledged) (gone slot more acks facts).leaving
+
+  pub taken_response : taken.encryption.response ≡ facts.encryption.response
+  taken_response = took.response ∙ ap (λ (e : Encryption). e.response) (gone slot more acks facts).encryption
 
   taken_payload : taken.outgoing.payload ≡ facts.outgoing.payload
   taken_payload =
@@ -155,7 +163,8 @@ module _ (slot : ℕ) (more acks : Bool) (facts : Facts) (accepted : Bool) (pdu 
       }
 
 module _ (setup : Setup) (slot : ℕ) (more acks : Bool) (facts : Facts) (accepted : Bool) (pdu : Pdu) (rests : IsAtRest setup (slot + 1) facts)
-    (keeps : Keeps facts.control (taken slot more acks facts accepted pdu).control) (has : HasExchange slot facts)
+    (keeps : PhasedKeeps (phased_of facts) (phased_of (taken slot more acks facts accepted pdu)))
+    (plain : IsPlain setup.link.role (taken slot more acks facts accepted pdu)) (has : HasExchange slot facts)
     (ends : (acks && is_terminate facts.acknowledgement.last) ≡ false) where
   abbrev answered : Facts
   answered = taken slot more acks facts accepted pdu
@@ -169,22 +178,21 @@ module _ (setup : Setup) (slot : ℕ) (more acks : Bool) (facts : Facts) (accept
   heard_now : turns_at setup.opened answered.last_good ≡ slot + 1
   heard_now = ap (turns_at setup.opened) (taken_good slot more acks facts accepted pdu)
 
-  encrypts : IsPlainEncryption setup.link.role answered.encryption
-  encrypts =
-      (took slot more acks facts accepted pdu).encrypts setup.link.role
-      (subst (IsPlainEncryption setup.link.role) (sym (gone slot more acks facts).encryption) rests.plain.encryption)
-
   in_event : facts.event.slot ≤ slot
   in_event = event_by slot facts.event.slot facts.event.heard has.1
 
   pub rests_with : (all : Bool) → HasLast slot more acks facts accepted pdu all → IsAtRest setup (slot + 1) (answered_if slot more acks facts accepted pdu all)
   rests_with all last =
       let kept = keeps.kept in
-      let next = answered_if slot more acks facts accepted pdu all in
-      let plain : IsPlain setup.link.role next = record { encryption = encrypts; control = keeps.plain rests.plain.control } in
       record {
-        fits = keeps.fits rests.fits;
-        plain = plain;
+        fits = keeps.fits.control;
+        holds = record {
+          request = keeps.fits.request;
+          kept = keeps.fits.kept;
+          response =
+              subst (λ (r : Response). IsCtrl (response_ctrl (drawn r))) (sym (taken_response slot more acks facts accepted pdu)) rests.holds.response;
+        };
+        plain = record { encryption = plain.encryption; control = plain.control };
         role = keeps.role setup.link.role rests.role;
         none_gone = last.none_gone;
         payload = last.payload;
@@ -198,6 +206,6 @@ module _ (setup : Setup) (slot : ℕ) (more acks : Bool) (facts : Facts) (accept
               let at = in_event in omega (arith, event_slot, heard_now, at),
             );
         past = omega (arith, heard_now);
-        goes = goes_kept setup.link.role facts next rests.plain plain kept.closing rests.goes;
+        goes = subst (λ (closing : Closing). not (is_disconnecting closing) ≡ is_open closing) (sym kept.closing) rests.goes;
         stays = taken_stays slot more acks facts accepted pdu ∙ (λ i. rests.stays i || ends i);
       }

@@ -1,4 +1,6 @@
 -- A turn begins: each end whose anchor is in it enters its next event, and both runs of the link begin the turn.
+use Rattle.std.specs.Prelude.{IfSome}
+use Rattle.std.specs.List.{All}
 use Rattle.std.proofs.Common.{◌≡◌, ◌+◌, ◌==◌, ◌++◌, ◌&&◌, ℕ, Bool, true, false, not, [], ◌∷◌, Option, Some, None, is_none, is_some, refl, sym, ap, subst, ◌∙◌, arith, if◌then◌else◌}
 use Rattle.std.proofs.lemmas.Bool.{and_parts, eqb-true}
 use Rattle.instants.specs.declared.track.Change.{Change}
@@ -6,19 +8,19 @@ use Rattle.instants.specs.Track.{TrackFacts, is_due, next_anchor_of, next_number
 use Rattle.control_octets.specs.procedure_stages.declared.closing.Closing.{Closing}
 use Rattle.control_octets.specs.procedure_stages.Closing.{is_disconnecting, is_open}
 use Rattle.control_octets.specs.procedure_values.declared.asks.Ask.{Ask}
+use Rattle.control_octets.specs.procedure_values.declared.asks.Ask.TheVariants.{Encrypt}
+use Rattle.control_octets.specs.procedure_stages.Kinds.{role_of}
 use Rattle.control_octets.specs.procedures.Beginning.{ask_at, begin_at, place_to_begin}
 use Rattle.control_octets.specs.procedures.Going.{entered_step}
 use Rattle.control_octets.specs.procedures.Table.{TableFacts}
 use Rattle.two_tracks.specs.TwoEnds.{after_turn, enters}
 use Rattle.control_octets.specs.control_model.Control.{Control, Enters as control_enters, after}
-use Rattle.control_octets.proofs.control_model.Calls.{any_step, open_step}
+use Rattle.control_octets.proofs.control_model.Calls.{any_step}
 use Rattle.control_octets.proofs.control_model.Moving.{enters_track, same_role}
-use Rattle.control_octets.proofs.Steps.{stays_fitting}
-use Rattle.unencrypted_ends.specs.phased_control.Phased.{Phased}
-use Rattle.unencrypted_ends.specs.phased_control.Taken.{Enters, phased_after}
-use Rattle.unencrypted_ends.specs.Unencrypted.{IsUnencrypted}
-use Rattle.unencrypted_ends.proofs.Going.{enters_goes}
-use Rattle.unencrypted_ends.proofs.Staying.{stays}
+use Rattle.joint_laws.specs.joint_controls.phased_control.Phased.{Phased, ask_begun, is_quiet_now as is_quiet_phased, request_of, table_entered}
+use Rattle.joint_laws.specs.joint_controls.phased_control.Taken.{Enters, phased_after, role_now}
+use Rattle.unencrypted_ends.specs.Unencrypted.{HasNoEncryption}
+use Rattle.unencrypted_ends.proofs.Staying.{AsksNone, entered_none, wanted_here}
 use Rattle.joint_laws.specs.joint_controls.Joint.{CentralEnters, Joint, PeripheralEnters, act, after_all, is_running, may, may_all}
 use Rattle.joint_laws.specs.joint_controls.Joint.{after as joint_after}
 use Rattle.joint_laws.proofs.joint_controls.Running.{goes_on}
@@ -28,11 +30,15 @@ use Rattle.link_model.specs.Setup.{Setup}
 use Rattle.link_model.specs.Controls.{is_quiet_now}
 use Rattle.link_model.specs.Entering.{facts_entered}
 use Rattle.link_model.specs.Facts.{Facts}
-use Rattle.link_model.specs.Plain.{IsPlain, plain_entered}
-use Rattle.link_model.proofs.Plain.{entered_plain}
-use Rattle.link_pairs.specs.Ends.{AreEnds, IsAtRest, phased_of}
+use Rattle.link_model.specs.Plain.{IsPlain}
+use Rattle.link_model.specs.Step.{EventEntered}
+use Rattle.link_model.proofs.Plain.{step_plain}
+use Rattle.link_pairs.specs.Ends.{AreEnds, IsAtRest, IsLaterPdu, phased_of}
 use Rattle.link_pairs.specs.Shown.{Shows}
 use Rattle.link_pairs.specs.Turns.{entered_in}
+use Rattle.link_pairs.proofs.ControlKept.{IsKept}
+use Rattle.link_pairs.proofs.PhasedEnds.{entered_phased}
+use Rattle.link_pairs.proofs.PhasedKept.{PhasedFits, entered_fits, entered_keeps, entered_lasts, fits_of}
 use Rattle.link_pairs.proofs.Reaching.{IsReached, comes, paired}
 use Rattle.link_pairs.proofs.Showing.{central_shows, peripheral_shows}
 
@@ -48,17 +54,13 @@ closing_entered true f = refl
 closing_entered false f = refl
 
 -- whether the link is to end stays as it is
-enters_closing : (c : Control) (slot : ℕ) → (after (control_enters slot true) c).table.closing ≡ c.table.closing
-enters_closing c slot =
-    any_step (λ (d : Control). d.table.closing ≡ c.table.closing) (control_enters slot true) c
-    (closing_begun f slot (place_to_begin f true) (ask_at (place_to_begin f true) f.wanted) ∙ closing_entered (is_some (next_number c.track)) c.table) refl
+enters_closing : (c : Control) (slot : ℕ) (quiet : Bool) → (after (control_enters slot quiet) c).table.closing ≡ c.table.closing
+enters_closing c slot quiet =
+    any_step (λ (d : Control). d.table.closing ≡ c.table.closing) (control_enters slot quiet) c
+    (closing_begun f slot (place_to_begin f quiet) (ask_at (place_to_begin f quiet) f.wanted) ∙ closing_entered (is_some (next_number c.track)) c.table) refl
   where
     f : TableFacts
     f = (entered_step c.table (is_some (next_number c.track))).0
-
--- no link ends as an event is entered
-enters_lasting : (c : Control) (slot : ℕ) → c.ends ≡ None → (after (control_enters slot true) c).ends ≡ None
-enters_lasting c slot lasts = open_step (λ (d : Control). d.ends ≡ None) (control_enters slot true) c lasts lasts
 
 anchor_changed : (due : Bool) (change : Change) (t : TrackFacts) → (if due then track_changed change t else track_unchanged t).anchor ≡ next_anchor_of t
 anchor_changed true change t = refl
@@ -71,14 +73,30 @@ anchor_entered (Some change) t = anchor_changed (is_due change t.entered) change
 -- ---- one end
 
 abbrev pub entering : Bool → Setup → ℕ → Facts → Facts
-entering enters setup slot facts = if enters then plain_entered setup slot facts else facts
+entering enters setup slot facts = if enters then facts_entered setup slot facts else facts
+
+-- the request of an encryption that begins fits; as long as no link encrypts, none begins
+begun_later : (x : Phased) → HasNoEncryption x.control.table → IfSome (request_of (ask_begun (table_entered x) (is_quiet_phased x))) IsLaterPdu
+begun_later x none =
+    by (place_to_begin f (is_quiet_phased x)) (ask_at (place_to_begin f (is_quiet_phased x)) f.wanted) refl
+    (entered_none x.control.table (is_some (next_number x.control.track)) none).wanted
+  where
+    f : TableFacts
+    f = table_entered x
+
+    later : (ask : Ask) → AsksNone ask → IfSome (request_of (Some ask)) IsLaterPdu
+    later (Encrypt rand ediv ltk skd_m iv_m) is = absurd (cc)
+    later ask is = tt
+
+    by : (place : Option ℕ) (ask : Option Ask) → ask_at place f.wanted ≡ ask → All AsksNone f.wanted → IfSome (request_of ask) IsLaterPdu
+    by place None is all = tt
+    by None (Some ask) is all = absurd (cc)
+    by (Some place) (Some ask) is all = later ask (wanted_here place ask f.wanted is all)
 
 module _ (setup : Setup) (slot : ℕ) (facts : Facts) (lasts : facts.control.ends ≡ None) where
-  pub entered_is : IsPlain setup.link.role facts → (enters : Bool) → (next_anchor_of facts.control.track == slot) ≡ enters
+  pub entered_is : (enters : Bool) → (next_anchor_of facts.control.track == slot) ≡ enters
       → entered_in setup slot facts ≡ entering enters setup slot facts
-  entered_is plain enters is =
-      (λ i. if is i then (if is_none (lasts i) then facts_entered setup slot facts else facts) else facts)
-      ∙ ap (λ (entered : Facts). if enters then entered else facts) (entered_plain setup slot facts plain)
+  entered_is enters is = λ i. if is i then (if is_none (lasts i) then facts_entered setup slot facts else facts) else facts
 
   pub entering_sends : (enters : Bool) → (entering enters setup slot facts).acknowledgement ≡ facts.acknowledgement
   entering_sends true = refl
@@ -88,46 +106,76 @@ module _ (setup : Setup) (slot : ℕ) (facts : Facts) (lasts : facts.control.end
   entering_hears true = refl
   entering_hears false = refl
 
-  pub entering_lasts : (enters : Bool) → (entering enters setup slot facts).control.ends ≡ None
-  entering_lasts true = enters_lasting facts.control slot lasts
-  entering_lasts false = lasts
-
-  pub entering_phased : (enters : Bool) (x : Phased) → x ≡ phased_of facts → IsUnencrypted facts.control
+  pub entering_phased : (enters : Bool) (x : Phased) → x ≡ phased_of facts
       → (if enters then phased_after (Enters slot) x else x) ≡ phased_of (entering enters setup slot facts)
-  entering_phased true x is plain = ap (phased_after (Enters slot)) is ∙ enters_goes facts.control (is_some facts.peer.version) slot plain
-  entering_phased false x is plain = is
+  entering_phased true x is = ap (phased_after (Enters slot)) is ∙ sym (entered_phased setup slot facts)
+  entering_phased false x is = is
 
-  entered_slot : (next_anchor_of facts.control.track == slot) ≡ true → slot ≡ (after (control_enters slot true) facts.control).track.anchor
-  entered_slot is =
-      sym (eqb-true (next_anchor_of facts.control.track) slot is)
-      ∙ sym (anchor_entered facts.control.track.waits facts.control.track) ∙ ap (λ (t : TrackFacts). t.anchor) (sym (enters_track facts.control slot true lasts))
+  module _ (turns : ℕ) (r : IsAtRest setup turns facts) where
+    abbrev x : Phased
+    x = phased_of facts
 
-  pub entering_rests : (turns : ℕ) (enters : Bool) → (next_anchor_of facts.control.track == slot) ≡ enters → IsAtRest setup turns facts
-      → IsAtRest setup turns (entering enters setup slot facts)
-  entering_rests turns false is r = r
-  entering_rests turns true is r =
-      record {
-        fits = stays_fitting facts.control (control_enters slot true) r.fits tt;
-        plain = record { encryption = r.plain.encryption; control = stays facts.control (control_enters slot true) r.plain.control refl };
-        role = same_role setup.link.role (control_enters slot true) facts.control r.role;
-        none_gone = r.none_gone;
-        payload = r.payload;
-        fits_any = r.fits_any;
-        two_bits = r.two_bits;
-        slot = λ entered. entered_slot is;
-        number = refl;
-        heard = λ heard. absurd (cc);
-        past = r.past;
-        goes =
-            subst (λ (closing : Closing). (is_quiet_now facts && not (is_disconnecting closing)) ≡ is_open closing)
-            (sym (enters_closing facts.control slot)) r.goes;
-        stays = r.stays;
-      }
+    begun : IfSome (request_of (ask_begun (table_entered x) (is_quiet_phased x))) IsLaterPdu
+    begun = begun_later x r.plain.control
+
+    pub entering_lasts : (enters : Bool) → (entering enters setup slot facts).control.ends ≡ None
+    entering_lasts true = ap (λ (y : Phased). y.control.ends) (entered_phased setup slot facts) ∙ entered_lasts x slot lasts begun
+    entering_lasts false = lasts
+
+    -- the control part in the event, before a PDU of the encryption is queued
+    abbrev in_event : Control
+    in_event = after (control_enters slot (is_quiet_now facts)) facts.control
+
+    pub kept : IsKept in_event (facts_entered setup slot facts).control
+    kept =
+        subst (λ (y : Phased). IsKept in_event y.control) (sym (entered_phased setup slot facts)) (entered_keeps x slot lasts begun).kept
+
+    fits : PhasedFits (phased_of (facts_entered setup slot facts))
+    fits = subst PhasedFits (sym (entered_phased setup slot facts)) (entered_fits x slot lasts begun (fits_of setup turns facts r))
+
+    entered_role : role_of (facts_entered setup slot facts).control.table.progress ≡ setup.link.role
+    entered_role =
+        subst (λ (y : Phased). role_now y ≡ setup.link.role) (sym (entered_phased setup slot facts))
+        ((entered_keeps x slot lasts begun).role setup.link.role (same_role setup.link.role (control_enters slot (is_quiet_now facts)) facts.control r.role))
+
+    entered_slot : (next_anchor_of facts.control.track == slot) ≡ true → slot ≡ (facts_entered setup slot facts).control.track.anchor
+    entered_slot is =
+        sym (eqb-true (next_anchor_of facts.control.track) slot is)
+        ∙ sym (anchor_entered facts.control.track.waits facts.control.track)
+        ∙ ap (λ (t : TrackFacts). t.anchor) (sym (enters_track facts.control slot (is_quiet_now facts) lasts)) ∙ sym kept.anchor
+
+    plain_entered : IsPlain setup.link.role (facts_entered setup slot facts)
+    plain_entered =
+        subst (IsPlain setup.link.role) (λ i. if is_none (lasts i) then facts_entered setup slot facts else facts)
+        (step_plain setup facts (EventEntered slot) r.plain)
+
+    pub entering_rests : (enters : Bool) → (next_anchor_of facts.control.track == slot) ≡ enters → IsAtRest setup turns (entering enters setup slot facts)
+    entering_rests false is = r
+    entering_rests true is =
+        record {
+          fits = fits.control;
+          holds = record { request = fits.request; kept = fits.kept; response = r.holds.response };
+          plain = plain_entered;
+          role = entered_role;
+          none_gone = r.none_gone;
+          payload = r.payload;
+          fits_any = r.fits_any;
+          two_bits = r.two_bits;
+          slot = λ entered. entered_slot is;
+          number = refl;
+          heard = λ heard. absurd (cc);
+          past = r.past;
+          goes =
+              subst (λ (closing : Closing). not (is_disconnecting closing) ≡ is_open closing)
+              (sym (kept.closing ∙ enters_closing facts.control slot (is_quiet_now facts))) r.goes;
+          stays = r.stays;
+        }
 
 rests_later : (setup : Setup) (turns : ℕ) (facts : Facts) → IsAtRest setup turns facts → IsAtRest setup (turns + 1) facts
 rests_later setup turns facts r =
     record {
       fits = r.fits;
+      holds = r.holds;
       plain = r.plain;
       role = r.role;
       none_gone = r.none_gone;
@@ -221,27 +269,27 @@ module _ (central peripheral : Setup) (slot : ℕ) (answers : Bool) (l : Link) (
 
     central_phased : next.central ≡ phased_of central_next
     central_phased =
-        entering_phased central slot c central_lasts (next_anchor_of c.control.track == slot) l.joint.central s.central_part s.central_rests.plain.control
+        entering_phased central slot c central_lasts (next_anchor_of c.control.track == slot) l.joint.central s.central_part
 
     peripheral_phased : next.peripheral ≡ phased_of peripheral_next
     peripheral_phased =
-        entering_phased peripheral slot p peripheral_lasts (next_anchor_of p.control.track == slot) l.joint.peripheral s.peripheral_part s.peripheral_rests.plain.control
+        entering_phased peripheral slot p peripheral_lasts (next_anchor_of p.control.track == slot) l.joint.peripheral s.peripheral_part
 
     next_shows : Shows central peripheral (slot + 1) false (record { turns = after_turn l.turns; joint = next }) central_next peripheral_next
     next_shows =
         peripheral_shows central peripheral (slot + 1) false (record { turns = after_turn l.turns; joint = record l.joint { central = next.central } }) central_next p
         (central_shows central peripheral (slot + 1) false (record l { turns = after_turn l.turns }) c p turn_shows next.central central_next central_phased
         (entering_sends central slot c central_lasts _) (entering_hears central slot c central_lasts _)
-        (entering_rests central slot c central_lasts (slot + 1) _ refl (rests_later central slot c s.central_rests)))
+        (entering_rests central slot c central_lasts (slot + 1) (rests_later central slot c s.central_rests) _ refl))
         next.peripheral peripheral_next peripheral_phased (entering_sends peripheral slot p peripheral_lasts _) (entering_hears peripheral slot p peripheral_lasts _)
-        (entering_rests peripheral slot p peripheral_lasts (slot + 1) _ refl (rests_later peripheral slot p s.peripheral_rests))
+        (entering_rests peripheral slot p peripheral_lasts (slot + 1) (rests_later peripheral slot p s.peripheral_rests) _ refl)
 
     pub begun_shows : Shows central peripheral (slot + 1) false (link_after (Begins slot) l) (entered_in central slot c) (entered_in peripheral slot p)
     begun_shows =
         subst (λ (d : Facts). Shows central peripheral (slot + 1) false (link_after (Begins slot) l) d (entered_in peripheral slot p))
-        (sym (entered_is central slot c central_lasts s.central_rests.plain _ refl))
+        (sym (entered_is central slot c central_lasts _ refl))
         (subst (λ (q : Facts). Shows central peripheral (slot + 1) false (link_after (Begins slot) l) central_next q)
-        (sym (entered_is peripheral slot p peripheral_lasts s.peripheral_rests.plain _ refl))
+        (sym (entered_is peripheral slot p peripheral_lasts _ refl))
         (subst (λ (j : Joint). Shows central peripheral (slot + 1) false (record { turns = after_turn l.turns; joint = j }) central_next peripheral_next)
         (sym leads) next_shows))
 
@@ -249,5 +297,5 @@ module _ (central peripheral : Setup) (slot : ℕ) (answers : Bool) (l : Link) (
     begun_runs =
         subst (λ (j : Joint). is_running j ≡ true) (sym leads)
         (running_from next (goes_on l.joint running).stopped
-        (ap (λ (x : Phased). x.control.ends) central_phased ∙ entering_lasts central slot c central_lasts _)
-        (ap (λ (x : Phased). x.control.ends) peripheral_phased ∙ entering_lasts peripheral slot p peripheral_lasts _))
+        (ap (λ (x : Phased). x.control.ends) central_phased ∙ entering_lasts central slot c central_lasts slot s.central_rests _)
+        (ap (λ (x : Phased). x.control.ends) peripheral_phased ∙ entering_lasts peripheral slot p peripheral_lasts slot s.peripheral_rests _))

@@ -1,49 +1,45 @@
 -- A central that hears the answer of the peripheral: it sees its last PDU acknowledged, and takes that of the peripheral.
-use Rattle.std.proofs.Common.{◌≡◌, ℕ, ◌+◌, ◌≤◌, ◌&&◌, ◌||◌, not, Bool, true, false, List, ◌++◌, Option, None, is_none, is_some, refl, ap, sym, ◌∙◌, subst, if◌then◌else◌}
-use Rattle.std.proofs.lemmas.Bool.{and_parts, or_right}
+use Rattle.std.proofs.Common.{◌≡◌, ℕ, ◌+◌, ◌≤◌, ◌&&◌, ◌||◌, not, Bool, true, false, List, ◌++◌, None, is_none, refl, ap, sym, ◌∙◌, subst, if◌then◌else◌}
+use Rattle.std.proofs.lemmas.Bool.{and_from, and_parts, or_right}
 use Rattle.ble_base.specs.declared.roles.Role.{Role}
-use Rattle.ble_base.specs.declared.error_codes.ErrCode.{ErrCode}
+use Rattle.ble_base.specs.declared.roles.Role.TheVariants.{Central}
 use Rattle.data_pdu.specs.declared.ctrl.Ctrl.{Ctrl}
 use Rattle.data_pdu.specs.declared.ctrl.CtrlRead.TheVariants.{Known}
 use Rattle.data_pdu.specs.declared.ctrl.CtrlRead.{CtrlRead}
-use Rattle.data_pdu.specs.Reading.{ctrl_of}
 use Rattle.data_pdu.specs.declared.header.DataHeader.{DataHeader}
 use Rattle.control_octets.specs.procedure_values.declared.drafts.Outgoing.{Outgoing}
-use Rattle.control_octets.specs.control_model.Control.{Control, Takes, after}
-use Rattle.control_octets.specs.control_model.Supported.{begins_encryption}
-use Rattle.unencrypted_ends.specs.phased_control.Phased.{Phased}
-use Rattle.unencrypted_ends.specs.phased_control.Taken.{SeesAcknowledged, is_version, phased_after}
-use Rattle.unencrypted_ends.specs.Unencrypted.{plain_phased}
-use Rattle.unencrypted_ends.proofs.Going.{acknowledged_goes, data_left}
-use Rattle.unencrypted_ends.proofs.Taking.{takes_goes}
+use Rattle.joint_laws.specs.joint_controls.phased_control.Phased.{Phased}
+use Rattle.joint_laws.specs.joint_controls.phased_control.Taken.{SeesAcknowledged, Takes, TakesData, phased_after, role_now}
 use Rattle.joint_laws.specs.joint_controls.Ends.{outgoing_on}
 use Rattle.joint_laws.specs.joint_controls.Joint.{CentralAcked, CentralTakes, Clear, Control as control_item, Data as data_item, Item, Joint, JointStep, OnAir, Taken, Way, act, after_all, central_takes, is_free, is_last, is_running, is_taken, is_terminate, item_on_air, may_all, no_response, taking}
 use Rattle.joint_laws.proofs.joint_controls.Running.{GoesOn, goes_on, none_of}
 use Rattle.joint_laws.specs.joint_parameters.Turns.{IsAnswered, Link, LinkStep, link_after, step_if, takes_item}
 use Rattle.joint_laws.proofs.joint_parameters.Pairing.{after_may, running_from}
 use Rattle.joint_laws.proofs.joint_parameters.Runs.{after_joined}
+use Rattle.link_model.specs.phased_end.Taking.{drawn}
 use Rattle.link_model.specs.Setup.{Setup}
 use Rattle.link_model.specs.Acknowledgement.{Pdu, received_by, with_accepted}
 use Rattle.link_model.specs.OneLink.{AreInAgreement}
 use Rattle.link_model.specs.Data.{is_control, is_data, is_empty}
-use Rattle.link_model.specs.Controls.{goes_on as end_goes_on, read_of, is_procedure_pdu, is_terminate as is_terminate_pdu}
-use Rattle.link_model.specs.declared.state.Leaving.{Leaving}
-use Rattle.link_model.specs.Facts.{Facts}
+use Rattle.link_model.specs.Controls.{goes_on as end_goes_on, is_procedure_pdu, is_terminate as is_terminate_pdu}
+use Rattle.link_model.specs.Facts.{Facts, keyed_of}
 use Rattle.link_model.specs.Step.{PacketReceived}
-use Rattle.link_model.specs.Plain.{control_acked_if, plain_control_taken as control_taken, plain_hearing as facts_hearing, plain_takes as procedures_take, plain_takes_if as procedures_take_if}
-use Rattle.link_model.specs.Receiving.{leaving_acked_if, peer_from_if}
-use Rattle.link_pairs.specs.Ends.{AreEnds, heard_turns, is_lasting}
+use Rattle.link_model.specs.Plain.{IsPlain}
+use Rattle.link_model.specs.Receiving.{accepted_if, data_taken_if, facts_hearing, procedures_take_if, taken_if}
+use Rattle.link_model.proofs.Plain.{step_plain}
+use Rattle.link_pairs.specs.Ends.{AreEnds, heard_turns, is_lasting, phased_of}
 use Rattle.link_pairs.specs.Hearing.{IsPacketOf, received}
 use Rattle.link_pairs.specs.Shown.{AreLinked, Shows}
 use Rattle.link_pairs.specs.Ways.{IsControlPdu, ShowsWay}
-use Rattle.link_pairs.proofs.ControlKept.{Keeps, acked_ends, keeps_acked, keeps_none, keeps_taken, keeps_then}
-use Rattle.link_pairs.proofs.TakingPdus.{asks_nothing, begins_none, supported, taken_same, version_from}
+use Rattle.link_pairs.proofs.PhasedEnds.{acked_if, acked_lasts, acked_phased, data_phased, drawn_alike, takes_phased}
+use Rattle.link_pairs.proofs.PhasedKept.{PhasedKeeps, acked_keeps_if, data_keeps, fits_of, kept_then, stays_kept, taken_keeps}
+use Rattle.link_pairs.proofs.TakingPdus.{taken_same}
+use Rattle.link_pairs.proofs.TerminatesNoted.{terminates_nothing}
 use Rattle.link_pairs.proofs.SeenAcknowledged.{control_seen, ends_nothing}
 use Rattle.link_pairs.proofs.Counts.{Says, acknowledged_by, heard_agreed, is_fresh, says_right, turned}
-use Rattle.link_pairs.proofs.HeardFacts.{accepted_facts, acked_facts, heard_rests, hears_shows}
-use Rattle.link_pairs.proofs.Items.{control_is_procedure, data_is_no_procedure, never}
+use Rattle.link_pairs.proofs.HeardFacts.{acked_facts, heard_rests, hears_shows}
+use Rattle.link_pairs.proofs.Items.{control_is_no_data, control_is_procedure, data_is_no_procedure, never}
 use Rattle.link_pairs.proofs.Lasting.{lasts_before}
-use Rattle.link_pairs.proofs.TerminatingPdus.{ends_nothing_yet}
 use Rattle.link_pairs.proofs.LastPdus.{last_reached}
 use Rattle.link_pairs.proofs.Reaching.{IsReached, IsShown, comes, linked_on, reached_next}
 use Rattle.link_pairs.proofs.Reading.{AreHeard, IsRead, is_read}
@@ -79,21 +75,6 @@ acked_as : (acks : Bool) (s : Joint) → acking_if acks s ≡ record s {
 acked_as true s = refl
 acked_as false s = refl
 
--- ---- its control part sees it acknowledged, or does not
-
-keeps_seen : (acks : Bool) (k : Control) → Keeps k (control_acked_if acks k)
-keeps_seen true k = keeps_acked k
-keeps_seen false k = keeps_none k
-
-ends_seen : (acks : Bool) (k : Control) → (control_acked_if acks k).ends ≡ k.ends
-ends_seen true k = acked_ends k
-ends_seen false k = refl
-
-seen_plain : (acks knows : Bool) (k : Control)
-    → (if acks then phased_after SeesAcknowledged (plain_phased k knows) else plain_phased k knows) ≡ plain_phased (control_acked_if acks k) knows
-seen_plain true knows k = acknowledged_goes k knows
-seen_plain false knows k = refl
-
 -- it takes an item
 taking_as : (item : Item) (sealed : Bool) (slot : ℕ) (s : Joint) → s.up ≡ OnAir item sealed
     → act (CentralTakes slot) s
@@ -102,7 +83,7 @@ taking_as item sealed slot s is = ap (λ (way : Way). central_takes way slot s) 
 
 -- ---- both together
 
-module _ (central peripheral : Setup) (slot : ℕ) (more acks fresh : Bool) (c p : Facts) (l : Link)
+module _ (central peripheral : Setup) (at_central : central.link.role ≡ Central) (slot : ℕ) (more acks fresh : Bool) (c p : Facts) (l : Link)
     (s : Shows central peripheral (slot + 1) true l c p) (says : Says c.acknowledgement p.acknowledgement acks fresh)
     (g : GoesOn l.joint) (past : heard_turns central c ≤ slot) (entered : 1 ≤ c.control.track.entered)
     (out : c.control.table.out ≡ outgoing_on l.joint.down) where
@@ -121,161 +102,131 @@ module _ (central peripheral : Setup) (slot : ℕ) (more acks fresh : Bool) (c p
   abbrev joint_by : Bool → Joint
   joint_by takes = taking_if takes slot (acking_if (is_taken l.joint.down) l.joint)
 
-  abbrev facts_by : Bool → Bool → Facts
-  facts_by takes accepted = procedures_take_if takes last slot (accepted_facts slot more acks accepted last c)
+  abbrev acked : Facts
+  acked = acked_facts slot more acks c
 
-  abbrev seen : Control
-  seen = control_acked_if (acks && is_control c.acknowledgement.last) c.control
-
-  abbrev knows : Bool
-  knows = is_some c.peer.version
-
-  abbrev leaving_seen : Leaving
-  leaving_seen = leaving_acked_if (acks && is_terminate_pdu c.acknowledgement.last) c.leaving
+  abbrev seen : Phased
+  seen = phased_of acked
 
   lasts : c.control.ends ≡ None
   lasts = ap (λ (x : Phased). x.control.ends) (sym s.central_part) ∙ g.central
 
-  seen_lasts : seen.ends ≡ None
-  seen_lasts = ends_seen (acks && is_control c.acknowledgement.last) c.control ∙ lasts
+  seen_is : seen ≡ acked_if (acks && is_control c.acknowledgement.last) (phased_of c)
+  seen_is = acked_phased (acks && is_control c.acknowledgement.last) (keyed_of c)
 
-  seen_keeps : Keeps c.control seen
-  seen_keeps = keeps_seen (acks && is_control c.acknowledgement.last) c.control
+  seen_lasts : seen.control.ends ≡ None
+  seen_lasts = ap (λ (x : Phased). x.control.ends) seen_is ∙ acked_lasts (acks && is_control c.acknowledgement.last) (phased_of c) lasts
 
-  stays_open : leaving_seen.acknowledged ≡ false
+  seen_keeps : PhasedKeeps (phased_of c) seen
+  seen_keeps =
+      subst (PhasedKeeps (phased_of c)) (sym seen_is)
+      (acked_keeps_if (acks && is_control c.acknowledgement.last) (phased_of c) lasts (fits_of central (slot + 1) c s.central_rests))
+
+  seen_role : role_now seen ≡ Central
+  seen_role = seen_keeps.role Central (s.central_rests.role ∙ at_central)
+
+  stays_open : acked.leaving.acknowledged ≡ false
   stays_open =
       ap (λ (b : Bool). b || (acks && is_terminate_pdu c.acknowledgement.last)) s.central_rests.stays
       ∙ ends_nothing c.acknowledgement p.acknowledgement acks fresh says l.joint.down s.down
 
-  seen_part : (if is_taken l.joint.down then phased_after SeesAcknowledged l.joint.central else l.joint.central) ≡ plain_phased seen knows
+  seen_part : acked_if (is_taken l.joint.down) l.joint.central ≡ seen
   seen_part =
-      ap (λ (x : Phased). if is_taken l.joint.down then phased_after SeesAcknowledged x else x) s.central_part
-      ∙ seen_plain (is_taken l.joint.down) knows c.control
-      ∙ ap (λ (k : Control). plain_phased k knows)
-      (sym (control_seen c.acknowledgement p.acknowledgement acks fresh says l.joint.down c.control s.down out))
+      ap (acked_if (is_taken l.joint.down)) s.central_part
+      ∙ sym (control_seen c.acknowledgement p.acknowledgement acks fresh says l.joint.down (phased_of c) s.down out) ∙ sym seen_is
 
   abbrev joint_seen : Joint
-  joint_seen =
-      record l.joint { central = plain_phased seen knows; down = (if is_taken l.joint.down then Clear else l.joint.down) }
+  joint_seen = record l.joint { central = seen; down = (if is_taken l.joint.down then Clear else l.joint.down) }
 
   joint_seen_is : acking_if (is_taken l.joint.down) l.joint ≡ joint_seen
   joint_seen_is =
       acked_as (is_taken l.joint.down) l.joint
       ∙ λ i. record l.joint { central = seen_part i; down = (if is_taken l.joint.down then Clear else l.joint.down) }
 
-  -- its procedures take nothing
-  module _ (accepted : Bool) (none : (accepted && is_procedure_pdu last) ≡ false)
+  -- its procedures take what arrived, or nothing
+  module _ (accepted : Bool) (plain : IsPlain central.link.role (taken_if accepted last slot acked))
       (agreed : AreInAgreement (received_by acks accepted last c.acknowledgement) p.acknowledgement) where
-    quiet : (j : Joint) (up : Way) (stopped : Bool) → stopped ≡ false → j ≡ record joint_seen { up = up; stopped = stopped } → is_free up ≡ true
-        → ShowsWay up p.acknowledgement (with_accepted accepted last c.acknowledgement)
-        → after_hearing j (facts_by (accepted && is_procedure_pdu last) accepted)
-    quiet j up stopped not_stopped is free shown =
-        subst (λ (b : Bool). after_hearing j (facts_by b accepted)) (sym none)
-        (subst (λ (j : Joint). after_hearing j (facts_by false accepted)) (sym is) (
-          λ still. hears_shows central peripheral slot more acks fresh c p l s says accepted (plain_phased seen knows) up stopped seen c.encryption.knows_version c.peer
-              c.lengths leaving_seen refl shown free agreed
-              (heard_rests slot more acks accepted last c central seen c.encryption.knows_version c.peer c.lengths leaving_seen seen_keeps s.central_rests past entered
-              stays_open),
-          λ lasting. running_from (record joint_seen { up = up; stopped = stopped }) not_stopped seen_lasts g.peripheral,
-          refl,
-        ))
+    abbrev given : Facts
+    given = accepted_if accepted last acked
 
-    nothing_taken : is_free l.joint.up ≡ true → ShowsWay l.joint.up p.acknowledgement (with_accepted accepted last c.acknowledgement)
-        → after_hearing (joint_by false) (facts_by (accepted && is_procedure_pdu last) accepted)
-    nothing_taken = quiet (joint_by false) l.joint.up l.joint.stopped g.stopped joint_seen_is
+    abbrev now : Facts
+    now = taken_if accepted last slot acked
 
-    data_taken : (sealed : Bool) → l.joint.up ≡ OnAir data_item sealed
-        → ShowsWay (Taken data_item) p.acknowledgement (with_accepted accepted last c.acknowledgement)
-        → after_hearing (joint_by true) (facts_by (accepted && is_procedure_pdu last) accepted)
-    data_taken sealed is =
-        quiet (joint_by true) (Taken data_item) false refl
-        (ap (act (CentralTakes slot)) joint_seen_is ∙ taking_as data_item sealed slot joint_seen is
-        ∙ λ i. record joint_seen { central = data_left seen knows i; up = Taken data_item; stopped = false })
-        refl
+    -- what is taken is this, by what it is
+    taken_as : (procedure has_data : Bool) → (accepted && is_procedure_pdu last) ≡ procedure → (accepted && is_data last) ≡ has_data
+        → phased_of now ≡ phased_of (data_taken_if has_data (procedures_take_if procedure last slot given))
+    taken_as procedure has_data one two = λ i. phased_of (data_taken_if (two i) (procedures_take_if (one i) last slot given))
 
-  -- its procedures take a control PDU
-  module _ (outgoing : Outgoing) (ctrl : Ctrl) (sealed : Bool) (is : l.joint.up ≡ OnAir (control_item outgoing ctrl) sealed)
-      (item : IsControlPdu ctrl last) (agreed : AreInAgreement (received_by acks true last c.acknowledgement) p.acknowledgement) where
-    begins : begins_encryption ctrl ≡ false
-    begins = begins_none (ctrl_of last.body) ctrl item.read_as
-
-    abbrev before : Facts
-    before = accepted_facts slot more acks true last c
-
-    abbrev took : Control
-    took = control_taken last slot before
-
-    took_is : took ≡ after (Takes (Known ctrl) slot true) seen
-    took_is = ap (λ (read : CtrlRead). after (Takes read slot true) seen) item.read_as
-
-    part : phased_after (taking (control_item outgoing ctrl) slot no_response) (plain_phased seen knows)
-        ≡ plain_phased took (knows || is_version (Known ctrl))
-    part =
-        takes_goes seen knows (Known ctrl) slot no_response (asks_nothing ctrl begins) seen_lasts
-        ∙ ap (λ (k : Control). plain_phased k (knows || is_version (Known ctrl)))
-        (ap (λ (read : CtrlRead). after (Takes read slot true) seen) (supported ctrl begins) ∙ sym took_is)
-
-    abbrev joint_took : Joint
-    joint_took =
-        record joint_seen {
-          central = plain_phased took (knows || is_version (Known ctrl));
-          up = Taken (control_item outgoing ctrl);
-          stopped = is_terminate ctrl;
-        }
-
-    joint_took_is : joint_by true ≡ joint_took
-    joint_took_is =
-        ap (act (CentralTakes slot)) joint_seen_is ∙ taking_as (control_item outgoing ctrl) sealed slot joint_seen is
-        ∙ λ i. record joint_seen { central = part i; up = Taken (control_item outgoing ctrl); stopped = is_terminate ctrl }
-
-    took_keeps : is_terminate ctrl ≡ false → Keeps c.control took
-    took_keeps goes =
-        subst (Keeps c.control) (sym took_is)
-        (keeps_then c.control seen (after (Takes (Known ctrl) slot true) seen) seen_keeps
-        (keeps_taken seen ctrl slot true item.is_ctrl begins goes))
-
-    knows_now : is_none took.ends ≡ true
-        → (knows || is_version (Known ctrl)) ≡ is_some (peer_from_if (is_none took.ends) (read_of last) c.peer).version
-    knows_now still = sym ((λ i. is_some (peer_from_if (still i) (item.read_as i) c.peer).version) ∙ version_from ctrl c.peer)
-
-    control_taken_now : (is_terminate ctrl ≡ false → ShowsWay (Taken (control_item outgoing ctrl)) p.acknowledgement (with_accepted true last c.acknowledgement))
-        → after_hearing (joint_by true) (facts_by true true)
-    control_taken_now shown =
-        let d = procedures_take last slot before in
-        subst (λ (j : Joint). after_hearing j d) (sym joint_took_is) (
-          λ still. let now = goes_on joint_took still in
-              hears_shows central peripheral slot more acks fresh c p l s says true (plain_phased took (knows || is_version (Known ctrl)))
-              (Taken (control_item outgoing ctrl)) (is_terminate ctrl) took d.encryption.knows_version d.peer d.lengths d.leaving
-              (ap (plain_phased took) (knows_now (ap (λ (ends : Option ErrCode). is_none ends) now.central)))
-              (shown now.stopped) refl agreed
-              (heard_rests slot more acks true last c central took d.encryption.knows_version d.peer d.lengths d.leaving (took_keeps now.stopped) s.central_rests
-              past entered
-              ((taken_same true last slot before).acknowledged ∙ stays_open)),
-          λ lasting. let parts = and_parts (end_goes_on d) (is_none d.leaving.ended_by_peer) lasting in
-              let ends = none_of took.ends parts.0 in
-              running_from joint_took (ends_nothing_yet ctrl slot last before item.read_as ends parts.1) ends g.peripheral,
+    came : (up : Way) (stopped : Bool) → is_free up ≡ true
+        → (stopped ≡ false → ShowsWay up p.acknowledgement (with_accepted accepted last c.acknowledgement))
+        → (stopped ≡ false → PhasedKeeps seen (phased_of now))
+        → (now.control.ends ≡ None → is_none now.leaving.ended_by_peer ≡ true → stopped ≡ false)
+        → after_hearing (record joint_seen { central = phased_of now; up = up; stopped = stopped }) now
+    came up stopped free shown keeps ends =
+        let j = record joint_seen { central = phased_of now; up = up; stopped = stopped } in
+        let took = taken_same (accepted && is_procedure_pdu last) (accepted && is_data last) last slot given in (
+          λ still. let goes = goes_on j still in
+              hears_shows central peripheral slot more acks fresh c p l s says accepted (phased_of now) up stopped now took refl (shown goes.stopped) free agreed
+              (heard_rests slot more acks accepted last c central now took (kept_then (phased_of c) seen (phased_of now) seen_keeps (keeps goes.stopped)) plain
+              s.central_rests past entered stays_open),
+          λ lasting. let parts = and_parts (end_goes_on now) (is_none now.leaving.ended_by_peer) lasting in
+              let none = none_of now.control.ends parts.0 in
+              running_from j (ends none parts.1) none g.peripheral,
           refl,
         )
 
-  -- it takes what arrived
-  hears_by : (takes accepted : Bool) → Arrival l.joint.up p.acknowledgement c.acknowledgement takes accepted
-      → AreInAgreement (received_by acks accepted last c.acknowledgement) p.acknowledgement
-      → after_hearing (joint_by takes) (facts_by (accepted && is_procedure_pdu last) accepted)
-  hears_by takes accepted (NothingTaken is none free shown) agreed =
-      subst (λ (b : Bool). after_hearing (joint_by b) (facts_by (accepted && is_procedure_pdu last) accepted)) (sym is)
-      (nothing_taken accepted none agreed free shown)
-  hears_by takes accepted (ItemTaken data_item sealed way is is_accepted item shown) agreed =
-      let none = ap (λ (b : Bool). accepted && b) (data_is_no_procedure last item) ∙ never accepted in
-      subst (λ (b : Bool). after_hearing (joint_by b) (facts_by (accepted && is_procedure_pdu last) accepted)) (sym is)
-      (data_taken accepted none agreed sealed way (shown refl))
-  hears_by takes accepted (ItemTaken (control_item outgoing ctrl) sealed way is is_accepted item shown) agreed =
-      let way_then = λ (b : Bool). ShowsWay (Taken (control_item outgoing ctrl)) p.acknowledgement (with_accepted b last c.acknowledgement) in
-      subst (λ (b : Bool). after_hearing (joint_by b) (facts_by (accepted && is_procedure_pdu last) accepted)) (sym is)
-      (subst (λ (b : Bool). after_hearing (joint_by true) (facts_by (b && is_procedure_pdu last) b)) (sym is_accepted)
-      (subst (λ (b : Bool). after_hearing (joint_by true) (facts_by b true)) (sym (control_is_procedure ctrl last item))
-      (control_taken_now outgoing ctrl sealed way item
-      (subst (λ (b : Bool). AreInAgreement (received_by acks b last c.acknowledgement) p.acknowledgement) is_accepted agreed)
-      (λ goes. subst way_then is_accepted (shown goes)))))
+    nothing_taken : (accepted && is_procedure_pdu last) ≡ false → (accepted && is_data last) ≡ false → is_free l.joint.up ≡ true
+        → ShowsWay l.joint.up p.acknowledgement (with_accepted accepted last c.acknowledgement) → after_hearing (joint_by false) now
+    nothing_taken none no_data free shown =
+        let left : phased_of now ≡ seen = taken_as false false none no_data in
+        subst (λ (j : Joint). after_hearing j now)
+        (sym (joint_seen_is ∙ λ i. record joint_seen { central = sym left i; up = l.joint.up; stopped = g.stopped i }))
+        (came l.joint.up false free (λ goes. shown) (λ goes. subst (PhasedKeeps seen) (sym left) (stays_kept seen seen_keeps.fits)) (λ none still. refl))
+
+    data_taken_now : (sealed : Bool) → l.joint.up ≡ OnAir data_item sealed → accepted ≡ true → is_data last ≡ true
+        → ShowsWay (Taken data_item) p.acknowledgement (with_accepted accepted last c.acknowledgement) → after_hearing (joint_by true) now
+    data_taken_now sealed way is_accepted item shown =
+        let took : phased_of now ≡ phased_after TakesData seen =
+        taken_as false true (ap (λ (b : Bool). accepted && b) (data_is_no_procedure last item) ∙ never accepted) (and_from accepted (is_data last) is_accepted item)
+        ∙ data_phased given in
+        subst (λ (j : Joint). after_hearing j now)
+        (sym (ap (act (CentralTakes slot)) joint_seen_is ∙ taking_as data_item sealed slot joint_seen way
+        ∙ λ i. record joint_seen { central = sym took i; up = Taken data_item; stopped = false }))
+        (came (Taken data_item) false refl (λ goes. shown)
+        (λ goes. subst (PhasedKeeps seen) (sym took) (data_keeps seen seen_lasts seen_keeps.fits)) (λ none still. refl))
+
+    control_taken_now : (outgoing : Outgoing) (ctrl : Ctrl) (sealed : Bool) → l.joint.up ≡ OnAir (control_item outgoing ctrl) sealed → accepted ≡ true
+        → IsControlPdu ctrl last
+        → (is_terminate ctrl ≡ false → ShowsWay (Taken (control_item outgoing ctrl)) p.acknowledgement (with_accepted accepted last c.acknowledgement))
+        → after_hearing (joint_by true) now
+    control_taken_now outgoing ctrl sealed way is_accepted item shown =
+        let response = drawn c.encryption.response in
+        let took : phased_of now ≡ phased_after (Takes (Known ctrl) slot response) seen =
+        taken_as true false (and_from accepted (is_procedure_pdu last) is_accepted (control_is_procedure ctrl last item))
+        (ap (λ (b : Bool). accepted && b) (control_is_no_data ctrl last item) ∙ never accepted)
+        ∙ takes_phased last slot given ∙ ap (λ (read : CtrlRead). phased_after (Takes read slot response) seen) item.read_as in
+        subst (λ (j : Joint). after_hearing j now)
+        (sym (ap (act (CentralTakes slot)) joint_seen_is ∙ taking_as (control_item outgoing ctrl) sealed slot joint_seen way
+        ∙ λ i. record joint_seen {
+          central = (drawn_alike slot no_response response (Known ctrl) seen seen_role ∙ sym took) i;
+          up = Taken (control_item outgoing ctrl);
+          stopped = is_terminate ctrl;
+        }))
+        (came (Taken (control_item outgoing ctrl)) (is_terminate ctrl) refl shown
+        (λ goes. subst (PhasedKeeps seen) (sym took)
+        (taken_keeps slot response ctrl (item.is_ctrl, goes) s.central_rests.holds.response seen seen_keeps.fits seen_lasts))
+        (λ still none. terminates_nothing ctrl slot last acked item
+        (ap (λ (b : Bool). (taken_if b last slot acked).control.ends) (sym is_accepted) ∙ still)
+        (ap (λ (b : Bool). is_none (taken_if b last slot acked).leaving.ended_by_peer) (sym is_accepted) ∙ none)))
+
+    -- it takes what arrived
+    hears_by : (takes : Bool) → Arrival l.joint.up p.acknowledgement c.acknowledgement takes accepted → after_hearing (joint_by takes) now
+    hears_by takes (NothingTaken is none no_data free shown) =
+        subst (λ (b : Bool). after_hearing (joint_by b) now) (sym is) (nothing_taken none no_data free shown)
+    hears_by takes (ItemTaken data_item sealed way is is_accepted item shown) =
+        subst (λ (b : Bool). after_hearing (joint_by b) now) (sym is) (data_taken_now sealed way is_accepted item (shown refl))
+    hears_by takes (ItemTaken (control_item outgoing ctrl) sealed way is is_accepted item shown) =
+        subst (λ (b : Bool). after_hearing (joint_by b) now) (sym is) (control_taken_now outgoing ctrl sealed way is_accepted item shown)
 
 -- ---- an answer is heard
 
@@ -305,8 +256,7 @@ module _ (central peripheral : Setup) (ends : AreEnds central peripheral) (slot 
   has_room = room || not (is_data pdu)
 
   abbrev next_facts : Bool → Facts
-  next_facts accepted =
-      procedures_take_if (accepted && is_procedure_pdu pdu) pdu slot (accepted_facts slot header.md acks_last accepted pdu c)
+  next_facts accepted = taken_if accepted pdu slot (acked_facts slot header.md acks_last c)
 
   heard_as : (leaving_seen_open : (acked_facts slot header.md acks_last c).leaving.acknowledged ≡ false)
       → received central slot octets room c ≡ next_facts (is_fresh_pdu && has_room)
@@ -349,11 +299,13 @@ module _ (central peripheral : Setup) (ends : AreEnds central peripheral) (slot 
     hears_now : heard_in (link_after step l).joint (received central slot octets room c)
     hears_now =
         let g = goes_on l.joint running in
+        let is = heard_as (stays_open central peripheral ends.is_central slot header.md acks_last is_fresh_pdu c p l s says g past entered out_last) in
+        let plain : IsPlain central.link.role (next_facts (is_fresh_pdu && has_room)) =
+        subst (IsPlain central.link.role) is (step_plain central c (PacketReceived slot octets room) s.central_rests.plain) in
         subst (λ (j : Joint). heard_in j (received central slot octets room c)) (sym joint_now)
-        (subst (heard_in (taking_if takes slot (acking_if (is_taken l.joint.down) l.joint)))
-        (sym (heard_as (stays_open central peripheral slot header.md acks_last is_fresh_pdu c p l s says g past entered out_last)))
-        (hears_by central peripheral slot header.md acks_last is_fresh_pdu c p l s says g past entered out_last takes
-        (is_fresh_pdu && has_room) arrival agreed_now))
+        (subst (heard_in (taking_if takes slot (acking_if (is_taken l.joint.down) l.joint))) (sym is)
+        (hears_by central peripheral ends.is_central slot header.md acks_last is_fresh_pdu c p l s says g past entered out_last
+        (is_fresh_pdu && has_room) plain agreed_now takes arrival))
 
     -- also where the run stops by it
     pub control_heard : (link_after step l).joint.central.control ≡ (received central slot octets room c).control

@@ -1,10 +1,12 @@
 -- What the steps of the control part leave as it is, and what goes next after its last PDU was acknowledged.
-use Rattle.std.proofs.Common.{◌≡◌, ℕ, Bool, true, false, not, ◌&&◌, List, [], ◌∷◌, Option, Some, None, is_none, refl, ap, ◌∙◌, if◌then◌else◌}
+use Rattle.std.proofs.Common.{◌≡◌, ℕ, Bool, true, false, ◌&&◌, ◌<◌, List, [], ◌∷◌, Option, Some, None, is_none, refl, ap, ◌∙◌, if◌then◌else◌}
 use Rattle.ble_base.specs.ErrorCodes.{instant_passed}
+use Rattle.ble_base.specs.declared.error_codes.ErrCode.{ErrCode}
 use Rattle.ble_base.specs.declared.roles.Role.{Role}
 use Rattle.ble_base.specs.declared.roles.Role.TheVariants.{Central as central_role, Peripheral as peripheral_role}
 use Rattle.data_pdu.specs.declared.ctrl.Ctrl.{Ctrl}
-use Rattle.data_pdu.specs.declared.ctrl.CtrlRead.TheVariants.{Known}
+use Rattle.data_pdu.specs.declared.ctrl.Ctrl.TheVariants.{StartEncReq, TerminateInd}
+use Rattle.data_pdu.specs.declared.ctrl.CtrlRead.TheVariants.{Known, Unknown}
 use Rattle.data_pdu.specs.Layouts.{IsCtrl}
 use Rattle.instants.specs.declared.indications.Indication.{Indication}
 use Rattle.instants.specs.Track.{event_of, track_after_take}
@@ -13,25 +15,24 @@ use Rattle.control_octets.specs.procedure_values.declared.drafts.Draft.{Draft}
 use Rattle.control_octets.specs.procedure_values.declared.drafts.Outgoing.{Outgoing}
 use Rattle.control_octets.specs.procedure_values.declared.drafts.Outgoing.TheVariants.{Nothing}
 use Rattle.control_octets.specs.procedure_stages.Acked.{progress_acked}
+use Rattle.control_octets.specs.procedure_stages.declared.closing.Closing.{Closing}
 use Rattle.control_octets.specs.procedure_stages.Closing.{is_disconnecting}
 use Rattle.control_octets.specs.procedure_stages.declared.stages.Progress.{Progress}
 use Rattle.control_octets.specs.procedure_stages.declared.stages.Progress.TheVariants.{Central as central, Peripheral as peripheral}
 use Rattle.control_octets.specs.procedure_stages.Kinds.{role_of}
 use Rattle.control_octets.specs.procedure_stages.Queue.{next_by, next_disconnect, next_draft}
+use Rattle.control_octets.specs.procedures.Going.{closing_given}
 use Rattle.control_octets.specs.procedures.Queue.{next_of}
 use Rattle.control_octets.specs.procedures.Sending.{acked_step}
 use Rattle.control_octets.specs.procedures.Table.{TableFacts}
 use Rattle.control_octets.specs.procedures.Taking.{facts_with, outcome_of}
-use Rattle.control_octets.specs.control_model.Control.{Control, SeesAcknowledged, Sends, Takes, after, ended, following, goes_out, indicated_by, is_to_come, table_if, taken, went}
-use Rattle.control_octets.specs.control_model.Supported.{begins_encryption}
+use Rattle.control_octets.specs.control_model.Control.{Control, Owes, SeesAcknowledged, Sends, Takes, after, ended, following, goes_out, indicated_by, is_to_come, table_if, taken, went}
 use Rattle.control_octets.proofs.control_model.Calls.{acked_same, any_step, either_way, took_by}
 use Rattle.control_octets.proofs.control_model.Moving.{same_role}
 use Rattle.control_octets.specs.Fitting.{FitsOctets}
 use Rattle.control_octets.proofs.Steps.{stays_fitting}
 use Rattle.link_model.specs.control_end.Answers.{next_ctrl}
 use Rattle.link_model.specs.control_end.Held.{held_of}
-use Rattle.unencrypted_ends.specs.Unencrypted.{IsUnencrypted}
-use Rattle.unencrypted_ends.proofs.Staying.{stays}
 use Rattle.joint_laws.specs.joint_controls.Joint.{is_terminate}
 use Rattle.joint_laws.proofs.joint_phases.Outcomes.{keeps_open}
 
@@ -151,23 +152,21 @@ acked_next c quiet role =
     ((acked_same c.table.out c.table.progress).role ∙ role)))
     refl
 
--- ---- what a step keeps of an end: its event and its values, that it encrypts nothing, and its role
+-- ---- what a step keeps of an end: its event, its values and its role
 
 pub record Keeps (c d : Control) : Type 0 where
   pub kept : IsKept c d
   pub fits : FitsOctets c → FitsOctets d
-  pub plain : IsUnencrypted c → IsUnencrypted d
   pub role : (role : Role) → role_of c.table.progress ≡ role → role_of d.table.progress ≡ role
 
 pub keeps_none : (c : Control) → Keeps c c
-keeps_none c = record { kept = kept_none c; fits = λ is. is; plain = λ is. is; role = λ role is. is }
+keeps_none c = record { kept = kept_none c; fits = λ is. is; role = λ role is. is }
 
 pub keeps_then : (c d e : Control) → Keeps c d → Keeps d e → Keeps c e
 keeps_then c d e one two =
     record {
       kept = kept_then c d e one.kept two.kept;
       fits = λ is. two.fits (one.fits is);
-      plain = λ is. two.plain (one.plain is);
       role = λ role is. two.role role (one.role role is);
     }
 
@@ -176,7 +175,6 @@ keeps_acked c =
     record {
       kept = acked_kept c;
       fits = λ is. stays_fitting c SeesAcknowledged is tt;
-      plain = λ is. stays c SeesAcknowledged is refl;
       role = λ role is. same_role role SeesAcknowledged c is;
     }
 
@@ -185,17 +183,53 @@ keeps_sent c slot quiet =
     record {
       kept = sent_kept c slot quiet;
       fits = λ is. stays_fitting c (Sends slot quiet) is tt;
-      plain = λ is. stays c (Sends slot quiet) is refl;
       role = λ role is. same_role role (Sends slot quiet) c is;
     }
 
--- it is a PDU that is supported, and does not end the link
-pub keeps_taken : (c : Control) (ctrl : Ctrl) (slot : ℕ) (quiet : Bool) → IsCtrl ctrl → begins_encryption ctrl ≡ false → is_terminate ctrl ≡ false
+-- it is a PDU that does not end the link
+pub keeps_taken : (c : Control) (ctrl : Ctrl) (slot : ℕ) (quiet : Bool) → IsCtrl ctrl → is_terminate ctrl ≡ false
     → Keeps c (after (Takes (Known ctrl) slot quiet) c)
-keeps_taken c ctrl slot quiet is_ctrl begins apart =
+keeps_taken c ctrl slot quiet is_ctrl apart =
     record {
       kept = taken_kept c ctrl slot quiet apart;
       fits = λ is. stays_fitting c (Takes (Known ctrl) slot quiet) is is_ctrl;
-      plain = λ is. stays c (Takes (Known ctrl) slot quiet) is (ap (λ (b : Bool). not b) begins);
       role = λ role is. same_role role (Takes (Known ctrl) slot quiet) c is;
+    }
+
+-- a PDU that is not supported
+pub keeps_unknown : (c : Control) (opcode slot : ℕ) (quiet : Bool) → opcode < 256 → Keeps c (after (Takes (Unknown opcode) slot quiet) c)
+keeps_unknown c opcode slot quiet small =
+    record {
+      kept =
+          any_step (IsKept c) (Takes (Unknown opcode) slot quiet) c
+          (took_by (IsKept c) c (λ code. record { entered = refl; anchor = refl; closing = refl }) (Unknown opcode) slot quiet
+          (record { entered = refl; anchor = refl; closing = refl }))
+          (kept_none c);
+      fits = λ is. stays_fitting c (Takes (Unknown opcode) slot quiet) is small;
+      role = λ role is. same_role role (Takes (Unknown opcode) slot quiet) c is;
+    }
+
+-- a PDU of the encryption is queued that does not end the link
+given_closing : (ctrl : Ctrl) (closing : Closing) → is_terminate ctrl ≡ false → closing_given ctrl closing ≡ closing
+given_closing (TerminateInd code) closing apart = absurd (cc)
+given_closing StartEncReq closing apart = refl
+given_closing ctrl closing apart = refl
+
+pub keeps_owed : (c : Control) (ctrl : Ctrl) → IsCtrl ctrl → is_terminate ctrl ≡ false → Keeps c (after (Owes ctrl) c)
+keeps_owed c ctrl is_ctrl apart =
+    record {
+      kept =
+          any_step (IsKept c) (Owes ctrl) c (record { entered = refl; anchor = refl; closing = given_closing ctrl c.table.closing apart })
+          (kept_none c);
+      fits = λ is. stays_fitting c (Owes ctrl) is is_ctrl;
+      role = λ role is. same_role role (Owes ctrl) c is;
+    }
+
+-- the link ends
+pub keeps_over : (c : Control) (code : ErrCode) → Keeps c (ended code c)
+keeps_over c code =
+    record {
+      kept = record { entered = refl; anchor = refl; closing = refl };
+      fits = λ is. record { table = is.table; track = is.track };
+      role = λ role is. is;
     }

@@ -4,9 +4,11 @@ use Rattle.std.proofs.lemmas.Bool.{and_parts}
 use Rattle.ble_base.specs.declared.error_codes.ErrCode.{ErrCode}
 use Rattle.instants.specs.declared.track.Change.{Change}
 use Rattle.control_octets.specs.control_model.Control.{Control}
-use Rattle.unencrypted_ends.specs.phased_control.Phased.{Phased}
+use Rattle.joint_laws.specs.joint_controls.phased_control.Phased.{Phased}
+use Rattle.joint_laws.specs.joint_controls.phased_control.Taken.{Response}
+use Rattle.link_model.specs.phased_end.Taking.{drawn}
 use Rattle.joint_laws.specs.joint_controls.Ends.{AreStepsInRange, IsStepInRange}
-use Rattle.joint_laws.specs.joint_controls.Joint.{Joint, JointStep, PeripheralTakes, act, after_all, event_now, has_passed, is_indication, is_item, is_late, is_running, item_on_air, last_change, may, may_all, no_response}
+use Rattle.joint_laws.specs.joint_controls.Joint.{Joint, JointStep, PeripheralTakes, act, after_all, event_now, has_passed, is_indication, is_item, is_late, is_running, item_on_air, last_change, may, may_all}
 use Rattle.joint_laws.specs.joint_controls.Joint.{after as joint_after}
 use Rattle.joint_laws.proofs.joint_controls.Running.{goes_on}
 use Rattle.joint_laws.proofs.LinkEnds.{central_end, peripheral_ends_late}
@@ -107,15 +109,15 @@ passed_of : (on_air : Bool) (last : Option Change) (event : ℕ) → has_passed 
 passed_of true last event is = is
 passed_of false last event is = absurd (cc)
 
-module _ (central peripheral : Setup) (ends : AreEnds central peripheral) (turns slot : ℕ) (answers takes : Bool) (c p : Facts) (now : Control) (l : Link)
-    (reached : IsReached central peripheral l) (s : Shows central peripheral turns answers l c p) (t : TakesAt l.joint takes slot now) where
+module _ (central peripheral : Setup) (ends : AreEnds central peripheral) (turns slot : ℕ) (response : Response) (answers takes : Bool) (c p : Facts) (now : Control) (l : Link)
+    (reached : IsReached central peripheral l) (s : Shows central peripheral turns answers l c p) (t : TakesAt l.joint takes slot response now) where
   pub run_at : HasRun central peripheral t.state
   run_at = subst (HasRun central peripheral) t.leads (run_on central peripheral t.steps l.joint t.in_range (has_run central peripheral ends l reached))
 
-  takes_by : (b : Bool) → may_all (step_if b (PeripheralTakes slot no_response)) t.state ≡ true
-      → EndsLateAlone t.state (after_all (step_if b (PeripheralTakes slot no_response)) t.state).peripheral.control.ends
-  takes_by true may_steps = peripheral_step central peripheral (PeripheralTakes slot no_response) t.state tt run_at
-      (one_step (PeripheralTakes slot no_response) t.state may_steps)
+  takes_by : (b : Bool) → may_all (step_if b (PeripheralTakes slot response)) t.state ≡ true
+      → EndsLateAlone t.state (after_all (step_if b (PeripheralTakes slot response)) t.state).peripheral.control.ends
+  takes_by true may_steps = peripheral_step central peripheral (PeripheralTakes slot response) t.state tt run_at
+      (one_step (PeripheralTakes slot response) t.state may_steps)
   takes_by false may_steps = inl t.lasts
 
   pub ends_alone : EndsLateAlone t.state now.ends
@@ -153,6 +155,6 @@ peripheral_lasts heard central peripheral slot c p channel octets room ends begu
     let reached = reached_now central peripheral ends (slot + 1) false c p linked c_lasts p_lasts in
     let s = linked.shows running in
     subst (λ (o : Option ErrCode). (o ≡ None) ⊎ EndsForInstant c p o) (sym (answered_ends peripheral slot octets room p))
-    (ends_for_instant central peripheral ends (slot + 1) slot false (takes_item (room || not (is_data c.acknowledgement.last)) (item_on_air l.joint.down)) c p
+    (ends_for_instant central peripheral ends (slot + 1) slot (drawn p.encryption.response) false (takes_item (room || not (is_data c.acknowledgement.last)) (item_on_air l.joint.down)) c p
     (received peripheral slot octets room p).control l reached s
     (takes_now heard central peripheral slot c p channel octets room ends begun packet same supervised (begun.ready running) l reached running s))

@@ -9,9 +9,9 @@ use Rattle.control_octets.specs.Fitting.{ParamsFit}
 use Rattle.control_octets.proofs.Steps.{begins_fitting}
 use Rattle.link_model.specs.Acknowledgement.{empty_pdu}
 use Rattle.link_model.specs.Setup.{Setup, first_anchor, first_params}
-use Rattle.unencrypted_ends.specs.phased_control.Phased.{first_phased}
+use Rattle.joint_laws.specs.joint_controls.phased_control.Phased.{first_phased}
 use Rattle.control_octets.specs.procedure_values.Values.{IsPayloadMax}
-use Rattle.unencrypted_ends.proofs.Staying.{begins_none}
+use Rattle.link_model.proofs.Plain.{begins_plain}
 use Rattle.link_model.specs.Facts.{first_facts}
 use Rattle.link_pairs.specs.Ends.{AreEnds, IsAtRest, phased_of}
 use Rattle.link_pairs.specs.Shown.{AreLinked, Shows, new_link}
@@ -30,10 +30,8 @@ rests_first : (setup : Setup) → IsPayloadMax setup.link.max_rx → IsInRange s
 rests_first setup rx range =
     record {
       fits = begins_fitting setup.link.role setup.link.max_rx (first_params setup.link.fields) (first_anchor setup) rx (params_fit setup.link.fields range);
-      plain = record {
-        encryption = refl;
-        control = begins_none setup.link.role setup.link.max_rx (first_params setup.link.fields) (first_anchor setup);
-      };
+      holds = record { request = tt; kept = tt; response = record { fits = grind arith; six_offsets = tt; range = tt } };
+      plain = begins_plain setup;
       role = role_after setup.link.role setup.link.max_rx (first_params setup.link.fields) (first_anchor setup) [];
       none_gone = refl;
       payload = refl;

@@ -107,6 +107,7 @@ fixing_rests setup turns false facts r = r
 fixing_rests setup turns true facts r =
     record {
       fits = r.fits;
+      holds = record { request = r.holds.request; kept = r.holds.kept; response = r.holds.response };
       plain = record { encryption = r.plain.encryption; control = r.plain.control };
       role = r.role;
       none_gone = piece_no_control (tx_of facts.control.table.lengths) (fixed_anew facts).outgoing.fixed (anew_piece facts);

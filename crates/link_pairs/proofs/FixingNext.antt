@@ -9,21 +9,19 @@ use Rattle.data_pdu.specs.Reading.{opcode_of}
 use Rattle.ack_bit.proofs.Directions.{not-false}
 use Rattle.instants.specs.Track.{event_of}
 use Rattle.control_octets.specs.procedure_stages.Closing.{is_open}
-use Rattle.control_octets.specs.procedures.Queue.{next_of}
 use Rattle.control_octets.specs.procedures.Sending.{next_ctrl_of}
-use Rattle.unencrypted_ends.specs.enc_phase.Phases.{seals}
-use Rattle.unencrypted_ends.specs.enc_phase.declared.facts.PhaseFacts.TheVariants.{Clear as clear_phase}
-use Rattle.control_octets.specs.control_model.Control.{Control, Sends, after}
+use Rattle.joint_laws.specs.joint_controls.phased_control.enc_phase.Phases.{seals}
+use Rattle.control_octets.specs.control_model.Control.{Control}
 use Rattle.control_octets.specs.control_model.Supported.{begins_encryption, read_supported}
 use Rattle.control_octets.specs.Fitting.{FitsOctets}
 use Rattle.control_octets.proofs.Pdus.{written_short}
 use Rattle.control_octets.proofs.Steps.{sent_now_is_read}
 use Rattle.link_model.specs.control_end.Answers.{next_ctrl}
 use Rattle.link_model.specs.control_end.Held.{held_of}
-use Rattle.unencrypted_ends.specs.phased_control.Phased.{Phased}
-use Rattle.unencrypted_ends.specs.Unencrypted.{IsUnencrypted, plain_phased}
+use Rattle.joint_laws.specs.joint_controls.phased_control.Phased.{Phased}
+use Rattle.unencrypted_ends.specs.Unencrypted.{IsUnencrypted}
 use Rattle.unencrypted_ends.proofs.Sending.{none_sent}
-use Rattle.joint_laws.specs.joint_controls.Joint.{Clear, Control as control_item, Data, Fixed, Item, Joint, PeripheralFixes, PeripheralFixesData, Way, after_all, fixed, is_clear, item_by, may_all, next_item, sends_data}
+use Rattle.joint_laws.specs.joint_controls.Joint.{Clear, Control as control_item, Data, Fixed, Item, Joint, PeripheralFixes, PeripheralFixesData, Way, after_all, fixed, is_clear, item_by, may_all, next_item, next_out, sends_data}
 use Rattle.joint_laws.specs.joint_parameters.Turns.{Fixing, FixesControl, FixesData, FixesNothing, MayFix, after_acknowledgement, fixing_steps}
 use Rattle.link_model.specs.Acknowledgement.{Pdu, is_acked}
 use Rattle.link_model.specs.Data.{is_control, is_data, is_empty}
@@ -31,7 +29,9 @@ use Rattle.link_model.specs.Controls.{pdu_of_control}
 use Rattle.link_model.specs.Facts.{Facts}
 use Rattle.link_model.specs.Controls.{is_quiet_now, next_control, pdu_fixed}
 use Rattle.link_model.specs.Sending.{control_gone_if}
+use Rattle.link_pairs.specs.Ends.{phased_of}
 use Rattle.link_pairs.specs.Ways.{IsControlPdu, IsItem}
+use Rattle.link_pairs.proofs.PhasedEnds.{gone_phased}
 use Rattle.link_pairs.proofs.PeripheralSteps.{fixes_after, fixes_data_after, next_item_is, one_step, sends_data_is, with_end}
 
 -- ---- the next control PDU is read as itself
@@ -40,13 +40,14 @@ supported_if : (begins : Bool) (ctrl : Ctrl) → begins ≡ false → (if begins
 supported_if true ctrl is = absurd (cc)
 supported_if false ctrl is = refl
 
-pub next_is_control : (c : Control) (ctrl : Ctrl) → c.ends ≡ None → FitsOctets c → IsUnencrypted c → next_ctrl true (held_of c) ≡ Some ctrl
+-- as long as no link encrypts, a PDU that begins an encryption is not read as itself
+pub next_is_control : (c : Control) (quiet : Bool) (ctrl : Ctrl) → c.ends ≡ None → FitsOctets c → IsUnencrypted c → next_ctrl quiet (held_of c) ≡ Some ctrl
     → IsControlPdu ctrl (pdu_of_control (Some ctrl))
-next_is_control c ctrl lasts fits plain next =
-    let now : next_ctrl_of c.table (event_of c.track) c.track.params.latency true ≡ Some ctrl =
-    ap (λ (ends : Option ErrCode). if is_none ends then next_ctrl_of c.table (event_of c.track) c.track.params.latency true else None) (sym lasts) ∙ next in
-    let read = sent_now_is_read c true ctrl fits now in
-    let begins = none_sent c.table (event_of c.track) c.track.params.latency true ctrl plain.waits now in
+next_is_control c quiet ctrl lasts fits plain next =
+    let now : next_ctrl_of c.table (event_of c.track) c.track.params.latency quiet ≡ Some ctrl =
+    ap (λ (ends : Option ErrCode). if is_none ends then next_ctrl_of c.table (event_of c.track) c.track.params.latency quiet else None) (sym lasts) ∙ next in
+    let read = sent_now_is_read c quiet ctrl fits now in
+    let begins = none_sent c.table (event_of c.track) c.track.params.latency quiet ctrl plain.waits now in
     record {
       written_as = refl;
       is_ctrl = read.0;
@@ -113,9 +114,9 @@ some_next : (next : Option Ctrl) → is_some next ≡ true → (ctrl : Ctrl) × 
 some_next None is = absurd (cc)
 some_next (Some ctrl) is = (ctrl, refl)
 
-module _ (central : Phased) (down way : Way) (slot : ℕ) (facts : Facts) (knows : Bool) where
+module _ (central : Phased) (down way : Way) (slot : ℕ) (facts : Facts) where
   abbrev now : Joint
-  now = with_end central down way false facts.control knows
+  now = with_end central down way false (phased_of facts)
 
   abbrev gone : Bool → Facts
   gone goes = control_gone_if goes slot facts
@@ -124,18 +125,17 @@ module _ (central : Phased) (down way : Way) (slot : ℕ) (facts : Facts) (knows
     pub may_fix : MayFixNow fixing now
     pub next_way : Way
     pub leads : may_all (fixing_steps fixing slot) now ≡ true
-        → after_all (fixing_steps fixing slot) now ≡ with_end central down next_way false (gone (acked && fixes)).control knows
+        → after_all (fixing_steps fixing slot) now ≡ with_end central down next_way false (phased_of (gone (acked && fixes)))
     pub answer : acked ≡ true → IsAnswer next_way (gone (acked && fixes)).outgoing.fixed
     pub same : acked ≡ false → next_way ≡ way
 
-  module _ (lasts : facts.control.ends ≡ None) (fits : FitsOctets facts.control) (plain : IsUnencrypted facts.control) (quiet : is_quiet_now facts ≡ true)
+  module _ (lasts : facts.control.ends ≡ None) (fits : FitsOctets facts.control) (plain : IsUnencrypted facts.control)
       (clear : is_acked facts.acknowledgement ≡ true → way ≡ Clear)
       (control : facts.fixes_control ≡ is_some (next_control facts))
-      (data_first : is_data facts.outgoing.fixed ≡ true → (next_control facts ≡ None) × (is_open facts.control.table.closing ≡ true))
+      (data_first :
+      is_data facts.outgoing.fixed ≡ true
+      → (next_control facts ≡ None) × ((is_quiet_now facts && is_open facts.control.table.closing) ≡ true))
       (none_gone : is_control facts.outgoing.fixed ≡ false) (two_bits : facts.outgoing.fixed.llid < 4) where
-    next_is : next_ctrl true (held_of facts.control) ≡ next_control facts
-    next_is = ap (λ (b : Bool). next_ctrl b (held_of facts.control)) (sym quiet)
-
     -- its last PDU is not acknowledged
     fixes_later : (fixes : Bool) → FixesNext false fixes FixesNothing
     fixes_later fixes = record { may_fix = tt; next_way = way; leads = λ comes. refl; answer = λ is. absurd (cc); same = λ is. refl }
@@ -152,30 +152,32 @@ module _ (central : Phased) (down way : Way) (slot : ℕ) (facts : Facts) (knows
 
     fixes_control : is_acked facts.acknowledgement ≡ true → facts.fixes_control ≡ true → FixesNext true true FixesControl
     fixes_control acked fixes =
-        let c = facts.control in
+        let x = phased_of facts in
         let next = some_next (next_control facts) (sym control ∙ fixes) in
-        let item = control_item (next_of c.table (event_of c.track) true) next.0 in
-        let is : next_item (plain_phased c knows) ≡ Some item =
-        next_item_is c knows lasts ∙ ap (item_by (next_of c.table (event_of c.track) true)) (next_is ∙ next.1) in
+        let item = control_item (next_out x) next.0 in
+        let is : next_item x ≡ Some item = next_item_is x lasts ∙ ap (item_by (next_out x)) next.1 in
         let pdu : pdu_fixed facts ≡ pdu_of_control (Some next.0) = λ i. if fixes i then pdu_of_control (next.1 i) else facts.outgoing.fixed in
         record {
           may_fix = (ap is_clear (clear acked), ap (λ (o : Option Item). is_some o) is);
-          next_way = fixed (next_item (plain_phased c knows));
+          next_way = fixed (next_item x);
           leads =
-              λ comes. fixes_after central down c knows slot way (one_step (PeripheralFixes slot) now comes)
-              ∙ ap (λ (b : Bool). with_end central down (fixed (next_item (plain_phased c knows))) false (after (Sends slot b) c) knows) (sym quiet);
-          answer = λ all. Holds item false (ap fixed is) (subst (IsItem item) (sym pdu) (next_is_control c next.0 lasts fits plain (next_is ∙ next.1)));
+              λ comes. fixes_after central down x slot way (one_step (PeripheralFixes slot) now comes)
+              ∙ ap (with_end central down (fixed (next_item x)) false) (sym (gone_phased true slot facts));
+          answer =
+              λ all. Holds item false (ap fixed is)
+              (subst (IsItem item) (sym pdu) (next_is_control facts.control (is_quiet_now facts) next.0 lasts fits plain next.1));
           same = λ none. absurd (cc);
         }
 
     fixes_data : is_acked facts.acknowledgement ≡ true → is_data facts.outgoing.fixed ≡ true → FixesNext true false FixesData
     fixes_data acked is =
         let goes = data_first is in
+        let sealed = seals Peripheral facts.encryption.phase in
         record {
-          may_fix = (ap is_clear (clear acked), sends_data_is facts.control knows lasts (next_is ∙ goes.0) goes.1);
-          next_way = Fixed Data (seals Peripheral clear_phase);
-          leads = λ comes. fixes_data_after central down facts.control knows way (one_step PeripheralFixesData now comes);
-          answer = λ all. Holds Data (seals Peripheral clear_phase) refl is;
+          may_fix = (ap is_clear (clear acked), sends_data_is (phased_of facts) lasts goes.0 goes.1);
+          next_way = Fixed Data sealed;
+          leads = λ comes. fixes_data_after central down (phased_of facts) way (one_step PeripheralFixesData now comes);
+          answer = λ all. Holds Data sealed refl is;
           same = λ none. absurd (cc);
         }
 

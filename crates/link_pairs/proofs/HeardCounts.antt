@@ -18,7 +18,7 @@ use Rattle.link_model.specs.Sending.{control_gone_if}
 use Rattle.link_pairs.proofs.Answering.{IsGoneFrom, acked_payload, gone_same}
 use Rattle.link_pairs.proofs.Counts.{HasBitsOf, acknowledged_by, heard_agreed, is_fresh}
 use Rattle.link_pairs.proofs.TakingNothing.{TakesNothing, acked_nothing, sends_nothing, takes_none, takes_then}
-use Rattle.link_pairs.proofs.TakingPdus.{taken_same}
+use Rattle.link_pairs.proofs.TakingPdus.{plain_taken_same}
 
 seen_nothing : (acked : Bool) (c : Control) → TakesNothing c (control_acked_if acked c)
 seen_nothing true c = acked_nothing c
@@ -86,7 +86,7 @@ module _ (role : Role) (slot : ℕ) (room : Bool) (header : DataHeader) (pdu : P
 
   pub heard_ack : (facts_hearing role slot room header pdu facts).acknowledgement ≡ received_by acks takes pdu facts.acknowledgement
   heard_ack =
-      (taken_same (takes && is_procedure_pdu pdu) pdu slot (accepted_if takes pdu before)).acknowledgement
+      (plain_taken_same (takes && is_procedure_pdu pdu) pdu slot (accepted_if takes pdu before)).acknowledgement
       ∙ ap (with_accepted takes pdu) gone.acknowledgement
 
 -- the counts agree with those of the end that sent the packet

@@ -1,5 +1,5 @@
 -- What the host of an end does leaves the ends linked: a step with no packet, or none.
-use Rattle.std.proofs.Common.{◌≡◌, ℕ, ◌+◌, ◌≤◌, ◌&&◌, Bool, true, false, not, List, [], ◌∷◌, Result, Ok, Err, Some, is_some, refl, sym, ap, subst, ◌∙◌}
+use Rattle.std.proofs.Common.{◌≡◌, ℕ, ◌+◌, ◌≤◌, ◌&&◌, Bool, true, false, not, List, [], ◌∷◌, Result, Ok, Err, Some, refl, sym, ap, subst, ◌∙◌}
 use Rattle.ble_base.specs.declared.error_codes.ErrCode.{ErrCode}
 use Rattle.instants.specs.Track.{TrackFacts, event_of}
 use Rattle.control_octets.specs.procedure_values.declared.asks.Ask.{Ask}
@@ -17,11 +17,8 @@ use Rattle.control_octets.proofs.control_model.Calls.{any_step}
 use Rattle.control_octets.proofs.control_model.Moving.{same_role, table_alone}
 use Rattle.control_octets.specs.Fitting.{AskFits, StepFits}
 use Rattle.control_octets.proofs.Steps.{stays_fitting}
-use Rattle.unencrypted_ends.specs.phased_control.Phased.{Phased}
-use Rattle.unencrypted_ends.specs.phased_control.Taken.{phased_after}
-use Rattle.unencrypted_ends.specs.Unencrypted.{encrypts_nothing, plain_phased}
-use Rattle.unencrypted_ends.proofs.Going.{answers_goes, asks_goes, disconnects_goes}
-use Rattle.unencrypted_ends.proofs.Staying.{stays}
+use Rattle.joint_laws.specs.joint_controls.phased_control.Phased.{Phased}
+use Rattle.joint_laws.specs.joint_controls.phased_control.Taken.{phased_after}
 use Rattle.joint_laws.specs.joint_controls.Ends.{IsHostInRange}
 use Rattle.joint_laws.specs.joint_controls.Joint.{AnswersRequest, AsksFor, CentralHost, Ends, HostStep, Joint, PeripheralHost, host_step, is_running, may, may_host}
 use Rattle.joint_laws.proofs.joint_controls.Running.{goes_on}
@@ -35,11 +32,12 @@ use Rattle.link_model.specs.Hosts.{asked_unless, is_to_come}
 use Rattle.link_model.specs.Receiving.{lengths_seen}
 use Rattle.link_model.specs.Plain.{IsPlain}
 use Rattle.link_model.specs.Step.{Step, DataGiven, DataReported, Disconnected, EventEntered, PacketReceived, PacketSent, PduFixed, ProcedureAsked, RequestAnswered, KeyAnswered, WordsGiven}
+use Rattle.link_model.proofs.Plain.{step_plain}
 use Rattle.link_pairs.specs.Ends.{IsAtRest, heard_turns, is_lasting, phased_of}
 use Rattle.link_pairs.specs.Hosts.{MayAsk, MayHost}
 use Rattle.link_pairs.specs.Shown.{AreLinked, Shows}
 use Rattle.link_pairs.proofs.Lasting.{lasts_before}
-use Rattle.link_pairs.proofs.PlainEnds.{goes_as}
+use Rattle.link_pairs.proofs.PhasedEnds.{with_after}
 use Rattle.link_pairs.proofs.Reaching.{IsReached, IsShown, linked_on, reached_next, shown}
 use Rattle.link_pairs.proofs.Showing.{central_shows, peripheral_shows}
 
@@ -78,11 +76,11 @@ host_alone _ _ (asking ask) = refl
 host_alone _ _ (answering answer) = refl
 host_alone _ _ (ending reason) = refl
 
-host_goes : (host : HostStep) (step : ControlStep) (c : Control) (knows : Bool) → HostDoes host step
-    → phased_after (host_step host) (plain_phased c knows) ≡ plain_phased (after step c) knows
-host_goes _ _ c knows (asking ask) = asks_goes c knows ask
-host_goes _ _ c knows (answering answer) = answers_goes c knows answer
-host_goes _ _ c knows (ending reason) = disconnects_goes c knows reason
+host_goes : (host : HostStep) (step : ControlStep) (x : Phased) → HostDoes host step
+    → phased_after (host_step host) x ≡ record x { control = after step x.control }
+host_goes _ _ x (asking ask) = sym (with_after (control_asks ask) x)
+host_goes _ _ x (answering answer) = sym (with_after (control_answers answer) x)
+host_goes _ _ x (ending reason) = sym (with_after (control_disconnects reason) x)
 
 fitting_asked : (ask : Ask) → AskFits ask → IsAsk ask
 fitting_asked (Request min max latency timeout) fits = tt
@@ -98,10 +96,12 @@ with_control facts d lengths leaving = record facts { control = d; lengths = len
 
 module _ (setup : Setup) (turns : ℕ) (facts : Facts) (r : IsAtRest setup turns facts) where
   host_rests : (host : HostStep) (step : ControlStep) (lengths : KnownLengths) (leaving : Leaving) → HostDoes host step → StepFits step
-      → encrypts_nothing step ≡ true → leaving.acknowledged ≡ false → IsAtRest setup turns (with_control facts (after step facts.control) lengths leaving)
-  host_rests host step lengths leaving does fits none stays_open =
+      → IsPlain setup.link.role (with_control facts (after step facts.control) lengths leaving) → leaving.acknowledged ≡ false
+      → IsAtRest setup turns (with_control facts (after step facts.control) lengths leaving)
+  host_rests host step lengths leaving does fits now_plain stays_open =
       record {
         fits = stays_fitting facts.control step r.fits fits;
+        holds = r.holds;
         plain = now_plain;
         role = same_role setup.link.role step facts.control r.role;
         none_gone = r.none_gone;
@@ -112,15 +112,10 @@ module _ (setup : Setup) (turns : ℕ) (facts : Facts) (r : IsAtRest setup turns
         number = r.number ∙ ap event_of (sym same);
         heard = subst (λ (t : TrackFacts). facts.event.heard ≡ true → (1 ≤ t.entered) × (facts.event.slot + 1 ≤ heard_turns setup facts)) (sym same) r.heard;
         past = r.past;
-        goes =
-            goes_as setup.link.role (with_control facts (after step facts.control) lengths leaving) now_plain
-            ∙ host_agrees host step facts.control does (sym (goes_as setup.link.role facts r.plain) ∙ r.goes);
+        goes = host_agrees host step facts.control does r.goes;
         stays = stays_open;
       }
     where
-      now_plain : IsPlain setup.link.role (with_control facts (after step facts.control) lengths leaving)
-      now_plain = record { encryption = r.plain.encryption; control = stays facts.control step r.plain.control none }
-
       same : (after step facts.control).track ≡ facts.control.track
       same = table_alone facts.control step (host_alone host step does)
 
@@ -128,6 +123,7 @@ module _ (setup : Setup) (turns : ℕ) (facts : Facts) (r : IsAtRest setup turns
   data_rests o fixed payload =
       record {
         fits = r.fits;
+        holds = r.holds;
         plain = record { encryption = r.plain.encryption; control = r.plain.control };
         role = r.role;
         none_gone = ap is_control fixed ∙ r.none_gone;
@@ -154,10 +150,11 @@ given_payload handle start (octet ∷ octets) o = refl
 
 module _ (central peripheral : Setup) (turns : ℕ) (answers : Bool) (c p : Facts) (a : AreLinked central peripheral turns answers c p) where
   central_does : (host : HostStep) (step : ControlStep) (lengths : KnownLengths) (leaving : Leaving) → HostDoes host step → IsHostInRange host
-      → may_host host (phased_of c) ≡ true → StepFits step → encrypts_nothing step ≡ true → (c.leaving.acknowledged ≡ false → leaving.acknowledged ≡ false)
+      → may_host host (phased_of c) ≡ true → StepFits step
+      → (IsPlain central.link.role c → IsPlain central.link.role (with_control c (after step c.control) lengths leaving)) → (c.leaving.acknowledged ≡ false → leaving.acknowledged ≡ false)
       → (is_lasting (with_control c (after step c.control) lengths leaving) ≡ true → is_lasting c ≡ true)
       → AreLinked central peripheral turns answers (with_control c (after step c.control) lengths leaving) p
-  central_does host step lengths leaving does range comes fits none stays_open before = linked_on central peripheral turns turns answers answers c p _ p a before (λ is. is) goes
+  central_does host step lengths leaving does range comes fits plain stays_open before = linked_on central peripheral turns turns answers answers c p _ p a before (λ is. is) goes
     where
       goes : (l : Link) → IsReached central peripheral l → is_running l.joint ≡ true → Shows central peripheral turns answers l c p
           → IsShown central peripheral turns answers (with_control c (after step c.control) lengths leaving) p
@@ -169,15 +166,16 @@ module _ (central peripheral : Setup) (turns : ℕ) (answers : Bool) (c p : Fact
           (subst (λ (j : Joint). Shows central peripheral turns answers (record l { joint = j }) (with_control c (after step c.control) lengths leaving) p)
           (sym (after_may (CentralHost host) l.joint may_come))
           (central_shows central peripheral turns answers l c p s (phased_after (host_step host) l.joint.central) (with_control c (after step c.control) lengths leaving)
-          (ap (phased_after (host_step host)) s.central_part ∙ host_goes host step c.control (is_some c.peer.version) does) refl refl
-          (host_rests central turns c s.central_rests host step lengths leaving does fits none (stays_open s.central_rests.stays))))
+          (ap (phased_after (host_step host)) s.central_part ∙ host_goes host step (phased_of c) does) refl refl
+          (host_rests central turns c s.central_rests host step lengths leaving does fits (plain s.central_rests.plain) (stays_open s.central_rests.stays))))
           (ap (λ (j : Joint). j.stopped) (after_may (CentralHost host) l.joint may_come) ∙ (goes_on l.joint running).stopped)
 
   peripheral_does : (host : HostStep) (step : ControlStep) (lengths : KnownLengths) (leaving : Leaving) → HostDoes host step → IsHostInRange host
-      → may_host host (phased_of p) ≡ true → StepFits step → encrypts_nothing step ≡ true → (p.leaving.acknowledged ≡ false → leaving.acknowledged ≡ false)
+      → may_host host (phased_of p) ≡ true → StepFits step
+      → (IsPlain peripheral.link.role p → IsPlain peripheral.link.role (with_control p (after step p.control) lengths leaving)) → (p.leaving.acknowledged ≡ false → leaving.acknowledged ≡ false)
       → (is_lasting (with_control p (after step p.control) lengths leaving) ≡ true → is_lasting p ≡ true)
       → AreLinked central peripheral turns answers c (with_control p (after step p.control) lengths leaving)
-  peripheral_does host step lengths leaving does range comes fits none stays_open before = linked_on central peripheral turns turns answers answers c p c _ a (λ is. is) before goes
+  peripheral_does host step lengths leaving does range comes fits plain stays_open before = linked_on central peripheral turns turns answers answers c p c _ a (λ is. is) before goes
     where
       goes : (l : Link) → IsReached central peripheral l → is_running l.joint ≡ true → Shows central peripheral turns answers l c p
           → IsShown central peripheral turns answers c (with_control p (after step p.control) lengths leaving)
@@ -189,8 +187,8 @@ module _ (central peripheral : Setup) (turns : ℕ) (answers : Bool) (c p : Fact
           (subst (λ (j : Joint). Shows central peripheral turns answers (record l { joint = j }) c (with_control p (after step p.control) lengths leaving))
           (sym (after_may (PeripheralHost host) l.joint may_come))
           (peripheral_shows central peripheral turns answers l c p s (phased_after (host_step host) l.joint.peripheral) (with_control p (after step p.control) lengths leaving)
-          (ap (phased_after (host_step host)) s.peripheral_part ∙ host_goes host step p.control (is_some p.peer.version) does) refl refl
-          (host_rests peripheral turns p s.peripheral_rests host step lengths leaving does fits none (stays_open s.peripheral_rests.stays))))
+          (ap (phased_after (host_step host)) s.peripheral_part ∙ host_goes host step (phased_of p) does) refl refl
+          (host_rests peripheral turns p s.peripheral_rests host step lengths leaving does fits (plain s.peripheral_rests.plain) (stays_open s.peripheral_rests.stays))))
           (ap (λ (j : Joint). j.stopped) (after_may (PeripheralHost host) l.joint may_come) ∙ (goes_on l.joint running).stopped)
 
   -- its data alone is another one
@@ -211,32 +209,34 @@ module _ (central peripheral : Setup) (turns : ℕ) (answers : Bool) (c p : Fact
       (goes_on l.joint running).stopped)
 
   -- a map that is to come changes nothing
-  central_asks : (to_come : Bool) (ask : Ask) → MayAsk ask c → (is_lasting (asked_unless to_come ask c) ≡ true → is_lasting c ≡ true) → AreLinked central peripheral turns answers (asked_unless to_come ask c) p
-  central_asks true ask m before = a
-  central_asks false ask m before =
+  central_asks : (to_come : Bool) (ask : Ask) → is_to_come ask c ≡ to_come → MayAsk ask c → (is_lasting (asked_unless to_come ask c) ≡ true → is_lasting c ≡ true) → AreLinked central peripheral turns answers (asked_unless to_come ask c) p
+  central_asks true ask is m before = a
+  central_asks false ask is m before =
       central_does (AsksFor ask) (control_asks ask) (lengths_seen c.control.table.lengths (after (control_asks ask) c.control).table.lengths c.lengths) c.leaving
-      (asking ask) (fitting_asked ask m.in_range) m.may m.in_range m.plain (λ stays. stays) before
+      (asking ask) (fitting_asked ask m.in_range) m.may m.in_range
+      (λ plain. subst (λ (b : Bool). IsPlain central.link.role (asked_unless b ask c)) is (step_plain central c (ProcedureAsked ask) plain)) (λ stays. stays) before
 
-  peripheral_asks : (to_come : Bool) (ask : Ask) → MayAsk ask p → (is_lasting (asked_unless to_come ask p) ≡ true → is_lasting p ≡ true) → AreLinked central peripheral turns answers c (asked_unless to_come ask p)
-  peripheral_asks true ask m before = a
-  peripheral_asks false ask m before =
+  peripheral_asks : (to_come : Bool) (ask : Ask) → is_to_come ask p ≡ to_come → MayAsk ask p → (is_lasting (asked_unless to_come ask p) ≡ true → is_lasting p ≡ true) → AreLinked central peripheral turns answers c (asked_unless to_come ask p)
+  peripheral_asks true ask is m before = a
+  peripheral_asks false ask is m before =
       peripheral_does (AsksFor ask) (control_asks ask) (lengths_seen p.control.table.lengths (after (control_asks ask) p.control).table.lengths p.lengths) p.leaving
-      (asking ask) (fitting_asked ask m.in_range) m.may m.in_range m.plain (λ stays. stays) before
+      (asking ask) (fitting_asked ask m.in_range) m.may m.in_range
+      (λ plain. subst (λ (b : Bool). IsPlain peripheral.link.role (asked_unless b ask p)) is (step_plain peripheral p (ProcedureAsked ask) plain)) (λ stays. stays) before
 
   pub central_hosts : (step : Step) → MayHost step c → AreLinked central peripheral turns answers (facts_after central c step) p
   central_hosts (DataGiven start body) m =
       central_gives (data_given central.link.handle start body c.outgoing) (given_fixed central.link.handle start body c.outgoing)
       (given_payload central.link.handle start body c.outgoing)
-  central_hosts (ProcedureAsked ask) m = central_asks (is_to_come ask c) ask m (lasts_before central c (ProcedureAsked ask))
+  central_hosts (ProcedureAsked ask) m = central_asks (is_to_come ask c) ask refl m (lasts_before central c (ProcedureAsked ask))
   central_hosts (RequestAnswered (Ok ask)) m =
-      central_does (AnswersRequest (Ok ask)) (control_answers (Ok ask)) c.lengths c.leaving (answering (Ok ask)) m refl m refl (λ stays. stays)
-      (lasts_before central c (RequestAnswered (Ok ask)))
+      central_does (AnswersRequest (Ok ask)) (control_answers (Ok ask)) c.lengths c.leaving (answering (Ok ask)) m refl m
+      (step_plain central c (RequestAnswered (Ok ask))) (λ stays. stays) (lasts_before central c (RequestAnswered (Ok ask)))
   central_hosts (RequestAnswered (Err code)) m =
-      central_does (AnswersRequest (Err code)) (control_answers (Err code)) c.lengths c.leaving (answering (Err code)) tt refl m refl (λ stays. stays)
-      (lasts_before central c (RequestAnswered (Err code)))
+      central_does (AnswersRequest (Err code)) (control_answers (Err code)) c.lengths c.leaving (answering (Err code)) tt refl m
+      (step_plain central c (RequestAnswered (Err code))) (λ stays. stays) (lasts_before central c (RequestAnswered (Err code)))
   central_hosts (Disconnected reason slot) m =
-      central_does (Ends reason) (control_disconnects reason) c.lengths (record c.leaving { disconnected = Some slot }) (ending reason) tt refl m refl (λ stays. stays)
-      (lasts_before central c (Disconnected reason slot))
+      central_does (Ends reason) (control_disconnects reason) c.lengths (record c.leaving { disconnected = Some slot }) (ending reason) tt refl m
+      (step_plain central c (Disconnected reason slot)) (λ stays. stays) (lasts_before central c (Disconnected reason slot))
   central_hosts DataReported m = central_gives (data_reported c.outgoing) refl refl
   central_hosts (KeyAnswered key slot) m = absurd m
   central_hosts (WordsGiven skd_s iv_s) m = absurd m
@@ -249,16 +249,16 @@ module _ (central peripheral : Setup) (turns : ℕ) (answers : Bool) (c p : Fact
   peripheral_hosts (DataGiven start body) m =
       peripheral_gives (data_given peripheral.link.handle start body p.outgoing) (given_fixed peripheral.link.handle start body p.outgoing)
       (given_payload peripheral.link.handle start body p.outgoing)
-  peripheral_hosts (ProcedureAsked ask) m = peripheral_asks (is_to_come ask p) ask m (lasts_before peripheral p (ProcedureAsked ask))
+  peripheral_hosts (ProcedureAsked ask) m = peripheral_asks (is_to_come ask p) ask refl m (lasts_before peripheral p (ProcedureAsked ask))
   peripheral_hosts (RequestAnswered (Ok ask)) m =
-      peripheral_does (AnswersRequest (Ok ask)) (control_answers (Ok ask)) p.lengths p.leaving (answering (Ok ask)) m refl m refl (λ stays. stays)
-      (lasts_before peripheral p (RequestAnswered (Ok ask)))
+      peripheral_does (AnswersRequest (Ok ask)) (control_answers (Ok ask)) p.lengths p.leaving (answering (Ok ask)) m refl m
+      (step_plain peripheral p (RequestAnswered (Ok ask))) (λ stays. stays) (lasts_before peripheral p (RequestAnswered (Ok ask)))
   peripheral_hosts (RequestAnswered (Err code)) m =
-      peripheral_does (AnswersRequest (Err code)) (control_answers (Err code)) p.lengths p.leaving (answering (Err code)) tt refl m refl (λ stays. stays)
-      (lasts_before peripheral p (RequestAnswered (Err code)))
+      peripheral_does (AnswersRequest (Err code)) (control_answers (Err code)) p.lengths p.leaving (answering (Err code)) tt refl m
+      (step_plain peripheral p (RequestAnswered (Err code))) (λ stays. stays) (lasts_before peripheral p (RequestAnswered (Err code)))
   peripheral_hosts (Disconnected reason slot) m =
-      peripheral_does (Ends reason) (control_disconnects reason) p.lengths (record p.leaving { disconnected = Some slot }) (ending reason) tt refl m refl (λ stays. stays)
-      (lasts_before peripheral p (Disconnected reason slot))
+      peripheral_does (Ends reason) (control_disconnects reason) p.lengths (record p.leaving { disconnected = Some slot }) (ending reason) tt refl m
+      (step_plain peripheral p (Disconnected reason slot)) (λ stays. stays) (lasts_before peripheral p (Disconnected reason slot))
   peripheral_hosts DataReported m = peripheral_gives (data_reported p.outgoing) refl refl
   peripheral_hosts (KeyAnswered key slot) m = absurd m
   peripheral_hosts (WordsGiven skd_s iv_s) m = absurd m

@@ -79,7 +79,17 @@ begins_no true llid body is empty =
 begins_no false llid [] is empty = never (llid == 3)
 begins_no false llid (octet ∷ octets) is empty = absurd (omega (arith, eqb-true (length (octet ∷ octets)) 0 empty))
 
+no_data : (zero_llid : Bool) (llid : ℕ) (none : Bool) → (llid == 0) ≡ zero_llid → (zero_llid || none) ≡ true
+    → (((llid == 1) || (llid == 2)) && not none) ≡ false
+no_data true llid none is empty =
+    λ i. (other_llid llid 0 1 (λ same. omega (arith, same)) is i || other_llid llid 0 2 (λ same. omega (arith, same)) is i) && not none
+no_data false llid true is empty = never ((llid == 1) || (llid == 2))
+no_data false llid false is empty = absurd (cc)
+
 module _ (pdu : Pdu) (is : is_empty pdu ≡ true) where
+  pub empty_is_no_data : is_data pdu ≡ false
+  empty_is_no_data = no_data (pdu.llid == 0) pdu.llid (length pdu.body == 0) refl is
+
   pub empty_is_no_procedure : is_procedure_pdu pdu ≡ false
   empty_is_no_procedure = ap (λ (b : Bool). is_control pdu && not b) is ∙ never (is_control pdu)
 

@@ -32,8 +32,8 @@ use Rattle.control_octets.specs.procedures.Table.{TableFacts}
 use Rattle.control_octets.specs.procedures.Taking.{facts_with, outcome_of}
 use Rattle.control_octets.specs.control_model.Control.{Control, Owes, Sends, Takes, after, following, goes_out, indicated_by, is_to_come, taken, went}
 use Rattle.control_octets.proofs.control_model.Calls.{any_step, either_way, took_by}
-use Rattle.unencrypted_ends.specs.phased_control.Phased.{Phased, is_quiet_now}
-use Rattle.unencrypted_ends.specs.phased_control.Taken.{Enters as enters, PhasedStep, Response, SeesAcknowledged, Sends as sends, phased_after}
+use Rattle.joint_laws.specs.joint_controls.phased_control.Phased.{Phased, is_quiet_now}
+use Rattle.joint_laws.specs.joint_controls.phased_control.Taken.{Enters as enters, PhasedStep, Response, SeesAcknowledged, Sends as sends, phased_after}
 use Rattle.joint_laws.specs.joint_controls.Joint.{CentralAcked, CentralEnters, CentralHost, CentralSends, CentralSendsData, CentralTakes, Clear, Fixed, Joint, JointStep, OnAir, PeripheralAcked, PeripheralEnters, PeripheralFixes, PeripheralFixesData, PeripheralHost, PeripheralSends, PeripheralTakes, Shuts, Taken, Way, act, central_takes, host_step, may, no_response, peripheral_takes, taking}
 use Rattle.joint_laws.proofs.joint_controls.EachEnd.{Keeps, enters_kept, hosts_kept, takes_kept}
 use Rattle.joint_laws.proofs.joint_controls.Keeping.{choice}

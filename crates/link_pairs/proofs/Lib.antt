@@ -26,6 +26,8 @@ pub mod PartingBegins
 pub mod PartingEndings
 pub mod PeripheralHears
 pub mod PeripheralSteps
+pub mod PhasedEnds
+pub mod PhasedKept
 pub mod PlainEnds
 pub mod ReachedRuns
 pub mod Reaching
@@ -42,6 +44,7 @@ pub mod TakerSends
 pub mod TakingLast
 pub mod TakingNothing
 pub mod TakingTerminate
+pub mod TerminatesNoted
 pub mod TerminatingPdus
 pub mod Turning
 pub mod Understanding

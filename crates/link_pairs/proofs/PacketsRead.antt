@@ -28,6 +28,7 @@ pub record AreRead (to : Setup) (listener : Facts) (slot : ℕ) (octets : List �
   pub good : is_some (good_pdu to listener octets) ≡ true
   pub judged : verdict_of to listener octets ≡ Good
   pub facts : (room : Bool) → received to slot octets room listener ≡ facts_hearing to.link.role slot room header from.last listener
+  pub whole : (room : Bool) → received to slot octets room listener ≡ any_hearing to.link.role slot room header from.last listener
   pub notes : (room : Bool)
       → notes_after to listener (PacketReceived slot octets room) ≡ notes_hearing to slot room header from.last listener
 
@@ -56,6 +57,12 @@ module _ (whole : IsHeardWhole) (from to : Setup) (slot : ℕ) (facts listener :
         opens = opened_plain to.link.role is.before listener plain (payload_is ∙ ap (λ (pdu : Pdu). pdu.body) sent.last);
       }
 
+  heard_whole : (room : Bool) → received to slot octets room listener ≡ any_hearing to.link.role slot room (header_sent is.before) facts.acknowledgement.last listener
+  heard_whole room =
+      ap (λ (o : List ℕ). received to slot o room listener) is.packet
+      ∙ facts_heard whole from to is.before listener understood slot room
+      ∙ ap (λ (pdu : Pdu). any_hearing to.link.role slot room (header_sent is.before) pdu listener) (sym sent.last)
+
   pub are_read : AreRead to listener slot octets facts.acknowledgement
   are_read =
       record {
@@ -67,10 +74,9 @@ module _ (whole : IsHeardWhole) (from to : Setup) (slot : ℕ) (facts listener :
             ∙ ap (λ (pdu : Option (List ℕ)). is_some pdu) (heard_good whole from to is.before listener understood);
         judged = ap (verdict_of to listener) is.packet ∙ judged_good whole from to is.before listener understood;
         facts =
-            λ room. ap (λ (o : List ℕ). received to slot o room listener) is.packet
-            ∙ facts_heard whole from to is.before listener understood slot room
-            ∙ ap (λ (pdu : Pdu). any_hearing to.link.role slot room (header_sent is.before) pdu listener) (sym sent.last)
+            λ room. heard_whole room
             ∙ hearing_plain to.link.role to.link.role slot room (header_sent is.before) facts.acknowledgement.last listener plain;
+        whole = heard_whole;
         notes =
             λ room. ap (λ (o : List ℕ). notes_after to listener (PacketReceived slot o room)) is.packet
             ∙ notes_heard whole from to is.before listener understood slot room

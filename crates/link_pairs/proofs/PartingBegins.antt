@@ -5,7 +5,7 @@ use Rattle.ble_base.specs.declared.error_codes.ErrCode.{ErrCode}
 use Rattle.ble_base.specs.declared.roles.Role.{Role}
 use Rattle.ble_base.specs.declared.roles.Role.TheVariants.{Central, Peripheral}
 use Rattle.data_pdu.specs.declared.header.DataHeader.{DataHeader}
-use Rattle.unencrypted_ends.specs.phased_control.Phased.{Phased}
+use Rattle.joint_laws.specs.joint_controls.phased_control.Phased.{Phased}
 use Rattle.std.proofs.Math.Nat.{min-le_right}
 use Rattle.joint_laws.specs.joint_controls.Joint.{is_running}
 use Rattle.joint_laws.proofs.joint_controls.Running.{none_of}
@@ -18,8 +18,8 @@ use Rattle.link_model.specs.Controls.{goes_on, next_control}
 use Rattle.link_model.specs.Facts.{Facts}
 use Rattle.link_model.specs.Packets.{good_pdu}
 use Rattle.link_model.specs.Payload.{payload_made}
-use Rattle.link_model.specs.Plain.{IsPlain, plain_before_taking as facts_before_taking, plain_hearing as facts_hearing}
-use Rattle.link_model.specs.Receiving.{accepts, replies_by, replies_of}
+use Rattle.link_model.specs.Plain.{IsPlain}
+use Rattle.link_model.specs.Receiving.{accepts, facts_before_taking, facts_hearing, replies_by, replies_of}
 use Rattle.link_model.specs.Sending.{data_sent_as, facts_sent}
 use Rattle.link_model.specs.Step.{PacketReceived}
 use Rattle.link_model.proofs.Plain.{step_plain}
@@ -251,7 +251,7 @@ module _ (whole : IsHeardWhole) (central peripheral : Setup) (ends : AreEnds cen
 
   heard_as : heard_down ≡ taken slot header.md (acknowledged_by p.acknowledgement header) p
       (accepts room header c.acknowledgement.last (facts_before_taking Peripheral slot header p)) c.acknowledgement.last
-  heard_as = read_down.facts room ∙ ap (λ (role : Role). facts_hearing role slot room header c.acknowledgement.last p) ends.is_peripheral
+  heard_as = read_down.whole room ∙ ap (λ (role : Role). facts_hearing role slot room header c.acknowledgement.last p) ends.is_peripheral
 
   none_gone_down : is_control (facts_sent slot heard_down).outgoing.fixed ≡ false
   none_gone_down =

@@ -6,18 +6,19 @@ use Rattle.ble_base.specs.declared.roles.Role.TheVariants.{Peripheral}
 use Rattle.data_pdu.specs.declared.ctrl.Ctrl.{Ctrl}
 use Rattle.data_pdu.specs.declared.header.DataHeader.{DataHeader}
 use Rattle.control_octets.specs.procedure_values.Limits.{tx_of}
-use Rattle.control_octets.specs.procedure_stages.Closing.{is_open}
+use Rattle.control_octets.specs.procedure_stages.Closing.{is_disconnecting, is_open}
 use Rattle.control_octets.specs.procedure_stages.Kinds.{role_of}
-use Rattle.unencrypted_ends.specs.enc_phase.Phases.{seals}
-use Rattle.unencrypted_ends.specs.enc_phase.declared.facts.PhaseFacts.TheVariants.{Clear as clear_phase}
+use Rattle.joint_laws.specs.joint_controls.phased_control.enc_phase.Phases.{seals}
 use Rattle.two_tracks.specs.TwoEnds.{LastPdu, MayReach, TwoEnds}
 use Rattle.two_tracks.specs.TwoEnds as two_ends
+use Rattle.data_pdu.specs.Layouts.{IsCtrl}
 use Rattle.control_octets.specs.control_model.Control.{Control}
+use Rattle.link_model.specs.phased_end.Taking.{drawn}
 use Rattle.link_model.specs.control_end.Answers.{next_ctrl}
 use Rattle.link_model.specs.control_end.Held.{held_of}
-use Rattle.unencrypted_ends.specs.phased_control.Phased.{Phased}
-use Rattle.unencrypted_ends.specs.Unencrypted.{plain_phased}
-use Rattle.joint_laws.specs.joint_controls.Joint.{Clear, Control as control_item, Data, Fixed, Item, Joint, JointStep, PeripheralAcked, PeripheralSends, PeripheralTakes, Way, after_all, is_free, is_running, is_taken, item_on_air, may, may_act, may_all, no_response, sent_up}
+use Rattle.joint_laws.specs.joint_controls.phased_control.Phased.{Phased, is_quiet_now as is_quiet_phased}
+use Rattle.joint_laws.specs.joint_controls.phased_control.Taken.{Response, response_ctrl}
+use Rattle.joint_laws.specs.joint_controls.Joint.{Clear, Control as control_item, Data, Fixed, Item, Joint, JointStep, PeripheralAcked, PeripheralSends, PeripheralTakes, Way, after_all, is_free, is_running, is_taken, item_on_air, may, may_act, may_all, sent_up}
 use Rattle.joint_laws.specs.joint_controls.Joint.{after as joint_after}
 use Rattle.joint_laws.specs.joint_controls.Ends.{AreStepsInRange, outgoing_on}
 use Rattle.joint_laws.proofs.joint_controls.Running.{GoesOn, goes_on, none_of}
@@ -30,27 +31,30 @@ use Rattle.link_model.specs.Data.{Data as DataFacts, is_control, is_data, is_emp
 use Rattle.link_model.specs.OneLink.{AreInAgreement}
 use Rattle.link_model.specs.Setup.{Setup}
 use Rattle.link_model.specs.declared.state.Leaving.{Leaving}
-use Rattle.link_model.specs.declared.state.PeerFacts.{PeerFacts}
 use Rattle.link_model.specs.Controls.{is_quiet_now, is_terminate, next_control}
-use Rattle.link_model.specs.Facts.{Facts}
+use Rattle.link_model.specs.Facts.{Encryption, Facts, keyed_of}
 use Rattle.link_model.specs.Packets.{good_pdu}
-use Rattle.link_model.specs.Plain.{IsPlain, control_acked_if, plain_hearing as facts_hearing, plain_taken_if as taken_if}
-use Rattle.link_model.specs.Receiving.{accepts, has_ended, replies_by, replies_of}
+use Rattle.link_model.specs.Plain.{IsPlain}
+use Rattle.link_model.specs.Receiving.{accepts, facts_hearing, has_ended, heard_in_slot, replies_by, replies_of, taken_if}
 use Rattle.link_model.specs.Step.{PacketReceived, PacketSent}
 use Rattle.link_model.specs.Sending.{control_gone_if, takes_leave}
-use Rattle.link_model.proofs.Plain.{quiet_plain, step_plain}
+use Rattle.link_model.proofs.Plain.{acknowledged_stays, gone_stays, heard_plain, taken_stays}
 use Rattle.link_pairs.specs.Ends.{AreEnds, HasExchange, heard_turns, is_lasting, phased_of, turns_at}
 use Rattle.link_pairs.specs.Hearing.{IsPacketOf, received}
 use Rattle.link_pairs.specs.Hearing as hearing
 use Rattle.link_pairs.specs.Shown.{AreLinked, Shows, link_of}
 use Rattle.link_pairs.specs.Turns.{AreReady, HasFixed, HaveBegun, sent_if}
 use Rattle.link_pairs.specs.Ways.{IsItem, ShowsLast, ShowsWay}
-use Rattle.link_pairs.proofs.Answering.{HasLast, all_same, answers_plainly, fixed, gone, last_again, last_next, rests_with, seen, seen_fixed, taken, taken_acknowledgement, taken_good, taken_stays, took}
-use Rattle.link_pairs.proofs.ControlKept.{Keeps, acked_ends, acked_next, keeps_acked, keeps_none, keeps_sent, keeps_then, sent_ends}
+use Rattle.link_pairs.proofs.Answering.{HasLast, all_same, answers_plainly, fixed, gone, last_again, last_next, rests_with, seen, seen_fixed, taken, taken_acknowledgement, taken_good, took}
+use Rattle.link_pairs.proofs.Answering.{taken_stays as stays_taken}
+use Rattle.link_pairs.proofs.ControlKept.{acked_next, sent_ends}
 use Rattle.link_pairs.proofs.Counts.{HasBitsOf, Says, acknowledged_by, heard_agreed, is_fresh, says_right, sent_agreed, turned}
 use Rattle.link_pairs.proofs.FixingNext.{Empty, FixesNext, Holds, IsAnswer, control_bits, control_short, fixed_by, fixes_next, fixing_of, may_fix_after}
 use Rattle.link_pairs.proofs.HeardTurns.{HearsIn, hears_in, in_exchange, last_heard, last_hears}
 use Rattle.link_pairs.proofs.PeripheralSteps.{may_parts, seen_after, sends_after, with_end}
+use Rattle.link_pairs.proofs.PhasedEnds.{acked_alone, acked_if, acked_lasts, acked_phased, gone_phased}
+use Rattle.link_pairs.proofs.PhasedKept.{PhasedKeeps, acked_keeps_if, fits_of, gone_keeps, kept_then}
+use Rattle.link_pairs.proofs.ReachedRuns.{requests_none}
 use Rattle.link_pairs.proofs.PlainEnds.{plain_sent, replies_as, sent_plain}
 use Rattle.link_pairs.proofs.LastPdus.{last_reached}
 use Rattle.link_pairs.proofs.Lasting.{lasts_before, lasts_before_if}
@@ -60,24 +64,19 @@ use Rattle.link_pairs.proofs.SeenAcknowledged.{cleared, clear_seen, control_seen
 use Rattle.link_pairs.proofs.TakingPdus.{HasTaken, TakesNext, takes_next}
 use Rattle.link_pairs.proofs.Ways.{Arrival, arrives, last_same, last_taken, sent_again, way_same, way_seen, way_sent, way_sent_empty}
 
--- ---- what its steps keep of the control part
+-- ---- its next control PDU, and that a control PDU leaves
 
-keeps_seen : (acked : Bool) (c : Control) → Keeps c (control_acked_if acked c)
-keeps_seen true c = keeps_acked c
-keeps_seen false c = keeps_none c
+abbrev next_at : Phased → Option Ctrl
+next_at x = next_ctrl (is_quiet_phased x) (held_of x.control)
 
-seen_ends : (acked : Bool) (c : Control) → (control_acked_if acked c).ends ≡ c.ends
-seen_ends true c = acked_ends c
-seen_ends false c = refl
+module _ (x : Phased) (none : x.request ≡ None) where
+  quiet_seen : (acked : Bool) → is_quiet_phased (acked_if acked x) ≡ is_quiet_phased x
+  quiet_seen true = ap is_quiet_phased (acked_alone x none)
+  quiet_seen false = refl
 
-seen_next : (acked quiet : Bool) (c : Control) → role_of c.table.progress ≡ Peripheral
-    → next_ctrl quiet (held_of (control_acked_if acked c)) ≡ next_ctrl quiet (held_of c)
-seen_next true quiet c role = acked_next c quiet role
-seen_next false quiet c role = refl
-
-keeps_gone : (goes : Bool) (slot : ℕ) (facts : Facts) → Keeps facts.control (control_gone_if goes slot facts).control
-keeps_gone true slot facts = keeps_sent facts.control slot (is_quiet_now facts)
-keeps_gone false slot facts = keeps_none facts.control
+  next_seen : (acked : Bool) → role_of x.control.table.progress ≡ Peripheral → next_at (acked_if acked x) ≡ next_at x
+  next_seen true role = ap next_at (acked_alone x none) ∙ acked_next x.control (is_quiet_phased x) role
+  next_seen false role = refl
 
 gone_ends : (goes : Bool) (slot : ℕ) (facts : Facts) → (control_gone_if goes slot facts).control.ends ≡ facts.control.ends
 gone_ends true slot facts = sent_ends facts.control slot (is_quiet_now facts)
@@ -92,13 +91,13 @@ room_for false false is = refl
 
 -- some steps lead to it, which leave the central, its way and the event of the peripheral as they were; the control part of
 -- the peripheral is this one then
-pub record TakesAt (s : Joint) (takes : Bool) (slot : ℕ) (now : Control) : Type 0 where
+pub record TakesAt (s : Joint) (takes : Bool) (slot : ℕ) (response : Response) (now : Control) : Type 0 where
   pub steps : List JointStep
   pub in_range : AreStepsInRange steps
   pub state : Joint
   pub leads : after_all steps s ≡ state
-  pub comes : may_all (step_if takes (PeripheralTakes slot no_response)) state ≡ true
-  pub to : (after_all (step_if takes (PeripheralTakes slot no_response)) state).peripheral.control ≡ now
+  pub comes : may_all (step_if takes (PeripheralTakes slot response)) state ≡ true
+  pub to : (after_all (step_if takes (PeripheralTakes slot response)) state).peripheral.control ≡ now
   pub central : state.central ≡ s.central
   pub down : state.down ≡ s.down
   pub entered : state.peripheral.control.track.entered ≡ s.peripheral.control.track.entered
@@ -173,14 +172,23 @@ module _ (central peripheral : Setup) (slot : ℕ) (l : Link) (c p : Facts) (hea
     abbrev before : Facts
     before = seen slot header.md acks p
 
-    abbrev knows : Bool
-    knows = is_some p.peer.version
+    -- what it would draw
+    abbrev response : Response
+    response = drawn p.encryption.response
+
+    seen_is : phased_of before ≡ acked_if (acks && is_control p.acknowledgement.last) (phased_of p)
+    seen_is = acked_phased (acks && is_control p.acknowledgement.last) (keyed_of p)
+
+    plain_before : IsPlain peripheral.link.role before
+    plain_before =
+        acknowledged_stays peripheral.link.role acks (heard_in_slot slot header.md p)
+        (heard_plain peripheral.link.role slot header.md p s.peripheral_rests.plain)
 
     goes : GoesOn l.joint
     goes = goes_on l.joint m.running
 
     abbrev start : Joint
-    start = with_end (phased_of c) l.joint.down l.joint.up false p.control knows
+    start = with_end (phased_of c) l.joint.down l.joint.up false (phased_of p)
 
     started : l.joint ≡ start
     started = λ i. record { central = s.central_part i; peripheral = s.peripheral_part i; down = l.joint.down; up = l.joint.up; stopped = goes.stopped i }
@@ -196,30 +204,42 @@ module _ (central peripheral : Setup) (slot : ℕ) (l : Link) (c p : Facts) (hea
 
     acked_may : may_all acked_steps l.joint ≡ true
     acked_may =
-        let all = comes central peripheral m.ends (IsHeard room_now FixesNothing slot no_response) l m.reached m.running (reaches, tt) in
-        let first = may_parts (acked_steps ++ []) (step_if takes (PeripheralTakes slot no_response)) l.joint all in
+        let all = comes central peripheral m.ends (IsHeard room_now FixesNothing slot response) l m.reached m.running (reaches, tt) in
+        let first = may_parts (acked_steps ++ []) (step_if takes (PeripheralTakes slot response)) l.joint all in
         (may_parts acked_steps [] l.joint first.0).0
 
-    seen_joint : after_acknowledgement l.joint ≡ with_end (phased_of c) l.joint.down (cleared l.joint.up) false before.control knows
+    seen_joint : after_acknowledgement l.joint ≡ with_end (phased_of c) l.joint.down (cleared l.joint.up) false (phased_of before)
     seen_joint =
         ap (after_all acked_steps) started
-        ∙ seen_after (phased_of c) l.joint.down l.joint.up p.control knows (subst (λ (j : Joint). may_all acked_steps j ≡ true) started acked_may)
-        ∙ ap (λ (q : Control). with_end (phased_of c) l.joint.down (cleared l.joint.up) false q knows)
-        (sym (control_seen p.acknowledgement c.acknowledgement acks fresh says l.joint.up p.control s.up m.out_last))
+        ∙ seen_after (phased_of c) l.joint.down l.joint.up (phased_of p) (subst (λ (j : Joint). may_all acked_steps j ≡ true) started acked_may)
+        ∙ ap (with_end (phased_of c) l.joint.down (cleared l.joint.up) false)
+        (sym (control_seen p.acknowledgement c.acknowledgement acks fresh says l.joint.up (phased_of p) s.up m.out_last) ∙ sym seen_is)
 
     -- ---- it fixes its next one
 
-    seen_keeps : Keeps p.control before.control
-    seen_keeps = keeps_seen (acks && is_control p.acknowledgement.last) p.control
+    seen_keeps : PhasedKeeps (phased_of p) (phased_of before)
+    seen_keeps =
+        subst (PhasedKeeps (phased_of p)) (sym seen_is)
+        (acked_keeps_if (acks && is_control p.acknowledgement.last) (phased_of p) lasts (fits_of peripheral (slot + 1) p s.peripheral_rests))
 
     seen_lasts : before.control.ends ≡ None
-    seen_lasts = seen_ends (acks && is_control p.acknowledgement.last) p.control ∙ lasts
+    seen_lasts =
+        ap (λ (x : Phased). x.control.ends) seen_is ∙ acked_lasts (acks && is_control p.acknowledgement.last) (phased_of p) lasts
 
     is_role : role_of p.control.table.progress ≡ Peripheral
     is_role = s.peripheral_rests.role ∙ m.ends.is_peripheral
 
+    no_request : (phased_of p).request ≡ None
+    no_request = ap (λ (x : Phased). x.request) (sym s.peripheral_part) ∙ requests_none central peripheral m.ends l m.reached
+
     next_same : next_control before ≡ next_control p
-    next_same = seen_next (acks && is_control p.acknowledgement.last) (is_quiet_now p) p.control is_role
+    next_same = ap next_at seen_is ∙ next_seen (phased_of p) no_request (acks && is_control p.acknowledgement.last) is_role
+
+    quiet_same : is_quiet_now before ≡ is_quiet_now p
+    quiet_same = ap is_quiet_phased seen_is ∙ quiet_seen (phased_of p) no_request (acks && is_control p.acknowledgement.last)
+
+    open_same : is_open before.control.table.closing ≡ not (is_disconnecting p.control.table.closing)
+    open_same = ap is_open seen_keeps.kept.closing ∙ sym s.peripheral_rests.goes
 
     fixed_same : before.outgoing.fixed ≡ p.outgoing.fixed
     fixed_same = seen_fixed slot header.md acks p
@@ -227,20 +247,19 @@ module _ (central peripheral : Setup) (slot : ℕ) (l : Link) (c p : Facts) (hea
     abbrev fixing : Fixing
     fixing = fixing_of (is_acked before.acknowledgement) before.fixes_control (is_data before.outgoing.fixed)
 
-    pub fixes : FixesNext (phased_of c) l.joint.down (cleared l.joint.up) slot before knows (is_acked before.acknowledgement) before.fixes_control fixing
+    pub fixes : FixesNext (phased_of c) l.joint.down (cleared l.joint.up) slot before (is_acked before.acknowledgement) before.fixes_control fixing
     fixes =
-        fixes_next (phased_of c) l.joint.down (cleared l.joint.up) slot before knows seen_lasts (seen_keeps.fits s.peripheral_rests.fits)
-        (seen_keeps.plain s.peripheral_rests.plain.control) (quiet_plain peripheral.link.role p s.peripheral_rests.plain)
+        fixes_next (phased_of c) l.joint.down (cleared l.joint.up) slot before seen_lasts seen_keeps.fits.control plain_before.control
         (clear_seen p.acknowledgement c.acknowledgement acks fresh says agreed l.joint.up s.up)
         (m.has_fixed.control ∙ ap (λ (next : Option Ctrl). is_some next) (sym next_same))
         (λ is. let first = m.has_fixed.data_first (sym (ap is_data fixed_same) ∙ is) in (
           next_same ∙ first.0,
-          ap is_open seen_keeps.kept.closing ∙ sym s.peripheral_rests.goes ∙ first.1,
+          (λ i. quiet_same i && open_same i) ∙ first.1,
         ))
         (ap is_control fixed_same ∙ s.peripheral_rests.none_gone) (subst (λ (x : Pdu). x.llid < 4) (sym fixed_same) m.has_fixed.two_bits)
 
     abbrev heard : LinkStep
-    heard = IsHeard room_now fixing slot no_response
+    heard = IsHeard room_now fixing slot response
 
     may_hear : MayLink heard l
     may_hear = (reaches, may_fix_after fixing slot l.joint _ seen_joint fixes.may_fix)
@@ -249,13 +268,13 @@ module _ (central peripheral : Setup) (slot : ℕ) (l : Link) (c p : Facts) (hea
     all_may = comes central peripheral m.ends heard l m.reached m.running may_hear
 
     parts : (may_all (acked_steps ++ fixing_steps fixing slot) l.joint ≡ true)
-        × (may_all (step_if takes (PeripheralTakes slot no_response)) (after_all (acked_steps ++ fixing_steps fixing slot) l.joint) ≡ true)
-    parts = may_parts (acked_steps ++ fixing_steps fixing slot) (step_if takes (PeripheralTakes slot no_response)) l.joint all_may
+        × (may_all (step_if takes (PeripheralTakes slot response)) (after_all (acked_steps ++ fixing_steps fixing slot) l.joint) ≡ true)
+    parts = may_parts (acked_steps ++ fixing_steps fixing slot) (step_if takes (PeripheralTakes slot response)) l.joint all_may
 
     abbrev after_fixing : Facts
     after_fixing = fixed slot header.md acks p
 
-    fixed_joint : after_all (acked_steps ++ fixing_steps fixing slot) l.joint ≡ with_end (phased_of c) l.joint.down fixes.next_way false after_fixing.control knows
+    fixed_joint : after_all (acked_steps ++ fixing_steps fixing slot) l.joint ≡ with_end (phased_of c) l.joint.down fixes.next_way false (phased_of after_fixing)
     fixed_joint =
         after_joined acked_steps (fixing_steps fixing slot) l.joint
         ∙ ap (after_all (fixing_steps fixing slot)) seen_joint
@@ -265,8 +284,16 @@ module _ (central peripheral : Setup) (slot : ℕ) (l : Link) (c p : Facts) (hea
 
     -- ---- it takes the PDU, or does not
 
-    fixed_keeps : Keeps before.control after_fixing.control
-    fixed_keeps = keeps_gone (takes_leave before) slot before
+    fixed_keeps : PhasedKeeps (phased_of before) (phased_of after_fixing)
+    fixed_keeps =
+        subst (PhasedKeeps (phased_of before)) (sym (gone_phased (takes_leave before) slot before))
+        (gone_keeps (takes_leave before) (phased_of before) slot seen_lasts seen_keeps.fits)
+
+    plain_fixed : IsPlain peripheral.link.role after_fixing
+    plain_fixed = gone_stays peripheral.link.role (takes_leave before) slot before plain_before
+
+    same_response : drawn after_fixing.encryption.response ≡ response
+    same_response = ap (λ (e : Encryption). drawn e.response) (gone slot header.md acks p).encryption
 
     fixed_lasts : after_fixing.control.ends ≡ None
     fixed_lasts = gone_ends (takes_leave before) slot before ∙ seen_lasts
@@ -276,36 +303,41 @@ module _ (central peripheral : Setup) (slot : ℕ) (l : Link) (c p : Facts) (hea
         arrives c.acknowledgement p.acknowledgement acks fresh says s.agreement m.out room_now (room_for room (is_data pdu)) l.joint.down s.down
 
     pub takes_pdu : TakesNext (phased_of c) l.joint.down fixes.next_way slot c.acknowledgement p.acknowledgement after_fixing takes accepted
-    takes_pdu = takes_next (phased_of c) l.joint.down fixes.next_way slot c.acknowledgement p.acknowledgement after_fixing takes accepted fixed_lasts arrival
-
-    knows_same : with_end (phased_of c) l.joint.down fixes.next_way false after_fixing.control knows
-        ≡ with_end (phased_of c) l.joint.down fixes.next_way false after_fixing.control (is_some after_fixing.peer.version)
-    knows_same =
-        ap (λ (peer : PeerFacts). with_end (phased_of c) l.joint.down fixes.next_way false after_fixing.control (is_some peer.version))
-        (sym (gone slot header.md acks p).peer)
+    takes_pdu =
+        takes_next (phased_of c) l.joint.down fixes.next_way slot c.acknowledgement p.acknowledgement after_fixing takes accepted fixed_lasts fixed_keeps.fits
+        (subst (λ (r : Response). IsCtrl (response_ctrl r)) (sym same_response) s.peripheral_rests.holds.response) arrival
 
     abbrev now : Facts
     now = taken slot header.md acks p accepted pdu
 
-    takes_may : may_all (step_if takes (PeripheralTakes slot no_response))
-        (with_end (phased_of c) l.joint.down fixes.next_way false after_fixing.control (is_some after_fixing.peer.version)) ≡ true
-    takes_may = subst (λ (j : Joint). may_all (step_if takes (PeripheralTakes slot no_response)) j ≡ true) (fixed_joint ∙ knows_same) parts.1
+    abbrev ready_to_take : Joint
+    ready_to_take = with_end (phased_of c) l.joint.down fixes.next_way false (phased_of after_fixing)
 
-    pub heard_joint : (link_after heard l).joint ≡ with_end (phased_of c) takes_pdu.next_down fixes.next_way takes_pdu.stopped now.control takes_pdu.knows
+    takes_may : may_all (step_if takes (PeripheralTakes slot response)) ready_to_take ≡ true
+    takes_may = subst (λ (j : Joint). may_all (step_if takes (PeripheralTakes slot response)) j ≡ true) fixed_joint parts.1
+
+    takes_joint : after_all (step_if takes (PeripheralTakes slot response)) ready_to_take
+        ≡ with_end (phased_of c) takes_pdu.next_down fixes.next_way takes_pdu.stopped (phased_of now)
+    takes_joint =
+        subst (λ (r : Response). may_all (step_if takes (PeripheralTakes slot r)) ready_to_take ≡ true
+        → after_all (step_if takes (PeripheralTakes slot r)) ready_to_take
+        ≡ with_end (phased_of c) takes_pdu.next_down fixes.next_way takes_pdu.stopped (phased_of now))
+        same_response takes_pdu.leads takes_may
+
+    pub heard_joint : (link_after heard l).joint ≡ with_end (phased_of c) takes_pdu.next_down fixes.next_way takes_pdu.stopped (phased_of now)
     heard_joint =
-        after_joined (acked_steps ++ fixing_steps fixing slot) (step_if takes (PeripheralTakes slot no_response)) l.joint
-        ∙ ap (after_all (step_if takes (PeripheralTakes slot no_response))) (fixed_joint ∙ knows_same)
-        ∙ takes_pdu.leads takes_may
+        after_joined (acked_steps ++ fixing_steps fixing slot) (step_if takes (PeripheralTakes slot response)) l.joint
+        ∙ ap (after_all (step_if takes (PeripheralTakes slot response))) fixed_joint ∙ takes_joint
 
-    pub takes_at : TakesAt l.joint takes slot now.control
+    pub takes_at : TakesAt l.joint takes slot response now.control
     takes_at =
         record {
           steps = acked_steps ++ fixing_steps fixing slot;
           in_range = range_before l.joint fixing slot;
-          state = with_end (phased_of c) l.joint.down fixes.next_way false after_fixing.control (is_some after_fixing.peer.version);
-          leads = fixed_joint ∙ knows_same;
+          state = ready_to_take;
+          leads = fixed_joint;
           comes = takes_may;
-          to = ap (λ (j : Joint). j.peripheral.control) (takes_pdu.leads takes_may);
+          to = ap (λ (j : Joint). j.peripheral.control) takes_joint;
           central = sym s.central_part;
           down = refl;
           entered =
@@ -341,37 +373,40 @@ module _ (central peripheral : Setup) (slot : ℕ) (l : Link) (c p : Facts) (hea
     ends_none : (acks && is_terminate p.acknowledgement.last) ≡ false
     ends_none = ends_nothing p.acknowledgement c.acknowledgement acks fresh says l.joint.up s.up
 
+    plain_now : IsPlain peripheral.link.role now
+    plain_now = taken_stays peripheral.link.role accepted pdu slot after_fixing plain_fixed
+
     stays_now : now.leaving.acknowledged ≡ false
-    stays_now = taken_stays slot header.md acks p accepted pdu ∙ λ i. s.peripheral_rests.stays i || ends_none i
+    stays_now = stays_taken slot header.md acks p accepted pdu ∙ λ i. s.peripheral_rests.stays i || ends_none i
 
     module _ (still : is_running next.joint ≡ true) where
-      going : GoesOn (with_end (phased_of c) takes_pdu.next_down fixes.next_way takes_pdu.stopped now.control takes_pdu.knows)
+      going : GoesOn (with_end (phased_of c) takes_pdu.next_down fixes.next_way takes_pdu.stopped (phased_of now))
       going = goes_on _ (subst (λ (j : Joint). is_running j ≡ true) heard_joint still)
 
-      took_pdu : HasTaken (phased_of c) l.joint.down fixes.next_way slot c.acknowledgement p.acknowledgement after_fixing takes accepted takes_pdu.next_down takes_pdu.knows
-      took_pdu = takes_pdu.taken going.stopped going.peripheral
+      took_pdu : HasTaken (phased_of c) l.joint.down fixes.next_way slot c.acknowledgement p.acknowledgement after_fixing takes accepted takes_pdu.next_down
+      took_pdu = takes_pdu.taken going.stopped
 
-      goes_joint : next.joint ≡ with_end (phased_of c) takes_pdu.next_down fixes.next_way false now.control takes_pdu.knows
+      goes_joint : next.joint ≡ with_end (phased_of c) takes_pdu.next_down fixes.next_way false (phased_of now)
       goes_joint =
           heard_joint
-          ∙ ap (λ (b : Bool). with_end (phased_of c) takes_pdu.next_down fixes.next_way b now.control takes_pdu.knows) going.stopped
+          ∙ ap (λ (b : Bool). with_end (phased_of c) takes_pdu.next_down fixes.next_way b (phased_of now)) going.stopped
 
-      now_keeps : Keeps p.control now.control
+      now_keeps : PhasedKeeps (phased_of p) (phased_of now)
       now_keeps =
-          keeps_then p.control before.control now.control seen_keeps
-          (keeps_then before.control after_fixing.control now.control fixed_keeps took_pdu.keeps)
+          kept_then (phased_of p) (phased_of before) (phased_of now) seen_keeps
+          (kept_then (phased_of before) (phased_of after_fixing) (phased_of now) fixed_keeps took_pdu.keeps)
 
       opens : next.turns.peripheral_open ≡ true
       opens = (paired central peripheral m.ends next next_reached still).peripheral_open
 
-      pub shows_next : (k : Link) (up : Way) → k.joint ≡ with_end (phased_of c) takes_pdu.next_down up false now.control takes_pdu.knows → k.turns ≡ next.turns
+      pub shows_next : (k : Link) (up : Way) → k.joint ≡ with_end (phased_of c) takes_pdu.next_down up false (phased_of now) → k.turns ≡ next.turns
           → HasLast slot header.md acks p accepted pdu (is_acked now.acknowledgement)
           → ShowsWay up answered.acknowledgement c.acknowledgement → length answered.acknowledgement.last.body ≤ central.link.max_rx
           → Shows central peripheral (slot + 1) true k c answered
       shows_next k up joint_is turns_is last shown fits =
           record {
             central_part = ap (λ (j : Joint). j.central) joint_is;
-            peripheral_part = ap (λ (j : Joint). j.peripheral) joint_is ∙ ap (plain_phased now.control) took_pdu.knows_version;
+            peripheral_part = ap (λ (j : Joint). j.peripheral) joint_is;
             down =
                 subst (λ (w : Way). ShowsWay w c.acknowledgement answered.acknowledgement) (sym (ap (λ (j : Joint). j.down) joint_is))
                 (way_same takes_pdu.next_down c.acknowledgement (with_accepted accepted pdu p.acknowledgement) c.acknowledgement answered.acknowledgement refl refl refl
@@ -397,7 +432,7 @@ module _ (central peripheral : Setup) (slot : ℕ) (l : Link) (c p : Facts) (hea
             free = λ all. absurd (let no = sym m.out ∙ all in cc);
             central_rests = s.central_rests;
             peripheral_rests =
-                rests_with peripheral slot header.md acks p accepted pdu s.peripheral_rests now_keeps m.listens ends_none (is_acked now.acknowledgement) last;
+                rests_with peripheral slot header.md acks p accepted pdu s.peripheral_rests now_keeps plain_now m.listens ends_none (is_acked now.acknowledgement) last;
             central_fits = s.central_fits;
             peripheral_fits = fits;
           }
@@ -463,7 +498,7 @@ module _ (central peripheral : Setup) (slot : ℕ) (l : Link) (c p : Facts) (hea
             subst (HasLast slot header.md acks p accepted pdu) (sym now_all)
             (last_next slot header.md acks p accepted pdu (omega (arith, fits_next, m.ends.central_max.to)) bits_next)
 
-        shows_all : (k : Link) (up : Way) → k.joint ≡ with_end (phased_of c) takes_pdu.next_down up false now.control takes_pdu.knows → k.turns ≡ next.turns
+        shows_all : (k : Link) (up : Way) → k.joint ≡ with_end (phased_of c) takes_pdu.next_down up false (phased_of now) → k.turns ≡ next.turns
             → ShowsWay up answered.acknowledgement c.acknowledgement → Shows central peripheral (slot + 1) true k c answered
         shows_all k up joint_is turns_is shown =
             shows_next k up joint_is turns_is has_last shown (subst (λ (x : Pdu). length x.body ≤ central.link.max_rx) (sym next_last) fits_next)
@@ -477,8 +512,8 @@ module _ (central peripheral : Setup) (slot : ℕ) (l : Link) (c p : Facts) (hea
 
         -- a control PDU, or data
         module _ (item : Item) (sealed : Bool) (way : fixes.next_way ≡ Fixed item sealed) (is : IsItem item after_fixing.outgoing.fixed) where
-          fixed_goes : next.joint ≡ with_end (phased_of c) takes_pdu.next_down (Fixed item sealed) false now.control takes_pdu.knows
-          fixed_goes = goes_joint ∙ ap (λ (w : Way). with_end (phased_of c) takes_pdu.next_down w false now.control takes_pdu.knows) way
+          fixed_goes : next.joint ≡ with_end (phased_of c) takes_pdu.next_down (Fixed item sealed) false (phased_of now)
+          fixed_goes = goes_joint ∙ ap (λ (w : Way). with_end (phased_of c) takes_pdu.next_down w false (phased_of now)) way
 
           may_send : may PeripheralSends next.joint ≡ true
           may_send =
@@ -488,24 +523,24 @@ module _ (central peripheral : Setup) (slot : ℕ) (l : Link) (c p : Facts) (hea
           abbrev after_next : Link
           after_next = link_after (Alone PeripheralSends) next
 
-          sends_joint : after_next.joint ≡ with_end (phased_of c) takes_pdu.next_down (sent_up (Fixed item sealed) (seals Peripheral clear_phase)) false now.control takes_pdu.knows
+          sends_joint : after_next.joint ≡ with_end (phased_of c) takes_pdu.next_down (sent_up (Fixed item sealed) (seals Peripheral now.encryption.phase)) false (phased_of now)
           sends_joint =
               ap (joint_after PeripheralSends) fixed_goes
-              ∙ sends_after (phased_of c) takes_pdu.next_down now.control takes_pdu.knows (Fixed item sealed)
+              ∙ sends_after (phased_of c) takes_pdu.next_down (phased_of now) (Fixed item sealed)
               (subst (λ (j : Joint). may PeripheralSends j ≡ true) fixed_goes may_send)
 
           way_on : (x : Item) → IsItem x now.outgoing.fixed
-              → ShowsWay (sent_up (Fixed x sealed) (seals Peripheral clear_phase)) answered.acknowledgement c.acknowledgement
+              → ShowsWay (sent_up (Fixed x sealed) (seals Peripheral now.encryption.phase)) answered.acknowledgement c.acknowledgement
           way_on Data is_item = way_sent now.outgoing.fixed now.acknowledgement c.acknowledgement now_agreed now_all Data sealed is_item
           way_on (control_item outgoing ctrl) is_item =
-              way_sent now.outgoing.fixed now.acknowledgement c.acknowledgement now_agreed now_all (control_item outgoing ctrl) (seals Peripheral clear_phase) is_item
+              way_sent now.outgoing.fixed now.acknowledgement c.acknowledgement now_agreed now_all (control_item outgoing ctrl) (seals Peripheral now.encryption.phase) is_item
 
           after_reached : IsReached central peripheral after_next
           after_reached = reached_next central peripheral (Alone PeripheralSends) next next_reached still (refl, may_send) tt
 
           shows_item : Shows central peripheral (slot + 1) true after_next c answered
           shows_item =
-              shows_all after_next (sent_up (Fixed item sealed) (seals Peripheral clear_phase)) sends_joint refl
+              shows_all after_next (sent_up (Fixed item sealed) (seals Peripheral now.encryption.phase)) sends_joint refl
               (way_on item (subst (IsItem item) (sym now_fixed) is))
 
         answers_next : IsAnswer fixes.next_way after_fixing.outgoing.fixed → IsShown central peripheral (slot + 1) true c answered
@@ -546,10 +581,6 @@ module _ (central peripheral : Setup) (slot : ℕ) (l : Link) (c p : Facts) (hea
           heard_as ∙ ap (λ (role : Role). facts_hearing role slot room header pdu p) m.ends.is_peripheral
           ∙ ap (λ (takes : Bool). taken_if takes pdu slot after_fixing) accepts_same
 
-      now_plain : IsPlain peripheral.link.role now
-      now_plain =
-          subst (IsPlain peripheral.link.role) received_now (step_plain peripheral p (PacketReceived slot octets room) s.peripheral_rests.plain)
-
       abbrev replies : Bool
       replies = replies_of peripheral p slot octets room
 
@@ -570,7 +601,7 @@ module _ (central peripheral : Setup) (slot : ℕ) (l : Link) (c p : Facts) (hea
           replies_now ∙ λ i. not (not (is_none (ends i)) || stays_now i) in
           let is : answer ≡ answered =
           (λ i. sent_if (replies_true i) peripheral slot (received_now i)) ∙ answers_plainly slot header.md acks p accepted pdu
-          ∙ sent_plain peripheral.link.role slot now now_plain in
+          ∙ sent_plain peripheral.link.role slot now plain_now in
           subst (λ (b : Bool). IsShown central peripheral (slot + 1) b c answer) (sym replies_true)
           (subst (IsShown central peripheral (slot + 1) true c) (sym is) (answers_shown still))
 
@@ -584,7 +615,7 @@ module _ (central peripheral : Setup) (slot : ℕ) (l : Link) (c p : Facts) (hea
           (subst (λ (f : Facts). is_lasting f ≡ true) received_now (lasts_received lasts_then)) in
           let ends = none_of now.control.ends parts.0 in
           subst (λ (j : Joint). is_running j ≡ true) (sym heard_joint)
-          (running_from (with_end (phased_of c) takes_pdu.next_down fixes.next_way takes_pdu.stopped now.control takes_pdu.knows) (takes_pdu.lasts ends parts.1)
+          (running_from (with_end (phased_of c) takes_pdu.next_down fixes.next_way takes_pdu.stopped (phased_of now)) (takes_pdu.lasts ends parts.1)
           (ap (λ (x : Phased). x.control.ends) (sym s.central_part) ∙ goes.central) ends)
 
       hears_by : (goes_on : Bool) → is_running next.joint ≡ goes_on → IsShown central peripheral (slot + 1) replies c answer
@@ -638,9 +669,9 @@ module _ (heard : AreHeard) (central peripheral : Setup) (slot : ℕ) (c p : Fac
     reaches_now = reaches central peripheral slot l c p read.header meets room
 
     pub takes_now : TakesAt l.joint (takes_item (room || not (is_data c.acknowledgement.last)) (item_on_air l.joint.down)) slot
-        (received peripheral slot octets room p).control
+        (drawn p.encryption.response) (received peripheral slot octets room p).control
     takes_now =
-        subst (λ (f : Facts). TakesAt l.joint (takes_item (room || not (is_data c.acknowledgement.last)) (item_on_air l.joint.down)) slot f.control)
+        subst (λ (f : Facts). TakesAt l.joint (takes_item (room || not (is_data c.acknowledgement.last)) (item_on_air l.joint.down)) slot (drawn p.encryption.response) f.control)
         (sym (received_now central peripheral slot l c p read.header meets room octets read.good (read.facts room)))
         (takes_at central peripheral slot l c p read.header meets room)
 

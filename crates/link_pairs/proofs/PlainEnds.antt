@@ -1,22 +1,19 @@
--- An end that encrypts nothing: whether its data goes, whether it answers, and what it sends.
-use Rattle.std.proofs.Common.{◌≡◌, ◌&&◌, ℕ, Bool, true, false, not, List, refl, sym, ap, subst, ◌∙◌}
+-- An end that encrypts nothing: whether it answers, and what it sends.
+use Rattle.std.proofs.Common.{◌≡◌, ℕ, Bool, true, false, List, refl, sym, ap, subst, ◌∙◌}
 use Rattle.ble_base.specs.declared.roles.Role.{Role}
-use Rattle.control_octets.specs.procedure_stages.declared.closing.Closing.{Closing}
-use Rattle.control_octets.specs.procedure_stages.Closing.{is_disconnecting, is_open}
 use Rattle.unencrypted_ends.specs.Unencrypted.{IsUnencrypted}
 use Rattle.link_model.specs.phased_end.keyed_control.declared.material.Response.{Response}
 use Rattle.link_model.specs.Acknowledgement.{after_sending, is_acked}
 use Rattle.link_model.specs.Data.{Data, data_sent_if}
 use Rattle.link_model.specs.Events.{event_sent}
 use Rattle.link_model.specs.Facts.{Encryption, Facts}
-use Rattle.link_model.specs.Fixing.{data_goes}
 use Rattle.link_model.specs.Packets.{good_pdu, more_sent}
 use Rattle.link_model.specs.Payload.{end_sending, payload_made}
 use Rattle.link_model.specs.Plain.{IsPlain, plain_encryption}
 use Rattle.link_model.specs.Receiving.{has_ended, replies_by, replies_of}
 use Rattle.link_model.specs.Sending.{data_sent_as, fixed_sent, leaving_sent, seals_new}
 use Rattle.link_model.specs.Setup.{Setup}
-use Rattle.link_model.proofs.Plain.{made_plain, quiet_plain, received_plain}
+use Rattle.link_model.proofs.Plain.{made_plain, received_plain}
 use Rattle.link_pairs.specs.Hearing.{received}
 
 -- ---- its encryption
@@ -24,25 +21,9 @@ use Rattle.link_pairs.specs.Hearing.{received}
 abbrev pub IsPlainEncryption : Role → Encryption → Type 0
 IsPlainEncryption role e = e ≡ plain_encryption role e.knows_version e.response
 
--- also once it knows the version of its peer
-pub knowing : (role : Role) (e : Encryption) (knows : Bool) → IsPlainEncryption role e → IsPlainEncryption role (record e { knows_version = knows })
-knowing role e knows is = ap (λ (x : Encryption). record x { knows_version = knows }) is
-
 -- where its encryption stays the same
 pub plain_with : (role : Role) (now : Facts) (e : Encryption) → now.encryption ≡ e → IsPlainEncryption role e → IsUnencrypted now.control → IsPlain role now
 plain_with role now e same is none = record { encryption = subst (IsPlainEncryption role) (sym same) is; control = none }
-
--- ---- its data goes until the host ended the link
-
-pub goes_as : (role : Role) (facts : Facts) → IsPlain role facts → data_goes facts ≡ not (is_disconnecting facts.control.table.closing)
-goes_as role facts plain = ap (λ (quiet : Bool). quiet && not (is_disconnecting facts.control.table.closing)) (quiet_plain role facts plain)
-
-pub goes_kept : (role : Role) (before now : Facts) → IsPlain role before → IsPlain role now
-    → now.control.table.closing ≡ before.control.table.closing → data_goes before ≡ is_open before.control.table.closing
-    → data_goes now ≡ is_open now.control.table.closing
-goes_kept role before now was is same goes =
-    goes_as role now is
-    ∙ subst (λ (closing : Closing). not (is_disconnecting closing) ≡ is_open closing) (sym same) (sym (goes_as role before was) ∙ goes)
 
 -- ---- whether it answers
 

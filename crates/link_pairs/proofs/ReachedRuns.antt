@@ -1,7 +1,12 @@
 -- What holds of the state of each joint run holds of each link that is reached by its steps.
-use Rattle.std.proofs.Common.{◌≡◌, ◌≤◌, ◌⊎◌, inl, inr, ℕ, true, List, subst, arith}
+use Rattle.std.proofs.Common.{◌≡◌, ◌≤◌, ◌⊎◌, inl, inr, ℕ, true, List, [], ◌∷◌, None, refl, ap, ◌∙◌, subst, arith}
 use Rattle.ble_base.specs.Limits.{first_payload_octets}
 use Rattle.ble_base.specs.declared.roles.Role.TheVariants.{Central, Peripheral}
+use Rattle.joint_laws.specs.joint_controls.Ends.{steps_of_peripheral}
+use Rattle.joint_laws.specs.joint_controls.phased_control.Phased.{Phased}
+use Rattle.joint_laws.specs.joint_controls.phased_control.Taken.{PhasedStep, phased_after, phased_after_all}
+use Rattle.joint_laws.proofs.joint_controls.EndSteps.{peripheral_runs}
+use Rattle.joint_laws.proofs.joint_controls.phased_control.Agreeing.{Sound, sound_after, sound_first}
 use Rattle.joint_laws.specs.joint_controls.Joint.{Joint, JointStep, after_all, is_running}
 use Rattle.joint_laws.proofs.joint_controls.LastPdus.{Tied, first_tied, tied}
 use Rattle.joint_laws.proofs.joint_controls.Running.{after_each}
@@ -29,6 +34,18 @@ module _ (central peripheral : Setup) (ends : AreEnds central peripheral) where
       in_runs Tied
       (λ steps. tied steps start
       (first_tied central.link.max_rx peripheral.link.max_rx (first_params central.link.fields) (first_anchor central)))
+
+  -- a peripheral has no request for an encryption
+  sound_all : (steps : List PhasedStep) (x : Phased) → Sound Peripheral x → Sound Peripheral (phased_after_all steps x)
+  sound_all [] x sound = sound
+  sound_all (step ∷ steps) x sound = sound_all steps (phased_after step x) (sound_after Peripheral step x sound)
+
+  pub requests_none : (l : Link) → IsReached central peripheral l → l.joint.peripheral.request ≡ None
+  requests_none =
+      in_runs (λ (j : Joint). j.peripheral.request ≡ None)
+      (λ steps. ap (λ (x : Phased). x.request) (peripheral_runs steps start)
+      ∙ (sound_all (steps_of_peripheral steps start) start.peripheral
+      (sound_first Peripheral peripheral.link.max_rx (first_params central.link.fields) (first_anchor central))).requests.peripheral refl)
 
   -- an end whose last control PDU is LL_TERMINATE_IND sends no further one
   pub ends_so : (l : Link) → IsReached central peripheral l → BothSo l.joint

@@ -13,7 +13,7 @@ use Rattle.joint_laws.specs.joint_parameters.Turns.{AreLinksInRange, IsLinkInRan
 use Rattle.joint_laws.proofs.joint_parameters.Linking.{joint_comes, joint_run, stays_paired}
 use Rattle.joint_laws.proofs.joint_parameters.Pairing.{running_from}
 use Rattle.joint_laws.proofs.joint_controls.Running.{none_of}
-use Rattle.unencrypted_ends.specs.phased_control.Phased.{Phased}
+use Rattle.joint_laws.specs.joint_controls.phased_control.Phased.{Phased}
 use Rattle.link_model.specs.Controls.{goes_on}
 use Rattle.link_model.specs.Facts.{Facts}
 use Rattle.link_pairs.specs.Ends.{AreEnds, is_lasting}

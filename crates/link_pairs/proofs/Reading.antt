@@ -12,12 +12,12 @@ use Rattle.link_model.specs.Controls.{next_control, pdu_fixed, pdu_of_control}
 use Rattle.link_model.specs.Facts.{Facts}
 use Rattle.link_model.specs.End.{facts_after}
 use Rattle.link_model.specs.Packets.{good_pdu, header_sent, packet_sent, payload_sent, pdu_sent}
-use Rattle.link_model.specs.Plain.{IsPlain, plain_hearing as facts_hearing}
-use Rattle.link_model.specs.Receiving.{facts_hearing as any_hearing}
+use Rattle.link_model.specs.Plain.{IsPlain}
+use Rattle.link_model.specs.Receiving.{facts_hearing}
 use Rattle.link_model.specs.Sending.{control_gone, control_gone_if, data_sent_as, facts_sent, fixed_sent, takes_leave}
 use Rattle.link_model.specs.Step.{PacketReceived}
 use Rattle.link_model.specs.Hearing.{IsUnderstood}
-use Rattle.link_model.proofs.Plain.{hearing_plain, opened_plain}
+use Rattle.link_model.proofs.Plain.{opened_plain}
 use Rattle.link_model.proofs.Received.{facts_heard, heard_good}
 use Rattle.link_pairs.specs.Ends.{IsAtRest}
 use Rattle.link_pairs.specs.Hearing.{IsPacketOf, received}
@@ -86,7 +86,7 @@ pub record IsHeard (from to : Setup) (sender listener : Facts) : Type 0 where
   pub facts :
       (slot : ℕ) (room : Bool)
       → facts_after to listener (PacketReceived slot (packet_sent from sender) room)
-      ≡ any_hearing to.link.role slot room (header_sent sender) (pdu_sent sender) listener
+      ≡ facts_hearing to.link.role slot room (header_sent sender) (pdu_sent sender) listener
 
 -- each packet that is understood is heard so
 abbrev pub AreHeard : Type 0
@@ -149,6 +149,5 @@ module _ (heard : AreHeard) (from to : Setup) (slot turns : ℕ) (facts listener
         out = sent_before.out;
         good = subst (λ (o : List ℕ). is_some (good_pdu to listener o) ≡ true) (sym is.packet) is_heard.good;
         facts = λ room. ap (λ (o : List ℕ). received to slot o room listener) is.packet ∙ is_heard.facts slot room
-            ∙ ap (λ (pdu : Pdu). any_hearing to.link.role slot room (header_sent is.before) pdu listener) (sym sent_before.last)
-            ∙ hearing_plain to.link.role to.link.role slot room (header_sent is.before) facts.acknowledgement.last listener plain;
+            ∙ ap (λ (pdu : Pdu). facts_hearing to.link.role slot room (header_sent is.before) pdu listener) (sym sent_before.last);
       }

@@ -1,27 +1,26 @@
 -- A peripheral that hears a packet sees its last PDU acknowledged, or does not.
 use Rattle.std.proofs.Common.{◌≡◌, ◌&&◌, ◌||◌, Bool, true, false, refl, ap, sym, subst, ◌∙◌, if◌then◌else◌}
 use Rattle.control_octets.specs.procedure_values.declared.drafts.Outgoing.TheVariants.{Nothing}
-use Rattle.control_octets.specs.control_model.Control.{Control}
+use Rattle.joint_laws.specs.joint_controls.phased_control.Phased.{Phased}
 use Rattle.joint_laws.specs.joint_controls.Joint.{Clear, Control as control_item, Data, Fixed, OnAir, Taken, Way, is_taken}
 use Rattle.joint_laws.specs.joint_controls.Ends.{outgoing_on}
 use Rattle.link_model.specs.Acknowledgement.{Acknowledgement, is_acked, with_acked}
 use Rattle.link_model.specs.Data.{is_control, is_empty}
 use Rattle.link_model.specs.OneLink.{AreInAgreement}
 use Rattle.link_model.specs.Controls.{is_terminate}
-use Rattle.link_model.specs.Plain.{control_acked_if}
 use Rattle.link_pairs.specs.Ways.{IsUntaken, ShowsWay}
 use Rattle.link_pairs.proofs.Counts.{Says, unseen_is_out, unseen_is_taken, untaken_is_out}
 use Rattle.link_pairs.proofs.Items.{control_is_control, empty_terminates_nothing, item_terminates}
-use Rattle.link_pairs.proofs.ControlKept.{acked_none}
+use Rattle.link_pairs.proofs.PhasedEnds.{acked_if, acked_nothing}
 
 -- ---- its last PDU is acknowledged, or is not
 
 abbrev pub cleared : Way → Way
 cleared way = if is_taken way then Clear else way
 
-none_acked : (acked : Bool) (c : Control) → c.table.out ≡ Nothing → control_acked_if acked c ≡ c
-none_acked true c is = acked_none c is
-none_acked false c is = refl
+none_acked : (acked : Bool) (x : Phased) → x.control.table.out ≡ Nothing → acked_if acked x ≡ x
+none_acked true x is = acked_nothing x is
+none_acked false x is = refl
 
 module _ (from to : Acknowledgement) (acks fresh : Bool) (says : Says from to acks fresh) where
   untaken_not_acked : IsUntaken from to → acks ≡ false
@@ -38,16 +37,16 @@ module _ (from to : Acknowledgement) (acks fresh : Bool) (says : Says from to ac
       by true is = absurd (let out = unseen_is_out from to (says.unseen is) in cc)
       by false is = refl
 
-  -- its control part sees exactly a PDU acknowledged that was taken
-  pub control_seen : (way : Way) (c : Control) → ShowsWay way from to → c.table.out ≡ outgoing_on way
-      → control_acked_if (acks && is_control from.last) c ≡ control_acked_if (is_taken way) c
-  control_seen Clear c shown out = none_acked (acks && is_control from.last) c out
-  control_seen (Fixed item sealed) c shown out = absurd shown
-  control_seen (OnAir item sealed) c shown out = ap (λ (b : Bool). control_acked_if (b && is_control from.last) c) (untaken_not_acked shown.1)
-  control_seen (Taken Data) c shown out = none_acked (acks && is_control from.last) c out ∙ sym (none_acked true c out)
-  control_seen (Taken (control_item outgoing ctrl)) c shown out =
-      (λ i. control_acked_if (says.acknowledged shown.1 i && is_control from.last) c)
-      ∙ ap (λ (b : Bool). control_acked_if b c) (control_is_control ctrl from.last shown.0)
+  -- it sees exactly a PDU acknowledged that was taken
+  pub control_seen : (way : Way) (x : Phased) → ShowsWay way from to → x.control.table.out ≡ outgoing_on way
+      → acked_if (acks && is_control from.last) x ≡ acked_if (is_taken way) x
+  control_seen Clear x shown out = none_acked (acks && is_control from.last) x out
+  control_seen (Fixed item sealed) x shown out = absurd shown
+  control_seen (OnAir item sealed) x shown out = ap (λ (b : Bool). acked_if (b && is_control from.last) x) (untaken_not_acked shown.1)
+  control_seen (Taken Data) x shown out = none_acked (acks && is_control from.last) x out ∙ sym (none_acked true x out)
+  control_seen (Taken (control_item outgoing ctrl)) x shown out =
+      (λ i. acked_if (says.acknowledged shown.1 i && is_control from.last) x)
+      ∙ ap (λ (b : Bool). acked_if b x) (control_is_control ctrl from.last shown.0)
 
   -- it ends no link
   pub ends_nothing : (way : Way) → ShowsWay way from to → (acks && is_terminate from.last) ≡ false

@@ -26,7 +26,7 @@ use Rattle.link_pairs.proofs.HeardCounts.{before, before_by_peer, before_nothing
 use Rattle.link_pairs.proofs.Items.{empty_is_no_procedure, never}
 use Rattle.link_pairs.proofs.PacketsRead.{AreRead, are_read}
 use Rattle.link_pairs.proofs.PlainEnds.{replies_as}
-use Rattle.link_pairs.proofs.TakingPdus.{taken_same}
+use Rattle.link_pairs.proofs.TakingPdus.{plain_taken_same}
 
 -- ---- an end hears a packet that acknowledges its LL_TERMINATE_IND
 
@@ -55,7 +55,7 @@ module _ (role : Role) (slot : ℕ) (room : Bool) (header : DataHeader) (pdu : P
       ∙ (λ i. facts.leaving.acknowledged || (acks i && terminates i)) ∙ or_right facts.leaving.acknowledged true refl
 
   pub ended_now : now.leaving.acknowledged ≡ true
-  ended_now = (taken_same (accepted && is_procedure_pdu pdu) pdu slot (accepted_if accepted pdu earlier)).acknowledged ∙ ended_before
+  ended_now = (plain_taken_same (accepted && is_procedure_pdu pdu) pdu slot (accepted_if accepted pdu earlier)).acknowledged ∙ ended_before
 
   none_given : (accepted && is_procedure_pdu pdu) ≡ false
   none_given = nothing_given pdu _ (is_empty pdu) earlier.leaving.acknowledged refl ended_before

@@ -4,16 +4,15 @@ use Rattle.std.proofs.lemmas.Bool.{and_parts}
 use Rattle.std.proofs.Math.Nat.{min-le_left}
 use Rattle.ack_bit.proofs.Directions.{not-false}
 use Rattle.data_pdu.specs.declared.ctrl.Ctrl.{Ctrl}
-use Rattle.unencrypted_ends.specs.enc_phase.Phases.{seals}
+use Rattle.joint_laws.specs.joint_controls.phased_control.enc_phase.Phases.{seals}
 use Rattle.ble_base.specs.declared.roles.Role.{Role}
 use Rattle.ble_base.specs.declared.roles.Role.TheVariants.{Central}
 use Rattle.instants.specs.declared.indications.Indication.{Indication}
-use Rattle.instants.specs.Track.{TrackFacts, event_of}
+use Rattle.instants.specs.Track.{TrackFacts}
 use Rattle.control_octets.specs.procedure_stages.Closing.{is_disconnecting, is_open}
 use Rattle.control_octets.specs.procedure_stages.declared.closing.Closing.{Closing}
 use Rattle.control_octets.specs.procedure_stages.Kinds.{role_of}
 use Rattle.control_octets.specs.procedure_values.Limits.{tx_of}
-use Rattle.control_octets.specs.procedures.Queue.{next_of}
 use Rattle.two_tracks.specs.TwoEnds.{Acknowledged, LastPdu, Taken, TwoEnds, Untaken}
 use Rattle.two_tracks.specs.TwoEnds as two_ends
 use Rattle.control_octets.specs.control_model.Control.{Control, Sends as control_sends, after}
@@ -21,12 +20,10 @@ use Rattle.control_octets.proofs.control_model.Moving.{same_role}
 use Rattle.control_octets.specs.Fitting.{FitsOctets}
 use Rattle.control_octets.proofs.Pdus.{written_short}
 use Rattle.control_octets.proofs.Steps.{stays_fitting}
-use Rattle.unencrypted_ends.specs.phased_control.Phased.{Phased}
-use Rattle.unencrypted_ends.specs.phased_control.Taken.{Sends, phased_after}
-use Rattle.unencrypted_ends.specs.Unencrypted.{IsUnencrypted, plain_phased}
-use Rattle.unencrypted_ends.proofs.Going.{sends_goes}
-use Rattle.unencrypted_ends.proofs.Staying.{stays}
-use Rattle.joint_laws.specs.joint_controls.Joint.{CentralSends, CentralSendsData, Clear, Control as control_item, Data as data_item, Item, Joint, OnAir, Way, is_running, item_by, may, next_item, on_air, sends_data}
+use Rattle.joint_laws.specs.joint_controls.phased_control.Phased.{Phased}
+use Rattle.joint_laws.specs.joint_controls.phased_control.Taken.{Sends, phased_after}
+use Rattle.unencrypted_ends.specs.Unencrypted.{IsUnencrypted}
+use Rattle.joint_laws.specs.joint_controls.Joint.{CentralSends, CentralSendsData, Clear, Control as control_item, Data as data_item, Item, Joint, OnAir, Way, is_running, item_by, may, next_item, next_out, on_air, sends_data}
 use Rattle.joint_laws.proofs.joint_controls.Running.{goes_on}
 use Rattle.joint_laws.specs.joint_parameters.Turns.{Link, MayLink, MayTransmit, SendsControl, SendsData, SendsEmpty, link_after, next_indication}
 use Rattle.joint_laws.proofs.joint_parameters.Pairing.{after_may}
@@ -40,9 +37,7 @@ use Rattle.link_model.specs.Facts.{Facts}
 use Rattle.link_model.specs.Packets.{more_sent}
 use Rattle.link_model.specs.Plain.{IsPlain}
 use Rattle.link_model.specs.Sending.{control_gone, control_gone_if, facts_sent, fixed_sent, leaving_sent}
-use Rattle.link_model.specs.control_end.Answers.{next_ctrl}
-use Rattle.link_model.specs.control_end.Held.{held_of}
-use Rattle.link_model.proofs.Plain.{gone_stays, quiet_plain}
+use Rattle.link_model.proofs.Plain.{gone_stays}
 use Rattle.link_pairs.specs.Ends.{AreEnds, IsAtRest, phased_of}
 use Rattle.link_pairs.specs.Shown.{Shows}
 use Rattle.link_pairs.specs.Turns.{HasFixed}
@@ -52,6 +47,7 @@ use Rattle.link_pairs.proofs.Counts.{sent_agreed}
 use Rattle.link_pairs.proofs.Fixing.{IsPiece}
 use Rattle.link_pairs.proofs.FixingNext.{next_is_control}
 use Rattle.link_pairs.proofs.PeripheralSteps.{next_item_is, sends_data_is}
+use Rattle.link_pairs.proofs.PhasedEnds.{gone_phased}
 use Rattle.link_pairs.proofs.PlainEnds.{sent_plain}
 use Rattle.link_pairs.proofs.Reaching.{IsReached, IsShown, central_transmits, comes, paired, reached_next, shown}
 use Rattle.link_pairs.proofs.Showing.{central_shows}
@@ -111,6 +107,7 @@ again_rests : (setup : Setup) (turns slot : ℕ) (facts : Facts) → IsAtRest se
 again_rests setup turns slot facts r =
     record {
       fits = r.fits;
+      holds = record { request = r.holds.request; kept = r.holds.kept; response = r.holds.response };
       plain = record { encryption = r.plain.encryption; control = r.plain.control };
       role = r.role;
       none_gone = r.none_gone;
@@ -135,6 +132,7 @@ module _ (setup : Setup) (turns slot : ℕ) (facts : Facts) (r : IsAtRest setup 
   new_rests d fixes pdu kept fits plain role short two_bits =
       record {
         fits = fits;
+        holds = record { request = r.holds.request; kept = r.holds.kept; response = r.holds.response };
         plain = record { encryption = r.plain.encryption; control = plain };
         role = role;
         none_gone = refl;
@@ -146,7 +144,7 @@ module _ (setup : Setup) (turns slot : ℕ) (facts : Facts) (r : IsAtRest setup 
         heard = λ heard. let before = r.heard heard in (subst (λ (n : ℕ). 1 ≤ n) (sym kept.entered) before.0, before.1);
         past = r.past;
         goes =
-            subst (λ (closing : Closing). (is_quiet_now facts && not (is_disconnecting closing)) ≡ is_open closing) (sym kept.closing) r.goes;
+            subst (λ (closing : Closing). not (is_disconnecting closing) ≡ is_open closing) (sym kept.closing) r.goes;
         stays = r.stays;
       }
 
@@ -219,12 +217,6 @@ module _ (central peripheral : Setup) (ends : AreEnds central peripheral) (turns
     lasts : c.control.ends ≡ None
     lasts = ap (λ (x : Phased). x.control.ends) (sym s.central_part) ∙ (goes_on l.joint running).central
 
-    quiet : is_quiet_now c ≡ true
-    quiet = quiet_plain central.link.role c s.central_rests.plain
-
-    next_is : next_ctrl true (held_of c.control) ≡ next_control c
-    next_is = ap (λ (b : Bool). next_ctrl b (held_of c.control)) (sym quiet)
-
     fits_peripheral : length c.outgoing.fixed.body ≤ peripheral.link.max_rx
     fits_peripheral =
         let most = subst (λ (x : Phased). tx_of x.control.table.lengths ≤ peripheral.link.max_rx) s.central_part (central_transmits central peripheral ends l reached running) in
@@ -272,7 +264,7 @@ module _ (central peripheral : Setup) (ends : AreEnds central peripheral) (turns
           let first = fixed.data_first is in
           let sends : sends_data l.joint.central ≡ true =
           subst (λ (x : Phased). sends_data x ≡ true) (sym s.central_part)
-          (sends_data_is c.control (is_some c.peer.version) lasts (next_is ∙ first.0) (sym s.central_rests.goes ∙ first.1)) in
+          (sends_data_is (phased_of c) lasts first.0 ((λ i. is_quiet_now c && sym s.central_rests.goes i) ∙ first.1)) in
           let may_link : MayLink SendsData l = (may_transmit, s.free all, sends) in
           let may_come = (and_parts (may CentralSendsData l.joint) true (comes central peripheral ends SendsData l reached running may_link)).0 in
           shown central peripheral turns answers (link_after SendsData l) (sent_as true slot c) p
@@ -288,15 +280,14 @@ module _ (central peripheral : Setup) (ends : AreEnds central peripheral) (turns
 
       module _ (ctrl : Ctrl) (fixes : c.fixes_control ≡ true) (next : next_control c ≡ Some ctrl) where
         abbrev item : Item
-        item = control_item (next_of c.control.table (event_of c.control.track) true) ctrl
+        item = control_item (next_out (phased_of c)) ctrl
 
         abbrev gone : Control
         gone = after (control_sends slot (is_quiet_now c)) c.control
 
         item_next : next_item l.joint.central ≡ Some item
         item_next =
-            ap next_item s.central_part ∙ next_item_is c.control (is_some c.peer.version) lasts
-            ∙ ap (item_by (next_of c.control.table (event_of c.control.track) true)) (next_is ∙ next)
+            ap next_item s.central_part ∙ next_item_is (phased_of c) lasts ∙ ap (item_by (next_out (phased_of c))) next
 
         pdu_is : pdu_fixed c ≡ pdu_of_control (Some ctrl)
         pdu_is = λ i. if fixes i then pdu_of_control (next i) else c.outgoing.fixed
@@ -305,13 +296,13 @@ module _ (central peripheral : Setup) (ends : AreEnds central peripheral) (turns
         pdu_short = subst (λ (pdu : Pdu). length pdu.body ≤ 24) (sym pdu_is) (written_short ctrl)
 
         is_item : IsItem item (pdu_fixed c)
-        is_item = subst (IsItem item) (sym pdu_is) (next_is_control c.control ctrl lasts s.central_rests.fits s.central_rests.plain.control (next_is ∙ next))
+        is_item = subst (IsItem item) (sym pdu_is) (next_is_control c.control (is_quiet_now c) ctrl lasts s.central_rests.fits s.central_rests.plain.control next)
 
         gone_rests : IsAtRest central turns (sent_as true slot (control_gone slot c))
         gone_rests =
             new_rests central turns slot c s.central_rests gone false (pdu_fixed c) (sent_kept c.control slot (is_quiet_now c))
             (stays_fitting c.control (control_sends slot (is_quiet_now c)) s.central_rests.fits tt)
-            (stays c.control (control_sends slot (is_quiet_now c)) s.central_rests.plain.control refl)
+            (gone_stays central.link.role true slot c s.central_rests.plain).control
             (same_role central.link.role (control_sends slot (is_quiet_now c)) c.control s.central_rests.role) (omega (arith, pdu_short))
             (subst (λ (pdu : Pdu). pdu.llid < 4) (sym pdu_is) (omega arith))
 
@@ -331,8 +322,7 @@ module _ (central peripheral : Setup) (ends : AreEnds central peripheral) (turns
             (sym (after_may (CentralSends slot) l.joint may_come))
             (new_shows central peripheral turns answers l c p s all slot (link_after (SendsControl slot) l).turns (phased_after (Sends slot) l.joint.central)
             (on_air (next_item l.joint.central) sealed) gone false (pdu_fixed c) (sends_new (next_indication l.joint.central) l.turns)
-            (ap (phased_after (Sends slot)) s.central_part ∙ sends_goes c.control (is_some c.peer.version) slot
-            ∙ ap (λ (b : Bool). plain_phased (after (control_sends slot b) c.control) (is_some c.peer.version)) (sym quiet))
+            (ap (phased_after (Sends slot)) s.central_part ∙ sym (gone_phased true slot c))
             (subst (λ (o : Option Item). ShowsWay (on_air o sealed) (after_sending (pdu_fixed c) c.acknowledgement) p.acknowledgement) (sym item_next)
             (way_sent (pdu_fixed c) c.acknowledgement p.acknowledgement s.agreement all item sealed is_item))
             gone_rests (omega (arith, pdu_short, receives))))

@@ -10,12 +10,14 @@ use Rattle.two_tracks.specs.TwoEnds.{MayReach}
 use Rattle.two_tracks.proofs.JointHearing.{joint_of}
 use Rattle.two_tracks.proofs.Read.{anchors, packets}
 use Rattle.control_octets.specs.control_model.Control.{Control}
-use Rattle.joint_laws.specs.joint_controls.Joint.{Clear, Control as control_item, Data, Fixed, Joint, OnAir, PeripheralTakes, Taken, Way, after_all, has_passed, instant_now, is_indication, is_item, is_late, is_running, item_on_air, last_change, may, may_all, no_response}
+use Rattle.joint_laws.specs.joint_controls.Joint.{Clear, Control as control_item, Data, Fixed, Joint, OnAir, PeripheralTakes, Taken, Way, after_all, has_passed, instant_now, is_indication, is_item, is_late, is_running, item_on_air, last_change, may, may_all}
 use Rattle.joint_laws.specs.joint_controls.Joint.{after as joint_after}
 use Rattle.joint_laws.specs.Ends.{EndsLateAlone}
 use Rattle.joint_laws.specs.joint_parameters.Indications.{EndsLate}
 use Rattle.joint_laws.specs.joint_parameters.Turns.{IsPaired, Link, step_if, takes_item}
 use Rattle.joint_laws.proofs.joint_parameters.Arriving.{late_ends_link}
+use Rattle.joint_laws.specs.joint_controls.phased_control.Taken.{Response}
+use Rattle.link_model.specs.phased_end.Taking.{drawn}
 use Rattle.link_model.specs.Data.{is_data}
 use Rattle.link_model.specs.Setup.{Setup, first_anchor, first_params}
 use Rattle.link_model.specs.Facts.{Facts}
@@ -52,16 +54,16 @@ for_instant s (Some code) late (inr passed) = passed.0
 -- ---- the peripheral takes an indication that is late
 
 module _ (central peripheral : Setup) where
-  ends_late : (slot : ℕ) (change : Change) (s : Joint) → HasRun central peripheral s → may (PeripheralTakes slot no_response) s ≡ true
-      → instant_now s ≡ Some change → is_late s ≡ true → EndsLate (joint_after (PeripheralTakes slot no_response) s).peripheral.control.ends
-  ends_late slot change s r =
-      subst (λ (j : Joint). may (PeripheralTakes slot no_response) j ≡ true → instant_now j ≡ Some change → is_late j ≡ true
-      → EndsLate (joint_after (PeripheralTakes slot no_response) j).peripheral.control.ends) r.reaches
+  ends_late : (slot : ℕ) (response : Response) (change : Change) (s : Joint) → HasRun central peripheral s → may (PeripheralTakes slot response) s ≡ true
+      → instant_now s ≡ Some change → is_late s ≡ true → EndsLate (joint_after (PeripheralTakes slot response) s).peripheral.control.ends
+  ends_late slot response change s r =
+      subst (λ (j : Joint). may (PeripheralTakes slot response) j ≡ true → instant_now j ≡ Some change → is_late j ≡ true
+      → EndsLate (joint_after (PeripheralTakes slot response) j).peripheral.control.ends) r.reaches
       (late_ends_link central.link.max_rx peripheral.link.max_rx (first_params central.link.fields) (first_anchor central) r.steps r.run.latency r.run.in_range slot
-      no_response change)
+      response change)
 
-  module _ (ends : AreEnds central peripheral) (turns slot : ℕ) (answers takes : Bool) (c p : Facts) (now : Control) (l : Link)
-      (reached : IsReached central peripheral l) (s : Shows central peripheral turns answers l c p) (t : TakesAt l.joint takes slot now)
+  module _ (ends : AreEnds central peripheral) (turns slot : ℕ) (response : Response) (answers takes : Bool) (c p : Facts) (now : Control) (l : Link)
+      (reached : IsReached central peripheral l) (s : Shows central peripheral turns answers l c p) (t : TakesAt l.joint takes slot response now)
       (change : Change) (coming : instant_now l.joint ≡ Some change) (is_taken : takes ≡ true)
       (late : change.at.0 < event_of l.joint.peripheral.control.track) where
     instant_at : instant_now t.state ≡ Some change
@@ -70,17 +72,17 @@ module _ (central peripheral : Setup) where
     late_at : is_late t.state ≡ true
     late_at = (λ i. has_passed (instant_at i) (t.entered i - 1)) ∙ lt-ltb change.at.0 (event_of l.joint.peripheral.control.track) late
 
-    takes_one : (b : Bool) → b ≡ true → may_all (step_if b (PeripheralTakes slot no_response)) t.state ≡ true
-        → EndsLate (after_all (step_if b (PeripheralTakes slot no_response)) t.state).peripheral.control.ends
+    takes_one : (b : Bool) → b ≡ true → may_all (step_if b (PeripheralTakes slot response)) t.state ≡ true
+        → EndsLate (after_all (step_if b (PeripheralTakes slot response)) t.state).peripheral.control.ends
     takes_one true is comes =
-        ends_late slot change t.state (run_at central peripheral ends turns slot answers takes c p now l reached s t)
-        (one_step (PeripheralTakes slot no_response) t.state comes) instant_at late_at
+        ends_late slot response change t.state (run_at central peripheral ends turns slot response answers takes c p now l reached s t)
+        (one_step (PeripheralTakes slot response) t.state comes) instant_at late_at
     takes_one false is comes = absurd (cc)
 
     pub ends_now : now.ends ≡ Some (record { 0 = instant_passed })
     ends_now =
         for_instant t.state now.ends (subst (λ (k : Control). EndsLate k.ends) t.to (takes_one takes is_taken t.comes))
-        (ends_alone central peripheral ends turns slot answers takes c p now l reached s t)
+        (ends_alone central peripheral ends turns slot response answers takes c p now l reached s t)
 
 -- ---- both ends in the event of one number
 
@@ -111,7 +113,8 @@ module _ (central peripheral : Setup) (ends : AreEnds central peripheral) (turns
       share (joint.replies replies).count (joint.replies replies).anchor
 
   -- the packet of the central reaches the peripheral, which takes its PDU or does not
-  module _ (slot : ℕ) (room : Bool) (now : Control) (t : TakesAt l.joint (takes_item room (item_on_air l.joint.down)) slot now)
+  module _ (slot : ℕ) (response : Response) (room : Bool) (now : Control)
+      (t : TakesAt l.joint (takes_item room (item_on_air l.joint.down)) slot response now)
       (reaches : MayReach l.turns) where
     anchor_is : l.turns.central.anchor ≡ l.turns.peripheral.anchor
     anchor_is = anchors (first_params central.link.fields) (first_anchor central) l.turns (by_turns_too central peripheral ends l reached) reaches
@@ -119,12 +122,12 @@ module _ (central peripheral : Setup) (ends : AreEnds central peripheral) (turns
     late_by : (o : Option Change) → instant_now l.joint ≡ o → IsLate o l.turns.peripheral → now.ends ≡ Some (record { 0 = instant_passed })
     late_by None is late = absurd late
     late_by (Some change) is late =
-        ends_now central peripheral ends turns slot answers (takes_item room (item_on_air l.joint.down)) c p now l reached s t change is
+        ends_now central peripheral ends turns slot response answers (takes_item room (item_on_air l.joint.down)) c p now l reached s t change is
         (takes_indication room l.joint.down (last_change l.joint.central.control.sent) change is)
         (subst (λ (x : TrackFacts). change.at.0 < event_of x) both.peripheral late.0)
 
     ends_by : now.ends ≡ Some (record { 0 = instant_passed }) → EndsForInstant c p now.ends
-    ends_by is = by (ends_for_instant central peripheral ends turns slot answers (takes_item room (item_on_air l.joint.down)) c p now l reached s t)
+    ends_by is = by (ends_for_instant central peripheral ends turns slot response answers (takes_item room (item_on_air l.joint.down)) c p now l reached s t)
       where
         by : (now.ends ≡ None) ⊎ EndsForInstant c p now.ends → EndsForInstant c p now.ends
         by (inl none) = absurd (let no = sym none ∙ is in cc)
@@ -151,7 +154,7 @@ peripheral_hears heard central peripheral slot c p channel octets room ends begu
     let reached = reached_now central peripheral ends (slot + 1) false c p begun.linked c_lasts p_lasts in
     let s = begun.linked.shows running in
     subst (λ (o : Option ErrCode). ShareEvent c p ⊎ EndsForInstant c p o) (sym (answered_ends peripheral slot octets room p))
-    (hears_share central peripheral ends (slot + 1) false c p l reached running s slot (room || not (is_data c.acknowledgement.last))
+    (hears_share central peripheral ends (slot + 1) false c p l reached running s slot (drawn p.encryption.response) (room || not (is_data c.acknowledgement.last))
     (received peripheral slot octets room p).control
     (takes_now heard central peripheral slot c p channel octets room ends begun packet same supervised (begun.ready running) l reached running s)
     (reaches_now heard central peripheral slot c p channel octets room ends begun packet same supervised (begun.ready running) l reached running s))

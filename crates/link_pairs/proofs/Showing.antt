@@ -3,7 +3,7 @@ use Rattle.std.proofs.Common.{◌≡◌, ℕ, Bool, length, sym, ap, subst, ◌�
 use Rattle.link_model.specs.Acknowledgement.{Acknowledgement, is_acked}
 use Rattle.link_model.specs.OneLink.{AreInAgreement}
 use Rattle.link_model.specs.Setup.{Setup}
-use Rattle.unencrypted_ends.specs.phased_control.Phased.{Phased}
+use Rattle.joint_laws.specs.joint_controls.phased_control.Phased.{Phased}
 use Rattle.joint_laws.specs.joint_controls.Joint.{is_free}
 use Rattle.joint_laws.specs.joint_parameters.Turns.{Link}
 use Rattle.link_model.specs.Facts.{Facts}

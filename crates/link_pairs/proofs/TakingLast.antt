@@ -33,7 +33,7 @@ use Rattle.link_pairs.proofs.Items.{control_terminates, data_is_no_procedure, em
 use Rattle.link_pairs.proofs.LastControl.{EndsSo, disconnects, is_disconnect}
 use Rattle.link_pairs.proofs.TakerSends.{AreToPart}
 use Rattle.link_pairs.proofs.TakingNothing.{TakesNothing}
-use Rattle.link_pairs.proofs.TakingPdus.{IsTakenBy, taken_same}
+use Rattle.link_pairs.proofs.TakingPdus.{IsTakenBy, plain_taken_same}
 use Rattle.link_pairs.proofs.TakingTerminate.{HasTaken, has_taken, takes_terminate}
 
 -- ---- the PDU that is taken is a control PDU on its way
@@ -86,7 +86,7 @@ module _ (role : Role) (slot : ℕ) (room : Bool) (header : DataHeader) (pdu : P
   given = accepted_if accepted pdu earlier
 
   left : IsTakenBy given now
-  left = taken_same (accepted && is_procedure_pdu pdu) pdu slot given
+  left = plain_taken_same (accepted && is_procedure_pdu pdu) pdu slot given
 
   outgoing_now : now.outgoing ≡ earlier.outgoing
   outgoing_now = left.outgoing

@@ -1,10 +1,12 @@
 -- What each step of the control part of an end makes of the procedure that the end has in progress.
-use Rattle.std.proofs.Common.{◌≡◌, ℕ, Bool, true, false, if◌then◌else◌, ◌&&◌, [], ◌∷◌, ◌++◌, Option, Some, None, is_none, is_some, Result, refl, ◌∙◌}
+use Rattle.std.proofs.Common.{◌≡◌, ℕ, Bool, true, false, if◌then◌else◌, ◌&&◌, [], ◌∷◌, ◌++◌, Option, Some, None, is_none, is_some, Result, refl, ap, sym, subst, ◌∙◌}
 use Rattle.ble_base.specs.declared.error_codes.ErrCode.{ErrCode}
 use Rattle.ble_base.specs.declared.procedure_kinds.Kind.{Kind}
 use Rattle.ble_base.specs.declared.roles.Role.{Role}
 use Rattle.ble_base.specs.declared.roles.Role.TheVariants.{Central, Peripheral}
+use Rattle.data_pdu.specs.declared.ctrl.Ctrl.{Ctrl}
 use Rattle.data_pdu.specs.declared.ctrl.CtrlRead.{CtrlRead}
+use Rattle.data_pdu.specs.declared.ctrl.CtrlRead.TheVariants.{Known}
 use Rattle.instants.specs.Track.{event_of, next_number}
 use Rattle.instants.specs.declared.indications.Indication.{Indication}
 use Rattle.ble_base.specs.declared.counters.EventNo.{EventNo}
@@ -17,17 +19,22 @@ use Rattle.link_model.specs.procedure_values.Drafts.{is_out}
 use Rattle.link_model.specs.Receiving.{given_notes}
 use Rattle.link_model.specs.control_end.Answers.{done_by_acknowledgement, entry_of, nothing_taken, step_shown, taken_of}
 use Rattle.link_model.specs.control_end.Held.{control_of, held_of}
-use Rattle.link_model.specs.control_model.Control.{Control, Answers, Asks, Disconnects, Enters, SeesAcknowledged, Sends, Takes, after, following, goes_out, indicated_by, is_to_come, table_if, taken, went}
+use Rattle.link_model.specs.control_model.Control.{Control, Answers, Asks, Disconnects, Enters, Owes, SeesAcknowledged, Sends, Takes, after, following, goes_out, indicated_by, is_to_come, table_if, taken, went}
 use Rattle.link_model.specs.procedure_values.declared.asks.Ask.{Ask}
 use Rattle.link_model.specs.procedure_stages.Closing.{is_open}
 use Rattle.link_model.specs.procedure_stages.Kinds.{own_kind, role_of}
+use Rattle.link_model.specs.procedure_stages.declared.stages.Progress.{Progress}
+use Rattle.link_model.specs.procedure_stages.declared.stages.Progress.TheVariants.{Central as central, Peripheral as peripheral}
 use Rattle.link_model.specs.procedures.Beginning.{begin_step}
+use Rattle.link_model.specs.procedures.Encryption.{is_rejection, progress_given}
 use Rattle.link_model.specs.procedures.Going.{entered_step, host_answer_step, terminate_step}
 use Rattle.link_model.specs.procedures.Queue.{next_of}
 use Rattle.link_model.specs.procedures.Sending.{acked_step}
 use Rattle.link_model.specs.procedures.Table.{TableFacts}
 use Rattle.link_model.specs.procedures.Taking.{took_step}
 use Rattle.link_model.proofs.control_model.Calls.{any_step, either_way}
+use Rattle.link_model.proofs.Views.{DataTaking, Owing, Taking, TakingKept}
+use Rattle.link_model.proofs.Views.{Ended, Handed, NoneKept, Over, Owed, Same, TakesKept, Withheld}
 use Rattle.link_procedures.proofs.Noting.{GoesBy, applied_silent, both, goes_on}
 use Rattle.link_procedures.proofs.Tables.{acked_goes, answered_same, begin_goes, entered_goes, sent_same, took_goes}
 
@@ -66,6 +73,27 @@ sends_keep slot quiet c =
     (following_keeps (role_of c.table.progress) (went slot quiet c).1 d
     ∙ sent_same (next_of c.table (event_of c.track) quiet) (event_of c.track) c.track.params.latency c.table.progress) refl)
     refl
+
+given_keeps : (p : Progress) (ctrl : Ctrl) → own_kind (progress_given p ctrl) ≡ own_kind p
+given_keeps (central c) ctrl = refl
+given_keeps (peripheral p) ctrl = by (is_rejection ctrl)
+  where
+    by : (b : Bool) → own_kind (if b then peripheral (record p { encrypting = false }) else peripheral p) ≡ own_kind (peripheral p)
+    by true = refl
+    by false = refl
+
+owes_keep : (ctrl : Ctrl) (c : Control) → own_of (after (Owes ctrl) c) ≡ own_of c
+owes_keep ctrl c = any_step (Keeps c) (Owes ctrl) c (given_keeps c.table.progress ctrl) refl
+
+-- a PDU of the encryption may be queued
+pub owing_keeps : (c d : Control) → Owing c d → own_of d ≡ own_of c
+owing_keeps c d (Same is) = ap own_of is
+owing_keeps c d (Owed ctrl may is) = ap own_of is ∙ owes_keep ctrl c
+
+-- data may end the link
+pub data_keeps : (c d : Control) → DataTaking c d → own_of d ≡ own_of c
+data_keeps c d (Same is) = ap own_of is
+data_keeps c d (Ended code goes is) = ap own_of is
 
 -- ---- a control PDU is acknowledged
 
@@ -111,6 +139,39 @@ takes_goes handle read slot quiet c = by c.ends
         let step = took_step c.table read slot quiet in
         taken_by handle c step.0 (step_shown step.1) step.1.ends (indicated_by step.1.effect) (took_goes handle c.table read slot quiet)
     by (Some code) = goes_on (own_of c)
+
+-- in any phase of encryption: the procedures see it or not, and then the one that was kept
+kept_goes : (handle : ℕ) (slot : ℕ) (kept : Taken) (middle d : Control) → TakingKept slot kept middle d
+    → GoesBy (given_notes handle kept) (own_of middle) (own_of d)
+kept_goes handle slot kept middle d (NoneKept none is) =
+    subst (λ (given : Taken). GoesBy (given_notes handle given) (own_of middle) (own_of d)) (sym none)
+    (subst (λ (later : Option Kind). GoesBy [] (own_of middle) later) (sym (ap own_of is)) (goes_on (own_of middle)))
+kept_goes handle slot kept middle d (TakesKept ctrl class given is) =
+    subst (λ (given : Taken). GoesBy (given_notes handle given) (own_of middle) (own_of d)) (sym given)
+    (subst (λ (later : Option Kind). GoesBy (given_notes handle (taken_of (Known ctrl) slot true (held_of middle))) (own_of middle) later)
+    (sym (ap own_of is)) (takes_goes handle (Known ctrl) slot true middle))
+
+none_goes : (handle : ℕ) (taken kept : Taken) (c d : Control) → taken ≡ nothing_taken → kept ≡ nothing_taken → own_of d ≡ own_of c
+    → GoesBy (given_notes handle taken ++ given_notes handle kept) (own_of c) (own_of d)
+none_goes handle taken kept c d none none_kept same =
+    subst (λ (given : Taken). GoesBy (given_notes handle given ++ given_notes handle kept) (own_of c) (own_of d)) (sym none)
+    (subst (λ (given : Taken). GoesBy (given_notes handle given) (own_of c) (own_of d)) (sym none_kept)
+    (subst (λ (later : Option Kind). GoesBy [] (own_of c) later) (sym same) (goes_on (own_of c))))
+
+pub taking_goes : (handle : ℕ) (quiet : Bool) (c : Control) (read : CtrlRead) (slot : ℕ) (taken kept : Taken) (d : Control)
+    → Taking quiet c read slot taken kept d
+    → GoesBy (given_notes handle taken ++ given_notes handle kept) (own_of c) (own_of d)
+taking_goes handle quiet c read slot taken kept d (Over over none none_kept is) = none_goes handle taken kept c d none none_kept (ap own_of is)
+taking_goes handle quiet c read slot taken kept d (Withheld goes loud class none none_kept is) =
+    none_goes handle taken kept c d none none_kept (ap own_of is)
+taking_goes handle quiet c read slot taken kept d (Ended code goes class none none_kept is) =
+    none_goes handle taken kept c d none none_kept (ap own_of is)
+taking_goes handle quiet c read slot taken kept d (Handed seen middle goes is_seen class owing given later) =
+    both (given_notes handle taken) (given_notes handle kept) (own_of c) (own_of middle) (own_of d)
+    (subst (λ (given : Taken). GoesBy (given_notes handle given) (own_of c) (own_of middle)) (sym given)
+    (subst (λ (later : Option Kind). GoesBy (given_notes handle (taken_of seen slot quiet (held_of c))) (own_of c) later)
+    (sym (owing_keeps (after (Takes seen slot quiet) c) middle owing)) (takes_goes handle seen slot quiet c)))
+    (kept_goes handle slot kept middle d later)
 
 -- ---- an event is entered
 

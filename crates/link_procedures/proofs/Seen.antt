@@ -20,7 +20,7 @@ use Rattle.link_model.specs.procedure_stages.declared.stages.Progress.{Progress}
 use Rattle.link_model.specs.procedure_stages.declared.stages.Progress.TheVariants.{Central as central, Peripheral as peripheral}
 use Rattle.link_model.specs.procedure_values.Asks.{is_same_kind}
 use Rattle.link_model.specs.procedures.Table.{TableFacts}
-use Rattle.link_model.proofs.ControlSteps.{keeps_role}
+use Rattle.link_model.proofs.KeyedPasts.{keeps_role}
 use Rattle.collision_steps.specs.CentralPart.{central_of}
 use Rattle.collision_steps.specs.PeripheralPart.{peripheral_of}
 use Rattle.link_procedures.specs.Running.{runs_at_central, runs_at_peripheral, runs_noted}

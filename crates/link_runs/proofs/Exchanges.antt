@@ -6,13 +6,13 @@ use Rattle.instants.specs.Track.{TrackFacts, is_due, next_anchor_of, track_chang
 use Rattle.link_pairs.proofs.control_model.Moving.{enters_track}
 use Rattle.link_pairs.proofs.joint_controls.Running.{none_of}
 use Rattle.link_pairs.specs.link_model.Setup.{Setup}
-use Rattle.link_pairs.specs.link_model.Controls.{goes_on}
+use Rattle.link_pairs.specs.link_model.Controls.{goes_on, is_quiet_now}
 use Rattle.link_pairs.specs.link_model.Facts.{Facts}
-use Rattle.link_pairs.specs.link_model.Plain.{plain_entered}
+use Rattle.link_pairs.specs.link_model.Entering.{facts_entered}
 use Rattle.link_pairs.specs.link_model.Times.{has_second_exchange, wants_of}
 use Rattle.link_pairs.specs.Ends.{HasExchange, IsAtRest, is_lasting}
 use Rattle.link_pairs.specs.Turns.{MayExchange, entered_in}
-use Rattle.link_pairs.proofs.Beginning.{entered_is}
+use Rattle.link_pairs.proofs.Beginning.{entered_is, kept}
 use Rattle.link_runs.specs.Turn.{is_second, wants_slot}
 
 -- ---- the events that it entered
@@ -27,9 +27,11 @@ entered_next (Some change) t = entered_if_due (is_due change t.entered) change t
 
 module _ (setup : Setup) (slot turns : ℕ) (facts : Facts) (lasts : facts.control.ends ≡ None) (rests : IsAtRest setup turns facts) where
   -- it enters its event in this slot
-  first_exchange : HasExchange slot (plain_entered setup slot facts)
+  first_exchange : HasExchange slot (facts_entered setup slot facts)
   first_exchange =
-      let next = ap (λ (t : TrackFacts). t.entered) (enters_track facts.control slot true lasts) in
+      let next =
+      (kept setup slot facts lasts turns rests).entered
+      ∙ ap (λ (t : TrackFacts). t.entered) (enters_track facts.control slot (is_quiet_now facts) lasts) in
       let count = next ∙ entered_next facts.control.track.waits facts.control.track in
       (omega (arith, count), inl refl)
 
@@ -42,8 +44,8 @@ module _ (setup : Setup) (slot turns : ℕ) (facts : Facts) (lasts : facts.contr
 
   wants_exchange : (enters : Bool) → (next_anchor_of facts.control.track == slot) ≡ enters
       → (if enters then wants_of setup (entered_in setup slot facts) else is_second slot facts) ≡ true → HasExchange slot (entered_in setup slot facts)
-  wants_exchange true is wants = subst (HasExchange slot) (sym (entered_is setup slot facts lasts rests.plain true is)) first_exchange
-  wants_exchange false is wants = subst (HasExchange slot) (sym (entered_is setup slot facts lasts rests.plain false is)) (second_exchange wants)
+  wants_exchange true is wants = subst (HasExchange slot) (sym (entered_is setup slot facts lasts true is)) first_exchange
+  wants_exchange false is wants = subst (HasExchange slot) (sym (entered_is setup slot facts lasts false is)) (second_exchange wants)
 
   served_exchange : (served : Bool) → (served && wants_slot setup slot facts) ≡ true → HasExchange slot (entered_in setup slot facts)
   served_exchange served is = wants_exchange (next_anchor_of facts.control.track == slot) refl (and_parts served (wants_slot setup slot facts) is).1

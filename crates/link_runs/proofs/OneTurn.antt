@@ -4,7 +4,6 @@ use Rattle.std.proofs.lemmas.Bool.{and_from, and_parts, eqb-true}
 use Rattle.link_pairs.specs.link_model.declared.events.Reception.{Reception}
 use Rattle.link_pairs.specs.link_model.Setup.{Setup}
 use Rattle.link_pairs.specs.link_model.Facts.{Facts}
-use Rattle.link_pairs.specs.link_model.Plain.{IsPlain}
 use Rattle.link_pairs.specs.link_model.Receiving.{replies_of}
 use Rattle.link_pairs.specs.link_model.Step.{Step}
 use Rattle.link_pairs.specs.link_model.Times.{due_of}
@@ -262,9 +261,6 @@ module _ (central peripheral : Setup) (slot : ℕ) (given : Given) (c p : Facts)
         subst (λ (b : Bool). HaveBegun central peripheral slot b true c_at p_at) now.transmits_in
         (subst (λ (b : Bool). HaveBegun central peripheral slot transmits_now b c_at p_at) now.listens_in begun)
 
-    p_plain : IsPlain peripheral.link.role p_at
-    p_plain = (prepared_still peripheral slot listens_now p).plain shows.peripheral_rests.plain
-
     -- ---- they stay linked
 
     heard_linked : (hears_it : Bool) → heard_now ≡ hears_it → AreLinked central peripheral (slot + 1) (hears_it && replies) c_at (p_heard_if hears_it)
@@ -368,12 +364,12 @@ module _ (central peripheral : Setup) (slot : ℕ) (given : Given) (c p : Facts)
 
     late_answers : (hears_it : Bool) (code : ErrCode) → heard_now ≡ hears_it → (p_heard_if hears_it).control.ends ≡ Some code → (hears_it && replies) ≡ false
     late_answers true code is ended =
-        ended_no_reply peripheral slot sent_octets given.peripheral_room p_at code p_plain
+        ended_no_reply peripheral slot sent_octets given.peripheral_room p_at code
         (sym (answered_ends peripheral slot sent_octets given.peripheral_room p_at) ∙ ended)
     late_answers false code is ended = refl
 
     late_in_event : (hears_it : Bool) → (p_heard_if hears_it).control.track.entered ≡ p_at.control.track.entered
-    late_in_event true = answered_in_event peripheral slot sent_octets given.peripheral_room p_at p_plain
+    late_in_event true = answered_in_event peripheral slot sent_octets given.peripheral_room p_at
     late_in_event false = refl
 
     peripheral_late : (code : ErrCode) → p_heard.control.ends ≡ Some code → EndsForInstant c_at p_at p_heard.control.ends → AreAfterTurn

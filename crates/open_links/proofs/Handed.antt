@@ -1,13 +1,14 @@
 -- An indication that an end takes from the peer leaves an interval of at least 6 slots (Core 5.2, volume 6 part B,
 -- sections 2.4.2.1 and 4.5.1).
-use Rattle.std.proofs.Common.{◌≡◌, ℕ, Bool, true, false, ◌&&◌, ◌||◌, ◌==◌, length, sum, if◌then◌else◌, List, [], ◌∷◌, Option, Some, None, IfSome, is_some, refl}
+use Rattle.std.proofs.Common.{◌≡◌, ◌≤◌, ℕ, Bool, true, false, ◌&&◌, ◌||◌, ◌==◌, length, sum, if◌then◌else◌, List, [], ◌∷◌, Option, Some, None, IfSome, is_some, refl, sym, subst}
+use Rattle.std.specs.Bool.{⊤}
 use Rattle.std.proofs.lemmas.Bool.{and_parts}
 use Rattle.ble_base.specs.declared.error_codes.ErrCode.{ErrCode}
 use Rattle.ble_base.specs.declared.procedure_kinds.Kind.{Kind}
 use Rattle.ble_base.specs.declared.procedure_kinds.Kind.TheVariants.{Map as map_kind, Phy, Request}
 use Rattle.data_pdu.specs.Layouts.{Maker, makers}
 use Rattle.data_pdu.specs.Ranges.{IsInRange, is_in_range}
-use Rattle.data_pdu.specs.Reading.{IfKnown, blank_of, ctrl_by, ctrl_of, maker_in, opcode_of, read_by, widths_of}
+use Rattle.data_pdu.specs.Reading.{IfKnown, blank_of, ctrl_by, ctrl_of, maker_in, read_by, widths_of}
 use Rattle.data_pdu.specs.declared.ctrl.Ctrl.{Ctrl}
 use Rattle.data_pdu.specs.declared.ctrl.Ctrl.TheVariants.{TerminateInd, UnknownRsp, FeatureRsp, VersionInd, RejectInd, RejectExtInd, LengthReq, LengthRsp, ConnectionUpdateInd, ChannelMapInd, EncReq, EncRsp, StartEncReq, StartEncRsp, FeatureReq, PauseEncReq, PauseEncRsp, PeripheralFeatureReq, ConnectionParamReq, PhyReq, PhyRsp, PhyUpdateInd}
 use Rattle.data_pdu.specs.declared.ctrl.CtrlRead.{CtrlRead}
@@ -37,9 +38,9 @@ use Rattle.procedures.specs.Taking.{facts_with, lacks_room, no_room, outcome_of,
 use Rattle.procedures.specs.Update.{follow}
 use Rattle.two_tracks.specs.TwoEnds.{HasSlots}
 use Rattle.link_end.specs.control_model.Control.{indicated_by}
-use Rattle.link_end.specs.control_model.Supported.{begins_encryption, read_supported}
 use Rattle.link_end.specs.link_model.Acknowledgement.{Pdu}
 use Rattle.link_end.specs.link_model.Controls.{read_of}
+use Rattle.link_end.proofs.link_model.Views.{AsRead, AsUnknown, SeenAs, reading_view}
 
 -- ---- what is read of a body is in its range
 
@@ -60,17 +61,28 @@ unfolding ctrl_of
 ctrl_range [] = tt
 ctrl_range (opcode ∷ rest) = read_by_range (maker_in makers opcode) opcode (opcode ∷ rest)
 
-supported_range : (read : CtrlRead) → IfKnown read IsInRange → IfKnown (read_supported read) IsInRange
-supported_range (Known ctrl) is = by (begins_encryption ctrl)
-  where
-    by : (begins : Bool) → IfKnown (if begins then Unknown (opcode_of ctrl) else Known ctrl) IsInRange
-    by true = tt
-    by false = is
-supported_range (Unknown opcode) is = tt
-supported_range Bare is = tt
+-- so an interval is at least 6 slots
+abbrev pub HasInterval : Ctrl → Type 0
+HasInterval (ConnectionUpdateInd win_size win_offset interval latency timeout instant) = 6 ≤ interval
+HasInterval ctrl = ⊤
 
-pub read_range : (pdu : Pdu) → IfKnown (read_of pdu) IsInRange
-read_range pdu = supported_range (ctrl_of pdu.body) (ctrl_range pdu.body)
+range_interval : (ctrl : Ctrl) → IsInRange ctrl → HasInterval ctrl
+range_interval (ConnectionUpdateInd win_size win_offset interval latency timeout instant) is = is.interval_from
+range_interval ctrl is = tt
+
+read_interval : (read : CtrlRead) → IfKnown read IsInRange → IfKnown read HasInterval
+read_interval (Known ctrl) is = range_interval ctrl is
+read_interval (Unknown opcode) is = tt
+read_interval Bare is = tt
+
+-- whatever the phase of encryption makes of it
+seen_interval : (read seen : CtrlRead) → SeenAs read seen → IfKnown read HasInterval → IfKnown seen HasInterval
+seen_interval read seen (AsRead is) has = subst (λ (other : CtrlRead). IfKnown other HasInterval) (sym is) has
+seen_interval read seen (AsUnknown ctrl named read_is is) has = subst (λ (other : CtrlRead). IfKnown other HasInterval) (sym is) tt
+
+pub pdu_interval : (pdu : Pdu) → IfKnown (read_of pdu) HasInterval
+pdu_interval pdu =
+    seen_interval (ctrl_of pdu.body) (read_of pdu) (reading_view pdu) (read_interval (ctrl_of pdu.body) (ctrl_range pdu.body))
 
 -- ---- the indication that an outcome hands on
 
@@ -136,9 +148,9 @@ module _ (f : TableFacts) where
       by None = h
       by (Some code) = tt
 
-  at_peripheral : (p : Peripheral) (quiet : Bool) (ctrl : Ctrl) → IsInRange ctrl → HandsSlots (taken_by_peripheral f p quiet ctrl)
+  at_peripheral : (p : Peripheral) (quiet : Bool) (ctrl : Ctrl) → HasInterval ctrl → HandsSlots (taken_by_peripheral f p quiet ctrl)
   at_peripheral p quiet (ConnectionUpdateInd win_size win_offset interval latency timeout instant) is =
-      followed_slots p.ahead update_ahead _ (choice (reads_as_answer (peripheral_stage p.own)) _ _ is.interval_from is.interval_from)
+      followed_slots p.ahead update_ahead _ (choice (reads_as_answer (peripheral_stage p.own)) _ _ is is)
   at_peripheral p quiet (ChannelMapInd map instant) is = granting p map_kind _ (followed_slots p.ahead map_ahead _ _)
   at_peripheral p quiet (EncReq rand ediv skd_m iv_m) is = tt
   at_peripheral p quiet PauseEncReq is = tt
@@ -150,11 +162,11 @@ module _ (f : TableFacts) where
       choice (has_phy_of_central p.peer) _ _ tt (choice (awaits_phy_ind (peripheral_stage p.own)) _ _ tt tt)
   at_peripheral p quiet other is = either other
 
-  by_progress : (p : Progress) (quiet : Bool) (ctrl : Ctrl) → IsInRange ctrl → HandsSlots (taken_by_role p f quiet ctrl)
+  by_progress : (p : Progress) (quiet : Bool) (ctrl : Ctrl) → HasInterval ctrl → HandsSlots (taken_by_role p f quiet ctrl)
   by_progress (central c) quiet ctrl is = at_central c quiet ctrl
   by_progress (peripheral p) quiet ctrl is = at_peripheral p quiet ctrl is
 
-  outcome_slots : (quiet : Bool) (read : CtrlRead) → IfKnown read IsInRange → HandsSlots (outcome_of f quiet read)
+  outcome_slots : (quiet : Bool) (read : CtrlRead) → IfKnown read HasInterval → HandsSlots (outcome_of f quiet read)
   outcome_slots quiet (Known ctrl) is = choice (is_foreign (role_of f.progress) ctrl) _ _ tt (by_progress f.progress quiet ctrl is)
   outcome_slots quiet (Unknown opcode) is = tt
   outcome_slots quiet Bare is = tt
@@ -170,7 +182,7 @@ settled_slots true ends f g step is = tt
 settled_slots false true f g step is = is
 settled_slots false false f g step is = is
 
-pub took_slots : (f : TableFacts) (read : CtrlRead) (slot : ℕ) (quiet : Bool) → IfKnown read IsInRange
+pub took_slots : (f : TableFacts) (read : CtrlRead) (slot : ℕ) (quiet : Bool) → IfKnown read HasInterval
     → IfSome (indicated_by (took_step f read slot quiet).1.effect) HasSlots
 took_slots f read slot quiet is =
     let o = outcome_of f quiet read in

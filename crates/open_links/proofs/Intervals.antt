@@ -1,14 +1,16 @@
 -- The anchors of an end are at least 6 slots apart (Core 5.2, volume 6 part B, section 4.5.1).
-use Rattle.std.proofs.Common.{◌≡◌, ℕ, ◌≤◌, ◌&&◌, not, Bool, true, false, List, [], ◌∷◌, ◌++◌, Option, Some, None, IfSome, refl, sym, ◌∙◌, subst, if◌then◌else◌}
+use Rattle.std.proofs.Common.{◌≡◌, ℕ, ◌≤◌, ◌&&◌, Bool, true, false, List, [], ◌∷◌, ◌++◌, Option, Some, None, IfSome, is_none, refl, ap, sym, ◌∙◌, subst, if◌then◌else◌}
 use Rattle.std.specs.Bool.{⊤}
 use Rattle.std.specs.List.{AllByRecursion}
 use Rattle.ble_base.specs.declared.error_codes.ErrCode.{ErrCode}
 use Rattle.ble_base.specs.declared.roles.Role.{Role}
 use Rattle.ble_base.specs.declared.roles.Role.TheVariants.{Central, Peripheral}
 use Rattle.adv_pdu.specs.Ranges.{IsInRange as AreFieldsInRange}
-use Rattle.data_pdu.specs.Header.{header_in}
-use Rattle.data_pdu.specs.Ranges.{IsInRange}
 use Rattle.data_pdu.specs.Reading.{IfKnown}
+use Rattle.data_pdu.specs.declared.ctrl.Ctrl.{Ctrl}
+use Rattle.data_pdu.specs.declared.ctrl.Ctrl.TheVariants.{ConnectionUpdateInd}
+use Rattle.data_pdu.specs.declared.ctrl.CtrlRead.{CtrlRead}
+use Rattle.data_pdu.specs.declared.ctrl.CtrlRead.TheVariants.{Bare, Known, Unknown}
 use Rattle.instants.specs.Parameters.{params_after}
 use Rattle.instants.specs.Track.{TrackFacts, is_due, track_after_enter, track_after_take, track_changed, track_in_next, track_unchanged}
 use Rattle.instants.specs.declared.indications.Indication.{Indication}
@@ -30,20 +32,29 @@ use Rattle.link_end.proofs.control_model.Central.{indicates}
 use Rattle.link_end.proofs.control_model.Indicating.{Indicates}
 use Rattle.link_end.proofs.control_model.Moving.{role_after}
 use Rattle.link_end.proofs.control_model.Sending.{OwnsIf, owned}
-use Rattle.link_end.specs.link_model.Verdicts.{pdu_of}
+use Rattle.link_end.specs.link_model.Acknowledgement.{Pdu}
 use Rattle.link_end.specs.link_model.Setup.{Setup, first_anchor, first_params}
 use Rattle.link_end.specs.link_model.Facts.{Facts, first_facts}
-use Rattle.link_end.specs.link_model.Controls.{goes_on, is_procedure_pdu, read_of}
-use Rattle.link_end.specs.link_model.ControlSteps.{AreAsksInRange, control_steps_from, control_steps_in, control_steps_of, step_if, steps_received}
+use Rattle.link_end.specs.link_model.Controls.{goes_on, read_of}
+use Rattle.link_end.specs.link_model.ControlSteps.{AreAsksInRange}
 use Rattle.link_end.specs.link_model.End.{facts_after, facts_of}
-use Rattle.link_end.specs.link_model.Hosts.{is_to_come as is_map_to_come}
-use Rattle.link_end.specs.link_model.Packets.{good_pdu}
-use Rattle.link_end.specs.link_model.Plain.{plain_acknowledged_if as acknowledged_if, plain_before_taking as facts_before_taking}
-use Rattle.link_end.specs.link_model.Receiving.{accepts, acks_control, answers_with_control, has_acknowledged, heard_in_slot}
-use Rattle.link_end.specs.link_model.Sending.{takes_leave}
-use Rattle.link_end.specs.link_model.Step.{Step, DataGiven, DataReported, Disconnected, EventEntered, KeyAnswered, PacketReceived, PacketSent, PduFixed, ProcedureAsked, RequestAnswered, WordsGiven}
-use Rattle.link_end.proofs.link_model.ControlSteps.{past_goes, past_in_range}
-use Rattle.open_links.proofs.Handed.{read_range, took_slots}
+use Rattle.link_end.specs.link_model.KeyedSteps.{keyed_steps_from, keyed_steps_in, keyed_steps_of}
+use Rattle.link_end.specs.link_model.Step.{Step}
+use Rattle.link_end.specs.link_model.enc_phase.declared.classes.PduClass.TheVariants.{Request}
+use Rattle.link_end.specs.link_model.enc_phase.Taking.{ctrl_class, is_unknown}
+use Rattle.link_end.specs.link_model.keyed_control.Keyed.{Keyed}
+use Rattle.link_end.specs.link_model.keyed_control.KeyedSteps.{KeyedStep, Enters as keyed_enters, Takes as keyed_takes, phased_step, phased_steps, step_before}
+use Rattle.link_end.specs.link_model.phased_control.Ends.{IsFirst}
+use Rattle.link_end.specs.link_model.phased_control.Phased.{Phased, first_phased}
+use Rattle.link_end.specs.link_model.phased_control.Steps.{all_control_steps, control_steps, steps_now}
+use Rattle.link_end.specs.link_model.phased_control.Taken.{PhasedStep, Response, Takes as phased_takes, class_of_read, phased_after, phased_after_all, role_now, seen_if}
+use Rattle.link_end.proofs.link_model.KeyedPasts.{past_goes, past_in_range}
+use Rattle.link_end.proofs.link_model.phased_end.keyed_control.Phases.{moves as phased_goes}
+use Rattle.link_end.proofs.link_model.phased_end.keyed_control.phased_control.Indicating.{in_range}
+use Rattle.link_end.proofs.link_model.phased_end.keyed_control.phased_control.Kept.{first_now}
+use Rattle.link_end.proofs.link_model.phased_end.keyed_control.phased_control.Moving.{whole}
+use Rattle.open_links.proofs.Handed.{HasInterval, pdu_interval, took_slots}
+use Rattle.open_links.proofs.PhasedSteps.{Own, both_controls, both_steps, controls_all, is_other, steps_all}
 
 -- ---- a track
 
@@ -97,9 +108,9 @@ own_slots : (c : Control) (indication : Option Indication) → OwnsIf c indicati
 own_slots c None owns = tt
 own_slots c (Some indication) owns = owns.own.slots
 
--- what was read is in its range
+-- an interval that was read is at least 6 slots
 abbrev IsReadInRange : ControlStep → Type 0
-IsReadInRange (Takes read slot quiet) = IfKnown read IsInRange
+IsReadInRange (Takes read slot quiet) = IfKnown read HasInterval
 IsReadInRange other = ⊤
 
 moves : (step : ControlStep) (c : Control) → IsReadInRange step → (role_of c.table.progress ≡ Central → Indicates c) → Spaced c
@@ -148,65 +159,131 @@ module _ (role : Role) (max_rx : ℕ) (first : Params) (slot : ℕ) (latency : f
       (all_spaced (front ++ step ∷ []) steps (in_range_joined front step front_are are.0) are.1 reads.1
       (subst Spaced (sym (all_joined front step start)) next))
 
--- ---- what is read in the steps of a past is in its range
+-- ---- what is read in the steps of a past is so
 
-both : (steps more : List ControlStep) → AllByRecursion IsReadInRange steps → AllByRecursion IsReadInRange more
-    → AllByRecursion IsReadInRange (steps ++ more)
-both [] more here later = later
-both (step ∷ steps) more here later = (here.0, both steps more here.1 later)
+owes_well : (ctrl : Ctrl) → IsReadInRange (Owes ctrl)
+owes_well ctrl = tt
 
-perhaps : (is_taken : Bool) (step : ControlStep) → IsReadInRange step → AllByRecursion IsReadInRange (step_if is_taken step)
-perhaps true step is = (is, tt)
-perhaps false step is = tt
+seen_well : (unknown : Bool) (read : CtrlRead) → IfKnown read HasInterval → IfKnown (seen_if unknown read) HasInterval
+seen_well true (Known ctrl) is = tt
+seen_well false (Known ctrl) is = is
+seen_well true (Unknown opcode) is = tt
+seen_well false (Unknown opcode) is = tt
+seen_well true Bare is = tt
+seen_well false Bare is = tt
 
-reads_received : (role : Role) (slot : ℕ) (room : Bool) (pdu : Option (List ℕ)) (facts : Facts)
-    → AllByRecursion IsReadInRange (steps_received role slot room pdu facts)
-reads_received role slot room None facts = tt
-reads_received role slot room (Some octets) facts =
-    let header = header_in octets in
-    let pdu = pdu_of octets in
-    let own = acknowledged_if (has_acknowledged facts header) (heard_in_slot slot header.md facts) in
-    let now = facts_before_taking role slot header facts in
-    both _ _ (both _ _ (perhaps (acks_control (has_acknowledged facts header) facts) SeesAcknowledged tt)
-    (perhaps (answers_with_control role own) (Sends slot true) tt))
-    (perhaps (accepts room header pdu now && is_procedure_pdu pdu) (Takes (read_of pdu) slot true) (read_range pdu))
+-- the first PDU of a procedure of the peripheral has no interval
+first_well : (ctrl : Ctrl) → ctrl_class ctrl ≡ Request → HasInterval ctrl
+first_well (ConnectionUpdateInd win_size win_offset interval latency timeout instant) is = absurd cc
+first_well ctrl is = tt
 
-pub reads_in : (setup : Setup) (facts : Facts) (step : Step) → AllByRecursion IsReadInRange (control_steps_in setup facts step)
-reads_in setup facts (DataGiven _ _) = tt
-reads_in setup facts (ProcedureAsked ask) = perhaps (not (is_map_to_come ask facts)) (Asks ask) tt
-reads_in setup facts (RequestAnswered answer) = (tt, tt)
-reads_in setup facts (KeyAnswered key slot) = tt
-reads_in setup facts (Disconnected reason slot) = (tt, tt)
-reads_in setup facts (EventEntered slot) = perhaps (goes_on facts) (Enters slot true) tt
-reads_in setup facts PduFixed = tt
-reads_in setup facts (PacketSent slot) = perhaps (takes_leave facts) (Sends slot true) tt
-reads_in setup facts (WordsGiven skd_s iv_s) = tt
-reads_in setup facts (PacketReceived slot octets room) =
-    reads_received setup.link.role slot room (good_pdu setup facts octets) facts
-reads_in setup facts DataReported = tt
+abbrev ReadsWell : Option PhasedStep → Type 0
+ReadsWell (Some (phased_takes read slot response)) = IfKnown read HasInterval
+ReadsWell other = ⊤
 
-reads_from : (setup : Setup) (facts : Facts) (steps : List Step) → AllByRecursion IsReadInRange (control_steps_from setup facts steps)
+abbrev IsReadWell : KeyedStep → Type 0
+IsReadWell step = ReadsWell (phased_step step)
+
+abbrev AreReadWell : List PhasedStep → Type 0
+AreReadWell steps = AllByRecursion (λ step. ReadsWell (Some step)) steps
+
+own_well : (step : PhasedStep) (s : Phased) → ReadsWell (Some step) → IsFirst s.kept → Own IsReadInRange owes_well step s
+own_well (phased_takes read slot response) s is first =
+    (seen_well (is_unknown s.phase (role_now s) (class_of_read read)) read is, λ ctrl. λ kept. first_well ctrl (subst IsFirst kept first))
+own_well other s is first = tt
+
+module _ (role : Role) (max_rx : ℕ) (params : Params) (slot : ℕ) where
+  abbrev first_end : Phased
+  first_end = first_phased role max_rx params slot
+
+  phased_joined : (front : List PhasedStep) (step : PhasedStep) (s : Phased) → phased_after_all (front ++ step ∷ []) s ≡ phased_after step (phased_after_all front s)
+  phased_joined [] step s = refl
+  phased_joined (first ∷ front) step s = phased_joined front step (phased_after first s)
+
+  now_well : (goes : Bool) (step : PhasedStep) (s : Phased) → ReadsWell (Some step) → IsFirst s.kept
+      → AllByRecursion IsReadInRange (if goes then control_steps step s else [])
+  now_well true step s is first = controls_all IsReadInRange owes_well step s (own_well step s is first)
+  now_well false step s is first = tt
+
+  all_well : (front steps : List PhasedStep) → AreReadWell steps
+      → AllByRecursion IsReadInRange (all_control_steps steps (phased_after_all front first_end))
+  all_well front [] are = tt
+  all_well front (step ∷ steps) are =
+      let s = phased_after_all front first_end in
+      both_controls IsReadInRange owes_well (steps_now step s) _
+      (now_well (is_none s.control.ends) step s are.0 (first_now role max_rx params slot front))
+      (subst (λ (t : Phased). AllByRecursion IsReadInRange (all_control_steps steps t)) (phased_joined front step first_end)
+      (all_well (front ++ step ∷ []) steps are.1))
+
+before_well : (step : Option PhasedStep) (steps : List PhasedStep) → ReadsWell step → AreReadWell steps → AreReadWell (step_before step steps)
+before_well None steps here later = later
+before_well (Some step) steps here later = (here, later)
+
+phased_well : (steps : List KeyedStep) → AllByRecursion IsReadWell steps → AreReadWell (phased_steps steps)
+phased_well [] are = tt
+phased_well (step ∷ steps) are = before_well (phased_step step) (phased_steps steps) are.0 (phased_well steps are.1)
+
+other_well : (step : KeyedStep) → is_other step ≡ true → IsReadWell step
+other_well (keyed_enters slot) is = absurd cc
+other_well (keyed_takes read slot response) is = absurd cc
+other_well step is = tt
+
+reads_from : (setup : Setup) (facts : Facts) (steps : List Step) → AllByRecursion IsReadWell (keyed_steps_from setup facts steps)
 reads_from setup facts [] = tt
 reads_from setup facts (step ∷ steps) =
-    both (control_steps_in setup facts step) _ (reads_in setup facts step) (reads_from setup (facts_after setup facts step) steps)
+    let takes : (pdu : Pdu) (slot : ℕ) (response : Response) → IsReadWell (keyed_takes (read_of pdu) slot response) =
+    λ pdu. λ slot. λ response. pdu_interval pdu in
+    both_steps IsReadWell other_well takes (keyed_steps_in setup facts step) _
+    (steps_all IsReadWell other_well takes setup facts step (λ slot. λ is. tt)) (reads_from setup (facts_after setup facts step) steps)
 
-reads_of : (setup : Setup) (past : List Step) → AllByRecursion IsReadInRange (control_steps_of setup past)
-unfolding control_steps_of
+reads_of : (setup : Setup) (past : List Step) → AllByRecursion IsReadWell (keyed_steps_of setup past)
+unfolding keyed_steps_of
 reads_of setup past = reads_from setup (first_facts setup) past
 
--- ---- an end with a past
+-- ---- an end with a past that goes on
 
-pub has_intervals : (setup : Setup) (past : List Step) → AreFieldsInRange setup.link.fields → AreAsksInRange past
-    → HasIntervals (facts_of setup past).control.track
-has_intervals setup past fields asks =
-    subst Spaced (sym (past_goes setup past))
-    (all_spaced setup.link.role setup.link.max_rx (first_params setup.link.fields) (first_anchor setup) fields.parameters.latency_to
-    [] (control_steps_of setup past) tt (past_in_range setup past asks) (reads_of setup past)
-    (record { now = fields.parameters.interval_from; waits = tt }))
+module _ (setup : Setup) (past : List Step) where
+  abbrev steps_made : List PhasedStep
+  steps_made = phased_steps (keyed_steps_of setup past)
 
-pub past_indicates : (setup : Setup) (past : List Step) → AreFieldsInRange setup.link.fields → AreAsksInRange past
-    → role_of (facts_of setup past).control.table.progress ≡ Central → Indicates (facts_of setup past).control
-past_indicates setup past fields asks =
-    subst (λ (c : Control). role_of c.table.progress ≡ Central → Indicates c) (sym (past_goes setup past))
-    (indicating setup.link.role setup.link.max_rx (first_params setup.link.fields) (first_anchor setup) fields.parameters.latency_to
-    (control_steps_of setup past) (past_in_range setup past asks))
+  abbrev controls_made : List ControlStep
+  controls_made = all_control_steps steps_made (first_phased setup.link.role setup.link.max_rx (first_params setup.link.fields) (first_anchor setup))
+
+  none_ends : (ends : Option ErrCode) → is_none ends ≡ true → ends ≡ None
+  none_ends None is = refl
+  none_ends (Some code) is = absurd cc
+
+  control_goes : goes_on (facts_of setup past) ≡ true → (facts_of setup past).control
+      ≡ after_all controls_made (first_control setup.link.role setup.link.max_rx (first_params setup.link.fields) (first_anchor setup))
+  control_goes goes =
+      let role = setup.link.role in
+      let most = setup.link.max_rx in
+      let params = first_params setup.link.fields in
+      let anchor = first_anchor setup in
+      let is = ap (λ (k : Keyed). k.phased) (past_goes setup past goes) ∙ phased_goes role most params anchor (keyed_steps_of setup past) in
+      let over = sym (ap (λ (s : Phased). s.control.ends) is) ∙ none_ends (facts_of setup past).control.ends goes in
+      ap (λ (s : Phased). s.control) is ∙ whole role most params anchor steps_made over
+
+  pub has_intervals : AreFieldsInRange setup.link.fields → AreAsksInRange past → goes_on (facts_of setup past) ≡ true
+      → HasIntervals (facts_of setup past).control.track
+  has_intervals fields asks goes =
+      let role = setup.link.role in
+      let most = setup.link.max_rx in
+      let params = first_params setup.link.fields in
+      let anchor = first_anchor setup in
+      subst Spaced (sym (control_goes goes))
+      (all_spaced role most params anchor fields.parameters.latency_to [] controls_made tt
+      (in_range steps_made (first_phased role most params anchor) (past_in_range setup past asks))
+      (all_well role most params anchor [] steps_made (phased_well (keyed_steps_of setup past) (reads_of setup past)))
+      (record { now = fields.parameters.interval_from; waits = tt }))
+
+  pub past_indicates : AreFieldsInRange setup.link.fields → AreAsksInRange past → goes_on (facts_of setup past) ≡ true
+      → role_of (facts_of setup past).control.table.progress ≡ Central → Indicates (facts_of setup past).control
+  past_indicates fields asks goes =
+      let role = setup.link.role in
+      let most = setup.link.max_rx in
+      let params = first_params setup.link.fields in
+      let anchor = first_anchor setup in
+      subst (λ (c : Control). role_of c.table.progress ≡ Central → Indicates c) (sym (control_goes goes))
+      (indicating role most params anchor fields.parameters.latency_to controls_made
+      (in_range steps_made (first_phased role most params anchor) (past_in_range setup past asks)))

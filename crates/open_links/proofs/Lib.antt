@@ -13,6 +13,7 @@ pub mod Empty
 pub mod Leaving
 pub mod Steps
 pub mod Handed
+pub mod PhasedSteps
 pub mod Intervals
 pub mod Anchors
 pub mod OnTime

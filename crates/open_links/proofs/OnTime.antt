@@ -7,7 +7,7 @@ use Rattle.instants.specs.Track.{TrackFacts, next_anchor_of, track_after_enter}
 use Rattle.ble_base.specs.declared.roles.Role.TheVariants.{Central}
 use Rattle.procedures.specs.procedure_stages.Kinds.{role_of}
 use Rattle.procedures.specs.procedure_values.declared.asks.Ask.{Ask}
-use Rattle.link_end.specs.control_model.Control.{Control, Answers, Asks, Disconnects}
+use Rattle.link_end.specs.control_model.Control.{Control, Answers, Asks, Disconnects, Owes}
 use Rattle.link_end.proofs.control_model.Indicating.{Indicates}
 use Rattle.link_end.proofs.control_model.Moving.{enters_track as moves_track, table_alone}
 use Rattle.link_end.specs.link_model.Data.{is_control}
@@ -16,14 +16,14 @@ use Rattle.link_end.specs.link_model.Facts.{Facts}
 use Rattle.link_end.specs.link_model.Controls.{goes_on, is_quiet_now}
 use Rattle.link_end.specs.link_model.ControlSteps.{AreAsksInRange, IsAskInRange}
 use Rattle.link_end.specs.link_model.End.{facts_after, facts_of}
-use Rattle.link_end.specs.link_model.Entering.{facts_entered_if}
+use Rattle.link_end.specs.link_model.Entering.{control_entered, facts_entered_if}
 use Rattle.link_end.specs.link_model.Fixing.{fixed_anew}
 use Rattle.link_end.specs.link_model.Hosts.{asked_unless, is_to_come}
-use Rattle.link_end.specs.link_model.Plain.{IsPlain}
 use Rattle.link_end.specs.link_model.Sending.{control_gone_if, takes_leave}
 use Rattle.link_end.specs.link_model.Step.{Step, DataGiven, DataReported, Disconnected, EventEntered, PacketReceived, PacketSent, PduFixed, ProcedureAsked, RequestAnswered}
 use Rattle.link_end.proofs.link_model.Pasts.{grows}
-use Rattle.link_end.proofs.link_model.Plain.{entered_control_plain, past_plain}
+use Rattle.link_end.proofs.link_model.KeyedPasts.{past_in_phase}
+use Rattle.link_end.proofs.link_model.Views.{Owed, Owing, Same, entered_view}
 use Rattle.open_links.specs.OpenLinks.{OpenLink, facts_in, has_entered, link_after, new_link}
 use Rattle.open_links.specs.Slots.{Exchange, Given, Asked, Answered, Ended, Fixes, Sends, Hears, Reports, IsInReach, IsOnTime, MayExchange, MayGoThrough, link_exchanging, link_through, step_of}
 use Rattle.open_links.specs.Turns.{enters_in, entered_if, is_anchor, link_entered}
@@ -37,8 +37,8 @@ record IsSound (link : OpenLink) : Type 0 where
   fields : IsInRange link.setup.link.fields
   asks : AreAsksInRange link.past
 
-intervals_in : (link : OpenLink) → IsSound link → HasIntervals (facts_in link).control.track
-intervals_in link sound = has_intervals link.setup link.past sound.fields sound.asks
+intervals_in : (link : OpenLink) → IsSound link → goes_on (facts_in link) ≡ true → HasIntervals (facts_in link).control.track
+intervals_in link sound goes = has_intervals link.setup link.past sound.fields sound.asks goes
 
 asks_more : (past : List Step) (step : Step) → AreAsksInRange past → IsAskInRange step → AreAsksInRange (past ++ step ∷ [])
 asks_more [] step are is = (is, tt)
@@ -54,29 +54,34 @@ new_on_time setup = record { next = λ goes. omega arith }
 -- ---- it enters its event
 
 -- the track of an end that enters an event
-entered_track : (setup : Setup) (slot : ℕ) (facts : Facts) (goes : Bool) → IsPlain setup.link.role facts → goes_on facts ≡ goes → goes ≡ true
+entered_track : (setup : Setup) (slot : ℕ) (facts : Facts) (goes : Bool) → goes_on facts ≡ goes → goes ≡ true
     → (facts_entered_if goes setup slot facts).control.track ≡ track_after_enter facts.control.track
-entered_track setup slot facts true plain is goes =
-    ap (λ (c : Control). c.track) (entered_control_plain setup.link.role slot facts plain)
-    ∙ moves_track facts.control slot true (none_of facts.control.ends is)
+entered_track setup slot facts true is goes =
+    owing_track _ (control_entered slot facts) (entered_view slot facts)
+    ∙ moves_track facts.control slot (is_quiet_now facts) (none_of facts.control.ends is)
   where
     none_of : (ends : Option ErrCode) → is_none ends ≡ true → ends ≡ None
     none_of None is = refl
     none_of (Some code) is = absurd cc
-entered_track setup slot facts false plain is goes = absurd cc
+
+    -- a PDU of an encryption may be queued then
+    owing_track : (c d : Control) → Owing c d → d.track ≡ c.track
+    owing_track c d (Same is) = ap (λ (e : Control). e.track) is
+    owing_track c d (Owed ctrl may is) = ap (λ (e : Control). e.track) is ∙ table_alone c (Owes ctrl) refl
+entered_track setup slot facts false is goes = absurd cc
 
 track_after_entry : (slot : ℕ) (link : OpenLink) → goes_on (facts_in link) ≡ true
     → (facts_in (link_after (EventEntered slot) link)).control.track ≡ track_after_enter (facts_in link).control.track
 track_after_entry slot link goes =
     ap (λ (facts : Facts). facts.control.track) (grows link.setup link.past (EventEntered slot))
-    ∙ entered_track link.setup slot (facts_in link) (goes_on (facts_in link)) (past_plain link.setup link.past) refl goes
+    ∙ entered_track link.setup slot (facts_in link) (goes_on (facts_in link)) refl goes
 
 entry_on_time : (slot : ℕ) (link : OpenLink) → IsSound link → goes_on (facts_in link) ≡ true → is_anchor slot link ≡ true
     → IsOnTime (slot + 1) (link_after (EventEntered slot) link)
 entry_on_time slot link sound goes at =
     let track = (facts_in link).control.track in
     let here : next_anchor_of track ≡ slot = eqb-true (next_anchor_of track) slot at in
-    let later = next_after_enter track (intervals_in link sound) in
+    let later = next_after_enter track (intervals_in link sound goes) in
     record {
       next = λ still. subst (λ (t : TrackFacts). slot + 1 ≤ next_anchor_of t) (sym (track_after_entry slot link goes)) (omega (arith, here, later));
     }
@@ -114,11 +119,11 @@ place_after : (step : Step) (link : OpenLink) → enters step ≡ false
     → IsInPlace (facts_in link).control.track (facts_in (link_after step link)).control.track
 place_after step link none =
     subst (λ (facts : Facts). IsInPlace (facts_in link).control.track facts.control.track) (sym (grows link.setup link.past step))
-    (stays_in_place link.setup (facts_in link) step (past_plain link.setup link.past) none)
+    (stays_in_place link.setup (facts_in link) step (past_in_phase link.setup link.past) none)
 
 went_on_before : (step : Step) (link : OpenLink) → goes_on (facts_in (link_after step link)) ≡ true → goes_on (facts_in link) ≡ true
 went_on_before step link goes =
-    went_on link.setup (facts_in link) step (past_plain link.setup link.past) (subst (λ (facts : Facts). goes_on facts ≡ true) (grows link.setup link.past step) goes)
+    went_on link.setup (facts_in link) step (past_in_phase link.setup link.past) (subst (λ (facts : Facts). goes_on facts ≡ true) (grows link.setup link.past step) goes)
 
 -- the host leaves the track
 asked_track : (comes : Bool) (ask : Ask) (facts : Facts) → (asked_unless comes ask facts).control.track ≡ facts.control.track
@@ -147,10 +152,11 @@ gone_later false slot facts central = omega arith
 sends_on_time : (slot at : ℕ) (link : OpenLink) → IsSound link → IsOnTime slot link → IsOnTime slot (link_after (PacketSent at) link)
 sends_on_time slot at link sound on_time =
     let facts = facts_in link in
-    let later = gone_later (takes_leave facts) at facts (past_indicates link.setup link.past sound.fields sound.asks) in
     record {
       next = λ goes.
-          let next = on_time.next (went_on_before (PacketSent at) link goes) in
+          let before = went_on_before (PacketSent at) link goes in
+          let next = on_time.next before in
+          let later = gone_later (takes_leave facts) at facts (past_indicates link.setup link.past sound.fields sound.asks before) in
           subst (λ (facts : Facts). slot ≤ next_anchor_of facts.control.track) (sym (grows link.setup link.past (PacketSent at)))
           (omega (arith, next, later));
     }
@@ -161,7 +167,7 @@ reached_on_time : (slot : ℕ) (step : Step) (link : OpenLink) → IsSound (link
 reached_on_time slot step link sound none reach on_time =
     record {
       next = λ goes. moves_on (facts_in link).control.track (facts_in (link_after step link)).control.track slot (place_after step link none)
-          (intervals_in (link_after step link) sound) reach (on_time.next (went_on_before step link goes));
+          (intervals_in (link_after step link) sound goes) reach (on_time.next (went_on_before step link goes));
     }
 
 exchange_on_time : (slot : ℕ) (exchange : Exchange) (link : OpenLink) → IsSound link → IsSound (link_after (step_of slot exchange) link)
@@ -237,7 +243,7 @@ still_entered (EventEntered slot) link true none is =
     by_test : (goes : Bool) → goes_on (facts_in link) ≡ goes
         → nat_lt 0 (facts_entered_if goes link.setup slot (facts_in link)).control.track.entered ≡ true
     by_test true goes =
-        subst (λ (t : TrackFacts). nat_lt 0 t.entered ≡ true) (sym (entered_track link.setup slot (facts_in link) true (past_plain link.setup link.past) goes refl))
+        subst (λ (t : TrackFacts). nat_lt 0 t.entered ≡ true) (sym (entered_track link.setup slot (facts_in link) true goes refl))
         (some_entered _ (omega (arith, one_more_entered (facts_in link).control.track)))
     by_test false goes = is
 still_entered other link true none is = absurd cc

@@ -1,16 +1,16 @@
 -- A central that takes the first PDU of a procedure of the peripheral while its own is in progress.
-use Rattle.std.proofs.Common.{◌≡◌, ℕ, ◌+◌, ◌≤◌, ◌&&◌, ◌||◌, not, Bool, true, false, List, [], ◌∷◌, length, Option, None, Some, is_some, refl, ap, sym, ◌∙◌, subst, if◌then◌else◌}
+use Rattle.std.proofs.Common.{◌≡◌, ℕ, ◌+◌, ◌≤◌, ◌==◌, ◌&&◌, ◌||◌, not, Bool, true, false, List, [], ◌∷◌, length, Option, Some, is_some, refl, ap, sym, ◌∙◌, subst, if◌then◌else◌}
 use Rattle.std.proofs.lemmas.Bool.{and_from, and_parts, eq-eqb, or_right}
 use Rattle.ack_bit.specs.AckBits.{is_odd}
 use Rattle.ble_base.specs.declared.roles.Role.{Role}
 use Rattle.ble_base.specs.declared.roles.Role.TheVariants.{Central}
 use Rattle.data_pdu.specs.declared.ctrl.Ctrl.{Ctrl}
+use Rattle.data_pdu.specs.declared.ctrl.CtrlRead.{CtrlRead}
 use Rattle.data_pdu.specs.declared.ctrl.CtrlRead.TheVariants.{Known}
 use Rattle.data_pdu.specs.declared.header.DataHeader.{DataHeader}
 use Rattle.data_pdu.specs.Reading.{ctrl_of}
 use Rattle.exclusive_stages.specs.declared.pdus.Exclusive.{Exclusive}
 use Rattle.exclusive_stages.specs.Kinds.{central_kind}
-use Rattle.instants.specs.Track.{event_of}
 use Rattle.collision_steps.specs.CentralPart.{central_of}
 use Rattle.joint_collisions.specs.Arrivals.{Collides, collided}
 use Rattle.joint_collisions.specs.Facts.{CentralFacts, Facts as ExclusiveFacts, IsState, fits_if, fits_up}
@@ -18,60 +18,53 @@ use Rattle.joint_collisions.proofs.Runs.{before_of}
 use Rattle.joint_laws.specs.Prevailing.{CentralPrevails}
 use Rattle.joint_laws.specs.joint_controls.Ends.{IsSentOn}
 use Rattle.joint_laws.specs.joint_controls.Joint.{CentralAcked, CentralTakes, Clear, Control as control_item, Joint, JointStep, OnAir, Way, act, after_all, central_takes, is_running, next_out, is_taken, item_on_air, may, may_act, may_all, no_response, taking}
-use Rattle.joint_laws.specs.joint_parameters.Turns.{IsAnswered, Link, LinkStep, link_after, step_if, takes_item}
+use Rattle.joint_laws.specs.joint_parameters.Turns.{IsAnswered, Link, LinkStep, step_if, takes_item}
 use Rattle.joint_laws.proofs.Rejected.{prevails, state_of}
 use Rattle.joint_laws.proofs.joint_controls.LastPdus.{first_tied, tied}
 use Rattle.joint_laws.proofs.joint_controls.Running.{goes_on}
 use Rattle.joint_laws.proofs.joint_parameters.Hearing.{range_if}
 use Rattle.joint_laws.proofs.joint_parameters.Pairing.{after_may, running_from}
-use Rattle.joint_laws.proofs.joint_parameters.Runs.{after_joined}
-use Rattle.link_pairs.specs.control_model.Control.{Control, Takes, after}
-use Rattle.link_pairs.specs.control_model.Supported.{read_supported}
-use Rattle.link_pairs.specs.procedures.Queue.{next_of}
+use Rattle.link_pairs.specs.control_model.Control.{Control, Takes}
 use Rattle.link_pairs.specs.procedure_stages.Closing.{is_disconnecting, is_open}
 use Rattle.link_pairs.specs.procedure_stages.Queue.{next_disconnect}
-use Rattle.link_pairs.specs.unencrypted_ends.phased_control.Phased.{Phased}
-use Rattle.link_pairs.specs.unencrypted_ends.phased_control.Taken.{SeesAcknowledged, is_version, phased_after}
-use Rattle.link_pairs.specs.unencrypted_ends.Unencrypted.{plain_phased}
+use Rattle.link_pairs.specs.link_model.phased_control.Phased.{Phased}
+use Rattle.link_pairs.specs.link_model.phased_control.Taken.{Response, Takes, phased_after, role_now}
+use Rattle.link_pairs.specs.link_model.phased_end.Taking.{drawn}
 use Rattle.link_pairs.specs.link_model.Acknowledgement.{Pdu}
-use Rattle.link_pairs.specs.link_model.Controls.{is_procedure_pdu, read_of}
+use Rattle.link_pairs.specs.link_model.Controls.{is_procedure_pdu}
 use Rattle.link_pairs.specs.link_model.Data.{is_control, is_data, is_empty}
 use Rattle.link_pairs.specs.link_model.End.{notes_after}
-use Rattle.link_pairs.specs.link_model.Facts.{Facts}
+use Rattle.link_pairs.specs.link_model.Facts.{Facts, keyed_of}
 use Rattle.link_pairs.specs.link_model.Hearing.{IsUnderstood, pdu_octets}
 use Rattle.link_pairs.specs.link_model.Packets.{good_pdu, header_sent, pdu_sent}
-use Rattle.link_pairs.specs.link_model.Plain.{IsPlain, control_acked_if, plain_before_taking}
-use Rattle.link_pairs.specs.link_model.Receiving.{accepts, facts_before_taking, facts_hearing, notes_hearing}
+use Rattle.link_pairs.specs.link_model.Receiving.{accepted_if, accepts, data_taken_if, facts_before_taking, facts_hearing, notes_hearing, procedures_take, procedures_take_if}
 use Rattle.link_pairs.specs.link_model.Setup.{Setup, first_anchor, first_params}
 use Rattle.link_pairs.specs.link_model.Step.{PacketReceived}
-use Rattle.link_pairs.specs.Ends.{AreEnds, heard_turns, is_lasting}
+use Rattle.link_pairs.specs.Ends.{AreEnds, heard_turns, is_lasting, phased_of}
 use Rattle.link_pairs.specs.Hearing.{IsPacketOf, received}
 use Rattle.link_pairs.specs.Shown.{AreLinked, Shows}
 use Rattle.link_pairs.specs.Sound.{first_joint}
 use Rattle.link_pairs.proofs.link_model.Hearing.{IsHeardWhole}
-use Rattle.link_pairs.proofs.link_model.Plain.{before_taking_plain, hearing_plain, quiet_plain, step_plain}
 use Rattle.link_pairs.proofs.link_model.Received.{facts_heard, header_read, heard_good, notes_heard}
-use Rattle.link_pairs.proofs.CentralHears.{control_heard}
 use Rattle.link_pairs.proofs.Counts.{Says, acknowledged_by, is_fresh, says_right, turned}
 use Rattle.link_pairs.proofs.Ending.{central_lasts, run_on}
 use Rattle.link_pairs.proofs.JointRuns.{HasRun, has_run}
 use Rattle.link_pairs.proofs.LastPdus.{last_reached}
 use Rattle.link_pairs.proofs.PeripheralSteps.{may_parts, one_step}
+use Rattle.link_pairs.proofs.PhasedEnds.{acked_if, acked_phased, drawn_alike, takes_phased}
+use Rattle.link_pairs.proofs.PhasedKept.{acked_keeps_if, fits_of}
 use Rattle.link_pairs.proofs.Reaching.{IsReached, comes}
 use Rattle.link_pairs.proofs.Reading.{HasSent, IsRead, are_heard, has_sent, understood}
 use Rattle.link_pairs.proofs.SeenAcknowledged.{control_seen}
 use Rattle.link_pairs.proofs.Sounding.{link_now, reached_now, runs}
 use Rattle.link_pairs.proofs.Ways.{arrives}
-use Rattle.link_pairs.proofs.TakingPdus.{asks_nothing}
-use Rattle.unencrypted_ends.proofs.Going.{acknowledged_goes}
-use Rattle.unencrypted_ends.proofs.Taking.{takes_goes}
 use Rattle.link_answers.specs.Owing.{Owes}
-use Rattle.run_collisions.specs.Prevailing.{Prevails, first_of, next_outgoing, seen, seen_by}
+use Rattle.run_collisions.specs.Prevailing.{Prevails, first_of, seen, seen_by}
 use Rattle.run_collisions.specs.Refused.{is_refusing}
 use Rattle.run_collisions.specs.Taking.{TakesControl}
 use Rattle.run_collisions.proofs.Crossing.{crosses_none, none_on_way, other_free}
-use Rattle.run_collisions.proofs.FirstPdus.{IsFirst, begins_none, is_first, terminates_none}
-use Rattle.run_collisions.proofs.OnWay.{IsOnWay, came, read_known}
+use Rattle.run_collisions.proofs.FirstPdus.{IsFirst, is_first, terminates_none}
+use Rattle.run_collisions.proofs.OnWay.{IsOnWay, came}
 use Rattle.run_collisions.proofs.OwedStates.{owed_alone}
 use Rattle.run_collisions.proofs.RefusalsUp.{none_refused}
 use Rattle.run_collisions.proofs.TakingNotes.{IsTaken, is_noted, taken_at}
@@ -80,14 +73,9 @@ use Rattle.run_collisions.proofs.TakingNotes.{IsTaken, is_noted, taken_at}
 
 seen_state : (acked : Bool) (s : Joint) → may_all (step_if acked CentralAcked) s ≡ true
     → after_all (step_if acked CentralAcked) s
-    ≡ record s { central = (if acked then phased_after SeesAcknowledged s.central else s.central); down = (if acked then Clear else s.down) }
+    ≡ record s { central = acked_if acked s.central; down = (if acked then Clear else s.down) }
 seen_state true s comes = after_may CentralAcked s (one_step CentralAcked s comes)
 seen_state false s comes = refl
-
-seen_plain : (acked knows : Bool) (k : Control)
-    → (if acked then phased_after SeesAcknowledged (plain_phased k knows) else plain_phased k knows) ≡ plain_phased (control_acked_if acked k) knows
-seen_plain true knows k = acknowledged_goes k knows
-seen_plain false knows k = refl
 
 -- ---- the central hears the packet
 
@@ -119,10 +107,6 @@ module _ (whole : IsHeardWhole) (central peripheral : Setup) (slot : ℕ) (c p :
   abbrev has_room : Bool
   has_room = room || not (is_data last)
 
-  -- it encrypts nothing
-  plain : IsPlain central.link.role c
-  plain = s.central_rests.plain
-
   und : IsUnderstood peripheral packet.before central c
   und =
       understood peripheral central slot (slot + 1) p c channel octets (sym ends.one_link.fields) s.peripheral_fits s.peripheral_rests packet same
@@ -146,8 +130,7 @@ module _ (whole : IsHeardWhole) (central peripheral : Setup) (slot : ℕ) (c p :
         good = ap (λ (o : Option (List ℕ)). is_some o) good_is;
         facts =
             λ room. ap (λ (o : List ℕ). received central slot o room c) packet.packet ∙ facts_heard whole peripheral central packet.before c und slot room
-            ∙ ap (λ (pdu : Pdu). facts_hearing central.link.role slot room header pdu c) pdu_is
-            ∙ hearing_plain central.link.role central.link.role slot room header last c plain;
+            ∙ ap (λ (pdu : Pdu). facts_hearing central.link.role slot room header pdu c) pdu_is;
       }
 
   notes_are : notes_after central c (PacketReceived slot octets room) ≡ notes_hearing central slot room header last c
@@ -156,12 +139,11 @@ module _ (whole : IsHeardWhole) (central peripheral : Setup) (slot : ℕ) (c p :
       ∙ ap (λ (pdu : Pdu). notes_hearing central slot room header pdu c) pdu_is
 
   abbrev seen_facts : Facts
-  seen_facts = plain_before_taking Central slot header c
+  seen_facts = facts_before_taking Central slot header c
 
   seen_is : seen central slot octets c ≡ seen_facts
   seen_is =
       (λ i. seen_by central slot (good_is i) c) ∙ (λ i. facts_before_taking (ends.is_central i) slot (header_read packet.before c und.llid i) c)
-      ∙ before_taking_plain central.link.role Central slot header c plain
 
   -- what it takes
 
@@ -179,10 +161,11 @@ module _ (whole : IsHeardWhole) (central peripheral : Setup) (slot : ℕ) (c p :
   abbrev acks : Bool
   acks = acknowledged_by c.acknowledgement header
 
+  accepted_now : accepts room header last seen_facts ≡ true
+  accepted_now = ap (λ (role : Role). accepts room header last (facts_before_taking role slot header c)) (sym ends.is_central) ∙ accepted_parts.0
+
   accepted : (fresh && has_room) ≡ true
-  accepted =
-      (and_parts (fresh && has_room) (is_empty last || not seen_facts.leaving.acknowledged)
-      (ap (λ (role : Role). accepts room header last (facts_before_taking role slot header c)) (sym ends.is_central) ∙ accepted_parts.0)).0
+  accepted = (and_parts (fresh && has_room) (is_empty last || not seen_facts.leaving.acknowledged) accepted_now).0
 
   procedure : is_procedure_pdu last ≡ true
   procedure = and_from (is_control last) (not (is_empty last)) (eq-eqb last.llid 3 took.llid_is) accepted_parts.1
@@ -190,16 +173,12 @@ module _ (whole : IsHeardWhole) (central peripheral : Setup) (slot : ℕ) (c p :
   abbrev ctrl : Ctrl
   ctrl = taken.ctrl
 
-  read_is : read_of last ≡ Known ctrl
-  read_is =
-      (λ i. read_supported (ctrl_of (took.body_is i))) ∙ ap read_supported taken.is ∙ read_known ctrl taken.plain
-
   says : Says c.acknowledgement p.acknowledgement acks fresh
   says = says_right c.acknowledgement p.acknowledgement s.agreement header read.bits read.out
 
-  way : IsOnWay l.joint.up (takes_item has_room (item_on_air l.joint.up)) ctrl
+  way : IsOnWay l.joint.up (takes_item has_room (item_on_air l.joint.up)) last ctrl
   way =
-      came l.joint.up p.acknowledgement c.acknowledgement ctrl read_is procedure (takes_item has_room (item_on_air l.joint.up)) (fresh && has_room)
+      came l.joint.up p.acknowledgement c.acknowledgement ctrl (ap ctrl_of took.body_is ∙ taken.is) procedure (takes_item has_room (item_on_air l.joint.up)) (fresh && has_room)
       (arrives p.acknowledgement c.acknowledgement acks fresh says (turned c.acknowledgement p.acknowledgement s.agreement) read.out has_room
       (λ is. or_right room (not (is_data last)) (ap not is)) l.joint.up s.up)
       accepted
@@ -226,27 +205,22 @@ module _ (whole : IsHeardWhole) (central peripheral : Setup) (slot : ℕ) (c p :
   takes_now : may (CentralTakes slot) s1 ≡ true
   takes_now = one_step (CentralTakes slot) s1 (subst (λ (b : Bool). may_all (step_if b (CentralTakes slot)) s1 ≡ true) way.takes_it parts.1)
 
-  s1_is : s1 ≡ record l.joint {
-    central = (if acked then phased_after SeesAcknowledged l.joint.central else l.joint.central);
-    down = (if acked then Clear
-        else l.joint.down);
-  }
+  s1_is : s1 ≡ record l.joint { central = acked_if acked l.joint.central; down = (if acked then Clear else l.joint.down) }
   s1_is = seen_state acked l.joint parts.0
 
   s1_up : s1.up ≡ OnAir (control_item way.outgoing ctrl) way.sealed
   s1_up = ap (λ (j : Joint). j.up) s1_is ∙ way.on_air
 
-  abbrev knows : Bool
-  knows = is_some c.peer.version
+  seen_phased : phased_of seen_facts ≡ acked_if (acks && is_control c.acknowledgement.last) (phased_of c)
+  seen_phased = acked_phased (acks && is_control c.acknowledgement.last) (keyed_of c)
 
-  s1_central : s1.central ≡ plain_phased seen_facts.control knows
+  s1_central : s1.central ≡ phased_of seen_facts
   s1_central =
       ap (λ (j : Joint). j.central) s1_is
-      ∙ ap (λ (x : Phased). if acked then phased_after SeesAcknowledged x else x) s.central_part
-      ∙ seen_plain acked knows c.control
-      ∙ ap (λ (k : Control). plain_phased k knows)
-      (sym (control_seen c.acknowledgement p.acknowledgement acks fresh says l.joint.down c.control s.down
-      (ap (λ (x : Phased). x.control.table.out) (sym s.central_part) ∙ (last_reached central peripheral ends l reached).central)))
+      ∙ ap (acked_if acked) s.central_part
+      ∙ sym (control_seen c.acknowledgement p.acknowledgement acks fresh says l.joint.down (phased_of c) s.down
+      (ap (λ (x : Phased). x.control.table.out) (sym s.central_part) ∙ (last_reached central peripheral ends l reached).central))
+      ∙ sym seen_phased
 
   s1_control : s1.central.control ≡ (seen central slot octets c).control
   s1_control = ap (λ (x : Phased). x.control) s1_central ∙ ap (λ (f : Facts). f.control) (sym seen_is)
@@ -310,19 +284,46 @@ module _ (whole : IsHeardWhole) (central peripheral : Setup) (slot : ℕ) (c p :
     abbrev j : Joint
     j = act (CentralTakes slot) s1
 
-    now_is : (link_after step l).joint ≡ j
-    now_is =
-        after_joined first (step_if (takes_item has_room (item_on_air l.joint.up)) (CentralTakes slot)) l.joint
-        ∙ ap (λ (b : Bool). after_all (step_if b (CentralTakes slot)) s1) way.takes_it
-        ∙ after_may (CentralTakes slot) s1 takes_now
-
-    j_control : j.central.control ≡ (received central slot octets room c).control
-    j_control =
-        ap (λ (x : Joint). x.central.control) (sym now_is)
-        ∙ control_heard central peripheral ends slot c p octets room past entered read l reached running s
-
     j_is : j ≡ central_takes (OnAir (control_item way.outgoing ctrl) way.sealed) slot s1
     j_is = ap (λ (w : Way). central_takes w slot s1) s1_up
+
+    -- what it holds then
+
+    abbrev now : Facts
+    now = received central slot octets room c
+
+    -- what it would draw
+    abbrev response : Response
+    response = drawn c.encryption.response
+
+    no_data : is_data last ≡ false
+    no_data = ap (λ (llid : ℕ). ((llid == 1) || (llid == 2)) && not (length last.body == 0)) took.llid_is
+
+    now_is : now ≡ procedures_take last slot (accepted_if true last seen_facts)
+    now_is =
+        read.facts room ∙ ap (λ (role : Role). facts_hearing role slot room header last c) ends.is_central
+        ∙ λ i. data_taken_if (accepted_now i && no_data i)
+        (procedures_take_if (accepted_now i && procedure i) last slot (accepted_if (accepted_now i) last seen_facts))
+
+    now_phased : phased_of now ≡ phased_after (Takes (Known ctrl) slot response) (phased_of seen_facts)
+    now_phased =
+        ap phased_of now_is ∙ takes_phased last slot (accepted_if true last seen_facts)
+        ∙ ap (λ (read : CtrlRead). phased_after (Takes read slot response) (phased_of seen_facts)) way.read_as
+
+    seen_role : role_now (phased_of seen_facts) ≡ Central
+    seen_role =
+        let lasts = ap (λ (x : Phased). x.control.ends) (sym s.central_part) ∙ (goes_on l.joint running).central in
+        ap role_now seen_phased
+        ∙ (acked_keeps_if (acks && is_control c.acknowledgement.last) (phased_of c) lasts (fits_of central (slot + 1) c s.central_rests)).role Central
+        (s.central_rests.role ∙ ends.is_central)
+
+    central_now : j.central ≡ phased_of now
+    central_now =
+        ap (λ (x : Joint). x.central) j_is ∙ ap (phased_after (taking (control_item way.outgoing ctrl) slot no_response)) s1_central
+        ∙ drawn_alike slot no_response response (Known ctrl) (phased_of seen_facts) seen_role ∙ sym now_phased
+
+    j_control : j.central.control ≡ now.control
+    j_control = ap (λ (x : Phased). x.control) central_now
 
     j_runs : is_running j ≡ true
     j_runs =
@@ -351,33 +352,6 @@ module _ (whole : IsHeardWhole) (central peripheral : Setup) (slot : ℕ) (c p :
         (state_of central.link.max_rx peripheral.link.max_rx (first_params central.link.fields) (first_anchor central) run_now.steps run_now.run
         (ap (λ (x : Joint). is_running x) run_now.reaches ∙ j_runs))
 
-    -- what it holds then
-
-    abbrev now : Facts
-    now = received central slot octets room c
-
-    lasts_then : seen_facts.control.ends ≡ None
-    lasts_then = ap (λ (x : Phased). x.control.ends) (sym s1_central) ∙ (goes_on s1 s1_runs).central
-
-    abbrev knows_then : Bool
-    knows_then = knows || is_version (Known ctrl)
-
-    abbrev took_then : Control
-    took_then = after (Takes (read_supported (Known ctrl)) slot true) seen_facts.control
-
-    central_then : j.central ≡ plain_phased took_then knows_then
-    central_then =
-        ap (λ (x : Joint). x.central) j_is ∙ ap (phased_after (taking (control_item way.outgoing ctrl) slot no_response)) s1_central
-        ∙ takes_goes seen_facts.control knows (Known ctrl) slot no_response (asks_nothing ctrl (begins_none other ctrl opens)) lasts_then
-
-    central_now : j.central ≡ plain_phased now.control knows_then
-    central_now = central_then ∙ ap (λ (k : Control). plain_phased k knows_then) (ap (λ (x : Phased). x.control) (sym central_then) ∙ j_control)
-
-    quiet_now : next_outgoing now ≡ next_out (plain_phased now.control knows_then)
-    quiet_now =
-        ap (next_of now.control.table (event_of now.control.track))
-        (quiet_plain central.link.role now (step_plain central c (PacketReceived slot octets room) plain))
-
     pub prevails_here : Prevails (seen central slot octets c) now own other
     prevails_here =
         record {
@@ -392,12 +366,12 @@ module _ (whole : IsHeardWhole) (central peripheral : Setup) (slot : ℕ) (c p :
               λ opened. let next = prevails_joint.rejected [] (ap (λ (k : Control). is_open k.table.closing) s1_control ∙ opened) refl in
               record {
                 rejection = next.rejection;
-                next = quiet_now ∙ ap next_out (sym central_now) ∙ next.next;
+                next = ap next_out (sym central_now) ∙ next.next;
                 opcode = next.opcode;
                 code = next.code;
               };
           closing =
-              λ closing. quiet_now ∙ ap next_out (sym central_now)
+              λ closing. ap next_out (sym central_now)
               ∙ prevails_joint.closing (ap (λ (k : Control). is_open k.table.closing) s1_control ∙ closing)
               ∙ ap (λ (x : Phased). next_disconnect x.control.table.queue.disconnect) central_now;
           ending =

@@ -6,7 +6,7 @@ use Rattle.joint_laws.specs.joint_controls.Joint.{CentralAcked, CentralEnters, C
 use Rattle.joint_laws.specs.joint_parameters.Turns.{Link}
 use Rattle.joint_laws.proofs.joint_controls.Running.{after_each, comes_by}
 use Rattle.link_pairs.specs.procedure_values.declared.drafts.Outgoing.{Outgoing}
-use Rattle.link_pairs.specs.unencrypted_ends.phased_control.Taken.{Response}
+use Rattle.link_pairs.specs.link_model.phased_control.Taken.{Response}
 use Rattle.link_pairs.specs.link_model.Acknowledgement.{Acknowledgement, is_acked}
 use Rattle.link_pairs.specs.link_model.Controls.{is_procedure_pdu}
 use Rattle.link_pairs.specs.link_model.Data.{is_control, is_empty}

@@ -1,5 +1,5 @@
 -- A peripheral that takes the rejection of its procedure.
-use Rattle.std.proofs.Common.{◌≡◌, ℕ, ◌+◌, ◌≤◌, ◌&&◌, ◌||◌, not, Bool, true, false, List, [], ◌∷◌, ◌++◌, length, Option, None, Some, is_some, refl, ap, sym, ◌∙◌, subst, if◌then◌else◌}
+use Rattle.std.proofs.Common.{◌≡◌, ℕ, ◌+◌, ◌≤◌, ◌&&◌, ◌||◌, not, Bool, true, false, List, [], ◌∷◌, ◌++◌, length, Option, None, Some, refl, ap, sym, ◌∙◌, subst, if◌then◌else◌}
 use Rattle.std.proofs.lemmas.Bool.{and_from, and_parts, eq-eqb, or_right}
 use Rattle.ack_bit.specs.AckBits.{is_odd}
 use Rattle.ble_base.specs.declared.error_codes.ErrCode.{ErrCode}
@@ -37,18 +37,17 @@ use Rattle.link_pairs.specs.control_end.Answers.{nothing_taken, taken_of}
 use Rattle.link_pairs.specs.control_end.Held.{held_of}
 use Rattle.link_pairs.specs.control_model.Control.{Control, Takes, after}
 use Rattle.link_pairs.specs.procedures.Table.{TableFacts}
-use Rattle.link_pairs.specs.control_model.Supported.{read_supported}
 use Rattle.link_pairs.specs.procedure_stages.Opcodes.{opcode_of_kind}
 use Rattle.link_pairs.specs.procedure_values.declared.drafts.Outgoing.{Outgoing}
 use Rattle.link_pairs.specs.procedure_values.declared.drafts.Outgoing.TheVariants.{Rejection}
 use Rattle.link_pairs.specs.procedure_values.declared.drafts.Rejection.{Rejection as TheRejection}
-use Rattle.link_pairs.specs.unencrypted_ends.phased_control.Phased.{Phased}
+use Rattle.link_pairs.specs.link_model.phased_control.Phased.{Phased}
 use Rattle.link_pairs.specs.link_model.Acknowledgement.{Acknowledgement, Pdu, is_acked}
 use Rattle.link_pairs.specs.link_model.Controls.{is_procedure_pdu, read_of}
 use Rattle.link_pairs.specs.link_model.Data.{is_control, is_data, is_empty, numbered}
 use Rattle.link_pairs.specs.link_model.End.{notes_after}
 use Rattle.link_pairs.specs.link_model.Entering.{done_notes}
-use Rattle.link_pairs.specs.link_model.Facts.{Facts}
+use Rattle.link_pairs.specs.link_model.Facts.{Facts, keyed_of}
 use Rattle.link_pairs.specs.link_model.Hearing.{IsUnderstood, pdu_octets}
 use Rattle.link_pairs.specs.link_model.Packets.{good_pdu, header_sent, pdu_sent}
 use Rattle.link_pairs.specs.link_model.Plain.{IsPlain, plain_accepted_if, plain_before_taking, plain_hearing, plain_taken_notes, plain_takes_if}
@@ -71,6 +70,7 @@ use Rattle.link_pairs.proofs.JointRuns.{HasRun, has_run}
 use Rattle.link_pairs.proofs.LastPdus.{last_reached}
 use Rattle.link_pairs.proofs.PeripheralHears.{Meets, fixes, reaches}
 use Rattle.link_pairs.proofs.PeripheralSteps.{may_parts, one_step, seen_after, with_end}
+use Rattle.link_pairs.proofs.PhasedEnds.{acked_phased}
 use Rattle.link_pairs.proofs.Reaching.{IsReached, comes}
 use Rattle.link_pairs.proofs.Reading.{HasSent, has_sent, understood}
 use Rattle.link_pairs.proofs.SeenAcknowledged.{cleared, control_seen}
@@ -80,7 +80,7 @@ use Rattle.run_collisions.specs.Prevailing.{seen, seen_by}
 use Rattle.run_collisions.specs.Refused.{IsRefused}
 use Rattle.run_collisions.specs.Taking.{TakesControl}
 use Rattle.run_collisions.proofs.Crossing.{crosses_none_back, none_on_way, other_free}
-use Rattle.run_collisions.proofs.OnWay.{IsOnWay, came, read_known}
+use Rattle.run_collisions.proofs.OnWay.{IsOnWay, came}
 use Rattle.run_collisions.proofs.Refusing.{Refuses, control_after, given, phy_refused, refused_after, rejection_read, request_refused}
 use Rattle.run_collisions.proofs.RejectionsOut.{IsRejection, found, is_rejection}
 use Rattle.run_collisions.proofs.TakingNotes.{IsTaken, is_noted, taken_at}
@@ -173,10 +173,14 @@ module _ (whole : IsHeardWhole) (central peripheral : Setup) (slot : ℕ) (c p :
   abbrev acked_facts : Facts
   acked_facts = seen_end slot header.md acks p
 
+  abbrev gone_facts : Facts
+  gone_facts = facts_before_taking Peripheral slot header p
+
+  -- it encrypts nothing
   abbrev now : Facts
   now = plain_before_taking Peripheral slot header p
 
-  before_is : facts_before_taking Peripheral slot header p ≡ now
+  before_is : gone_facts ≡ now
   before_is = before_taking_plain peripheral.link.role Peripheral slot header p plain
 
   seen_is : seen peripheral slot octets p ≡ now
@@ -203,16 +207,10 @@ module _ (whole : IsHeardWhole) (central peripheral : Setup) (slot : ℕ) (c p :
   abbrev ctrl : Ctrl
   ctrl = taking.ctrl
 
-  read_is : read_of last ≡ Known ctrl
-  read_is = (λ i. read_supported (ctrl_of (took.body_is i))) ∙ ap read_supported taking.is ∙ read_known ctrl taking.plain
-
   -- ---- the joint run
 
   says : Says p.acknowledgement c.acknowledgement acks fresh
   says = says_right p.acknowledgement c.acknowledgement (turned c.acknowledgement p.acknowledgement s.agreement) header meets.bits meets.out
-
-  abbrev knows : Bool
-  knows = is_some p.peer.version
 
   abbrev takes : Bool
   takes = takes_item has_room (item_on_air l.joint.down)
@@ -220,7 +218,7 @@ module _ (whole : IsHeardWhole) (central peripheral : Setup) (slot : ℕ) (c p :
   abbrev acked_steps : List JointStep
   acked_steps = step_if (is_taken l.joint.up) PeripheralAcked
 
-  started : l.joint ≡ with_end (phased_of c) l.joint.down l.joint.up false p.control knows
+  started : l.joint ≡ with_end (phased_of c) l.joint.down l.joint.up false (phased_of p)
   started =
       λ i. record {
         central = s.central_part i;
@@ -237,17 +235,18 @@ module _ (whole : IsHeardWhole) (central peripheral : Setup) (slot : ℕ) (c p :
       let first = may_parts (acked_steps ++ []) (step_if takes (PeripheralTakes slot no_response)) l.joint all in
       (may_parts acked_steps [] l.joint first.0).0
 
-  seen_joint : after_acknowledgement l.joint ≡ with_end (phased_of c) l.joint.down (cleared l.joint.up) false acked_facts.control knows
+  seen_joint : after_acknowledgement l.joint ≡ with_end (phased_of c) l.joint.down (cleared l.joint.up) false (phased_of acked_facts)
   seen_joint =
       ap (after_all acked_steps) started
-      ∙ seen_after (phased_of c) l.joint.down l.joint.up p.control knows (subst (λ (j : Joint). may_all acked_steps j ≡ true) started acked_may)
-      ∙ ap (λ (k : Control). with_end (phased_of c) l.joint.down (cleared l.joint.up) false k knows)
-      (sym (control_seen p.acknowledgement c.acknowledgement acks fresh says l.joint.up p.control s.up meets.out_last))
+      ∙ seen_after (phased_of c) l.joint.down l.joint.up (phased_of p) (subst (λ (j : Joint). may_all acked_steps j ≡ true) started acked_may)
+      ∙ ap (with_end (phased_of c) l.joint.down (cleared l.joint.up) false)
+      (sym (control_seen p.acknowledgement c.acknowledgement acks fresh says l.joint.up (phased_of p) s.up meets.out_last)
+      ∙ sym (acked_phased (acks && is_control p.acknowledgement.last) (keyed_of p)))
 
   abbrev fixing : Fixing
   fixing = fixing_of (is_acked acked_facts.acknowledgement) acked_facts.fixes_control (is_data acked_facts.outgoing.fixed)
 
-  fixes_it : FixesNext (phased_of c) l.joint.down (cleared l.joint.up) slot acked_facts knows
+  fixes_it : FixesNext (phased_of c) l.joint.down (cleared l.joint.up) slot acked_facts
       (is_acked acked_facts.acknowledgement) acked_facts.fixes_control fixing
   fixes_it = fixes central peripheral slot l c p header meets room
 
@@ -266,7 +265,7 @@ module _ (whole : IsHeardWhole) (central peripheral : Setup) (slot : ℕ) (c p :
   parts : (may_all first l.joint ≡ true) × (may_all (step_if takes (PeripheralTakes slot no_response)) s2 ≡ true)
   parts = may_parts first (step_if takes (PeripheralTakes slot no_response)) l.joint (comes central peripheral ends heard l reached running may_hear)
 
-  s2_is : s2 ≡ with_end (phased_of c) l.joint.down fixes_it.next_way false now.control knows
+  s2_is : s2 ≡ with_end (phased_of c) l.joint.down fixes_it.next_way false (phased_of gone_facts)
   s2_is =
       after_joined acked_steps (fixing_steps fixing slot) l.joint
       ∙ ap (after_all (fixing_steps fixing slot)) seen_joint
@@ -279,11 +278,13 @@ module _ (whole : IsHeardWhole) (central peripheral : Setup) (slot : ℕ) (c p :
       (and_parts (is_fresh now.acknowledgement header && has_room) (is_empty last || not now.leaving.acknowledged) accepted_now).0
 
   accepted : (fresh && has_room) ≡ true
-  accepted = ap (λ (a : Acknowledgement). is_fresh a header && has_room) (sym (gone slot header.md acks p).acknowledgement) ∙ accepted_gone
+  accepted =
+      ap (λ (a : Acknowledgement). is_fresh a header && has_room) (sym (gone slot header.md acks p).acknowledgement)
+      ∙ ap (λ (f : Facts). is_fresh f.acknowledgement header && has_room) before_is ∙ accepted_gone
 
-  way : IsOnWay l.joint.down takes ctrl
+  way : IsOnWay l.joint.down takes last ctrl
   way =
-      came l.joint.down c.acknowledgement p.acknowledgement ctrl read_is procedure takes (fresh && has_room)
+      came l.joint.down c.acknowledgement p.acknowledgement ctrl (ap ctrl_of took.body_is ∙ taking.is) procedure takes (fresh && has_room)
       (arrives c.acknowledgement p.acknowledgement acks fresh says s.agreement meets.out has_room (λ is. or_right room (not (is_data last)) (ap not is))
       l.joint.down
       s.down)
@@ -301,7 +302,7 @@ module _ (whole : IsHeardWhole) (central peripheral : Setup) (slot : ℕ) (c p :
   s2_down = ap (λ (j : Joint). j.down) s2_is ∙ way.on_air
 
   s2_control : s2.peripheral.control ≡ now.control
-  s2_control = ap (λ (j : Joint). j.peripheral.control) s2_is
+  s2_control = ap (λ (j : Joint). j.peripheral.control) s2_is ∙ ap (λ (f : Facts). f.control) before_is
 
   run2 : HasRun central peripheral s2
   run2 = run_on central peripheral first l.joint (range_before l.joint fixing slot) (has_run central peripheral ends l reached)
@@ -397,14 +398,14 @@ module _ (whole : IsHeardWhole) (central peripheral : Setup) (slot : ℕ) (c p :
         ++ plain_taken_notes handle (accepts room header last (plain_before_taking (ends.is_peripheral i) slot header p)) last slot
         (plain_before_taking (ends.is_peripheral i) slot header p))
         ∙ ap (λ (notes : List Note). done_notes handle done ++ notes)
-        (taken_are (accepts room header last now) (is_empty last) (is_procedure_pdu last) (read_of last) accepted_now accepted_parts.1 procedure (read_is ∙ ap (λ (x : Ctrl). Known x) rejects))
+        (taken_are (accepts room header last now) (is_empty last) (is_procedure_pdu last) (read_of last) accepted_now accepted_parts.1 procedure (way.read_as ∙ ap (λ (x : Ctrl). Known x) rejects))
 
     table_now : (received peripheral slot octets room p).control.table ≡ refuses.table
     table_now =
         ap (λ (f : Facts). f.control.table) facts_are
         ∙ ap (λ (role : Role). (plain_hearing role slot room header last p).control.table) ends.is_peripheral
         ∙ (λ i. (plain_takes_if (accepted_now i && procedure i) last slot (plain_accepted_if (accepts room header last now) last now)).control.table)
-        ∙ ap (λ (read : CtrlRead). (after (Takes read slot true) now.control).table) (read_is ∙ ap (λ (x : Ctrl). Known x) rejects)
+        ∙ ap (λ (read : CtrlRead). (after (Takes read slot true) now.control).table) (way.read_as ∙ ap (λ (x : Ctrl). Known x) rejects)
         ∙ ap (λ (k : Control). k.table) (control_after q code slot now.control lasts refuses)
 
     pub is_refused : IsRefused peripheral (seen peripheral slot octets p) (received peripheral slot octets room p) taking.later q code

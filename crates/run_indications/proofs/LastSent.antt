@@ -1,12 +1,14 @@
 -- The indication that a peripheral takes in time is the last that the central sent, with the event that its Instant names.
-use Rattle.std.proofs.Common.{◌≡◌, ℕ, ◌+◌, ◌-◌, ◌<◌, ◌≤◌, nat_lt, ◌||◌, not, Bool, true, false, List, ◌∷◌, ◌++◌, Option, Some, None, option_map, refl, ap, sym, subst, ◌∙◌, if◌then◌else◌}
+use Rattle.std.proofs.Common.{◌≡◌, ℕ, ◌+◌, ◌-◌, ◌<◌, ◌≤◌, nat_lt, ◌||◌, not, Bool, true, false, List, ◌∷◌, ◌++◌, length, Option, Some, None, option_map, refl, ap, sym, subst, ◌∙◌, if◌then◌else◌}
 use Rattle.std.proofs.lemmas.Bool.{lt-ltb}
+use Rattle.ack_bit.specs.AckBits.{is_odd}
 use Rattle.arrayvec.specs.ArrayVec.{ArrayVec}
 use Rattle.ble_base.specs.declared.notes.Note.{Note}
 use Rattle.ble_base.specs.declared.notes.Note.TheVariants.{Took}
 use Rattle.data_pdu.specs.declared.ctrl.Ctrl.{Ctrl}
 use Rattle.data_pdu.specs.declared.ctrl.Ctrl.TheVariants.{ChannelMapInd, ConnectionUpdateInd}
 use Rattle.data_pdu.specs.declared.ctrl.CtrlRead.TheVariants.{Known}
+use Rattle.data_pdu.specs.declared.header.DataHeader.{DataHeader}
 use Rattle.data_pdu.specs.Reading.{ctrl_of}
 use Rattle.data_pdu.proofs.Rows.{written_is_known}
 use Rattle.instants.specs.Track.{event_of, gap_ahead}
@@ -14,7 +16,7 @@ use Rattle.instants.specs.declared.indications.Indication.{Indication}
 use Rattle.instants.specs.declared.track.Change.{Change}
 use Rattle.two_tracks.specs.TwoEnds.{change_of, has_passed}
 use Rattle.link_changes.specs.Noted.{indication_in, indication_read}
-use Rattle.joint_laws.specs.joint_controls.Joint.{Clear, Control as control_item, Data, Fixed, Joint, OnAir, PeripheralTakes, Taken, Way, instant_now, is_indication, is_item, is_late, is_running, item_on_air, last_change, may, may_all, no_response}
+use Rattle.joint_laws.specs.joint_controls.Joint.{Clear, Control as control_item, Data, Fixed, Joint, OnAir, PeripheralTakes, Taken, Way, instant_now, is_indication, is_item, is_late, is_running, item_on_air, last_change, may, may_all}
 use Rattle.joint_laws.specs.joint_parameters.Indications.{indication_in as indication_of_ctrl, indication_read as read_on_air}
 use Rattle.joint_laws.specs.joint_parameters.Turns.{Link, step_if, takes_item}
 use Rattle.joint_laws.proofs.joint_parameters.Arriving.{read_there, same_event, test_is_late}
@@ -22,27 +24,30 @@ use Rattle.run_pairs.specs.link_calls.link_model.Acknowledgement.{Acknowledgemen
 use Rattle.run_pairs.specs.link_calls.link_model.Data.{is_data, is_empty}
 use Rattle.run_pairs.specs.link_calls.link_model.End.{notes_after}
 use Rattle.run_pairs.specs.link_calls.link_model.Facts.{Facts}
+use Rattle.run_pairs.specs.link_calls.link_model.Hearing.{IsUnderstood}
+use Rattle.run_pairs.specs.link_calls.link_model.Packets.{header_sent}
+use Rattle.run_pairs.specs.link_calls.link_model.Receiving.{notes_hearing}
 use Rattle.run_pairs.specs.link_calls.link_model.Setup.{Setup, first_anchor, first_params}
+use Rattle.run_pairs.specs.link_calls.link_model.phased_control.Taken.{Response}
+use Rattle.run_pairs.specs.link_calls.link_model.phased_end.Taking.{drawn}
 use Rattle.run_pairs.specs.link_calls.link_model.Step.{PacketReceived}
 use Rattle.run_pairs.proofs.link_calls.link_model.Hearing.{IsHeardWhole}
 use Rattle.link_runs.specs.control_model.Control.{Control}
 use Rattle.link_runs.specs.procedure_values.declared.drafts.Outgoing.{Outgoing}
 use Rattle.link_runs.specs.link_pairs.Ends.{AreEnds, heard_turns, is_lasting}
 use Rattle.link_runs.specs.link_pairs.Hearing.{IsPacketOf, received}
-use Rattle.link_runs.specs.link_pairs.Parting.{HasFittingPdu}
 use Rattle.link_runs.specs.link_pairs.Shown.{Shows}
 use Rattle.link_runs.specs.link_pairs.Turns.{HaveBegun}
 use Rattle.link_runs.specs.link_pairs.Ways.{IsControlPdu, IsUntaken, ShowsWay}
-use Rattle.link_runs.proofs.link_pairs.link_model.Plain.{notes_hearing_plain}
-use Rattle.link_runs.proofs.link_pairs.Counts.{says_right, turned, unseen_is_taken}
+use Rattle.link_runs.proofs.link_pairs.link_model.Received.{notes_heard}
+use Rattle.link_runs.proofs.link_pairs.Counts.{HasBitsOf, says_right, turned, unseen_is_taken}
 use Rattle.link_runs.proofs.link_pairs.Ending.{run_at}
 use Rattle.link_runs.proofs.link_pairs.Items.{data_is_no_control}
 use Rattle.link_runs.proofs.link_pairs.JointRuns.{HasRun, has_run}
-use Rattle.link_runs.proofs.link_pairs.PacketsRead.{AreRead, are_read}
 use Rattle.link_runs.proofs.link_pairs.PeripheralHears.{TakesAt, takes_now}
 use Rattle.link_runs.proofs.link_pairs.PeripheralSteps.{one_step}
 use Rattle.link_runs.proofs.link_pairs.Reaching.{IsReached}
-use Rattle.link_runs.proofs.link_pairs.Reading.{are_heard}
+use Rattle.link_runs.proofs.link_pairs.Reading.{HasSent, are_heard, has_sent, understood}
 use Rattle.link_runs.proofs.link_pairs.Sounding.{link_now, reached_now, runs}
 use Rattle.run_indications.proofs.TookNotes.{took_new}
 
@@ -106,15 +111,15 @@ last_of : (on_air : Bool) (last : Option Change) (change : Change) → (if on_ai
 last_of true last change is = is
 last_of false last change is = absurd (cc)
 
-module _ (central peripheral : Setup) (ends : AreEnds central peripheral) (turns slot : ℕ) (answers takes : Bool) (c p : Facts) (now : Control) (l : Link)
+module _ (central peripheral : Setup) (ends : AreEnds central peripheral) (turns slot : ℕ) (response : Response) (answers takes : Bool) (c p : Facts) (now : Control) (l : Link)
     (reached : IsReached central peripheral l) (running : is_running l.joint ≡ true) (s : Shows central peripheral turns answers l c p)
-    (t : TakesAt l.joint takes slot now) (is_taken : takes ≡ true) (indication : Indication) (coming : IsComing l.joint.down indication)
+    (t : TakesAt l.joint takes slot response now) (is_taken : takes ≡ true) (indication : Indication) (coming : IsComing l.joint.down indication)
     (in_time : gap_ahead (event_of p.control.track) indication < 32767) where
   run_here : HasRun central peripheral l.joint
   run_here = has_run central peripheral ends l reached
 
   run_then : HasRun central peripheral t.state
-  run_then = run_at central peripheral ends turns slot answers takes c p now l reached s t
+  run_then = run_at central peripheral ends turns slot response answers takes c p now l reached s t
 
   reads : read_on_air (item_on_air l.joint.down) ≡ option_map (λ (change : Change). change.indication) (instant_now l.joint)
   reads =
@@ -141,10 +146,10 @@ module _ (central peripheral : Setup) (ends : AreEnds central peripheral) (turns
   instant_at : instant_now t.state ≡ Some change
   instant_at = (λ i. if is_item is_indication (item_on_air (t.down i)) then last_change (t.central i).control.sent else None) ∙ found.is
 
-  comes_then : may (PeripheralTakes slot no_response) t.state ≡ true
+  comes_then : may (PeripheralTakes slot response) t.state ≡ true
   comes_then =
-      one_step (PeripheralTakes slot no_response) t.state
-      (subst (λ (b : Bool). may_all (step_if b (PeripheralTakes slot no_response)) t.state ≡ true) is_taken t.comes)
+      one_step (PeripheralTakes slot response) t.state
+      (subst (λ (b : Bool). may_all (step_if b (PeripheralTakes slot response)) t.state ≡ true) is_taken t.comes)
 
   event_same : event_of t.state.peripheral.control.track ≡ event_of p.control.track
   event_same = ap (λ (n : ℕ). n - 1) (t.entered ∙ ap (λ x. x.control.track.entered) s.peripheral_part)
@@ -152,11 +157,11 @@ module _ (central peripheral : Setup) (ends : AreEnds central peripheral) (turns
   passed_as : has_passed t.state.peripheral.control.track change ≡ is_late t.state
   passed_as =
       subst
-      (λ (j : Joint). may (PeripheralTakes slot no_response) j ≡ true → instant_now j ≡ Some change
+      (λ (j : Joint). may (PeripheralTakes slot response) j ≡ true → instant_now j ≡ Some change
       → has_passed j.peripheral.control.track change ≡ is_late j)
       run_then.reaches
       (test_is_late central.link.max_rx peripheral.link.max_rx (first_params central.link.fields) (first_anchor central) run_then.steps run_then.run.latency
-      run_then.run.in_range slot no_response change)
+      run_then.run.in_range slot response change)
       comes_then instant_at
 
   not_late : is_late t.state ≡ false
@@ -168,11 +173,11 @@ module _ (central peripheral : Setup) (ends : AreEnds central peripheral) (turns
   same : change_of (event_of t.state.peripheral.control.track) change.indication ≡ change
   same =
       subst
-      (λ (j : Joint). may (PeripheralTakes slot no_response) j ≡ true → instant_now j ≡ Some change → is_late j ≡ false
+      (λ (j : Joint). may (PeripheralTakes slot response) j ≡ true → instant_now j ≡ Some change → is_late j ≡ false
       → change_of (event_of j.peripheral.control.track) change.indication ≡ change)
       run_then.reaches
       (same_event central.link.max_rx peripheral.link.max_rx (first_params central.link.fields) (first_anchor central) run_then.steps run_then.run.latency
-      run_then.run.in_range slot no_response change)
+      run_then.run.in_range slot response change)
       comes_then instant_at not_late
 
   pub last_taken : last_change c.control.sent ≡ Some (change_of (event_of p.control.track) indication)
@@ -199,25 +204,38 @@ module _ (whole : IsHeardWhole) (central peripheral : Setup) (slot : ℕ) (c p :
   shows : Shows central peripheral (slot + 1) false l c p
   shows = begun.linked.shows running
 
-  fits : HasFittingPdu peripheral c
-  fits = record { payload = shows.central_rests.payload; two_bits = shows.central_rests.two_bits; short = shows.central_fits }
+  abbrev last : Pdu
+  last = c.acknowledgement.last
 
-  read : AreRead peripheral p slot octets c.acknowledgement
-  read = are_read whole central peripheral slot c p channel octets ends.one_link.fields ends.peripheral_max.to fits packet on_channel
+  abbrev header : DataHeader
+  header = header_sent packet.before
+
+  sent : HasSent packet.before c
+  sent = subst (HasSent packet.before) (sym packet.sent) (has_sent slot packet.before)
+
+  und : IsUnderstood central packet.before peripheral p
+  und =
+      understood central peripheral slot (slot + 1) c p channel octets ends.one_link.fields shows.central_fits shows.central_rests packet on_channel
       shows.peripheral_rests.plain
+
+  notes_are : notes_after peripheral p (PacketReceived slot octets room) ≡ notes_hearing peripheral slot room header last p
+  notes_are =
+      ap (λ (o : List ℕ). notes_after peripheral p (PacketReceived slot o room)) packet.packet
+      ∙ notes_heard whole central peripheral packet.before p und slot room
+      ∙ ap (λ (pdu : Pdu). notes_hearing peripheral slot room header pdu p) (sym sent.last)
 
   coming : IsComing l.joint.down indication
   coming =
-      let heard = notes_hearing_plain peripheral slot room read.header c.acknowledgement.last p shows.peripheral_rests.plain in
-      let new = took_new peripheral slot room read.header c.acknowledgement.last p before later handle number llid body (heard ∙ sym (read.notes room) ∙ noted) in
+      let new = took_new peripheral slot room header last p before later handle number llid body (sym notes_are ∙ noted) in
       let agreed = turned c.acknowledgement p.acknowledgement shows.agreement in
-      let untaken = (says_right p.acknowledgement c.acknowledgement agreed read.header read.bits read.out).untaken new.fresh in
-      comes l.joint.down c.acknowledgement p.acknowledgement indication shows.down read.out new.has_octets untaken
+      let bits : HasBitsOf c.acknowledgement header = (ap is_odd (sym sent.acked), ap (λ (pdus : List Pdu). is_odd (length pdus)) (sym sent.accepted)) in
+      let untaken = (says_right p.acknowledgement c.acknowledgement agreed header bits sent.out).untaken new.fresh in
+      comes l.joint.down c.acknowledgement p.acknowledgement indication shows.down sent.out new.has_octets untaken
       (ap (λ (pdu : Pdu). indication_in pdu.llid pdu.body) new.is ∙ says)
 
   pub last_read : last_change c.control.sent ≡ Some (change_of (event_of p.control.track) indication)
   last_read =
-      last_taken central peripheral ends (slot + 1) slot false (takes_item (room || not (is_data c.acknowledgement.last)) (item_on_air l.joint.down)) c p
+      last_taken central peripheral ends (slot + 1) slot (drawn p.encryption.response) false (takes_item (room || not (is_data c.acknowledgement.last)) (item_on_air l.joint.down)) c p
       (received peripheral slot octets room p).control l reached running shows
       (takes_now (are_heard whole) central peripheral slot c p channel octets room ends begun packet on_channel supervised (begun.ready running) l
       reached running shows)

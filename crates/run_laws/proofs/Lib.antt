@@ -14,6 +14,8 @@ pub mod ByCalls
 pub mod ChSel
 pub mod LinkPasses
 pub mod InRange
+pub mod ReadRanges
+pub mod EndLengths
 pub mod Pieces
 pub mod Agreed
 pub mod TwoStations

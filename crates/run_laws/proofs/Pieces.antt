@@ -1,8 +1,8 @@
 -- What an end sends whose host asks only for values in range: a PDU that counts as empty is the empty one, and no
 -- payload is too long, so each open end understands each packet.
-use Rattle.std.proofs.Common.{◌≡◌, ℕ, ◌≤◌, ◌<◌, ◌==◌, ◌&&◌, ◌||◌, not, Bool, true, false, Option, Some, None, List, [], ◌∷◌, ◌++◌, length, refl, sym, subst, ◌∙◌, arith, ap}
+use Rattle.std.proofs.Common.{◌≡◌, ℕ, ◌≤◌, ◌<◌, ◌==◌, ◌&&◌, ◌||◌, Bool, true, false, Option, Some, None, List, [], ◌∷◌, IfSome, length, refl, sym, subst, ◌∙◌, arith, ap}
 use Rattle.std.specs.Prelude.{fold, if◌then◌else◌}
-use Rattle.std.specs.List.{AllByRecursion, find}
+use Rattle.std.specs.List.{find}
 use Rattle.std.specs.Option.{option_map}
 use Rattle.std.proofs.lemmas.Bool.{ne_eqb}
 use Rattle.std.proofs.lemmas.Bool.Decides.{nat_tests}
@@ -13,17 +13,16 @@ use Rattle.ble_base.specs.Limits.{payload_octets}
 use Rattle.ble_base.specs.declared.roles.Role.{Role}
 use Rattle.data_pdu.specs.Header.{header_in}
 use Rattle.data_pdu.specs.Layouts.{written}
+use Rattle.data_pdu.specs.Ranges.{IsInRange}
 use Rattle.data_pdu.specs.declared.ctrl.Ctrl.{Ctrl}
 use Rattle.data_pdu.specs.declared.ctrl.Ctrl.TheVariants.{StartEncReq}
 use Rattle.wire_fields.specs.Field.{little_endian}
-use Rattle.run_model.specs.control_model.Control.{Control, Step as ControlStep, Asks, Enters, SeesAcknowledged, Sends, Takes, after, after_all}
 use Rattle.run_model.specs.link_model.phased_end.Lengths.{HasLengths}
-use Rattle.run_model.proofs.link_model.phased_end.Lengths.{IsFine, lengths_after}
 use Rattle.run_model.specs.procedure_values.declared.asks.Ask.{Ask}
 use Rattle.run_model.specs.procedure_values.Limits.{tx_of}
 use Rattle.run_model.specs.link_model.Acknowledgement.{Acknowledgement, Pdu, empty_pdu, is_acked}
-use Rattle.run_model.specs.link_model.ControlSteps.{AreAsksInRange, IsAskInRange, control_steps_in, step_if, steps_received}
-use Rattle.run_model.specs.link_model.Controls.{goes_on, is_procedure_pdu, next_control, pdu_fixed, pdu_of_control, read_of}
+use Rattle.run_model.specs.link_model.ControlSteps.{AreAsksInRange, IsAskInRange}
+use Rattle.run_model.specs.link_model.Controls.{goes_on, is_procedure_pdu, next_control, pdu_fixed, pdu_of_control}
 use Rattle.run_model.specs.link_model.Data.{Data, data_acked_if, data_given, is_control, is_data, is_empty, is_unsent, llid_of, pdu_with}
 use Rattle.run_model.specs.link_model.End.{facts_after, facts_of}
 use Rattle.run_model.specs.link_model.Entering.{facts_entered_if}
@@ -31,60 +30,21 @@ use Rattle.run_model.specs.link_model.Facts.{Facts, first_facts}
 use Rattle.run_model.specs.link_model.Fixing.{data_cut, data_fixed_by, data_goes, fixed_anew}
 use Rattle.run_model.specs.link_model.Hosts.{asked_unless, is_to_come}
 use Rattle.run_model.specs.link_model.Packets.{good_pdu, is_forged}
-use Rattle.run_model.specs.link_model.Receiving.{accepted_if, accepts, acknowledged_if, acks_control, answers_with_control, data_taken_if, facts_before_taking, facts_forged_if, facts_received, has_acknowledged, heard_in_slot, procedures_take_if}
+use Rattle.run_model.specs.link_model.Receiving.{accepted_if, accepts, acknowledged_if, answers_with_control, data_taken_if, facts_before_taking, facts_forged_if, facts_received, has_acknowledged, heard_in_slot, procedures_take_if}
 use Rattle.run_model.specs.link_model.Sending.{control_gone_if, data_sent_as, facts_sent, takes_leave}
 use Rattle.run_model.specs.link_model.Setup.{Setup}
-use Rattle.run_model.specs.link_model.Step.{Step, DataGiven, DataReported, Disconnected, EventEntered, KeyAnswered, PacketReceived, PacketSent, PduFixed, ProcedureAsked, RequestAnswered, WordsGiven}
+use Rattle.run_model.specs.link_model.Step.{Step, DataGiven, EventEntered, PacketReceived, PacketSent, PduFixed, ProcedureAsked}
 use Rattle.run_model.specs.link_model.Verdicts.{pdu_of}
 use Rattle.run_model.specs.link_model.Hearing.{IsUnderstood}
 use Rattle.run_model.specs.link_model.Packets.{pdu_sent}
 use Rattle.run_model.specs.link_model.Payload.{payload_made}
-use Rattle.run_model.specs.link_model.Plain.{IsPlain, plain_acknowledged_if, plain_before_taking}
-use Rattle.run_model.proofs.link_model.ControlSteps.{one_step}
+use Rattle.run_model.proofs.link_model.KnownEnds.{IsPast, first_past, step_past}
 use Rattle.run_model.proofs.link_model.Llids.{past_llid}
-use Rattle.run_model.proofs.link_model.Plain.{opened_plain, past_payload, past_plain, step_plain}
+use Rattle.run_model.proofs.link_model.Plain.{opened_plain, past_payload, past_plain}
 use Rattle.run_model.proofs.link_model.Moves.{EachMoveKeeps, past_keeps}
-use Rattle.run_model.proofs.open_links.Handed.{read_range}
 use Rattle.run_model.specs.open_links.OpenLinks.{OpenLink, facts_in}
 use Rattle.run_laws.specs.Ranges.{HasRanges, IsReadable}
-
--- ---- the steps of the control part that may come
-
-both : (steps more : List ControlStep) → AllByRecursion IsFine steps → AllByRecursion IsFine more → AllByRecursion IsFine (steps ++ more)
-both [] more here later = later
-both (step ∷ steps) more here later = (here.0, both steps more here.1 later)
-
-perhaps : (is_taken : Bool) (step : ControlStep) → IsFine step → AllByRecursion IsFine (step_if is_taken step)
-perhaps true step is = (is, tt)
-perhaps false step is = tt
-
-received_come : (role : Role) (slot : ℕ) (room : Bool) (found : Option (List ℕ)) (facts : Facts) → AllByRecursion IsFine (steps_received role slot room found facts)
-received_come role slot room None facts = tt
-received_come role slot room (Some octets) facts =
-    let header = header_in octets in
-    let pdu = pdu_of octets in
-    let own = plain_acknowledged_if (has_acknowledged facts header) (heard_in_slot slot header.md facts) in
-    let now = plain_before_taking role slot header facts in
-    both _ _ (both _ _ (perhaps (acks_control (has_acknowledged facts header) facts) SeesAcknowledged tt)
-    (perhaps (answers_with_control role own) (Sends slot true) tt))
-    (perhaps (accepts room header pdu now && is_procedure_pdu pdu) (Takes (read_of pdu) slot true) (read_range pdu))
-
-steps_come : (setup : Setup) (facts : Facts) (step : Step) → IsAskInRange step → AllByRecursion IsFine (control_steps_in setup facts step)
-steps_come setup facts (DataGiven start body) is = tt
-steps_come setup facts (ProcedureAsked ask) is = perhaps (not (is_to_come ask facts)) (Asks ask) is
-steps_come setup facts (RequestAnswered answer) is = (tt, tt)
-steps_come setup facts (KeyAnswered key slot) is = tt
-steps_come setup facts (Disconnected reason slot) is = (tt, tt)
-steps_come setup facts (EventEntered slot) is = perhaps (goes_on facts) (Enters slot true) tt
-steps_come setup facts PduFixed is = tt
-steps_come setup facts (PacketSent slot) is = perhaps (takes_leave facts) (Sends slot true) tt
-steps_come setup facts (WordsGiven skd_s iv_s) is = tt
-steps_come setup facts (PacketReceived slot octets room) is = received_come setup.link.role slot room (good_pdu setup facts octets) facts
-steps_come setup facts DataReported is = tt
-
-all_lengths : (steps : List ControlStep) (c : Control) → AllByRecursion IsFine steps → HasLengths c.table.lengths → HasLengths (after_all steps c).table.lengths
-all_lengths [] c come has = has
-all_lengths (step ∷ steps) c come has = all_lengths steps (after step c) come.1 (lengths_after step c come.0 has)
+use Rattle.run_laws.proofs.EndLengths.{sized_step}
 
 -- ---- the most octets of a piece
 
@@ -151,6 +111,7 @@ fixed_by_limit false waiting quiet false outgoing = refl
 
 record HasRoom (facts : Facts) : Type 0 where
   lengths : HasLengths facts.control.table.lengths
+  kept : IfSome facts.encryption.kept IsInRange
   limit : 1 ≤ facts.outgoing.limit
 
 transmits : (facts : Facts) → HasLengths facts.control.table.lengths → 1 ≤ tx_of facts.control.table.lengths
@@ -173,26 +134,27 @@ limit_after setup facts PduFixed has = by (is_control facts.outgoing.fixed)
     by false = subst (λ n. 1 ≤ n) (sym (fixed_by_limit _ _ _ (data_goes facts) (data_cut facts))) (transmits facts has.lengths)
 limit_after setup facts step has = has.limit
 
-room_after : (setup : Setup) (facts : Facts) (step : Step) → IsPlain setup.link.role facts → IsAskInRange step → HasRoom facts → HasRoom (facts_after setup facts step)
-room_after setup facts step plain is has = record {
-  lengths = subst (λ (c : Control). HasLengths c.table.lengths) (sym (one_step setup facts step plain))
-      (all_lengths (control_steps_in setup facts step) facts.control (steps_come setup facts step is) has.lengths);
-  limit = limit_after setup facts step has;
-}
+room_after : (setup : Setup) (facts : Facts) (step : Step) → IsPast setup facts → IsAskInRange step → HasRoom facts → HasRoom (facts_after setup facts step)
+room_after setup facts step p is has =
+    let next = sized_step setup facts step p is (has.lengths, has.kept) in
+    record { lengths = next.0; kept = next.1; limit = limit_after setup facts step has }
 
-steps_room : (setup : Setup) (facts : Facts) (steps : List Step) → IsPlain setup.link.role facts → AreAsksInRange steps → HasRoom facts
+steps_room : (setup : Setup) (facts : Facts) (steps : List Step) → IsPast setup facts → AreAsksInRange steps → HasRoom facts
     → HasRoom (fold (facts_after setup) facts steps)
-steps_room setup facts [] plain are has = has
-steps_room setup facts (step ∷ steps) plain are has =
-    steps_room setup (facts_after setup facts step) steps (step_plain setup facts step plain) are.1 (room_after setup facts step plain are.0 has)
+steps_room setup facts [] p are has = has
+steps_room setup facts (step ∷ steps) p are has =
+    steps_room setup (facts_after setup facts step) steps (step_past setup facts step p) are.1 (room_after setup facts step p are.0 has)
+
+room_first : (setup : Setup) → setup.link.max_rx ≡ payload_octets → HasRoom (first_facts setup)
+room_first setup max = record {
+  lengths = record { own = omega arith; peer = omega arith; own_to = omega arith; own_rx_to = omega (arith, max) };
+  kept = tt;
+  limit = omega arith;
+}
 
 past_room : (setup : Setup) (past : List Step) → setup.link.max_rx ≡ payload_octets → AreAsksInRange past → HasRoom (facts_of setup past)
 unfolding facts_of
-past_room setup past max are =
-    steps_room setup (first_facts setup) past (past_plain setup []) are (record {
-      lengths = record { own = omega arith; peer = omega arith; own_to = omega arith; own_rx_to = omega (arith, max) };
-      limit = omega arith;
-    })
+past_room setup past max are = steps_room setup (first_facts setup) past (first_past setup) are (room_first setup max)
 
 -- ---- a PDU that counts as empty
 
@@ -389,31 +351,35 @@ fitting_after setup facts (PacketReceived slot octets room) has are =
     (received_fitting setup.link.role slot room pdu facts are)
 fitting_after setup facts step has are = record { fixed = are.fixed; last = are.last }
 
-steps_fitting : (setup : Setup) (facts : Facts) (steps : List Step) → IsPlain setup.link.role facts → AreAsksInRange steps → HasRoom facts → AreFitting facts
+steps_fitting : (setup : Setup) (facts : Facts) (steps : List Step) → IsPast setup facts → AreAsksInRange steps → HasRoom facts → AreFitting facts
     → AreFitting (fold (facts_after setup) facts steps)
-steps_fitting setup facts [] plain asks has are = are
-steps_fitting setup facts (step ∷ steps) plain asks has are =
-    steps_fitting setup (facts_after setup facts step) steps (step_plain setup facts step plain) asks.1
-    (room_after setup facts step plain asks.0 has) (fitting_after setup facts step has.lengths are)
+steps_fitting setup facts [] p asks has are = are
+steps_fitting setup facts (step ∷ steps) p asks has are =
+    steps_fitting setup (facts_after setup facts step) steps (step_past setup facts step p) asks.1
+    (room_after setup facts step p asks.0 has) (fitting_after setup facts step has.lengths are)
 
 past_fitting : (setup : Setup) (past : List Step) → setup.link.max_rx ≡ payload_octets → AreAsksInRange past → AreFitting (facts_of setup past)
 unfolding facts_of
 past_fitting setup past max asks =
-    steps_fitting setup (first_facts setup) past (past_plain setup []) asks (past_room setup [] max tt) (record { fixed = omega arith; last = omega arith })
+    steps_fitting setup (first_facts setup) past (first_past setup) asks (room_first setup max) (record { fixed = omega arith; last = omega arith })
 
 one_fits : (acked : Bool) (next last : Pdu) → FitsAny next → FitsAny last → FitsAny (if acked then next else last)
 one_fits true next last is is_too = is
 one_fits false next last is is_too = is_too
 
+-- the PDU that an end sends has at most 251 octets
+pub sent_short : (link : OpenLink) → HasRanges link → length (pdu_sent (facts_in link)).body ≤ payload_octets
+sent_short link ranges =
+    let facts = facts_in link in
+    let are = past_fitting link.setup link.past ranges.max_rx ranges.asks in
+    one_fits (is_acked facts.acknowledgement) (pdu_fixed facts) facts.acknowledgement.last
+    (next_fits facts.fixes_control (next_control facts) facts.outgoing.fixed are.fixed) are.last
+
 -- so each packet is in form
 pub sent_readable : (link : OpenLink) → HasRanges link → IsReadable (facts_in link)
 sent_readable link ranges =
-    let facts = facts_in link in
-    let are = past_fitting link.setup link.past ranges.max_rx ranges.asks in
     let payload = past_payload link.setup link.past in
-    let fits : FitsAny (pdu_sent facts) =
-    one_fits (is_acked facts.acknowledgement) (pdu_fixed facts) facts.acknowledgement.last
-    (next_fits facts.fixes_control (next_control facts) facts.outgoing.fixed are.fixed) are.last in
+    let fits = sent_short link ranges in
     record {
       llid = (past_llid link.setup link.past).1;
       short = omega (arith, fits, ap length payload);

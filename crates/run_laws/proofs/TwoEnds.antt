@@ -9,13 +9,13 @@ use Rattle.air_frame.specs.declared.Heard.TheVariants.{NotOurs, Broken, Whole}
 use Rattle.run_model.specs.link_model.Receiving.{facts_received}
 use Rattle.run_model.specs.link_model.Facts.{Facts as EndFacts}
 use Rattle.run_model.specs.link_model.Verdicts.{has_room_for, pdu_by, verdict_by, whole_in}
-use Rattle.run_model.specs.link_model.Packets.{good_pdu, heard_of, is_forged_pdu, pdu_read, pdu_read_in, verdict_of, whole_pdu}
+use Rattle.run_model.specs.link_model.Packets.{good_pdu, heard_of, is_forged, is_forged_pdu, pdu_read, pdu_read_in, verdict_of, whole_pdu}
 use Rattle.run_model.specs.link_model.Payload.{opens_now}
 use Rattle.run_model.specs.link_model.OneLink.{AreInAgreement}
 use Rattle.run_model.specs.link_model.Setup.{Setup as EndSetup}
 use Rattle.run_model.specs.link_model.Step.{PacketReceived, PacketSent}
+use Rattle.run_model.proofs.link_model.Acknowledging.{forged_leaves}
 use Rattle.run_model.proofs.link_model.Hearing.{IsHeardWhole}
-use Rattle.run_model.proofs.link_model.Plain.{past_plain, received_plain}
 use Rattle.run_model.specs.open_links.OpenLinks.{Links, OpenLink, facts_in, link_after, link_at, new_link}
 use Rattle.run_model.proofs.open_links.Unmoved.{entered_setup}
 use Rattle.run_model.specs.controller_model.Step.{Step, HostOctet, TurnBegins, PacketHeard, NothingHeard, TurnEnds}
@@ -109,7 +109,9 @@ good_or_kept slot room octets link = got (of (heard_of link.setup (facts_in link
     got (inl good) = inl good
     got (inr kept) =
         inr (ap (λ (f : EndFacts). f.acknowledgement)
-        (step_facts link (PacketReceived slot octets room) ∙ received_plain link.setup listener slot octets room (past_plain link.setup link.past)) ∙ kept)
+        (step_facts link (PacketReceived slot octets room))
+        ∙ forged_leaves (is_forged link.setup listener octets) (facts_received link.setup.link.role slot room (good_pdu link.setup listener octets) listener)
+        ∙ kept)
 
 one_some : (may : Option OpenLink) (one other : OpenLink) → may ≡ Some one → may ≡ Some other → one ≡ other
 one_some may one other is is_too = let same : Some one ≡ Some other = sym is ∙ is_too in cc

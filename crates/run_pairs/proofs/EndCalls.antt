@@ -20,7 +20,7 @@ use Rattle.link_calls.specs.link_model.Receiving.{facts_forged_if, facts_receive
 use Rattle.link_calls.specs.link_model.Setup.{Setup as EndSetup}
 use Rattle.link_calls.specs.link_model.Step.{EventEntered, PacketReceived, PacketSent, PduFixed, RequestAnswered}
 use Rattle.link_calls.specs.link_model.Verdicts.{has_room_for, pdu_by, verdict_by, whole_in}
-use Rattle.link_calls.proofs.link_model.Plain.{read_plain}
+use Rattle.link_calls.proofs.link_model.Plain.{past_plain, read_plain}
 use Rattle.link_calls.specs.open_links.OpenLinks.{Links, OpenLink, facts_in, has_entered, link_after, link_at}
 use Rattle.link_calls.specs.open_links.Turns.{entered_if, is_anchor, link_entered}
 use Rattle.link_calls.proofs.open_links.Unmoved.{entered_setup}
@@ -193,11 +193,21 @@ none_replies : (role : Role) (ended : Bool) → replies_by role ended None ≡ f
 none_replies Central ended = refl
 none_replies Peripheral ended = refl
 
--- one of an end that encrypts nothing
-pub good_or_unheard : (role : Role) (setup : EndSetup) (slot : ℕ) (octets : List ℕ) (room : Bool) (facts : EndFacts) → IsPlain role facts
+-- no link encrypts yet, so no packet is forged
+unforged_by : (role : Role) (facts : EndFacts) (pdu : Option (List ℕ)) → IsPlain role facts → is_forged_in facts pdu ≡ false
+unforged_by role facts None plain = refl
+unforged_by role facts (Some pdu) plain = ap (λ (read : Option (List ℕ)). is_none read) (read_plain role facts pdu plain)
+
+pub unforged : (setup : EndSetup) (link : OpenLink) (octets : List ℕ) → is_forged setup (facts_in link) octets ≡ false
+unfolding is_forged
+unforged setup link octets =
+    unforged_by link.setup.link.role (facts_in link) (whole_pdu setup (facts_in link) octets) (past_plain link.setup link.past)
+
+-- one that is not forged is good or is not heard
+pub good_or_unheard : (setup : EndSetup) (slot : ℕ) (octets : List ℕ) (room : Bool) (facts : EndFacts) → is_forged setup facts octets ≡ false
     → (verdict_of setup facts octets ≡ Good) ⊎ IsUnheard setup slot octets room facts
 unfolding good_pdu verdict_of replies_of whole_pdu is_forged
-good_or_unheard role setup slot octets room facts plain = got (of (heard_of setup facts octets))
+good_or_unheard setup slot octets room facts none_forged = got (of (heard_of setup facts octets) none_forged)
   where
     most : ℕ
     most = setup.link.max_rx
@@ -205,14 +215,16 @@ good_or_unheard role setup slot octets room facts plain = got (of (heard_of setu
     opens : Bool
     opens = opens_now facts.encryption.end
 
-    at : (fits : Bool) (pdu : List ℕ) → ((if fits then (if is_forged_pdu facts pdu then Forged else Good) else BrokenPacket) ≡ Good) ⊎ (pdu_by fits pdu ≡ None)
-    at true pdu = inl (ap (λ (read : Option (List ℕ)). if is_none read then Forged else Good) (read_plain role facts pdu plain))
-    at false pdu = inr refl
+    at : (fits : Bool) (pdu : List ℕ) → is_forged_in facts (pdu_by fits pdu) ≡ false
+        → ((if fits then (if is_forged_pdu facts pdu then Forged else Good) else BrokenPacket) ≡ Good) ⊎ (pdu_by fits pdu ≡ None)
+    at true pdu is = inl (ap (λ (forged : Bool). if forged then Forged else Good) is)
+    at false pdu is = inr refl
 
-    of : (heard : Heard) → (verdict_by most opens (is_forged_pdu facts) heard ≡ Good) ⊎ (whole_in most opens heard ≡ None)
-    of NotOurs = inr refl
-    of Broken = inr refl
-    of (Whole pdu) = at (has_room_for most opens pdu.items) pdu.items
+    of : (heard : Heard) → is_forged_in facts (whole_in most opens heard) ≡ false
+        → (verdict_by most opens (is_forged_pdu facts) heard ≡ Good) ⊎ (whole_in most opens heard ≡ None)
+    of NotOurs is = inr refl
+    of Broken is = inr refl
+    of (Whole pdu) is = at (has_room_for most opens pdu.items) pdu.items is
 
     got : (verdict_by most opens (is_forged_pdu facts) (heard_of setup facts octets) ≡ Good) ⊎ (whole_in most opens (heard_of setup facts octets) ≡ None)
         → (verdict_of setup facts octets ≡ Good) ⊎ IsUnheard setup slot octets room facts

@@ -1,4 +1,5 @@
 -- The lemmas of this crate.
+pub mod HeardCounts
 pub mod Stages
 pub mod Refusing
 pub mod LinkSteps

@@ -6,18 +6,17 @@ use Rattle.adv_pdu.specs.Ranges.{IsInRange}
 use Rattle.ble_base.specs.declared.error_codes.ErrCode.{ErrCode}
 use Rattle.instants.specs.Track.{TrackFacts, is_due, next_anchor_of, spacing_of, track_after_enter, track_changed, track_in_next, track_unchanged}
 use Rattle.instants.specs.declared.track.Change.{Change}
-use Rattle.link_calls.specs.run_laws.control_model.Control.{Answers, Asks, Disconnects}
+use Rattle.link_calls.specs.run_laws.control_model.Control.{Answers, Asks, Control, Disconnects, Owes}
 use Rattle.link_calls.specs.link_model.declared.events.ConnectionEvent.{ConnectionEvent}
 use Rattle.link_calls.specs.link_model.Controls.{goes_on, is_quiet_now}
 use Rattle.link_calls.specs.link_model.Data.{is_control}
 use Rattle.link_calls.specs.link_model.End.{facts_after as end_after, facts_of as end_facts}
-use Rattle.link_calls.specs.link_model.Entering.{facts_entered_if}
+use Rattle.link_calls.specs.link_model.Entering.{control_entered, facts_entered, facts_entered_if}
 use Rattle.link_calls.specs.link_model.Facts.{Facts as EndFacts}
 use Rattle.link_calls.specs.link_model.Fixing.{fixed_anew}
 use Rattle.link_calls.specs.link_model.Hosts.{asked_unless, is_to_come}
-use Rattle.link_calls.specs.link_model.Packets.{good_pdu}
-use Rattle.link_calls.specs.link_model.Plain.{IsPlain, plain_entered}
-use Rattle.link_calls.specs.link_model.Receiving.{facts_received}
+use Rattle.link_calls.specs.link_model.Packets.{good_pdu, is_forged}
+use Rattle.link_calls.specs.link_model.Receiving.{facts_forged_if, facts_received}
 use Rattle.link_calls.specs.link_model.Sending.{control_gone_if, takes_leave}
 use Rattle.link_calls.specs.link_model.Setup.{Setup as EndSetup}
 use Rattle.link_calls.specs.link_model.Step.{Step as EndStep, DataGiven, DataReported, Disconnected, EventEntered, PacketReceived, PacketSent, PduFixed, ProcedureAsked, RequestAnswered}
@@ -25,7 +24,8 @@ use Rattle.link_calls.specs.open_links.Data.{complete_in}
 use Rattle.link_calls.specs.open_links.OpenLinks.{OpenLink, facts_in, link_after, link_at, new_link}
 use Rattle.link_calls.specs.open_links.Turns.{entered_if, is_anchor, link_entered}
 use Rattle.link_calls.proofs.control_model.Moving.{enters_track, table_alone}
-use Rattle.link_calls.proofs.link_model.Plain.{entered_plain, past_plain, received_plain}
+use Rattle.link_calls.proofs.link_model.KeyedPasts.{past_in_phase}
+use Rattle.link_calls.proofs.link_model.Views.{Owed, Owing, Same, entered_view}
 use Rattle.link_calls.proofs.open_links.Anchors.{IsInPlace, enters, moves_on, next_after_enter, sent_later, stays_in_place, went_on}
 use Rattle.link_calls.proofs.open_links.Unmoved.{entered_setup}
 use Rattle.link_calls.proofs.open_links.Intervals.{HasIntervals, has_intervals, past_indicates}
@@ -66,15 +66,21 @@ record IsTimed (slot : ℕ) (facts : EndFacts) : Type 0 where
 
 -- ---- steps in which it enters no event
 
-module _ (setup : EndSetup) (slot : ℕ) (facts : EndFacts) (step : EndStep) (plain : IsPlain setup.link.role facts) (none : enters step ≡ false) where
-  abbrev after : EndFacts
-  after = end_after setup facts step
+module _ (slot : ℕ) (link : OpenLink) (step : EndStep) (none : enters step ≡ false) where
+  abbrev held : EndFacts
+  held = facts_in link
 
-  place : IsInPlace facts.control.track after.control.track
-  place = stays_in_place setup facts step plain none
+  abbrev after : EndFacts
+  after = end_after link.setup held step
+
+  place : IsInPlace held.control.track after.control.track
+  place = stays_in_place link.setup held step (past_in_phase link.setup link.past) none
+
+  went : goes_on after ≡ true → goes_on held ≡ true
+  went = went_on link.setup held step (past_in_phase link.setup link.past)
 
   -- if its event stays in that slot, and the next anchor is where it was or later
-  stays_timed : after.event.slot ≡ facts.event.slot → (goes_on after ≡ true → slot ≤ next_anchor_of after.control.track) → IsTimed slot facts → IsTimed slot after
+  stays_timed : after.event.slot ≡ held.event.slot → (goes_on after ≡ true → slot ≤ next_anchor_of after.control.track) → IsTimed slot held → IsTimed slot after
   stays_timed same next is = record {
     on_track = record {
       last = λ some. subst (λ n. n < slot) (sym place.anchor) (is.on_track.last (subst (λ n. 1 ≤ n) place.entered some));
@@ -84,10 +90,10 @@ module _ (setup : EndSetup) (slot : ℕ) (facts : EndFacts) (step : EndStep) (pl
   }
 
   -- a step of the control part that leaves the track
-  track_stays : after.event.slot ≡ facts.event.slot → after.control.track ≡ facts.control.track → IsTimed slot facts → IsTimed slot after
+  track_stays : after.event.slot ≡ held.event.slot → after.control.track ≡ held.control.track → IsTimed slot held → IsTimed slot after
   track_stays same track is =
       stays_timed same
-      (λ goes. subst (λ (t : TrackFacts). slot ≤ next_anchor_of t) (sym track) (is.on_track.next (went_on setup facts step plain goes))) is
+      (λ goes. subst (λ (t : TrackFacts). slot ≤ next_anchor_of t) (sym track) (is.on_track.next (went goes))) is
 
 -- a host
 asked_track : (setup : EndSetup) (facts : EndFacts) (step : EndStep) → IsAskedStep step → (end_after setup facts step).control.track ≡ facts.control.track
@@ -108,44 +114,51 @@ asked_no_entry (Disconnected reason slot) by_host = refl
 asked_no_entry (DataGiven start body) by_host = refl
 asked_no_entry other by_host = absurd by_host
 
-asked_timed : (setup : EndSetup) (slot : ℕ) (facts : EndFacts) (step : EndStep) → IsPlain setup.link.role facts → IsAskedStep step → IsTimed slot facts
-    → IsTimed slot (end_after setup facts step)
-asked_timed setup slot facts step plain by_host is =
-    track_stays setup slot facts step plain (asked_no_entry step by_host)
-    (ap (λ (e : ConnectionEvent). e.slot) (asked_leaves setup facts step by_host).event) (asked_track setup facts step by_host) is
+asked_timed : (slot : ℕ) (link : OpenLink) (step : EndStep) → IsAskedStep step → IsTimed slot (facts_in link)
+    → IsTimed slot (end_after link.setup (facts_in link) step)
+asked_timed slot link step by_host is =
+    track_stays slot link step (asked_no_entry step by_host)
+    (ap (λ (e : ConnectionEvent). e.slot) (asked_leaves link.setup (facts_in link) step by_host).event) (asked_track link.setup (facts_in link) step by_host) is
 
 -- it fixes its PDU
 fixed_track : (stays : Bool) (facts : EndFacts) → (if stays then facts else fixed_anew facts).control.track ≡ facts.control.track
 fixed_track true facts = refl
 fixed_track false facts = refl
 
-fixed_timed : (setup : EndSetup) (slot : ℕ) (facts : EndFacts) → IsPlain setup.link.role facts → IsTimed slot facts → IsTimed slot (end_after setup facts PduFixed)
-fixed_timed setup slot facts plain is =
-    track_stays setup slot facts PduFixed plain refl (ap (λ (e : ConnectionEvent). e.slot) (fixed_same facts).event)
+fixed_timed : (slot : ℕ) (link : OpenLink) → IsTimed slot (facts_in link) → IsTimed slot (end_after link.setup (facts_in link) PduFixed)
+fixed_timed slot link is =
+    let facts = facts_in link in
+    track_stays slot link PduFixed refl (ap (λ (e : ConnectionEvent). e.slot) (fixed_same facts).event)
     (fixed_track (is_control facts.outgoing.fixed) facts) is
 
 -- it sends: an indication that it sends moves its next anchor to a later slot, if at all
-gone_later : (goes : Bool) (now : ℕ) (link : OpenLink) → IsInRange link.setup.link.fields → HasRanges link
-    → next_anchor_of (facts_in link).control.track ≤ next_anchor_of (control_gone_if goes now (facts_in link)).control.track
-gone_later true now link fields ranges =
+gone_later : (leaves : Bool) (now : ℕ) (link : OpenLink) → IsInRange link.setup.link.fields → HasRanges link → goes_on (facts_in link) ≡ true
+    → next_anchor_of (facts_in link).control.track ≤ next_anchor_of (control_gone_if leaves now (facts_in link)).control.track
+gone_later true now link fields ranges goes =
     let facts = facts_in link in
-    sent_later facts.control now (is_quiet_now facts) (past_indicates link.setup link.past fields ranges.asks)
-gone_later false now link fields ranges = omega arith
+    sent_later facts.control now (is_quiet_now facts) (past_indicates link.setup link.past fields ranges.asks goes)
+gone_later false now link fields ranges goes = omega arith
 
 sent_timed : (slot now : ℕ) (link : OpenLink) → IsInRange link.setup.link.fields → HasRanges link → IsTimed slot (facts_in link)
     → IsTimed slot (end_after link.setup (facts_in link) (PacketSent now))
 sent_timed slot now link fields ranges is =
     let facts = facts_in link in
-    let plain = past_plain link.setup link.past in
-    let later = gone_later (takes_leave facts) now link fields ranges in
-    stays_timed link.setup slot facts (PacketSent now) plain refl (ap (λ (e : ConnectionEvent). e.slot) (sent_in now facts).event)
-    (λ goes. let next = is.on_track.next (went_on link.setup facts (PacketSent now) plain goes) in omega (arith, next, later)) is
+    stays_timed slot link (PacketSent now) refl (ap (λ (e : ConnectionEvent). e.slot) (sent_in now facts).event)
+    (λ goes.
+    let on = went slot link (PacketSent now) refl goes in
+    let later = gone_later (takes_leave facts) now link fields ranges on in
+    let next = is.on_track.next on in omega (arith, next, later)) is
 
 -- it receives in an exchange of its event
-received_slot : (setup : EndSetup) (now : ℕ) (room : Bool) (may : Option (List ℕ)) (facts : EndFacts)
-    → (facts_received setup.link.role now room may facts).event.slot ≡ facts.event.slot
-received_slot setup now room None facts = refl
-received_slot setup now room (Some pdu) facts = ap (λ (e : ConnectionEvent). e.slot) (received_same setup.link.role now room pdu facts).event
+received_slot : (setup : EndSetup) (now : ℕ) (octets : List ℕ) (room : Bool) (facts : EndFacts)
+    → (end_after setup facts (PacketReceived now octets room)).event.slot ≡ facts.event.slot
+received_slot setup now octets room facts = by (is_forged setup facts octets) (good_pdu setup facts octets)
+  where
+    by : (forged : Bool) (may : Option (List ℕ)) → (facts_forged_if forged (facts_received setup.link.role now room may facts)).event.slot ≡ facts.event.slot
+    by true None = refl
+    by false None = refl
+    by true (Some pdu) = ap (λ (e : ConnectionEvent). e.slot) (received_same setup.link.role now room pdu facts).event
+    by false (Some pdu) = ap (λ (e : ConnectionEvent). e.slot) (received_same setup.link.role now room pdu facts).event
 
 -- before its first event the anchor of that stays
 first_stays : (t u : TrackFacts) (slot : ℕ) → IsInPlace t u → (t.entered == 0) ≡ true → slot ≤ next_anchor_of t → slot ≤ next_anchor_of u
@@ -173,14 +186,12 @@ received_timed now octets room link fields ranges reach is =
     let facts = facts_in link in
     let step = PacketReceived now octets room in
     let track = (end_after link.setup facts step).control.track in
-    let plain = past_plain link.setup link.past in
-    let spaced = has_intervals link.setup (link.past ++ step ∷ []) fields ranges.asks in
-    stays_timed link.setup (now + 1) facts step plain refl
-    (ap (λ (f : EndFacts). f.event.slot) (received_plain link.setup facts now octets room plain)
-    ∙ received_slot link.setup now room (good_pdu link.setup facts octets) facts)
-    (λ goes. stays_later facts.control.track track now (place link.setup (now + 1) facts step plain refl)
+    stays_timed (now + 1) link step refl (received_slot link.setup now octets room facts)
+    (λ goes.
+    let spaced = has_intervals link.setup (link.past ++ step ∷ []) fields ranges.asks (ap (λ (f : EndFacts). goes_on f) (step_facts link step) ∙ goes) in
+    stays_later facts.control.track track now (place (now + 1) link step refl)
     (subst (λ (f : EndFacts). HasIntervals f.control.track) (step_facts link step) spaced)
-    (λ some. subst (λ n. now ≤ n + 1) (is.event some) reach) (is.on_track.next (went_on link.setup facts step plain goes))) is
+    (λ some. subst (λ n. now ≤ n + 1) (is.event some) reach) (is.on_track.next (went (now + 1) link step refl goes))) is
 
 -- a step of an open link
 step_timed : (slot : ℕ) (link : OpenLink) (step : EndStep) → IsTimed slot (end_after link.setup (facts_in link) step) → IsTimed slot (facts_in (link_after step link))
@@ -203,17 +214,22 @@ none_of : (ends : Option ErrCode) → is_none ends ≡ true → ends ≡ None
 none_of None is = refl
 none_of (Some code) is = absurd cc
 
+-- a PDU of an encryption may be queued then, which leaves the track
+owing_track : (c d : Control) → Owing c d → d.track ≡ c.track
+owing_track c d (Same is) = ap (λ (e : Control). e.track) is
+owing_track c d (Owed ctrl may is) = ap (λ (e : Control). e.track) is ∙ table_alone c (Owes ctrl) refl
+
 entry_timed : (slot : ℕ) (link : OpenLink) → IsInRange link.setup.link.fields → HasRanges link → goes_on (facts_in link) ≡ true → is_anchor slot link ≡ true
     → IsTimed (slot + 1) (facts_in (link_after (EventEntered slot) link))
 entry_timed slot link fields ranges goes at =
     let facts = facts_in link in
     let t = facts.control.track in
-    let entered : facts_in (link_after (EventEntered slot) link) ≡ plain_entered link.setup slot facts =
-    step_facts link (EventEntered slot) ∙ ap (λ b. facts_entered_if b link.setup slot facts) goes
-    ∙ entered_plain link.setup slot facts (past_plain link.setup link.past) in
-    let track = enters_track facts.control slot true (none_of facts.control.ends goes) in
+    let entered : facts_in (link_after (EventEntered slot) link) ≡ facts_entered link.setup slot facts =
+    step_facts link (EventEntered slot) ∙ ap (λ b. facts_entered_if b link.setup slot facts) goes in
+    let track = owing_track _ (control_entered slot facts) (entered_view slot facts)
+    ∙ enters_track facts.control slot (is_quiet_now facts) (none_of facts.control.ends goes) in
     let here : next_anchor_of t ≡ slot = eqb-true (next_anchor_of t) slot at in
-    let later = next_after_enter t (has_intervals link.setup link.past fields ranges.asks) in
+    let later = next_after_enter t (has_intervals link.setup link.past fields ranges.asks goes) in
     let anchor = ap (λ (now : TrackFacts). now.anchor) track ∙ anchor_entered t ∙ here in
     subst (IsTimed (slot + 1)) (sym entered) (record {
       on_track = record {
@@ -269,11 +285,11 @@ heard_timed slot facts octet handle now (Unchanged was) each = each now was
 heard_timed slot facts octet handle now (GetsData link start body was is) each =
     subst (λ (l : OpenLink). IsTimed slot (facts_in l)) (sym is)
     (step_timed slot link (DataGiven start body)
-    (track_stays link.setup slot (facts_in link) (DataGiven start body) (past_plain link.setup link.past) refl refl refl (each link was)))
+    (track_stays slot link (DataGiven start body) refl refl refl (each link was)))
 heard_timed slot facts octet handle now (IsAsked link command step was accepted asks is) each =
     let well = asked_is_well facts octet handle command link.setup.link.role (facts_in link).peer step accepted asks in
     subst (λ (l : OpenLink). IsTimed slot (facts_in l)) (sym is)
-    (step_timed slot link step (asked_timed link.setup slot (facts_in link) step (past_plain link.setup link.past) well.by_host (each link was)))
+    (step_timed slot link step (asked_timed slot link step well.by_host (each link was)))
 
 -- it may fix its PDU, and may send
 module _ (slot now : ℕ) (link : OpenLink) (fields : IsInRange link.setup.link.fields) where
@@ -282,7 +298,7 @@ module _ (slot now : ℕ) (link : OpenLink) (fields : IsInRange link.setup.link.
   sends_timed false ranges is = is
 
 fixes_timed : (slot : ℕ) (fixes : Bool) (link : OpenLink) → IsTimed slot (facts_in link) → IsTimed slot (facts_in (fixed_if fixes link))
-fixes_timed slot true link is = step_timed slot link PduFixed (fixed_timed link.setup slot (facts_in link) (past_plain link.setup link.past) is)
+fixes_timed slot true link is = step_timed slot link PduFixed (fixed_timed slot link is)
 fixes_timed slot false link is = is
 
 fixed_fields : (fixes : Bool) (link : OpenLink) → IsInRange link.setup.link.fields → IsInRange (fixed_if fixes link).setup.link.fields
@@ -318,7 +334,7 @@ in_reach slot handle link radio (AfterAnchor is heard) = omega (arith, is)
 
 refused_timed : (slot : ℕ) (refuses : Bool) (link : OpenLink) → IsTimed slot (facts_in link) → IsTimed slot (facts_in (refused_if refuses link))
 refused_timed slot true link is =
-    step_timed slot link (RequestAnswered refusal) (asked_timed link.setup slot (facts_in link) (RequestAnswered refusal) (past_plain link.setup link.past) tt is)
+    step_timed slot link (RequestAnswered refusal) (asked_timed slot link (RequestAnswered refusal) tt is)
 refused_timed slot false link is = is
 
 refused_fields : (refuses : Bool) (link : OpenLink) → IsInRange link.setup.link.fields → IsInRange (refused_if refuses link).setup.link.fields
@@ -376,7 +392,7 @@ module _ (setup : Setup) (phases begun : ℕ) (received : Option (List ℕ)) (fa
 
 reported_timed : (slot : ℕ) (reports : Bool) (link : OpenLink) → IsTimed slot (facts_in link)
     → IsTimed slot (facts_in (if reports then link_after DataReported link else link))
-reported_timed slot true link is = step_timed slot link DataReported (track_stays link.setup slot (facts_in link) DataReported (past_plain link.setup link.past) refl refl refl is)
+reported_timed slot true link is = step_timed slot link DataReported (track_stays slot link DataReported refl refl refl is)
 reported_timed slot false link is = is
 
 timed_kept : AreTaken → (setup : Setup) → IsTurned setup (AreTimed setup)

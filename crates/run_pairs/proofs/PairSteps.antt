@@ -10,7 +10,6 @@ use Rattle.link_calls.specs.link_model.Setup.{Setup as EndSetup}
 use Rattle.link_calls.specs.link_model.Step.{Step as EndStep, DataReported, PacketSent, RequestAnswered}
 use Rattle.link_calls.specs.link_model.Times.{due_of, ending_of}
 use Rattle.link_calls.proofs.link_model.Hearing.{IsHeardWhole}
-use Rattle.link_calls.proofs.link_model.Plain.{past_plain}
 use Rattle.link_calls.specs.open_links.OpenLinks.{OpenLink, facts_in}
 use Rattle.link_calls.specs.controller_model.declared.doing.Doing.{Doing}
 use Rattle.link_calls.proofs.controller_model.Places.{refusal}
@@ -24,7 +23,7 @@ use Rattle.link_runs.specs.Runs.{MayHostAll}
 use Rattle.link_runs.specs.Turn.{facts_hosted}
 use Rattle.run_pairs.specs.Stages.{AreAnsweredEnds, AreBegunEnds, AreHeardEnds}
 use Rattle.link_calls.proofs.run_laws.TurnPlaces.{Between, Stage, Within}
-use Rattle.run_pairs.proofs.EndCalls.{IsEndBegun, IsUnheard, good_or_unheard, refused_facts}
+use Rattle.run_pairs.proofs.EndCalls.{IsEndBegun, IsUnheard, good_or_unheard, refused_facts, unforged}
 use Rattle.run_pairs.proofs.OneSide.{LastBefore}
 use Rattle.run_pairs.proofs.Refusing.{received_stays, refused_first}
 use Rattle.run_pairs.proofs.Stages.{answer_quiet, answered_more, answered_quiet, both_begin, central_heard, central_hosted_open, central_quiet, central_unheard, peripheral_heard, peripheral_hosted_open, peripheral_quiet, peripheral_unheard, reported_quiet}
@@ -239,7 +238,7 @@ module _ (whole : IsHeardWhole) (c_end p_end : EndSetup) (ends : AreEnds c_end p
       → facts_in p ≡ turns.sent_if replies p_end slot (refused_facts refuses p_end (received p_end slot octets room (facts_in before)))
       → (replies ≡ false → LastBefore slot p.past)
       → (verdict_of p_end (facts_in before) octets ≡ Good → IsPacketNow c_end slot (facts_in before) c octets) → IsPeripheralDone c_end p_end p_handle slot c p
-  peripheral_takes slot octets room refuses replies doing c before p both listening are facts_are unsent now = by (good_or_unheard before.setup.link.role p_end slot octets room (facts_in before) (past_plain before.setup before.past))
+  peripheral_takes slot octets room refuses replies doing c before p both listening are facts_are unsent now = by (good_or_unheard p_end slot octets room (facts_in before) (unforged p_end before octets))
     where
       as_sent : (b : Bool) → b ≡ replies → SentIf b slot p.past
       as_sent b is = unsent_if b slot p.past (λ none. unsent (sym is ∙ none))
@@ -277,7 +276,7 @@ module _ (whole : IsHeardWhole) (c_end p_end : EndSetup) (ends : AreEnds c_end p
   pub central_takes : (slot : ℕ) (octets : List ℕ) (room refuses : Bool) (before c p : OpenLink) → IsPeripheralDone c_end p_end p_handle slot before p
       → facts_in c ≡ refused_facts refuses c_end (received c_end slot octets room (facts_in before))
       → (verdict_of c_end (facts_in before) octets ≡ Good → IsPacketNow p_end slot (facts_in before) p octets) → AreHeardEnds c_end p_end slot (facts_in c) (facts_in p)
-  central_takes slot octets room refuses before c p done facts_are now = by (good_or_unheard before.setup.link.role c_end slot octets room (facts_in before) (past_plain before.setup before.past))
+  central_takes slot octets room refuses before c p done facts_are now = by (good_or_unheard c_end slot octets room (facts_in before) (unforged c_end before octets))
     where
       made : AreHeardEnds c_end p_end slot (received c_end slot octets room (facts_in before)) (facts_in p) → AreHeardEnds c_end p_end slot (facts_in c) (facts_in p)
       made heard = subst (λ (f : EndFacts). AreHeardEnds c_end p_end slot f (facts_in p)) (sym facts_are)

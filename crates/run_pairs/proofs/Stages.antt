@@ -20,7 +20,6 @@ use Rattle.link_calls.specs.link_model.Step.{Step, DataReported, RequestAnswered
 use Rattle.link_calls.specs.link_model.Packets.{verdict_of}
 use Rattle.link_calls.specs.link_model.declared.state.Leaving.{Leaving}
 use Rattle.link_calls.specs.link_model.Times.{due_of, ended_by_procedures, ending_of}
-use Rattle.link_calls.specs.link_model.Plain.{IsPlain}
 use Rattle.link_calls.proofs.link_model.Hearing.{IsHeardWhole}
 use Rattle.link_runs.specs.link_pairs.Ends.{AreEnds, IsAtRest, is_lasting, turns_at}
 use Rattle.link_runs.specs.link_pairs.Hearing.{IsPacketOf, answered, received}
@@ -34,7 +33,6 @@ use Rattle.link_runs.proofs.link_pairs.Counts.{turned}
 use Rattle.link_runs.proofs.link_pairs.Ending.{answered_ends, central_lasts as central_goes, peripheral_lasts as peripheral_goes}
 use Rattle.link_runs.proofs.link_pairs.EndingNothing.{begun_ends_nothing, host_ends_nothing, prepared_ends_nothing}
 use Rattle.link_runs.proofs.link_pairs.First.{first_linked}
-use Rattle.link_runs.proofs.link_pairs.HeardCounts.{hearing_agreed}
 use Rattle.link_runs.proofs.link_pairs.Hosting.{central_hosts, peripheral_hosts}
 use Rattle.link_runs.proofs.link_pairs.NothingNew.{host_still, prepared_still, sender_still, taker_still}
 use Rattle.link_runs.proofs.link_pairs.PartingBegins.{central_took, peripheral_took}
@@ -51,6 +49,7 @@ use Rattle.link_runs.proofs.EventsKept.{answered_in_event, ended_no_reply}
 use Rattle.link_runs.proofs.GoingOn.{lasting_by, lasting_goes, open_goes_on, shut_by, still_lasts}
 use Rattle.link_runs.proofs.OneTurn.{unanswered}
 use Rattle.link_runs.proofs.Supervision.{heard_in_time}
+use Rattle.run_pairs.proofs.HeardCounts.{hearing_agreed}
 use Rattle.run_pairs.specs.Stages.{AreAnsweredEnds, AreBegunEnds, AreHeardEnds, CentralTook, IsAnsweredLink, IsBegunLink, IsLate, IsOver, Lasts, PeripheralTook}
 
 -- where the link lasts at both ends, their counts agree
@@ -134,6 +133,7 @@ linked_more central peripheral turns answers more c p linked = record {
     rests : IsAtRest peripheral turns p → IsAtRest peripheral turns (with_more more p)
     rests r = record {
       fits = r.fits;
+      holds = r.holds;
       plain = record { encryption = r.plain.encryption; control = r.plain.control };
       role = r.role;
       none_gone = r.none_gone;
@@ -223,23 +223,20 @@ module _ (whole : IsHeardWhole) (central peripheral : Setup) (ends : AreEnds cen
       linked_now : AreLinked central peripheral (slot + 1) replies c now
       linked_now = hears_linked heard central peripheral slot c p channel octets room ends link.begun packet same link.supervised
 
-      p_plain : IsPlain peripheral.link.role p
-      p_plain = (link.begun.linked.shows (link.begun.linked.lasts link.central_lasts link.peripheral_lasts)).peripheral_rests.plain
-
       late_agrees : replies ≡ false → AreInAgreement c.acknowledgement now.acknowledgement
       late_agrees none =
           let s = link.begun.linked.shows (link.begun.linked.lasts link.central_lasts link.peripheral_lasts) in
-          let read = is_read heard central peripheral slot (slot + 1) c p channel octets ends.one_link.fields s.central_fits s.central_rests packet same p_plain in
+          let read = is_read heard central peripheral slot (slot + 1) c p channel octets ends.one_link.fields s.central_fits s.central_rests packet same s.peripheral_rests.plain in
           let agreed = hearing_agreed peripheral.link.role slot room read.header p c.acknowledgement (turned c.acknowledgement p.acknowledgement s.agreement) read.bits read.out in
           let now_is = ap (λ (b : Bool). sent_if b peripheral slot (received peripheral slot octets room p)) none ∙ read.facts room in
           turned now.acknowledgement c.acknowledgement (subst (λ (f : Facts). AreInAgreement f.acknowledgement c.acknowledgement) (sym now_is) agreed)
 
       late_now : (code : ErrCode) → now.control.ends ≡ Some code → EndsForInstant c p now.control.ends → AreAnsweredEnds central peripheral slot replies c now
       late_now code ended late =
-          let none = ended_no_reply peripheral slot octets room p code p_plain (sym (answered_ends peripheral slot octets room p) ∙ ended) in
+          let none = ended_no_reply peripheral slot octets room p code (sym (answered_ends peripheral slot octets room p) ∙ ended) in
           IsLate (record {
             central_lasts = link.central_lasts;
-            late = (late.0, (λ i. has_passed (last_change c.control.sent) (answered_in_event peripheral slot octets room p p_plain i - 1)) ∙ late.1);
+            late = (late.0, (λ i. has_passed (last_change c.control.sent) (answered_in_event peripheral slot octets room p i - 1)) ∙ late.1);
             agreement = late_agrees none;
           }) none
 

@@ -1,6 +1,6 @@
 -- Proof of `laws::an_answer_keeps_what_is_known`.
+use Rattle.std.proofs.Common.{refl}
 use Rattle.open_links.specs.link_model.End.{facts_of}
-use Rattle.open_links.proofs.link_model.Plain.{past_plain}
 use Rattle.host_asks.proofs.Accepting.{refused_knows, withheld_knows}
 use Rattle.host_asks.proofs.laws.an_answer_keeps_what_is_known.Goals as goal
 
@@ -8,4 +8,4 @@ pub returns-clause-refused : goal.returns-clause-refused
 returns-clause-refused c = refused_knows
 
 pub returns-clause-withheld : goal.returns-clause-withheld
-returns-clause-withheld c = λ setup past step link code. withheld_knows setup step link (facts_of setup past) code (past_plain setup past)
+returns-clause-withheld c = λ setup past step link code. withheld_knows setup step link (facts_of setup past) code (record { past = past; is = refl })

@@ -1,11 +1,11 @@
 -- Proof of `views::steps_keep_what_is_known`.
+use Rattle.std.proofs.Common.{refl}
 use Rattle.open_links.specs.link_model.End.{facts_of}
-use Rattle.open_links.proofs.link_model.Plain.{past_plain}
 use Rattle.host_asks.proofs.EndsViewed.{none_reported, packet_known, request_refused_at_once, request_reported, step_known}
 use Rattle.host_asks.proofs.views.steps_keep_what_is_known.Goals as goal
 
 pub returns-clause-step : goal.returns-clause-step
-returns-clause-step c = λ view setup past step. step_known view setup (facts_of setup past) step (past_plain setup past)
+returns-clause-step c = λ view setup past step. step_known view setup (facts_of setup past) step (record { past = past; is = refl })
 
 pub returns-clause-packet : goal.returns-clause-packet
 returns-clause-packet c = packet_known
