@@ -1,11 +1,10 @@
 -- The events among the notes of a link: they are numbered one after another, and what is read of their lines is read of
 -- them.
-use Rattle.std.proofs.Common.{◌≡◌, ℕ, zero, suc, ◌+◌, ◌==◌, ◌&&◌, Bool, true, false, Option, Some, None, List, [], ◌∷◌, ◌++◌, is_none, refl, sym, ap, subst, ◌∙◌, arith}
+use Rattle.std.proofs.Common.{◌≡◌, ℕ, zero, suc, ◌+◌, ◌==◌, ◌&&◌, Bool, true, false, Option, Some, None, List, [], ◌∷◌, ◌++◌, refl, sym, ap, subst, ◌∙◌, arith}
 use Rattle.std.specs.Prelude.{fold, map, ⊤, if◌then◌else◌}
 use Rattle.std.specs.List.{AllByRecursion}
 use Rattle.std.proofs.lemmas.Bool.{eq-eqb}
 use Rattle.std.proofs.lemmas.List.Sums.{fold-append}
-use Rattle.ble_base.specs.declared.error_codes.ErrCode.{ErrCode}
 use Rattle.ble_base.specs.declared.notes.Note.{Note}
 use Rattle.ble_base.specs.declared.notes.Note.TheVariants.{Up, Enter}
 use Rattle.ble_base.specs.declared.procedure_kinds.Kind.{Kind}
@@ -15,10 +14,8 @@ use Rattle.ble_base.specs.declared.roles.Side.TheVariants.{A, B}
 use Rattle.journal_packets.specs.control_end.declared.answers.Entry.{Entry as EndEntry}
 use Rattle.journal_packets.specs.control_end.Answers.{entry_of}
 use Rattle.journal_packets.specs.control_end.Held.{held_of}
-use Rattle.journal_packets.specs.link_model.control_model.Control.{Control}
-use Rattle.journal_packets.proofs.control_model.Moving.{enters_track}
 use Rattle.link_calls.specs.run_model.procedure_values.declared.asks.Ask.{Ask}
-use Rattle.instants.specs.Track.{TrackFacts, event_of, track_after_enter}
+use Rattle.instants.specs.Track.{TrackFacts, event_of}
 use Rattle.journal.specs.declared.entries.Entry.{Entry}
 use Rattle.journal.specs.declared.entries.Entry.TheVariants.{Air, Enter as EnterLine}
 use Rattle.journal_packets.specs.link_model.declared.events.ConnectionEvent.{ConnectionEvent}
@@ -26,17 +23,17 @@ use Rattle.journal_packets.specs.link_model.Events.{applied_notes}
 use Rattle.journal_packets.specs.link_model.Setup.{Setup}
 use Rattle.journal_packets.specs.link_model.Controls.{goes_on, is_quiet_now}
 use Rattle.journal_packets.specs.link_model.End.{facts_after, facts_of, notes_after, notes_from, notes_of}
-use Rattle.journal_packets.specs.link_model.Entering.{began_notes, control_entered, done_notes, event_notes, facts_entered, facts_entered_if}
+use Rattle.journal_packets.specs.link_model.Entering.{began_notes, done_notes, event_notes, facts_entered, facts_entered_if}
 use Rattle.journal_packets.specs.link_model.Facts.{Facts, first_facts}
 use Rattle.journal_packets.specs.link_model.Hosts.{asked_unless, is_to_come}
 use Rattle.journal_packets.specs.link_model.Packets.{good_pdu, is_forged}
-use Rattle.journal_packets.specs.link_model.Receiving.{facts_forged_if, facts_received}
+use Rattle.journal_packets.specs.link_model.Receiving.{facts_received}
 use Rattle.journal_packets.specs.link_model.Step.{Step, EventEntered, PacketSent, PacketReceived, PduFixed, ProcedureAsked}
-use Rattle.journal_packets.specs.link_model.Plain.{IsPlain}
-use Rattle.journal_packets.proofs.link_model.Plain.{entered_control_plain, past_plain, step_plain}
-use Rattle.journal_packets.proofs.open_links.Anchors.{enters, one_more_entered, stays_in_place}
+use Rattle.journal_packets.proofs.link_model.KnownEnds.{IsPast, first_past, past_knows, step_past}
+use Rattle.journal_packets.proofs.open_links.Anchors.{IsInPlace, enters, one_more_entered, stays_in_place}
 use Rattle.journal_packets.proofs.controller_model.EndNotes.{received_each, sent_each}
-use Rattle.link_calls.proofs.HeardSteps.{fixed_same, received_same, sent_in}
+use Rattle.journal_packets.proofs.controller_model.Entries.{entered_track}
+use Rattle.link_calls.proofs.HeardSteps.{fixed_same, forged_event, received_same, sent_in}
 use Rattle.link_calls.specs.run_model.Journal.{side_of}
 use Rattle.link_calls.specs.run_model.Readers.{of_side}
 use Rattle.journal_packets.specs.journal_links.LinkLines.{AreLinesOf, line_of, link_named, where_named}
@@ -202,19 +199,14 @@ module _ (handle : ℕ) where
       (silent (entered + 1) (entered + 1) _ refl (quiet_done entry.done)))
       (silent (entered + 1) (entered + 1) _ refl (quiet_began entry.began))
 
-none_of : (ends : Option ErrCode) → is_none ends ≡ true → ends ≡ None
-none_of None is = refl
-none_of (Some code) is = absurd cc
+-- a step that enters no event leaves the number of events and the last anchor
+pub stays_put : (setup : Setup) (facts : Facts) (step : Step) → IsPast setup facts → enters step ≡ false
+    → IsInPlace facts.control.track (facts_after setup facts step).control.track
+stays_put setup facts step p none = stays_in_place setup facts step (past_knows setup facts p).phase none
 
--- what is next as an end enters an event
-entered_track : (setup : Setup) (facts : Facts) (slot : ℕ) → IsPlain setup.link.role facts → goes_on facts ≡ true
-    → (control_entered slot facts).track ≡ track_after_enter facts.control.track
-entered_track setup facts slot plain goes =
-    ap (λ (c : Control). c.track) (entered_control_plain setup.link.role slot facts plain) ∙ enters_track facts.control slot true (none_of facts.control.ends goes)
-
-step_numbered : (setup : Setup) (facts : Facts) (step : Step) → IsPlain setup.link.role facts
+step_numbered : (setup : Setup) (facts : Facts) (step : Step) → IsPast setup facts
     → IsNumbered facts.control.track.entered (facts_after setup facts step).control.track.entered (notes_after setup facts step)
-step_numbered setup facts (EventEntered slot) plain = by (goes_on facts) refl
+step_numbered setup facts (EventEntered slot) p = by (goes_on facts) refl
   where
     entry : EndEntry
     entry = entry_of slot (is_quiet_now facts) (held_of facts.control)
@@ -225,27 +217,27 @@ step_numbered setup facts (EventEntered slot) plain = by (goes_on facts) refl
     by true goes =
         let before = facts.control.track in
         let event = (facts_entered setup slot facts).event in
-        let after = entered_track setup facts slot plain goes in
+        let after = entered_track slot facts goes in
         let more = one_more_entered before in
         let number : event.number ≡ before.entered = ap (λ (t : TrackFacts). event_of t) after ∙ omega (arith, more) in
         subst (λ n. IsNumbered before.entered n (event_notes setup.link.handle event entry)) (sym (ap (λ (t : TrackFacts). t.entered) after ∙ more))
         (event_numbered setup.link.handle before.entered event entry number)
     by false goes = silent facts.control.track.entered facts.control.track.entered [] refl tt
-step_numbered setup facts step plain =
+step_numbered setup facts step p =
     silent facts.control.track.entered (facts_after setup facts step).control.track.entered (notes_after setup facts step)
-    (stays_in_place setup facts step plain refl).entered (quiet_step setup facts step refl)
+    (stays_put setup facts step p refl).entered (quiet_step setup facts step refl)
 
-steps_numbered : (setup : Setup) (facts : Facts) (steps : List Step) → IsPlain setup.link.role facts
+steps_numbered : (setup : Setup) (facts : Facts) (steps : List Step) → IsPast setup facts
     → IsNumbered facts.control.track.entered (fold (facts_after setup) facts steps).control.track.entered (notes_from setup facts steps)
-steps_numbered setup facts [] plain = silent facts.control.track.entered facts.control.track.entered [] refl tt
-steps_numbered setup facts (step ∷ steps) plain =
+steps_numbered setup facts [] p = silent facts.control.track.entered facts.control.track.entered [] refl tt
+steps_numbered setup facts (step ∷ steps) p =
     let next = facts_after setup facts step in
     both_numbered facts.control.track.entered next.control.track.entered (fold (facts_after setup) next steps).control.track.entered
-    (notes_after setup facts step) (notes_from setup next steps) (step_numbered setup facts step plain) (steps_numbered setup next steps (step_plain setup facts step plain))
+    (notes_after setup facts step) (notes_from setup next steps) (step_numbered setup facts step p) (steps_numbered setup next steps (step_past setup facts step p))
 
 pub end_numbered : (setup : Setup) (past : List Step) → IsNumbered 0 (facts_of setup past).control.track.entered (notes_of setup past)
 unfolding facts_of notes_of
-end_numbered setup past = steps_numbered setup (first_facts setup) past (past_plain setup [])
+end_numbered setup past = steps_numbered setup (first_facts setup) past (first_past setup)
 
 -- ---- their channels
 
@@ -269,15 +261,12 @@ received_channel : (role : Role) (slot : ℕ) (room : Bool) (found : Option (Lis
 received_channel role slot room None facts = refl
 received_channel role slot room (Some pdu) facts = ap (λ (e : ConnectionEvent). e.channel) (received_same role slot room pdu facts).event
 
-forged_channel : (forged : Bool) (facts : Facts) → (facts_forged_if forged facts).event.channel ≡ facts.event.channel
-forged_channel true facts = refl
-forged_channel false facts = refl
-
 channel_stays : (setup : Setup) (facts : Facts) (step : Step) → enters step ≡ false → (facts_after setup facts step).event.channel ≡ facts.event.channel
 channel_stays setup facts (EventEntered slot) none = absurd cc
 channel_stays setup facts (PacketSent slot) none = ap (λ (e : ConnectionEvent). e.channel) (sent_in slot facts).event
 channel_stays setup facts (PacketReceived slot octets room) none =
-    forged_channel (is_forged setup facts octets) (facts_received setup.link.role slot room (good_pdu setup facts octets) facts)
+    ap (λ (e : ConnectionEvent). e.channel)
+    (forged_event (is_forged setup facts octets) (facts_received setup.link.role slot room (good_pdu setup facts octets) facts))
     ∙ received_channel setup.link.role slot room (good_pdu setup facts octets) facts
 channel_stays setup facts PduFixed none = ap (λ (e : ConnectionEvent). e.channel) (fixed_same facts).event
 channel_stays setup facts (ProcedureAsked ask) none = asked_channel (is_to_come ask facts) ask facts
@@ -296,9 +285,9 @@ event_channel handle before event entry =
     ∙ (enters_none done (quiet_done handle entry.done)).channel (fold channel_noted before (applied ++ enter))
     ∙ fold-append channel_noted before applied enter
 
-step_channel : (setup : Setup) (facts : Facts) (step : Step) → IsPlain setup.link.role facts
+step_channel : (setup : Setup) (facts : Facts) (step : Step) → IsPast setup facts
     → fold channel_noted (channel_last facts) (notes_after setup facts step) ≡ channel_last (facts_after setup facts step)
-step_channel setup facts (EventEntered slot) plain = by (goes_on facts) refl
+step_channel setup facts (EventEntered slot) p = by (goes_on facts) refl
   where
     entry : EndEntry
     entry = entry_of slot (is_quiet_now facts) (held_of facts.control)
@@ -309,23 +298,23 @@ step_channel setup facts (EventEntered slot) plain = by (goes_on facts) refl
     by true goes =
         let before = facts.control.track in
         let event = (facts_entered setup slot facts).event in
-        let more = ap (λ (t : TrackFacts). t.entered) (entered_track setup facts slot plain goes) ∙ one_more_entered before in
+        let more = ap (λ (t : TrackFacts). t.entered) (entered_track slot facts goes) ∙ one_more_entered before in
         event_channel setup.link.handle (channel_last facts) event entry ∙ ap (λ n. channel_if n event.channel) (one_more before.entered ∙ sym more)
     by false goes = refl
-step_channel setup facts step plain =
+step_channel setup facts step p =
     (enters_none (notes_after setup facts step) (quiet_step setup facts step refl)).channel (channel_last facts)
-    ∙ (λ i. channel_if (sym (stays_in_place setup facts step plain refl).entered i) (sym (channel_stays setup facts step refl) i))
+    ∙ (λ i. channel_if (sym (stays_put setup facts step p refl).entered i) (sym (channel_stays setup facts step refl) i))
 
-steps_channel : (setup : Setup) (facts : Facts) (steps : List Step) → IsPlain setup.link.role facts
+steps_channel : (setup : Setup) (facts : Facts) (steps : List Step) → IsPast setup facts
     → fold channel_noted (channel_last facts) (notes_from setup facts steps) ≡ channel_last (fold (facts_after setup) facts steps)
-steps_channel setup facts [] plain = refl
-steps_channel setup facts (step ∷ steps) plain =
+steps_channel setup facts [] p = refl
+steps_channel setup facts (step ∷ steps) p =
     let next = facts_after setup facts step in
     let more = notes_from setup next steps in
     fold-append channel_noted (channel_last facts) (notes_after setup facts step) more
-    ∙ ap (λ may. fold channel_noted may more) (step_channel setup facts step plain) ∙ steps_channel setup next steps (step_plain setup facts step plain)
+    ∙ ap (λ may. fold channel_noted may more) (step_channel setup facts step p) ∙ steps_channel setup next steps (step_past setup facts step p)
 
 -- what an end notes has the channel of the event that it entered last
 pub past_channel : (setup : Setup) (past : List Step) → fold channel_noted None (notes_of setup past) ≡ channel_last (facts_of setup past)
 unfolding facts_of notes_of
-past_channel setup past = steps_channel setup (first_facts setup) past (past_plain setup [])
+past_channel setup past = steps_channel setup (first_facts setup) past (first_past setup)

@@ -42,7 +42,7 @@ use Rattle.journal_endings.specs.journal_indications.journal_data.journal_links.
 use Rattle.journal_endings.specs.journal_indications.journal_data.journal_links.LinkLines.{line_of, lines_of}
 use Rattle.journal_endings.specs.journal_indications.journal_data.link_model.Data.{is_control}
 use Rattle.journal_endings.specs.journal_indications.journal_data.link_model.End.{facts_after as end_facts_after, facts_of as end_facts_of, notes_after as end_notes, notes_from, notes_of as end_notes_of}
-use Rattle.journal_endings.specs.journal_indications.journal_data.link_model.Facts.{Facts as EndFacts, first_facts}
+use Rattle.journal_endings.specs.journal_indications.journal_data.link_model.Facts.{Encryption, Facts as EndFacts, first_facts}
 use Rattle.journal_endings.specs.journal_indications.journal_data.link_model.Fixing.{facts_fixed}
 use Rattle.journal_endings.specs.journal_indications.journal_data.link_model.Entering.{facts_entered_if}
 use Rattle.journal_endings.specs.journal_indications.journal_data.link_model.Controls.{goes_on}
@@ -81,9 +81,9 @@ use Rattle.journal_endings.proofs.journal_indications.journal_data.run_model.Lin
 use Rattle.journal_endings.proofs.journal_indications.journal_data.run_model.Linked.{numbered_more}
 use Rattle.journal_endings.proofs.journal_indications.journal_data.run_model.Numbers.{numbered_at}
 use Rattle.journal_endings.proofs.journal_indications.journal_data.run_model.Stations.{is_in}
-use Rattle.link_answers.specs.Owing.{Owes, indicates, is_opening}
+use Rattle.link_answers.specs.Owing.{Owes, indicates, is_opening, is_opening_kept}
 use Rattle.link_answers.proofs.OwingEnds.{steps_owe}
-use Rattle.link_answers.proofs.PlainQueues.{past_plain}
+use Rattle.link_answers.proofs.CipherQueues.{past_may_wait}
 use Rattle.link_answers.proofs.SentIndications.{sent_runs}
 use Rattle.link_procedures.specs.Running.{runs_at}
 use Rattle.link_procedures.proofs.Seen.{at_central}
@@ -614,15 +614,14 @@ module _ (whole_heard : IsHeardWhole) (understood : IsUnderstood) (taken : AreTa
           owes_last =
               let all = prevails whole_heard understood taken nth apart given are_pair six prevail front link number count llid body call heard far p q collides in
               subst (λ (f : EndFacts). Owes kind (central_of f.control.table)) (sym last_is)
-              (steps_owe end_setup now more_steps kind now_plain is_central
-              (ap (λ (f : EndFacts). role_of f.control.table.progress) now_is ∙ keeps_role end_setup (heard.link.past ++ step ∷ []) ∙ is_central)
-              (all.owes kind) none_opened_since)
+              (steps_owe end_setup now more_steps kind (record { past = heard.link.past ++ step ∷ []; is = now_is }) is_central
+              (all.owes kind) (ap (λ (e : Encryption). is_opening_kept kind e.kept) now_plain.encryption) none_opened_since)
 
           runs_last : next_llid ≡ 3 → indicates (ctrl_of next) ≡ Some kind → central_kind (central_of last.control.table).own ≡ Some kind
           runs_last three is =
               let past = (link_entered begins.slot later).past in
               ap (λ (f : EndFacts). central_kind (central_of f.control.table).own) (sym entered_is)
-              ∙ sent_runs later.setup (end_facts_of later.setup past) (keeps_role later.setup past ∙ later_central) (past_plain later.setup past)
+              ∙ sent_runs later.setup (end_facts_of later.setup past) (keeps_role later.setup past ∙ later_central) (past_may_wait later.setup past)
               (none_fixed later.setup later_central past) kind
               (subst (λ (f : EndFacts). Owes kind (central_of f.control.table)) (sym entered_is) owes_last)
               next_call.handle next_count next_llid next (ap (λ (f : EndFacts). sent_notes later.setup (facts_fixed f)) entered_is ∙ notes_now) three is

@@ -1,24 +1,18 @@
--- A packet on the air moves the control part of the end that hears it, by what the lines say of that end.
-use Rattle.std.proofs.Common.{◌≡◌, ℕ, ◌&&◌, Bool, true, false, Option, Some, None, is_none, List, [], ◌∷◌, ◌++◌, length, if◌then◌else◌, refl, sym, ap, subst, ◌∙◌}
+-- A packet on the air moves the end that hears it, by what the lines say of that end.
+use Rattle.std.proofs.Common.{◌≡◌, ℕ, ◌&&◌, Bool, true, false, Option, Some, None, List, [], ◌∷◌, ◌++◌, length, refl, sym, ap, subst, ◌∙◌}
 use Rattle.std.proofs.lemmas.List.{append_cancel_left}
-use Rattle.air_frame.specs.declared.Heard.{Heard}
-use Rattle.air_frame.specs.declared.Heard.TheVariants.{NotOurs, Broken as Faulty, Whole}
 use Rattle.ble_base.specs.declared.roles.Role.TheVariants.{Peripheral}
 use Rattle.ble_base.specs.declared.roles.Side.{Side}
-use Rattle.ble_base.specs.declared.verdicts.Verdict.TheVariants.{Broken, Forged, Good}
+use Rattle.data_pdu.specs.Header.{header_in}
 use Rattle.journal_ends.specs.controller_model.declared.doing.Turn.{Turn}
 use Rattle.journal_ends.specs.Seen.{heard_in_line, heard_where}
 use Rattle.journal_ends.specs.journal_acks.Carried.{pdu_carried}
 use Rattle.journal_ends.specs.journal_acks.Counted.{IsCounted}
 use Rattle.journal_ends.specs.journal_acks.Exchange.{Exchanged}
 use Rattle.journal_ends.specs.journal_acks.link_calls.Uses.{listens_under}
-use Rattle.journal_ends.specs.link_model.Facts.{Facts as EndFacts}
-use Rattle.journal_ends.specs.link_model.Packets.{good_pdu, heard_of, is_forged_pdu, pdu_read, pdu_read_in, verdict_of, whole_pdu}
-use Rattle.journal_ends.specs.link_model.Payload.{opens_now}
-use Rattle.journal_ends.specs.link_model.Setup.{Setup}
+use Rattle.journal_ends.specs.link_model.Facts.{Facts as EndFacts, keyed_of}
+use Rattle.journal_ends.specs.link_model.Packets.{good_pdu, verdict_of}
 use Rattle.journal_ends.specs.link_model.Step.{PacketReceived}
-use Rattle.journal_ends.specs.link_model.Verdicts.{has_room_for, pdu_by, verdict_by, whole_in}
-use Rattle.journal_ends.specs.link_model.control_model.Control.{after_all}
 use Rattle.journal_ends.specs.open_links.OpenLinks.{OpenLink, facts_in}
 use Rattle.journal_ends.specs.run_model.History.{Event, Hearing, is_good}
 use Rattle.journal_ends.specs.run_model.Journal.{journal_of}
@@ -29,60 +23,20 @@ use Rattle.journal_ends.proofs.journal_acks.Exchanging.{exchange_at}
 use Rattle.journal_ends.proofs.journal_acks.KeptLines.{IsLined}
 use Rattle.journal_ends.proofs.journal_acks.SentLines.{sent_line_at}
 use Rattle.journal_ends.proofs.journal_acks.Standing.{listener_sends}
-use Rattle.journal_ends.proofs.link_model.Plain.{past_plain}
 use Rattle.journal_ends.proofs.run_laws.Agreed.{ack_of, step_facts}
-use Rattle.journal_controls.specs.Hearing.{control_hearing, control_if}
-use Rattle.journal_controls.specs.LineSteps.{has_next, steps_heard}
-use Rattle.journal_controls.proofs.ControlledEnds.{IsControlledAt, control_taking}
+use Rattle.journal_controls.specs.Hearing.{keyed_hearing, keyed_if}
+use Rattle.journal_controls.specs.KeyedLines.{has_next, keyed_by_all}
+use Rattle.journal_controls.specs.LineSteps.{steps_heard}
+use Rattle.journal_controls.proofs.ControlledEnds.{IsControlledAt, keyed_taking}
 use Rattle.journal_controls.proofs.Counted.{told_by}
 use Rattle.journal_controls.proofs.EndMoves.{past_keeps}
-use Rattle.journal_controls.proofs.EventMoves.{air_line, aired, control_at, heard_moves, turn_at, unheard_still}
-use Rattle.journal_controls.proofs.TakingLines.{hearing_told}
-
--- ---- a packet is good where it has a PDU
-
--- what an end makes of these octets
-data IsPacket (setup : Setup) (facts : EndFacts) (octets : List ℕ) : Type 0 where
-  Bad : is_good (verdict_of setup facts octets) ≡ false → good_pdu setup facts octets ≡ None → IsPacket setup facts octets
-  HasPdu : (pdu : List ℕ) → is_good (verdict_of setup facts octets) ≡ true → good_pdu setup facts octets ≡ Some pdu → IsPacket setup facts octets
-
-packet_of : (setup : Setup) (facts : EndFacts) (octets : List ℕ) → IsPacket setup facts octets
-unfolding good_pdu verdict_of whole_pdu
-packet_of setup facts octets = by (heard_of setup facts octets) refl
-  where
-    opens : Bool
-    opens = opens_now facts.encryption.end
-
-    judged : Heard → Bool
-    judged heard = is_good (verdict_by setup.link.max_rx opens (is_forged_pdu facts) heard)
-
-    read : Heard → Option (List ℕ)
-    read heard = pdu_read_in facts (whole_in setup.link.max_rx opens heard)
-
-    by : (heard : Heard) → heard_of setup facts octets ≡ heard → IsPacket setup facts octets
-    by NotOurs is =
-        Bad (ap judged is) (ap read is)
-    by Faulty is =
-        Bad (ap judged is) (ap read is)
-    by (Whole pdu) is = fits (has_room_for setup.link.max_rx opens pdu.items) refl
-      where
-        readable : (found : Option (List ℕ)) → pdu_read facts pdu.items ≡ found → has_room_for setup.link.max_rx opens pdu.items ≡ true → IsPacket setup facts octets
-        readable (Some other) found room =
-            HasPdu other (ap judged is ∙ (λ i. is_good (if room i then (if is_none (found i) then Forged else Good) else Broken)))
-            (ap read is ∙ ap (λ b. pdu_read_in facts (pdu_by b pdu.items)) room ∙ found)
-        readable None found room =
-            Bad (ap judged is ∙ (λ i. is_good (if room i then (if is_none (found i) then Forged else Good) else Broken)))
-            (ap read is ∙ ap (λ b. pdu_read_in facts (pdu_by b pdu.items)) room ∙ found)
-
-        fits : (room : Bool) → has_room_for setup.link.max_rx opens pdu.items ≡ room → IsPacket setup facts octets
-        fits true room = readable (pdu_read facts pdu.items) refl room
-        fits false room =
-            Bad (ap judged is ∙ ap (λ b. is_good (if b then (if is_forged_pdu facts pdu.items then Forged else Good) else Broken)) room)
-            (ap read is ∙ ap (λ b. pdu_read_in facts (pdu_by b pdu.items)) room)
+use Rattle.journal_controls.proofs.EndSteps.{hearing_told}
+use Rattle.journal_controls.proofs.EventMoves.{air_line, aired, heard_moves, keyed_at, turn_at, unheard_still}
+use Rattle.journal_controls.proofs.GoodPackets.{good_has}
 
 -- ---- the counts of an end that is to take it
 
-taking_counts : (unsent : Bool) (received : Option (List ℕ)) (octets : List ℕ) (handle : ℕ) (turn : Turn) (link : OpenLink) (end : Exchanged)
+pub taking_counts : (unsent : Bool) (received : Option (List ℕ)) (octets : List ℕ) (handle : ℕ) (turn : Turn) (link : OpenLink) (end : Exchanged)
     → listens_under handle turn.doing ≡ true → received ≡ Some octets → IsEndCounted unsent received handle turn link end → IsCounted end (ack_taking true (Some octets) turn.slot link)
 taking_counts unsent received octets handle turn link end on some is =
     subst (λ may. IsCounted end (ack_taking true may turn.slot link)) some
@@ -98,13 +52,14 @@ taking_counts unsent received octets handle turn link end on some is =
 
 module _ (number : ℕ) (side : Side) (history : List Event) (station channel : ℕ) (octets : List ℕ) (hearing : Hearing)
     (received received_too : Option (List ℕ)) (handle : ℕ) (turn : Turn) (link : OpenLink) (unsent unsent_too : Bool)
-    (silent : listens_under handle turn.doing ≡ true → received ≡ None) (was : control_at number side history ≡ Some (facts_in link).control)
+    (silent : listens_under handle turn.doing ≡ true → received ≡ None) (was : keyed_at number side history ≡ Some (keyed_of (facts_in link)))
+    (good_too : (got : List ℕ) → listens_under handle turn.doing ≡ true → received_too ≡ Some got → is_good (verdict_of link.setup (facts_in link) got) ≡ true)
     (seen : seen_at number side history ≡ seen_in_link number side link)
     (seen_too : seen_at number side (aired number side history station channel octets hearing) ≡ seen_in_link number side link ++ to_hear (listens_under handle turn.doing) received_too turn.slot link)
     (counted : IsEndCounted unsent received handle turn link (exchange_at number history side))
     (counted_too : IsEndCounted unsent_too received_too handle turn link (exchange_at number (aired number side history station channel octets hearing) side))
     (lined : IsLined (sent_line_at number history side) (ack_of link))
-    (fixes : listens_under handle turn.doing ≡ true → link.setup.link.role ≡ Peripheral → (facts_in link).fixes_control ≡ has_next (facts_in link).control) where
+    (fixes : listens_under handle turn.doing ≡ true → link.setup.link.role ≡ Peripheral → (facts_in link).fixes_control ≡ has_next (keyed_of (facts_in link))) where
   abbrev after : List Event
   after = aired number side history station channel octets hearing
 
@@ -119,19 +74,19 @@ module _ (number : ℕ) (side : Side) (history : List Event) (station channel : 
       (ap (λ xs. xs ++ heard_where (is_heard_of number side history station channel octets hearing) (turn_at history) octets) (sym seen)
       ∙ sym (packet_seen number side station channel octets history (hearing ∷ []) hearing refl) ∙ seen_too)
 
-  unheard : to_hear listens received_too turn.slot link ≡ [] → control_at number side after ≡ Some (facts_in link).control
+  unheard : to_hear listens received_too turn.slot link ≡ [] → keyed_at number side after ≡ Some (keyed_of (facts_in link))
   unheard none = unheard_still number side history station channel octets hearing (heard_is ∙ none) ∙ was
 
   module _ (on : listens ≡ true) (got : List ℕ) (some : received_too ≡ Some got) where
     hears : to_hear listens received_too turn.slot link ≡ heard_where (is_good (verdict_of link.setup (facts_in link) got)) turn.slot got
     hears = λ i. to_hear (on i) (some i) turn.slot link
 
-    good_then : (pdu : List ℕ) → is_good (verdict_of link.setup (facts_in link) got) ≡ true → good_pdu link.setup (facts_in link) got ≡ Some pdu
-        → control_at number side after ≡ Some (control_hearing link.setup.link.role turn.slot (Some pdu) (facts_in link))
-    good_then pdu is good =
+    good_then : (pdu : List ℕ) → good_pdu link.setup (facts_in link) got ≡ Some pdu
+        → keyed_at number side after ≡ Some (keyed_hearing link.setup.link.role turn.slot (Some pdu) (facts_in link))
+    good_then pdu good =
         let setup = link.setup in
         let facts = facts_in link in
-        let c = facts.control in
+        let k = keyed_of facts in
         let before = exchange_at number history side in
         let then_on = exchange_at number after side in
         let line = sent_line_at number history side in
@@ -141,26 +96,22 @@ module _ (number : ℕ) (side : Side) (history : List Event) (station channel : 
         let told = told_by setup link.past turn.slot got pdu false before then_on line good counts.acked
         (counts_too.acked ∙ ap (λ (f : EndFacts). f.acknowledgement.acked) now) (counts_too.sent ∙ ap (λ (f : EndFacts). length f.acknowledgement.sent) now)
         lined.last (fixes on) in
-        heard_moves number side history station channel octets hearing turn.slot got c (heard_is ∙ hears ∙ ap (λ b. heard_where b turn.slot got) is) was
-        ∙ ap (λ role. Some (after_all (steps_heard role turn.slot before then_on (pdu_carried line before.acked) (has_next c)) c)) (past_keeps setup link.past [])
-        ∙ ap Some (hearing_told turn.slot setup facts before then_on (pdu_carried line before.acked) pdu (past_plain setup link.past) told)
+        heard_moves number side history station channel octets hearing turn.slot got k (heard_is ∙ hears ∙ ap (λ b. heard_where b turn.slot got) (good_too got on some)) was
+        ∙ ap (λ role. Some (keyed_by_all (steps_heard role turn.slot before then_on (pdu_carried line before.acked) (has_next k)) k)) (past_keeps setup link.past [])
+        ∙ ap Some (hearing_told turn.slot setup facts before then_on (pdu_carried line before.acked) (header_in pdu) told)
 
-    taken_then : control_at number side after ≡ Some (control_if true turn.slot got link)
-    taken_then = by (packet_of link.setup (facts_in link) got)
-      where
-        by : IsPacket link.setup (facts_in link) got → control_at number side after ≡ Some (control_if true turn.slot got link)
-        by (Bad is bad) =
-            unheard (hears ∙ ap (λ b. heard_where b turn.slot got) is)
-            ∙ ap (λ may. Some (control_hearing link.setup.link.role turn.slot may (facts_in link))) (sym bad)
-        by (HasPdu pdu is good) =
-            good_then pdu is good ∙ ap (λ may. Some (control_hearing link.setup.link.role turn.slot may (facts_in link))) (sym good)
+    taken_then : keyed_at number side after ≡ Some (keyed_if true turn.slot got link)
+    taken_then =
+        let has = good_has link.setup (facts_in link) got (good_too got on some) in
+        good_then has.pdu has.is ∙ ap (λ may. Some (keyed_hearing link.setup.link.role turn.slot may (facts_in link))) (sym has.is)
 
   pub packet_moves : IsControlledAt received_too handle turn link number side after
-  packet_moves = by listens refl received_too refl
+  packet_moves = record { keyed = by listens refl received_too refl; good = good_too }
     where
-      by : (on : Bool) → listens_under handle turn.doing ≡ on → (may : Option (List ℕ)) → received_too ≡ may → IsControlledAt received_too handle turn link number side after
+      by : (on : Bool) → listens_under handle turn.doing ≡ on → (may : Option (List ℕ)) → received_too ≡ may
+          → keyed_at number side after ≡ Some (keyed_taking (listens_under handle turn.doing) received_too turn.slot link)
       by false off may is =
-          unheard (ap (λ b. to_hear b received_too turn.slot link) off) ∙ ap (λ b. Some (control_taking b received_too turn.slot link)) (sym off)
+          unheard (ap (λ b. to_hear b received_too turn.slot link) off) ∙ ap (λ b. Some (keyed_taking b received_too turn.slot link)) (sym off)
       by true on None none =
-          unheard (λ i. to_hear (on i) (none i) turn.slot link) ∙ (λ i. Some (control_taking (sym on i) (sym none i) turn.slot link))
-      by true on (Some got) some = taken_then on got some ∙ (λ i. Some (control_taking (sym on i) (sym some i) turn.slot link))
+          unheard (λ i. to_hear (on i) (none i) turn.slot link) ∙ (λ i. Some (keyed_taking (sym on i) (sym none i) turn.slot link))
+      by true on (Some got) some = taken_then on got some ∙ (λ i. Some (keyed_taking (sym on i) (sym some i) turn.slot link))

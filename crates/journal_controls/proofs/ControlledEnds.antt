@@ -1,4 +1,4 @@
--- What the control part of each open end is by the journal, after each event and each call of a run.
+-- What each open end is by the journal, after each event and each call of a run.
 use Rattle.std.proofs.Common.{◌≡◌, ℕ, ◌==◌, Bool, true, false, Option, Some, None, List, [], ◌∷◌, ◌++◌, map, refl, sym, ap, subst, ◌∙◌, append-nil}
 use Rattle.std.proofs.lemmas.Bool.{eqb-true}
 use Rattle.std.proofs.lemmas.List.{map-append}
@@ -13,9 +13,11 @@ use Rattle.journal_ends.proofs.host_answers.LineAnswers.{far_quiet, turn_quiet}
 use Rattle.journal_ends.specs.journal_acks.link_calls.Uses.{listens_under}
 use Rattle.journal_ends.specs.journal_links.LinkLines.{line_of}
 use Rattle.journal_ends.specs.link_model.End.{notes_from}
-use Rattle.journal_ends.specs.link_model.control_model.Control.{Control}
+use Rattle.journal_ends.specs.link_model.Facts.{keyed_of}
+use Rattle.journal_ends.specs.link_model.Packets.{verdict_of}
+use Rattle.journal_ends.specs.link_model.keyed_control.Keyed.{Keyed}
 use Rattle.journal_ends.specs.open_links.OpenLinks.{OpenLink, facts_in, link_at}
-use Rattle.journal_ends.specs.run_model.History.{Event, steps_in}
+use Rattle.journal_ends.specs.run_model.History.{Event, is_good, steps_in}
 use Rattle.journal_ends.specs.run_model.Journal.{side_of}
 use Rattle.journal_ends.specs.run_model.Run.{Given, after_call, facts_at, setup_at, step_of}
 use Rattle.journal_ends.proofs.EndsKnown.{AreLined}
@@ -26,22 +28,23 @@ use Rattle.journal_ends.proofs.journal_acks.Counting.{facts_event}
 use Rattle.journal_ends.proofs.journal_acks.Exchanging.{number_at, number_other}
 use Rattle.journal_ends.proofs.run_laws.Hearings.{other_facts}
 use Rattle.journal_ends.proofs.run_model.Stations.{is_in}
-use Rattle.journal_controls.specs.Hearing.{control_if, control_next}
+use Rattle.journal_controls.specs.Hearing.{keyed_if, keyed_next}
 use Rattle.journal_controls.proofs.EndMoves.{steps_later}
-use Rattle.journal_controls.proofs.EventMoves.{call_moves, control_at, turn_at, withholds_at}
+use Rattle.journal_controls.proofs.EventMoves.{call_moves, drawn_at, keyed_at, turn_at, withholds_at}
 use Rattle.journal_controls.proofs.LinkMoves.{MovesTo}
 
 -- ---- what is expected
 
 -- before an end takes a packet that was on the air, the journal is one reception ahead
-abbrev pub control_taking : Bool → Option (List ℕ) → ℕ → OpenLink → Control
-control_taking true (Some octets) slot link = control_if true slot octets link
-control_taking true None slot link = (facts_in link).control
-control_taking false received slot link = (facts_in link).control
+abbrev pub keyed_taking : Bool → Option (List ℕ) → ℕ → OpenLink → Keyed
+keyed_taking true (Some octets) slot link = keyed_if true slot octets link
+keyed_taking true None slot link = keyed_of (facts_in link)
+keyed_taking false received slot link = keyed_of (facts_in link)
 
-abbrev pub IsControlledAt : Option (List ℕ) → ℕ → Turn → OpenLink → ℕ → Side → List Event → Type 0
-IsControlledAt received handle turn link number side history =
-    control_at number side history ≡ Some (control_taking (listens_under handle turn.doing) received turn.slot link)
+-- and that packet is good
+pub record IsControlledAt (received : Option (List ℕ)) (handle : ℕ) (turn : Turn) (link : OpenLink) (number : ℕ) (side : Side) (history : List Event) : Type 0 where
+  pub keyed : keyed_at number side history ≡ Some (keyed_taking (listens_under handle turn.doing) received turn.slot link)
+  pub good : (octets : List ℕ) → listens_under handle turn.doing ≡ true → received ≡ Some octets → is_good (verdict_of link.setup (facts_in link) octets) ≡ true
 
 abbrev pub AreControlledSo : Given → List Event → (ℕ → Option (List ℕ)) → Type 0
 AreControlledSo given history received =
@@ -50,20 +53,23 @@ AreControlledSo given history received =
 
 -- an end that has no packet to take
 takes_none : (listens : Bool) (received : Option (List ℕ)) (slot : ℕ) (link : OpenLink) → (listens ≡ true → received ≡ None)
-    → control_taking listens received slot link ≡ (facts_in link).control
+    → keyed_taking listens received slot link ≡ keyed_of (facts_in link)
 takes_none true None slot link none = refl
 takes_none true (Some octets) slot link none = absurd (let h : Some octets ≡ None = none refl in absurd cc)
 takes_none false received slot link none = refl
 
 pub whole : (received : Option (List ℕ)) (handle : ℕ) (turn : Turn) (link : OpenLink) (number : ℕ) (side : Side) (history : List Event)
     → (listens_under handle turn.doing ≡ true → received ≡ None) → IsControlledAt received handle turn link number side history
-    → control_at number side history ≡ Some (facts_in link).control
-whole received handle turn link number side history none is = is ∙ ap Some (takes_none (listens_under handle turn.doing) received turn.slot link none)
+    → keyed_at number side history ≡ Some (keyed_of (facts_in link))
+whole received handle turn link number side history none is = is.keyed ∙ ap Some (takes_none (listens_under handle turn.doing) received turn.slot link none)
 
 pub from_whole : (received : Option (List ℕ)) (handle : ℕ) (turn : Turn) (link : OpenLink) (number : ℕ) (side : Side) (history : List Event)
-    → (listens_under handle turn.doing ≡ true → received ≡ None) → control_at number side history ≡ Some (facts_in link).control
+    → (listens_under handle turn.doing ≡ true → received ≡ None) → keyed_at number side history ≡ Some (keyed_of (facts_in link))
     → IsControlledAt received handle turn link number side history
-from_whole received handle turn link number side history none is = is ∙ ap Some (sym (takes_none (listens_under handle turn.doing) received turn.slot link none))
+from_whole received handle turn link number side history none is = record {
+  keyed = is ∙ ap Some (sym (takes_none (listens_under handle turn.doing) received turn.slot link none));
+  good = λ octets on some. absurd (let h : Some octets ≡ None = sym some ∙ none on in absurd cc);
+}
 
 pub moved : (handle : ℕ) (link : OpenLink) (side : Side) (history : List Event) (received received_too : Option (List ℕ)) (turn turn_too : Turn) (number number_too : ℕ)
     → received_too ≡ received → turn_too ≡ turn → number_too ≡ number → IsControlledAt received handle turn link number side history
@@ -75,12 +81,12 @@ moved handle link side history received received_too turn turn_too number number
 
 -- by the call that comes next
 pub taking_next : (handle : ℕ) (facts : Facts) (received : Option (List ℕ)) (link : OpenLink)
-    → control_taking (listens_under handle facts.turn.doing) received facts.turn.slot link ≡ control_next handle facts (step_of received) link
+    → keyed_taking (listens_under handle facts.turn.doing) received facts.turn.slot link ≡ keyed_next handle facts (step_of received) link
 taking_next handle facts None link = takes_none (listens_under handle facts.turn.doing) None facts.turn.slot link (λ on. refl)
 taking_next handle facts (Some octets) link =
-    by (listens_under handle facts.turn.doing) ∙ ap (λ b. control_if b facts.turn.slot octets link) (listened_as handle facts.turn.doing)
+    by (listens_under handle facts.turn.doing) ∙ ap (λ b. keyed_if b facts.turn.slot octets link) (listened_as handle facts.turn.doing)
   where
-    by : (listens : Bool) → control_taking listens (Some octets) facts.turn.slot link ≡ control_if listens facts.turn.slot octets link
+    by : (listens : Bool) → keyed_taking listens (Some octets) facts.turn.slot link ≡ keyed_if listens facts.turn.slot octets link
     by true = refl
     by false = refl
 
@@ -98,22 +104,22 @@ module _ (given : Given) where
   -- a station with the same links, of the same numbers
   still_at : (history after : List Event) (received : Option (List ℕ)) (station handle : ℕ) (link : OpenLink)
       → facts_at given station after ≡ facts_at given station history → number_at station handle after ≡ number_at station handle history
-      → ((c : Control) → control_at (number_at station handle history) (side_of station) history ≡ Some c → control_at (number_at station handle history) (side_of station) after ≡ Some c)
+      → ((k : Keyed) → keyed_at (number_at station handle history) (side_of station) history ≡ Some k → keyed_at (number_at station handle history) (side_of station) after ≡ Some k)
       → IsControlledAt received handle (facts_at given station history).turn link (number_at station handle history) (side_of station) history
       → IsControlledAt received handle (facts_at given station after).turn link (number_at station handle after) (side_of station) after
   still_at history after received station handle link facts number stays is =
       moved handle link (side_of station) after received received (facts_at given station history).turn (facts_at given station after).turn
-      (number_at station handle history) (number_at station handle after) refl (ap (λ (f : Facts). f.turn) facts) number (stays _ is)
+      (number_at station handle history) (number_at station handle after) refl (ap (λ (f : Facts). f.turn) facts) number (record { keyed = stays _ is.keyed; good = is.good })
 
   -- an event that is not a packet
   pub controlled_event : (history : List Event) (event : Event) (received : ℕ → Option (List ℕ)) → ((station : ℕ) → steps_in station event ≡ [])
-      → ((number : ℕ) (side : Side) → control_at number side (history ++ event ∷ []) ≡ control_at number side history)
+      → ((number : ℕ) (side : Side) → keyed_at number side (history ++ event ∷ []) ≡ keyed_at number side history)
       → ((station handle : ℕ) → number_at station handle (history ++ event ∷ []) ≡ number_at station handle history)
       → AreControlledSo given history received → AreControlledSo given (history ++ event ∷ []) received
   controlled_event history event received none same number are = λ station handle link in_it at.
       let facts = facts_event given station history event (none station) in
       still_at history (history ++ event ∷ []) (received station) station handle link facts (number station handle)
-      (λ c is. same (number_at station handle history) (side_of station) ∙ is)
+      (λ k is. same (number_at station handle history) (side_of station) ∙ is)
       (are station handle link in_it (ap (λ (f : Facts). link_at handle f.links) (sym facts) ∙ at))
 
   -- a call, by what it does to the ends of its station, and with no answer to the other one
@@ -146,7 +152,7 @@ module _ (given : Given) where
           let now = subst (λ n. lines_at n side next ≡ map (line_of side n) (notes_opened_on link.setup link.past)) numbers (lined_after other handle link in_it at) in
           let same = now ∙ sym (lined other handle link in_it was) ∙ sym (append-nil (lines_at number side history)) in
           let turn = (facts_at given other history).turn in
-          still_at history next (received_too other) other handle link facts numbers (λ c is. call_moves given side number station step history [] c
+          still_at history next (received_too other) other handle link facts numbers (λ k is. call_moves given side number station step history [] k
           (far_quiet side station (notes_after (setup_at given station) (facts_at given station history) step) (apart other in_it differs)) same tt is)
           (moved handle link side history (received other) (received_too other) turn turn number number (r other in_it differs) refl refl (are other handle link in_it was))
 
@@ -166,14 +172,14 @@ module _ (given : Given) where
       own = number_at station handle history
 
       -- what its host asks moves it
-      pub asked_own : control_at own side after ≡ Some (facts_in link).control
+      pub asked_own : keyed_at own side after ≡ Some (keyed_of (facts_in link))
           → IsControlledAt received handle (facts_at given station after).turn link (number_at station handle after) side after
       asked_own is =
           from_whole received handle (facts_at given station after).turn link (number_at station handle after) side after (λ on. none)
-          (ap (λ n. control_at n side after) number ∙ is)
+          (ap (λ n. keyed_at n side after) number ∙ is)
 
       -- what happened to an end in a call of a turn moves it by the lines of the call
-      pub moved_own : IsInTurn step → (from : Control) → MovesTo side own (withholds_at side history) (turn_at history) base link from → control_at own side history ≡ Some from
+      pub moved_own : IsInTurn step → (from : Keyed) → MovesTo side own (withholds_at side history) (drawn_at side history) (turn_at history) base link from → keyed_at own side history ≡ Some from
           → IsControlledAt received handle (facts_at given station after).turn link (number_at station handle after) side after
       moved_own in_turn from moves is =
           let notes = notes_from base.setup (facts_in base) moves.steps in
@@ -184,6 +190,6 @@ module _ (given : Given) where
           ∙ map-append (line_of side own) (notes_opened_on base.setup base.past) notes
           ∙ ap (λ xs. xs ++ map (line_of side own) notes) (sym (lined station handle base in_it was)) in
           from_whole received handle (facts_at given station after).turn link (number_at station handle after) side after (λ on. none)
-          (ap (λ n. control_at n side after) number
+          (ap (λ n. keyed_at n side after) number
           ∙ call_moves given side own station step history (map (line_of side own) notes) from (turn_quiet given station step history in_turn) lines (steps_later side own base.setup (facts_in base) moves.steps) is
           ∙ ap Some moves.moves)

@@ -7,7 +7,7 @@ use Rattle.journal_ends.specs.journal_acks.Carried.{SentLine, pdu_carried}
 use Rattle.journal_ends.specs.journal_acks.Exchange.{Exchanged}
 use Rattle.journal_ends.specs.link_model.Acknowledgement.{Acknowledgement}
 use Rattle.journal_ends.specs.link_model.End.{facts_after, facts_of}
-use Rattle.journal_ends.specs.link_model.Facts.{Facts}
+use Rattle.journal_ends.specs.link_model.Facts.{Facts, keyed_of}
 use Rattle.journal_ends.specs.link_model.Packets.{good_pdu, is_forged}
 use Rattle.journal_ends.specs.link_model.Receiving.{facts_received}
 use Rattle.journal_ends.specs.link_model.Setup.{Setup}
@@ -15,7 +15,7 @@ use Rattle.journal_ends.specs.link_model.Step.{Step, PacketReceived}
 use Rattle.journal_ends.specs.link_model.Verdicts.{pdu_of}
 use Rattle.journal_ends.proofs.link_model.Acknowledging.{ack_heard, forged_leaves}
 use Rattle.journal_ends.proofs.link_model.Counts.{past_counts}
-use Rattle.journal_controls.specs.LineSteps.{has_next}
+use Rattle.journal_controls.specs.KeyedLines.{has_next}
 use Rattle.journal_controls.specs.OneEnd.{IsToldOf}
 
 module _ (setup : Setup) (past : List Step) (slot : ℕ) (octets pdu : List ℕ) (room : Bool) (before after : Exchanged) (line : Option SentLine) where
@@ -27,7 +27,7 @@ module _ (setup : Setup) (past : List Step) (slot : ℕ) (octets pdu : List ℕ)
 
   pub told_by : good_pdu setup facts octets ≡ Some pdu → before.acked ≡ facts.acknowledgement.acked → after.acked ≡ now.acked → after.sent ≡ length now.sent
       → ((count : ℕ) → count + 1 ≡ length facts.acknowledgement.sent → facts.acknowledgement.last ≡ pdu_carried line count)
-      → (setup.link.role ≡ Peripheral → facts.fixes_control ≡ has_next facts.control)
+      → (setup.link.role ≡ Peripheral → facts.fixes_control ≡ has_next (keyed_of facts))
       → IsToldOf setup.link.role facts (header_in pdu) before after (pdu_carried line before.acked)
   told_by good acked acked_now sent_now carried fixes =
       let ack = facts.acknowledgement in

@@ -1,5 +1,5 @@
--- The control part of one end after several steps, by the lines of its notes.
-use Rattle.std.proofs.Common.{◌≡◌, ℕ, ◌&&◌, not, Bool, true, false, Option, Some, None, List, [], ◌∷◌, ◌++◌, fold, map, refl, sym, ap, ◌∙◌, append-nil, if◌then◌else◌}
+-- One end after several steps, by the lines of its notes.
+use Rattle.std.proofs.Common.{◌≡◌, ℕ, ◌&&◌, not, Bool, true, false, Option, Some, None, List, [], ◌∷◌, ◌++◌, fold, map, is_none, refl, sym, ap, ◌∙◌, append-nil, if◌then◌else◌}
 use Rattle.std.proofs.Math.Bool.{and-false}
 use Rattle.ble_base.specs.declared.error_codes.ErrCode.{ErrCode}
 use Rattle.ble_base.specs.declared.notes.Note.{Note}
@@ -18,76 +18,125 @@ use Rattle.journal_ends.specs.link_model.Data.{is_empty, numbered}
 use Rattle.journal_ends.specs.link_model.End.{facts_after, facts_of, notes_after, notes_from}
 use Rattle.journal_ends.specs.link_model.Entering.{began_notes, done_notes, event_notes, facts_entered}
 use Rattle.journal_ends.specs.link_model.Events.{applied_notes}
-use Rattle.journal_ends.specs.link_model.Facts.{Facts}
+use Rattle.journal_ends.specs.link_model.Facts.{Facts, keyed_of}
+use Rattle.journal_ends.specs.link_model.KeyedSteps.{keyed_steps_of}
 use Rattle.journal_ends.specs.link_model.Packets.{good_pdu}
 use Rattle.journal_ends.specs.link_model.Receiving.{accepts, acked_kind, acks_control, facts_before_taking, given_if, has_acknowledged, given_notes, kept_given_if, received_notes, refused_notes, taken_notes, took_notes_if}
 use Rattle.journal_ends.specs.link_model.Sending.{sent_notes_if}
 use Rattle.journal_ends.specs.link_model.Setup.{Setup, first_anchor, first_params}
 use Rattle.journal_ends.specs.link_model.Step.{Step, EventEntered, PacketReceived, PacketSent}
-use Rattle.journal_ends.specs.link_model.ControlSteps.{control_steps_of, step_if}
 use Rattle.journal_ends.specs.link_model.Verdicts.{pdu_of}
 use Rattle.journal_ends.specs.link_model.control_end.Answers.{entry_of}
 use Rattle.journal_ends.specs.link_model.control_end.Held.{held_of}
 use Rattle.journal_ends.specs.link_model.control_end.declared.answers.Entry.{Entry}
 use Rattle.journal_ends.specs.link_model.control_end.declared.answers.Taken.{Taken}
-use Rattle.journal_ends.specs.link_model.control_model.Control.{Control, Step as ControlStep, Answers, after_all, first_control}
 use Rattle.journal_ends.specs.link_model.declared.events.ConnectionEvent.{ConnectionEvent}
-use Rattle.journal_ends.specs.link_model.procedure_stages.Kinds.{role_of}
-use Rattle.journal_ends.proofs.link_model.ControlSteps.{past_goes}
-use Rattle.journal_ends.proofs.link_model.control_model.Moving.{role_after}
-use Rattle.journal_controls.specs.LineSteps.{asks_by, steps_said, steps_saying, steps_taking}
+use Rattle.journal_ends.specs.link_model.keyed_control.Keyed.{Keyed}
+use Rattle.journal_ends.specs.link_model.keyed_control.KeyedSteps.{Answers, keyed_after, phased_step, phased_steps, step_before}
+use Rattle.journal_ends.specs.link_model.keyed_control.declared.material.Response.{Response}
+use Rattle.journal_ends.specs.link_model.phased_control.Phased.{Phased, first_phased}
+use Rattle.journal_ends.specs.link_model.phased_control.Taken.{PhasedStep, phased_after, phased_after_all, phased_moved, role_now}
+use Rattle.journal_ends.proofs.link_model.KeyedPasts.{keeps_role, past_goes}
+use Rattle.journal_ends.proofs.link_model.phased_end.keyed_control.Phases.{after_one, moves, phased_once}
+use Rattle.journal_ends.proofs.link_model.phased_end.keyed_control.phased_control.Kept.{tied_now}
+use Rattle.journal_controls.specs.KeyedLines.{Accepts, Does, LineStep, asks_by, does_if, keyed_by, keyed_by_all, steps_taking}
+use Rattle.journal_controls.specs.LineSteps.{steps_said, steps_saying}
 use Rattle.journal_controls.specs.OneEnd.{steps_noted}
 use Rattle.journal_controls.specs.SaidLines.{NoneOpens, moved_by}
 use Rattle.journal_controls.proofs.NotedSteps.{joined, noted_both}
 
 -- ---- no step changes the role
 
-abbrev pub KeepsRole : Role → Control → Type 0
-KeepsRole role c = (steps : List ControlStep) → role_of (after_all steps c).table.progress ≡ role
+-- the steps of procedures, parameters and phase among those of lines
+abbrev phased_in : List LineStep → List PhasedStep
+phased_in [] = []
+phased_in (Does step ∷ steps) = step_before (phased_step step) (phased_in steps)
+phased_in (Accepts ∷ steps) = phased_in steps
 
-pub role_stays : (role : Role) (c : Control) (steps : List ControlStep) → KeepsRole role c → KeepsRole role (after_all steps c)
-role_stays role c steps keeps = λ more. ap (λ (d : Control). role_of d.table.progress) (sym (joined steps more c)) ∙ keeps (steps ++ more)
+first_of : (first : Option PhasedStep) (steps : List PhasedStep) (s : Phased) → phased_after_all steps (after_one first s) ≡ phased_after_all (step_before first steps) s
+first_of None steps s = refl
+first_of (Some step) steps s = refl
 
-pub past_keeps : (setup : Setup) (past : List Step) → KeepsRole setup.link.role (facts_of setup past).control
-past_keeps setup past =
-    let first = first_control setup.link.role setup.link.max_rx (first_params setup.link.fields) (first_anchor setup) in λ steps.
-    ap (λ (c : Control). role_of (after_all steps c).table.progress) (past_goes setup past)
-    ∙ ap (λ (d : Control). role_of d.table.progress) (sym (joined (control_steps_of setup past) steps first))
-    ∙ role_after setup.link.role setup.link.max_rx (first_params setup.link.fields) (first_anchor setup) (control_steps_of setup past ++ steps)
+phased_by : (steps : List LineStep) (k : Keyed) → (keyed_by_all steps k).phased ≡ phased_after_all (phased_in steps) k.phased
+phased_by [] k = refl
+phased_by (Does step ∷ steps) k =
+    phased_by steps (keyed_after step k) ∙ ap (phased_after_all (phased_in steps)) (phased_once step k) ∙ first_of (phased_step step) (phased_in steps) k.phased
+phased_by (Accepts ∷ steps) k = phased_by steps (keyed_by Accepts k)
+
+phased_joined : (steps more : List PhasedStep) (s : Phased) → phased_after_all (steps ++ more) s ≡ phased_after_all more (phased_after_all steps s)
+phased_joined [] more s = refl
+phased_joined (step ∷ steps) more s = phased_joined steps more (phased_after step s)
+
+-- an end that ended the link makes none
+phased_over : (steps : List PhasedStep) (s : Phased) → is_none s.control.ends ≡ false → phased_after_all steps s ≡ s
+phased_over [] s is = refl
+phased_over (step ∷ steps) s is =
+    let stays : phased_after step s ≡ s = ap (λ b. if b then phased_moved step s else s) is in
+    phased_over steps (phased_after step s) (ap (λ (t : Phased). is_none t.control.ends) stays ∙ is) ∙ stays
+
+abbrev pub KeepsRole : Role → Keyed → Type 0
+KeepsRole role k = (steps : List PhasedStep) → role_now (phased_after_all steps k.phased) ≡ role
+
+pub role_stays : (role : Role) (k : Keyed) (steps : List LineStep) → KeepsRole role k → KeepsRole role (keyed_by_all steps k)
+role_stays role k steps keeps = λ more.
+    ap (λ s. role_now (phased_after_all more s)) (phased_by steps k) ∙ ap role_now (sym (phased_joined (phased_in steps) more k.phased)) ∙ keeps (phased_in steps ++ more)
+
+pub past_keeps : (setup : Setup) (past : List Step) → KeepsRole setup.link.role (keyed_of (facts_of setup past))
+past_keeps setup past = by (goes_on (facts_of setup past)) refl
+  where
+    role : Role
+    role = setup.link.role
+
+    k : Keyed
+    k = keyed_of (facts_of setup past)
+
+    first : Phased
+    first = first_phased role setup.link.max_rx (first_params setup.link.fields) (first_anchor setup)
+
+    made : List PhasedStep
+    made = phased_steps (keyed_steps_of setup past)
+
+    by : (goes : Bool) → goes_on (facts_of setup past) ≡ goes → KeepsRole role k
+    by false is = λ steps. ap role_now (phased_over steps k.phased is) ∙ keeps_role setup past
+    by true is = λ steps.
+        let phased : k.phased ≡ phased_after_all made first =
+        ap (λ (x : Keyed). x.phased) (past_goes setup past is) ∙ moves role setup.link.max_rx (first_params setup.link.fields) (first_anchor setup) (keyed_steps_of setup past) in
+        ap (λ s. role_now (phased_after_all steps s)) phased ∙ ap role_now (sym (phased_joined made steps first))
+        ∙ (tied_now role setup.link.max_rx (first_params setup.link.fields) (first_anchor setup) (made ++ steps)).is_role
 
 -- so the lines of notes move it by the steps of these notes, where none of them refuses a request
-abbrev pub NoneRefuses : Side → ℕ → Bool → ℕ → List Note → Type 0
-NoneRefuses side number withheld slot [] = Unit {0}
-NoneRefuses side number withheld slot (note ∷ notes) =
-    ((c : Control) → let line = line_of side number note in steps_said withheld slot c line ≡ steps_saying (role_of c.table.progress) slot line)
-    × NoneRefuses side number withheld slot notes
+abbrev pub NoneRefuses : Side → ℕ → Bool → Response → ℕ → List Note → Type 0
+NoneRefuses side number withheld response slot [] = Unit {0}
+NoneRefuses side number withheld response slot (note ∷ notes) =
+    ((k : Keyed) → let line = line_of side number note in steps_said withheld response slot k line ≡ steps_saying (role_now k.phased) response slot line)
+    × NoneRefuses side number withheld response slot notes
 
-pub moved_noted : (side : Side) (number : ℕ) (withheld : Bool) (slot : ℕ) (role : Role) (notes : List Note) (c : Control) → KeepsRole role c
-    → NoneRefuses side number withheld slot notes
-    → moved_by withheld slot (map (line_of side number) notes) c ≡ after_all (steps_noted side number role slot notes) c
-moved_noted side number withheld slot role [] c keeps none = refl
-moved_noted side number withheld slot role (note ∷ notes) c keeps none =
+pub moved_noted : (side : Side) (number : ℕ) (withheld : Bool) (response : Response) (slot : ℕ) (role : Role) (notes : List Note) (k : Keyed) → KeepsRole role k
+    → NoneRefuses side number withheld response slot notes
+    → moved_by withheld response slot (map (line_of side number) notes) k ≡ keyed_by_all (steps_noted side number role response slot notes) k
+moved_noted side number withheld response slot role [] k keeps none = refl
+moved_noted side number withheld response slot role (note ∷ notes) k keeps none =
     let line = line_of side number note in
-    let steps = steps_saying role slot line in
-    ap (λ all. moved_by withheld slot (map (line_of side number) notes) (after_all all c)) (none.0 c ∙ ap (λ r. steps_saying r slot line) (keeps []))
-    ∙ moved_noted side number withheld slot role notes (after_all steps c) (role_stays role c steps keeps) none.1
-    ∙ sym (joined steps (steps_noted side number role slot notes) c)
+    let steps = steps_saying role response slot line in
+    ap (λ all. moved_by withheld response slot (map (line_of side number) notes) (keyed_by_all all k)) (none.0 k ∙ ap (λ r. steps_saying r response slot line) (keeps []))
+    ∙ moved_noted side number withheld response slot role notes (keyed_by_all steps k) (role_stays role k steps keeps) none.1
+    ∙ sym (joined steps (steps_noted side number role response slot notes) k)
 
 -- where nothing is withheld, none does
-pub unwithheld : (side : Side) (number slot : ℕ) (notes : List Note) → NoneRefuses side number false slot notes
-unwithheld side number slot [] = tt
-unwithheld side number slot (note ∷ notes) = ((λ c. by c (line_of side number note)), unwithheld side number slot notes)
+pub unwithheld : (side : Side) (number : ℕ) (response : Response) (slot : ℕ) (notes : List Note) → NoneRefuses side number false response slot notes
+unwithheld side number response slot [] = tt
+unwithheld side number response slot (note ∷ notes) = ((λ k. by k (line_of side number note)), unwithheld side number response slot notes)
   where
-    by : (c : Control) (line : Line) → steps_said false slot c line ≡ steps_saying (role_of c.table.progress) slot line
-    by c (Took other link count llid body) =
+    by : (k : Keyed) (line : Line) → steps_said false response slot k line ≡ steps_saying (role_now k.phased) response slot line
+    by k (Took other link count llid body) =
         let pdu : Pdu = record { llid = llid; body = body } in
-        ap (λ b. steps_taking slot pdu ++ step_if b (Answers refusal)) (and-false (asks_by slot c pdu)) ∙ append-nil (steps_taking slot pdu)
-    by c line = refl
+        ap (λ b. steps_taking response slot pdu ++ does_if b (Answers refusal)) (and-false (asks_by response slot k pdu)) ∙ append-nil (steps_taking response slot pdu)
+    by k line = refl
 
-pub refuse_both : (side : Side) (number : ℕ) (withheld : Bool) (slot : ℕ) (notes more : List Note) → NoneRefuses side number withheld slot notes
-    → NoneRefuses side number withheld slot more → NoneRefuses side number withheld slot (notes ++ more)
-refuse_both side number withheld slot [] more here there = there
-refuse_both side number withheld slot (note ∷ notes) more here there = (here.0, refuse_both side number withheld slot notes more here.1 there)
+pub refuse_both : (side : Side) (number : ℕ) (withheld : Bool) (response : Response) (slot : ℕ) (notes more : List Note) → NoneRefuses side number withheld response slot notes
+    → NoneRefuses side number withheld response slot more → NoneRefuses side number withheld response slot (notes ++ more)
+refuse_both side number withheld response slot [] more here there = there
+refuse_both side number withheld response slot (note ∷ notes) more here there = (here.0, refuse_both side number withheld response slot notes more here.1 there)
 
 -- ---- no note of an end opens a link or shuts it
 
@@ -169,23 +218,23 @@ module _ (side : Side) (number : ℕ) where
 
 -- ---- several steps
 
--- the control part goes by the lines that the end says in these steps
-abbrev pub AreByLines : Side → ℕ → ℕ → Setup → Facts → List Step → Type 0
-AreByLines side number slot setup facts steps =
-    (fold (facts_after setup) facts steps).control ≡ after_all (steps_noted side number setup.link.role slot (notes_from setup facts steps)) facts.control
+-- the end goes by the lines that it says in these steps
+abbrev pub AreByLines : Side → ℕ → Response → ℕ → Setup → Facts → List Step → Type 0
+AreByLines side number response slot setup facts steps =
+    keyed_of (fold (facts_after setup) facts steps) ≡ keyed_by_all (steps_noted side number setup.link.role response slot (notes_from setup facts steps)) (keyed_of facts)
 
-module _ (side : Side) (number slot : ℕ) (setup : Setup) where
-  pub by_none : (facts : Facts) → AreByLines side number slot setup facts []
+module _ (side : Side) (number : ℕ) (response : Response) (slot : ℕ) (setup : Setup) where
+  pub by_none : (facts : Facts) → AreByLines side number response slot setup facts []
   by_none facts = refl
 
   -- one step, and then others
   pub by_then : (facts : Facts) (step : Step) (steps : List Step)
-      → (facts_after setup facts step).control ≡ after_all (steps_noted side number setup.link.role slot (notes_after setup facts step)) facts.control
-      → AreByLines side number slot setup (facts_after setup facts step) steps → AreByLines side number slot setup facts (step ∷ steps)
+      → keyed_of (facts_after setup facts step) ≡ keyed_by_all (steps_noted side number setup.link.role response slot (notes_after setup facts step)) (keyed_of facts)
+      → AreByLines side number response slot setup (facts_after setup facts step) steps → AreByLines side number response slot setup facts (step ∷ steps)
   by_then facts step steps one others =
       let next = facts_after setup facts step in
       let here = notes_after setup facts step in
       let later = notes_from setup next steps in
-      others ∙ ap (after_all (steps_noted side number setup.link.role slot later)) one
-      ∙ sym (joined (steps_noted side number setup.link.role slot here) (steps_noted side number setup.link.role slot later) facts.control)
-      ∙ sym (ap (λ all. after_all all facts.control) (noted_both side number setup.link.role slot here later))
+      others ∙ ap (keyed_by_all (steps_noted side number setup.link.role response slot later)) one
+      ∙ sym (joined (steps_noted side number setup.link.role response slot here) (steps_noted side number setup.link.role response slot later) (keyed_of facts))
+      ∙ sym (ap (λ all. keyed_by_all all (keyed_of facts)) (noted_both side number setup.link.role response slot here later))

@@ -1,4 +1,4 @@
--- What an event or a call does to the control part of an end by a journal.
+-- What an event or a call does to an end by a journal.
 use Rattle.std.proofs.Common.{◌≡◌, ℕ, ◌-◌, Bool, false, Option, Some, List, [], ◌∷◌, ◌++◌, length, map, refl, sym, ap, subst, ◌∙◌, append-nil, append_assoc}
 use Rattle.std.specs.List.{AllByRecursion}
 use Rattle.std.proofs.lemmas.Grind.{flat_map-append}
@@ -19,8 +19,9 @@ use Rattle.journal_ends.specs.Seen.{Hears, heard_in_line}
 use Rattle.journal_ends.specs.journal_acks.Carried.{carried_of}
 use Rattle.journal_ends.specs.journal_acks.Exchange.{exchange_of}
 use Rattle.journal_ends.specs.journal_links.LinkLines.{lines_of, link_named, where_named}
-use Rattle.journal_ends.specs.link_model.control_model.Control.{Control, after_all}
-use Rattle.journal_ends.specs.link_model.procedure_stages.Kinds.{role_of}
+use Rattle.journal_ends.specs.link_model.keyed_control.Keyed.{Keyed}
+use Rattle.journal_ends.specs.link_model.keyed_control.declared.material.Response.{Response}
+use Rattle.journal_ends.specs.link_model.phased_control.Taken.{role_now}
 use Rattle.journal_ends.specs.run_model.Feeding.{is_octet}
 use Rattle.journal_ends.specs.run_model.History.{Event, TurnBegan, HostFed, Called, Hearing, Noted, Transmitted}
 use Rattle.journal_ends.specs.run_model.Journal.{entries_of, entry_of, journal_of, mark_of, radio_in, side_of}
@@ -30,13 +31,14 @@ use Rattle.journal_ends.specs.run_model.Run.{Given, after_call, facts_at, setup_
 use Rattle.journal_ends.proofs.SeenEvents.{lines_at, note_hears, unaccepted_by}
 use Rattle.journal_ends.proofs.journal_links.LinkLines.{line_more}
 use Rattle.journal_ends.proofs.run_model.Parts.{journal_event}
-use Rattle.journal_controls.specs.LineSteps.{control_after, control_on, has_next, steps_heard, turn_now, withholds}
+use Rattle.journal_controls.specs.KeyedLines.{drawn_by, has_next, keyed_by_all}
+use Rattle.journal_controls.specs.LineSteps.{keyed_in_line, keyed_on, steps_heard, turn_now, withholds}
 use Rattle.journal_controls.specs.SaidLines.{NoneOpens, moved_by}
-use Rattle.journal_controls.proofs.LineFolds.{control_more, heard_line, line_moves, moved_both, quiet_line}
+use Rattle.journal_controls.proofs.LineFolds.{heard_line, keyed_more, line_moves, moved_both, quiet_line}
 
--- the control part of an end, by the journal of a history
-abbrev pub control_at : ℕ → Side → List Event → Option Control
-control_at number side history = control_on side number (journal_of history)
+-- an end, by the journal of a history
+abbrev pub keyed_at : ℕ → Side → List Event → Option Keyed
+keyed_at number side history = keyed_on side number (journal_of history)
 
 abbrev pub turn_at : List Event → ℕ
 turn_at history = turn_now (journal_of history)
@@ -44,14 +46,18 @@ turn_at history = turn_now (journal_of history)
 abbrev pub withholds_at : Side → List Event → Bool
 withholds_at side history = withholds side (journal_of history)
 
+abbrev pub drawn_at : Side → List Event → Response
+drawn_at side history = drawn_by side (journal_of history)
+
 -- lines of this turn, and nothing that is heard
 pub record IsMoving (number : ℕ) (side : Side) (history after : List Event) : Type 0 where
   pub more : List Entry
   pub lines : lines_at number side after ≡ lines_at number side history ++ more
   pub turns : turn_at after ≡ turn_at history
   pub withheld : withholds_at side after ≡ withholds_at side history
-  pub control : (c : Control) → NoneOpens more → control_at number side history ≡ Some c
-      → control_at number side after ≡ Some (moved_by (withholds_at side history) (turn_at history) more c)
+  pub drawn : drawn_at side after ≡ drawn_at side history
+  pub keyed : (k : Keyed) → NoneOpens more → keyed_at number side history ≡ Some k
+      → keyed_at number side after ≡ Some (moved_by (withholds_at side history) (drawn_at side history) (turn_at history) more k)
 
 first_none : (lines more : List Entry) → NoneOpens (lines ++ more) → NoneOpens lines
 first_none [] more none = tt
@@ -68,12 +74,14 @@ moving_then number side first second third one next = record {
   lines = next.lines ∙ ap (λ xs. xs ++ next.more) one.lines ∙ append_assoc (lines_at number side first) one.more next.more;
   turns = next.turns ∙ one.turns;
   withheld = next.withheld ∙ one.withheld;
-  control = λ c none is.
+  drawn = next.drawn ∙ one.drawn;
+  keyed = λ k none is.
       let slot = turn_at first in
       let held = withholds_at side first in
-      next.control (moved_by held slot one.more c) (last_none one.more next.more none) (one.control c (first_none one.more next.more none) is)
-      ∙ (λ i. Some (moved_by (one.withheld i) (one.turns i) next.more (moved_by held slot one.more c)))
-      ∙ ap Some (sym (moved_both held slot one.more next.more c));
+      let words = drawn_at side first in
+      next.keyed (moved_by held words slot one.more k) (last_none one.more next.more none) (one.keyed k (first_none one.more next.more none) is)
+      ∙ (λ i. Some (moved_by (one.withheld i) (one.drawn i) (one.turns i) next.more (moved_by held words slot one.more k)))
+      ∙ ap Some (sym (moved_both held words slot one.more next.more k));
 }
 
 -- an event with one line that begins no turn and is not of a host, nor answers it
@@ -90,9 +98,10 @@ line_moving number side history event line is deaf unaccepted begins feeds =
           ∙ ap (λ (turns : List PairOpening). length turns - 1) (flat_map-append pair_openings_in front (line ∷ []) ∙ (λ i. turns_of front ++ (begins i ++ [])) ∙ append-nil (turns_of front));
       withheld = ap (withholds side) journal ∙ ap (λ octets. withholds_requests (masks_of octets))
           (flat_map-append (fed_in side) front (line ∷ []) ∙ (λ i. fed_to_side side front ++ (feeds i ++ [])) ∙ append-nil (fed_to_side side front));
-      control = λ c none was.
-          ap (control_on side number) journal ∙ control_more side number front line ∙ ap (λ before. control_after side number front before line) was
-          ∙ line_moves side number front line c deaf unaccepted none;
+      drawn = refl;
+      keyed = λ k none was.
+          ap (keyed_on side number) journal ∙ keyed_more side number front line ∙ ap (λ before. keyed_in_line (drawn_by side) side number front before line) was
+          ∙ line_moves side number front line k deaf unaccepted none;
     }
 
 note_begins : (other : Side) (link_of : ℕ → ℕ) (last : ℕ) (note : Note) → pair_openings_in (entry_of other link_of last note) ≡ []
@@ -119,7 +128,8 @@ none_moving number side history after same = record {
   lines = ap (λ xs. lines_of side number xs) same ∙ sym (append-nil (lines_at number side history));
   turns = ap turn_now same;
   withheld = ap (withholds side) same;
-  control = λ c none was. ap (control_on side number) same ∙ was;
+  drawn = refl;
+  keyed = λ k none was. ap (keyed_on side number) same ∙ was;
 }
 
 notes_moving : (number : ℕ) (side : Side) (station : ℕ) (notes : List Note) (history after : List Event) → AllByRecursion (IsQuiet side station) notes
@@ -168,31 +178,31 @@ call_moving given number side station step history quiet =
 
 -- a turn begins
 pub turn_still : (number : ℕ) (side : Side) (history : List Event) (slot : ℕ) (radios : List Bool)
-    → control_at number side (history ++ TurnBegan slot radios ∷ []) ≡ control_at number side history
+    → keyed_at number side (history ++ TurnBegan slot radios ∷ []) ≡ keyed_at number side history
 turn_still number side history slot radios =
     let front = journal_of history in
     let line = Turn slot (radio_in 0 radios) (Some (radio_in 1 radios)) in
-    ap (control_on side number) (journal_event history (TurnBegan slot radios)) ∙ control_more side number front line
-    ∙ quiet_line side number front (control_on side number front) line refl refl
+    ap (keyed_on side number) (journal_event history (TurnBegan slot radios)) ∙ keyed_more side number front line
+    ∙ quiet_line side number front (keyed_on side number front) line refl refl
 
 -- by the lines that it adds
-pub call_moves : (given : Given) (side : Side) (number station : ℕ) (step : Call) (history : List Event) (more : List Entry) (c : Control)
+pub call_moves : (given : Given) (side : Side) (number station : ℕ) (step : Call) (history : List Event) (more : List Entry) (k : Keyed)
     → AnswersNone given side station step history → lines_at number side (after_call given station step history) ≡ lines_at number side history ++ more → NoneOpens more
-    → control_at number side history ≡ Some c
-    → control_at number side (after_call given station step history) ≡ Some (moved_by (withholds_at side history) (turn_at history) more c)
-call_moves given side number station step history more c quiet lines none was =
+    → keyed_at number side history ≡ Some k
+    → keyed_at number side (after_call given station step history) ≡ Some (moved_by (withholds_at side history) (drawn_at side history) (turn_at history) more k)
+call_moves given side number station step history more k quiet lines none was =
     let moving = call_moving given number side station step history quiet in
     let same = append_cancel_left (lines_at number side history) moving.more more (sym moving.lines ∙ lines) in
-    moving.control c (subst NoneOpens (sym same) none) was ∙ ap (λ xs. Some (moved_by (withholds_at side history) (turn_at history) xs c)) same
+    moving.keyed k (subst NoneOpens (sym same) none) was ∙ ap (λ xs. Some (moved_by (withholds_at side history) (drawn_at side history) (turn_at history) xs k)) same
 
 -- a host sends
 pub feed_still : (number : ℕ) (side : Side) (history : List Event) (station : ℕ) (octets : List ℕ)
-    → control_at number side (history ++ HostFed station octets ∷ []) ≡ control_at number side history
+    → keyed_at number side (history ++ HostFed station octets ∷ []) ≡ keyed_at number side history
 feed_still number side history station octets =
     let front = journal_of history in
     let line = Fed (side_of station) octets in
-    ap (control_on side number) (journal_event history (HostFed station octets)) ∙ control_more side number front line
-    ∙ quiet_line side number front (control_on side number front) line refl refl
+    ap (keyed_on side number) (journal_event history (HostFed station octets)) ∙ keyed_more side number front line
+    ∙ quiet_line side number front (keyed_on side number front) line refl refl
 
 -- ---- a packet is on the air
 
@@ -207,24 +217,24 @@ module _ (number : ℕ) (side : Side) (history : List Event) (station channel : 
   journal_aired = journal_event history (Transmitted station channel octets (hearing ∷ []))
 
   -- it is not heard
-  pub unheard_still : heard_in_line side number (journal_of history) (air_line station channel octets hearing) ≡ [] → control_at number side aired ≡ control_at number side history
+  pub unheard_still : heard_in_line side number (journal_of history) (air_line station channel octets hearing) ≡ [] → keyed_at number side aired ≡ keyed_at number side history
   unheard_still none =
       let front = journal_of history in
       let line = air_line station channel octets hearing in
-      ap (control_on side number) journal_aired ∙ control_more side number front line
-      ∙ quiet_line side number front (control_on side number front) line (ap (λ xs. xs ++ []) none) refl
+      ap (keyed_on side number) journal_aired ∙ keyed_more side number front line
+      ∙ quiet_line side number front (keyed_on side number front) line (ap (λ xs. xs ++ []) none) refl
 
   -- it is heard
-  pub heard_moves : (slot : ℕ) (heard : List ℕ) (c : Control) → heard_in_line side number (journal_of history) (air_line station channel octets hearing) ≡ Hears slot heard ∷ []
-      → control_at number side history ≡ Some c
-      → control_at number side aired
-      ≡ Some (after_all (steps_heard (role_of c.table.progress) slot (exchange_of number (journal_of history) side) (exchange_of number (journal_of aired) side)
-      (carried_of number (journal_of history) side) (has_next c)) c)
-  heard_moves slot heard c is was =
+  pub heard_moves : (slot : ℕ) (heard : List ℕ) (k : Keyed) → heard_in_line side number (journal_of history) (air_line station channel octets hearing) ≡ Hears slot heard ∷ []
+      → keyed_at number side history ≡ Some k
+      → keyed_at number side aired
+      ≡ Some (keyed_by_all (steps_heard (role_now k.phased) slot (exchange_of number (journal_of history) side) (exchange_of number (journal_of aired) side)
+      (carried_of number (journal_of history) side) (has_next k)) k)
+  heard_moves slot heard k is was =
       let front = journal_of history in
       let line = air_line station channel octets hearing in
-      ap (control_on side number) journal_aired ∙ control_more side number front line
-      ∙ ap (λ before. control_after side number front before line) was
-      ∙ heard_line side number front line c slot heard refl (ap (λ xs. xs ++ []) is) refl
-      ∙ ap (λ after. Some (after_all (steps_heard (role_of c.table.progress) slot (exchange_of number front side) (exchange_of number after side) (carried_of number front side) (has_next c)) c))
+      ap (keyed_on side number) journal_aired ∙ keyed_more side number front line
+      ∙ ap (λ before. keyed_in_line (drawn_by side) side number front before line) was
+      ∙ heard_line side number front line k slot heard refl (ap (λ xs. xs ++ []) is) refl
+      ∙ ap (λ after. Some (keyed_by_all (steps_heard (role_now k.phased) slot (exchange_of number front side) (exchange_of number after side) (carried_of number front side) (has_next k)) k))
       (sym journal_aired)

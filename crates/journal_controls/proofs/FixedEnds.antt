@@ -19,8 +19,7 @@ use Rattle.journal_ends.proofs.controller_model.Asked.{IsAskedStep, asked_leaves
 use Rattle.journal_ends.specs.link_model.Data.{Data, is_control}
 use Rattle.journal_ends.specs.link_model.Controls.{goes_on}
 use Rattle.journal_ends.specs.link_model.End.{facts_after as end_after, facts_of as end_facts}
-use Rattle.journal_ends.specs.link_model.Facts.{Facts as EndFacts, first_facts as first_end}
-use Rattle.journal_ends.specs.link_model.Plain.{IsPlain}
+use Rattle.journal_ends.specs.link_model.Facts.{Facts as EndFacts, first_facts as first_end, keyed_of}
 use Rattle.journal_ends.specs.link_model.Receiving.{has_ended, replies_of}
 use Rattle.journal_ends.specs.link_model.Setup.{Setup as EndSetup}
 use Rattle.journal_ends.specs.link_model.Step.{Step, DataGiven, DataReported, EventEntered, PacketReceived, PacketSent, PduFixed}
@@ -45,15 +44,15 @@ use Rattle.journal_ends.proofs.journal_acks.link_calls.LinkPhases.{IsPhased, pha
 use Rattle.journal_ends.proofs.journal_acks.link_calls.RadioUses.{no_link}
 use Rattle.journal_ends.proofs.journal_acks.link_calls.Refusals.{only_central_refuses}
 use Rattle.journal_ends.proofs.journal_acks.link_calls.UnderHandles.{ended_under, host_under, reported_ends}
-use Rattle.journal_ends.proofs.link_model.Plain.{past_plain, step_plain}
 use Rattle.journal_ends.proofs.run_laws.Agreed.{step_facts}
 use Rattle.journal_ends.proofs.run_laws.LinkPhases.{IsInPhase}
 use Rattle.journal_ends.proofs.run_laws.TurnPlaces.{Between, IsTurned, Stage, Within, stands_in_run, turned}
 use Rattle.journal_ends.proofs.run_model.Stations.{is_in}
-use Rattle.journal_controls.specs.LineSteps.{has_next}
+use Rattle.journal_controls.specs.KeyedLines.{has_next}
 use Rattle.journal_controls.specs.TurnSteps.{first_if, steps_begun}
 use Rattle.journal_controls.proofs.CentralFixed.{IsFree, entered_free, fixed_free, given_free, past_free}
 use Rattle.journal_controls.proofs.PeripheralFixed.{answer_leaves_none, fixes_next, silence_ends}
+use Rattle.journal_controls.proofs.Undrawn.{IsUndrawn, begun_draws, host_undrawn, new_undrawn, reported_undrawn, taken_draws_none}
 
 -- ---- the past of a link as a turn begins
 
@@ -108,12 +107,14 @@ IsFixedSo (Within (suc phases)) link = has_ended (facts_in link) ≡ false → I
 
 -- a peripheral that listens has fixed a control PDU where one waits
 abbrev pub FixesNext : Doing → ℕ → OpenLink → Type 0
-FixesNext doing handle link = listens_under handle doing ≡ true → link.setup.link.role ≡ Peripheral → (facts_in link).fixes_control ≡ has_next (facts_in link).control
+FixesNext doing handle link = listens_under handle doing ≡ true → link.setup.link.role ≡ Peripheral → (facts_in link).fixes_control ≡ has_next (keyed_of (facts_in link))
 
 pub record AreFixed (setup : Setup) (stage : Stage) (begun : ℕ) (facts : Facts) : Type 0 where
   pub phased : IsPhased setup stage begun facts
   pub free : (handle : ℕ) (link : OpenLink) → link_at handle facts.links ≡ Some link → IsFixedSo stage link
   pub fixes : (handle : ℕ) (link : OpenLink) → link_at handle facts.links ≡ Some link → FixesNext facts.turn.doing handle link
+  -- and it would draw what it would as its link began
+  pub undrawn : (handle : ℕ) (link : OpenLink) → link_at handle facts.links ≡ Some link → IsUndrawn link
 
 free_so : (stage : Stage) (link : OpenLink) → IsFree (facts_in link) → IsFixedSo stage link
 free_so Between link is = is
@@ -164,11 +165,11 @@ begins_free true false slot setup facts is = entered_free (goes_on facts) setup 
 begins_free false true slot setup facts is = fixed_free (is_control facts.outgoing.fixed) facts is
 begins_free false false slot setup facts is = is
 
-begins_fixes : (enters : Bool) (slot : ℕ) (setup : EndSetup) (facts : EndFacts) → IsPlain setup.link.role facts → IsFree facts
-    → let now = fold (end_after setup) facts (steps_begun enters true false slot) in now.fixes_control ≡ has_next now.control
-begins_fixes true slot setup facts plain is =
-    fixes_next setup (end_after setup facts (EventEntered slot)) (step_plain setup facts (EventEntered slot) plain) (entered_free (goes_on facts) setup slot facts is)
-begins_fixes false slot setup facts plain is = fixes_next setup facts plain is
+begins_fixes : (enters : Bool) (slot : ℕ) (setup : EndSetup) (facts : EndFacts) → IsFree facts
+    → let now = fold (end_after setup) facts (steps_begun enters true false slot) in now.fixes_control ≡ has_next (keyed_of now)
+begins_fixes true slot setup facts is =
+    fixes_next setup (end_after setup facts (EventEntered slot)) (entered_free (goes_on facts) setup slot facts is)
+begins_fixes false slot setup facts is = fixes_next setup facts is
 
 listener_fixes : (handle : ℕ) (links : Links) (doing : Doing) → IsInPhase 0 links doing → listens_under handle doing ≡ true → fixes_under handle doing ≡ true
 listener_fixes handle links (PeripheralListens other) is on = on
@@ -279,6 +280,15 @@ module _ (setup : Setup) (facts : Facts) (received : Option (List ℕ)) (phases 
       by Central is = central_so (Within (suc phases)) after is
       by Peripheral is = λ goes. passed_free handle after is passed goes
 
+passes_undrawn : (setup : Setup) (facts : Facts) (received : Option (List ℕ)) (handle : ℕ) (after : OpenLink)
+    → ((link : OpenLink) → link_at handle facts.links ≡ Some link → IsUndrawn link)
+    → HasPassed facts (has_room setup facts) received handle (facts_after setup facts (step_of received)).turn.doing after → IsUndrawn after
+passes_undrawn setup facts received handle after undrawn (IsNew end made opened off) = new_undrawn end after made
+passes_undrawn setup facts received handle after undrawn (Stays was none nothing listened) = undrawn after was
+passes_undrawn setup facts received handle after undrawn (Takes base octets was some on same) =
+    let room = has_room setup facts in
+    taken_draws_none (refuses_at handle room octets facts) (sends_under handle (facts_after setup facts (step_of received)).turn.doing) facts.turn.slot octets room base after same (undrawn base was)
+
 -- ---- a turn ends
 
 reason_none : (code : Option ErrCode) (leaving : Leaving) → ended_by_procedures code leaving ≡ None → code ≡ None
@@ -326,6 +336,7 @@ fixed_kept setup = record {
         phased = phased;
         free = λ handle link at. host_free facts octet handle link (host_under setup facts octet handle link at) (is.free handle);
         fixes = λ handle link at. resting handle (facts_after setup facts (HostOctet octet)).turn.doing link phased.phase;
+        undrawn = λ handle link at. host_undrawn facts octet handle link (host_under setup facts octet handle link at) (is.undrawn handle);
       };
   begins = λ begun on facts is.
       let phased = (phased_kept setup).begins begun on facts is.phased in
@@ -345,8 +356,14 @@ fixed_kept setup = record {
             let fixes = listener_fixes handle next.links doing phased.phase listens in
             let facts_are = grown_facts has.link link _ has.setup_is (has.past_is ∙ begun_past begun handle doing has.link) in
             let same = facts_are ∙ (λ i. fold (end_after has.link.setup) (facts_in has.link) (steps_begun (enters_in begun has.link) (fixes i) (none i) begun)) in
-            subst (λ (f : EndFacts). f.fixes_control ≡ has_next f.control) (sym same)
-            (begins_fixes (enters_in begun has.link) begun has.link.setup (facts_in has.link) (past_plain has.link.setup has.link.past) (is.free handle has.link has.was));
+            subst (λ (f : EndFacts). f.fixes_control ≡ has_next (keyed_of f)) (sym same)
+            (begins_fixes (enters_in begun has.link) begun has.link.setup (facts_in has.link) (is.free handle has.link has.was));
+        undrawn = λ handle link at.
+            let has = turn_begun_under setup facts begun on handle link at in
+            let doing = next.turn.doing in
+            let facts_are = grown_facts has.link link _ has.setup_is (has.past_is ∙ begun_past begun handle doing has.link) in
+            ap (λ (f : EndFacts). f.encryption.response) facts_are
+            ∙ begun_draws has.link.setup (enters_in begun has.link) (fixes_under handle doing) (sends_under handle doing) begun (facts_in has.link) ∙ is.undrawn handle has.link has.was;
       };
   passes = λ phases begun received facts is.
       let phased = (phased_kept setup).passes phases begun received facts is.phased in record {
@@ -355,8 +372,10 @@ fixed_kept setup = record {
             passes_free setup facts received phases is.phased.phase is.free handle link (passes_under setup facts received handle link is.phased.uses.in_turn.listens at);
         fixes = λ handle link at listens role.
             let next = facts_after setup facts (step_of received) in
-            first_listener ((facts_in link).fixes_control ≡ has_next (facts_in link).control) (suc phases) handle next.links next.turn.doing link phased.phase listens at role
+            first_listener ((facts_in link).fixes_control ≡ has_next (keyed_of (facts_in link))) (suc phases) handle next.links next.turn.doing link phased.phase listens at role
             (λ same. absurd (omega (arith, same)));
+        undrawn = λ handle link at.
+            passes_undrawn setup facts received handle link (is.undrawn handle) (passes_under setup facts received handle link is.phased.uses.in_turn.listens at);
       };
   ends = λ begun facts is.
       let phased = (phased_kept setup).ends begun facts is.phased in record {
@@ -364,6 +383,7 @@ fixed_kept setup = record {
         free = λ handle link at.
             let has = ended_under setup facts handle link at in ended_free 3 has.link link has.is has.stays (is.free handle has.link has.was);
         fixes = λ handle link at. resting handle (facts_after setup facts TurnEnds).turn.doing link phased.phase;
+        undrawn = λ handle link at. let has = ended_under setup facts handle link at in reported_undrawn has.link link has.is (is.undrawn handle has.link has.was);
       };
 }
   where
@@ -379,6 +399,7 @@ fixed_first setup = record {
   phased = phased_first setup;
   free = λ handle link at. no_link setup handle link _ at;
   fixes = λ handle link at. no_link setup handle link _ at;
+  undrawn = λ handle link at. no_link setup handle link _ at;
 }
 
 -- ---- in a run
@@ -386,6 +407,7 @@ fixed_first setup = record {
 pub record IsFixedIn (given : Given) (before : List Event) (station handle : ℕ) (link : OpenLink) : Type 0 where
   pub free : has_ended (facts_in link) ≡ false → IsFree (facts_in link)
   pub fixes : FixesNext (facts_at given station before).turn.doing handle link
+  pub undrawn : IsUndrawn link
 
 pub fixed_in : (given : Given) (before rest : List Event) (station handle : ℕ) (link : OpenLink) → AreDistinct given.stations → is_in station given.stations ≡ true
     → history_of (run_of given) ≡ before ++ rest → link_at handle (facts_at given station before).links ≡ Some link → IsFixedIn given before station handle link
@@ -396,4 +418,5 @@ fixed_in given before rest station handle link distinct in_it at is =
     let are = turned setup (AreFixed setup) (fixed_kept setup) past stands.at (fixed_first setup) stands.is in record {
       free = so_free stands.at.stage link (are.free handle link is);
       fixes = are.fixes handle link is;
+      undrawn = are.undrawn handle link is;
     }

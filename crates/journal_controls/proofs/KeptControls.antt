@@ -1,23 +1,26 @@
--- Each step of a run of two stations keeps that the control part of each open end is, by the journal, the one that the end
--- holds.
+-- Each step of a run of two stations keeps that each open end is, by the journal, as it is.
 use Rattle.std.proofs.Common.{◌≡◌, ℕ, suc, ◌+◌, ◌-◌, ◌==◌, Bool, true, false, Option, Some, None, List, [], ◌∷◌, ◌++◌, inl, inr, length, replicate, refl, sym, ap, subst, ◌∙◌, append_assoc, arith}
 use Rattle.std.specs.Prelude.{◌⊎◌, map, take, if◌then◌else◌}
 use Rattle.std.proofs.lemmas.Bool.{eqb-true}
 use Rattle.ble_base.specs.declared.roles.Role.{Role}
 use Rattle.ble_base.specs.declared.roles.Role.TheVariants.{Central, Peripheral}
 use Rattle.journal_ends.specs.controller_model.Facts.{Facts, Listens, Sends}
+use Rattle.journal_ends.specs.controller_model.Packets.{verdict_of as verdict_at}
 use Rattle.journal_ends.specs.controller_model.Side.{facts_after, facts_of, notes_after}
 use Rattle.journal_ends.specs.controller_model.Step.{Step as Call, HostOctet, TurnBegins, TurnEnds}
 use Rattle.host_masks.specs.Masks.{view_masks, withholds_requests}
 use Rattle.host_masks.proofs.LineMasks.{line_masks}
 use Rattle.journal_ends.specs.journal_acks.link_calls.Uses.{listens_under}
+use Rattle.journal_ends.specs.link_model.Facts.{keyed_of}
+use Rattle.journal_ends.specs.link_model.Packets.{verdict_of}
 use Rattle.journal_ends.specs.open_links.OpenLinks.{OpenLink, facts_in, link_at}
 use Rattle.journal_ends.specs.run_model.Due.{Each}
-use Rattle.journal_ends.specs.run_model.History.{Event, TurnBegan, HostFed, Called, Hearing, Noted, Transmitted, packet_received, turns_begun}
+use Rattle.journal_ends.specs.run_model.History.{Event, TurnBegan, HostFed, Called, Hearing, Noted, Transmitted, fates_used, has_received, is_good, packet_received, turns_begun}
 use Rattle.journal_ends.specs.run_model.Journal.{journal_of, side_of}
 use Rattle.journal_ends.specs.run_model.LinkEnds.{HaveAddresses}
 use Rattle.journal_ends.specs.run_model.Readers.{station_of, turns_of}
-use Rattle.journal_ends.specs.run_model.Run.{Given, after_call, after_feed, after_octets, facts_at, hearings_of, history_of, octets_left, run_of, setup_at, step_of, use_at}
+use Rattle.journal_ends.specs.run_model.Run.{Given, after_call, after_feed, after_octets, facts_at, fate_at, hearings_of, history_of, octets_left, run_of, setup_at, step_of, unseen_in, use_at}
+use Rattle.radio_replay.specs.Damage.{damaged_packet}
 use Rattle.radio_replay.specs.declared.fates.Fate.{Fate}
 use Rattle.journal_ends.proofs.EndsKnown.{AreLined, lined_at}
 use Rattle.journal_ends.proofs.KeptSeen.{AreFed as AreSeenFed, AreSeenAt, apart_from, begin_fed, first_fed, lined_next, lined_octet, octet_asks, octet_fed as seen_fed, octet_next, seen_first, seen_kept}
@@ -29,7 +32,8 @@ use Rattle.journal_ends.proofs.journal_acks.KeptLines.{AreLinedAt, lines_kept}
 use Rattle.journal_ends.proofs.journal_acks.Known.{known_of}
 use Rattle.journal_ends.proofs.journal_acks.LinkPackets.{lines_first}
 use Rattle.journal_ends.proofs.journal_acks.Standing.{PhasedBy, listens_wanted, phased_at, sender_role}
-use Rattle.journal_ends.proofs.journal_acks.TwoStations.{IsOfTwo, hearing_of, one_hearing}
+use Rattle.journal_ends.proofs.journal_acks.TwoStations.{IsOfTwo, hearing_of, judged, one_hearing, other_is, other_of, other_received, own_differs, own_received, same_number, unchanged}
+use Rattle.journal_ends.proofs.journal_acks.link_calls.UnderHandles.{host_under}
 use Rattle.journal_ends.proofs.journal_acks.link_calls.CallNotes.{OpensNone, begin_noted, end_noted, opening_none}
 use Rattle.journal_ends.proofs.journal_links.OfTwo.{are_distinct, of_two_stations}
 use Rattle.journal_ends.proofs.journal_packets.AccessOrder.{AreNth}
@@ -47,22 +51,24 @@ use Rattle.journal_ends.proofs.run_model.LinkEnds.{AreTaken, IsUnderstood, recei
 use Rattle.journal_ends.proofs.run_model.Places.{each_called, each_event}
 use Rattle.journal_ends.proofs.run_model.Stations.{among, is_in, not_before}
 use Rattle.journal_ends.proofs.run_model.Walk.{AtBegins, AtEnds, AtFeeds, AtListening, AtPackets, IsKept, NoTurn, Place}
-use Rattle.journal_controls.specs.Hearing.{control_next}
+use Rattle.journal_controls.specs.Hearing.{keyed_next}
 use Rattle.journal_controls.proofs.AskedControls.{call_asks, end_asked}
 use Rattle.journal_controls.proofs.ControlPackets.{packet_moves}
 use Rattle.journal_controls.proofs.ControlledEnds.{AreControlledSo, IsControlledAt, controlled_call, controlled_event, asked_own, controlled_same, moved, moved_own, taking_next, whole}
-use Rattle.journal_controls.proofs.EventMoves.{control_at, feed_still, turn_at, turn_still, withholds_at}
+use Rattle.journal_controls.proofs.EventMoves.{drawn_at, feed_still, keyed_at, turn_at, turn_still, withholds_at}
 use Rattle.journal_controls.proofs.FixedEnds.{fixed_in}
 use Rattle.journal_controls.proofs.LinkMoves.{MovesTo, begin_moves, end_moves}
+use Rattle.journal_controls.proofs.GoodPackets.{judged_link}
 use Rattle.journal_controls.proofs.PassedControls.{no_octet, passes_own}
+use Rattle.journal_controls.proofs.Undrawn.{host_keys}
 
 -- ---- what is kept
 
--- the control part of each open end of a station is the one that it holds
+-- each open end of a station is as it is
 abbrev pub AreControlledOf : Given → List Event → ℕ → Type 0
 AreControlledOf given history station =
     is_in station given.stations ≡ true → (handle : ℕ) (link : OpenLink) → link_at handle (facts_at given station history).links ≡ Some link
-    → control_at (number_at station handle history) (side_of station) history ≡ Some (facts_in link).control
+    → keyed_at (number_at station handle history) (side_of station) history ≡ Some (keyed_of (facts_in link))
 
 -- so are those of all stations
 abbrev pub AreControlled : Given → List Event → Type 0
@@ -72,7 +78,7 @@ AreControlled given history = (station : ℕ) → AreControlledOf given history 
 abbrev pub IsControlledBefore : Given → List Event → ℕ → Call → Type 0
 IsControlledBefore given before station step =
     is_in station given.stations ≡ true → (handle : ℕ) (link : OpenLink) → link_at handle (facts_at given station before).links ≡ Some link
-    → control_at (number_at station handle before) (side_of station) before ≡ Some (control_next handle (facts_at given station before) step link)
+    → keyed_at (number_at station handle before) (side_of station) before ≡ Some (keyed_next handle (facts_at given station before) step link)
 
 abbrev pub ControlBefore : Given → List Event → Event → Type 0
 ControlBefore given before (TurnBegan slot radios) = AreControlled given before
@@ -90,7 +96,7 @@ pub record AreControlledAt (given : Given) (place : Place) (history : List Event
 -- where a station received nothing, all its ends are as they were
 whole_at : (given : Given) (history : List Event) (received : ℕ → Option (List ℕ)) (station handle : ℕ) (link : OpenLink) → is_in station given.stations ≡ true
     → link_at handle (facts_at given station history).links ≡ Some link → (listens_under handle (facts_at given station history).turn.doing ≡ true → received station ≡ None)
-    → AreControlledSo given history received → control_at (number_at station handle history) (side_of station) history ≡ Some (facts_in link).control
+    → AreControlledSo given history received → keyed_at (number_at station handle history) (side_of station) history ≡ Some (keyed_of (facts_in link))
 whole_at given history received station handle link in_it at none are =
     whole (received station) handle (facts_at given station history).turn link (number_at station handle history) (side_of station) history none (are station handle link in_it at)
 
@@ -101,7 +107,7 @@ all_whole given history none are = λ station in_it handle link at.
 
 -- a call in which nothing is heard
 whole_before : (given : Given) (history : List Event) (received : ℕ → Option (List ℕ)) (station : ℕ) (step : Call)
-    → ((handle : ℕ) (facts : Facts) (link : OpenLink) → control_next handle facts step link ≡ (facts_in link).control) → received station ≡ None
+    → ((handle : ℕ) (facts : Facts) (link : OpenLink) → keyed_next handle facts step link ≡ keyed_of (facts_in link)) → received station ≡ None
     → AreControlledSo given history received → IsControlledBefore given history station step
 whole_before given history received station step deaf none are = λ in_it handle link at.
     whole_at given history received station handle link in_it at (λ on. none) are ∙ ap Some (sym (deaf handle (facts_at given station history) link))
@@ -142,14 +148,17 @@ module _ (heard_whole : IsHeardWhole) (understood : IsUnderstood) (taken : AreTa
       → history_of (run_of given) ≡ history ++ Called station (HostOctet octet) ∷ rest → AreLined given history → AreLined given (after_call given station (HostOctet octet) history)
       → AreFed station begun history → AreFed station begun (after_call given station (HostOctet octet) history)
   octet_fed station octet begun history rest in_it at lined lined_after fed =
-      let step = HostOctet octet in record {
+      let step = HostOctet octet in
+      let setup = setup_at given station in
+      let facts = facts_at given station history in record {
         control = controlled_call given station step history NoneReceived NoneReceived (apart_from understood taken nth apart given are_two six station in_it) lined lined_after (λ handle link held.
             let number = number_at station handle history in
             let asks = octet_asks understood taken nth apart given are_two six station octet begun history rest in_it at lined lined_after fed.seen handle link held in
             asked_own given station step history in_it lined lined_after handle link held None refl asks.number asks.base asks.was
-            (call_asks given (side_of station) number station step history asks.is.asked (facts_in asks.base).control asks.lines asks.answers
+            (call_asks given (side_of station) number station step history asks.is.asked (keyed_of (facts_in asks.base)) asks.lines asks.answers
             (whole_at given history NoneReceived station handle asks.base in_it asks.was (λ on. refl) fed.control)
-            ∙ ap Some (end_asked asks.base asks.is.asked asks.is.by_host ∙ sym asks.is.control_is)))
+            ∙ ap Some (end_asked asks.base link asks.is.asked asks.is.by_host asks.is.control_is
+            (host_keys facts octet handle asks.base link (host_under setup facts octet handle link (held_at given station step history in_it lined lined_after handle link held)) asks.was))))
             (λ other is_too differs. refl) fed.control;
         each = call_each given station step history fed.each (whole_before given history NoneReceived station step (λ handle held link. refl) refl fed.control);
         seen = seen_fed understood taken nth apart given are_two six station octet begun history rest in_it at lined lined_after fed.seen;
@@ -208,7 +217,8 @@ module _ (heard_whole : IsHeardWhole) (understood : IsUnderstood) (taken : AreTa
       (none_before phases done left station channel octets history are wanted has.seen one handle link in_one at) has.control
 
   module _ (phases : ℕ) (done left : List ℕ) (station channel : ℕ) (octets : List ℕ) (fates : List Fate) (history : List Event) (stations_are : given.stations ≡ done ++ station ∷ left)
-      (wanted : use_at given station history ≡ Sends channel octets) (has : AreControlledAt given (AtPackets phases done (station ∷ left)) history) where
+      (wanted : use_at given station history ≡ Sends channel octets)
+      (unseen : unseen_in octets (hearings_of given fates station channel octets history) ≡ None) (has : AreControlledAt given (AtPackets phases done (station ∷ left)) history) where
     abbrev place_after : Place
     place_after = AtPackets phases (done ++ station ∷ []) left
 
@@ -223,6 +233,46 @@ module _ (heard_whole : IsHeardWhole) (understood : IsUnderstood) (taken : AreTa
 
     aired_is : after ≡ history ++ Transmitted station channel octets (hearing ∷ []) ∷ []
     aired_is = ap (λ xs. history ++ Transmitted station channel octets xs ∷ []) (one_hearing given are_two fates station channel octets history (among given.stations done left station stations_are))
+
+    -- a packet that an end is to take is good
+    heard_good : (one handle : ℕ) (link : OpenLink) (got : List ℕ) → is_in one given.stations ≡ true → link_at handle (facts_at given one history).links ≡ Some link
+        → listens_under handle (facts_at given one history).turn.doing ≡ true → packet_received one after ≡ Some got
+        → is_good (verdict_of link.setup (facts_in link) got) ≡ true
+    heard_good one handle link got in_one at on some = by (one == station) refl
+      where
+        in_it : is_in station given.stations ≡ true
+        in_it = among given.stations done left station stations_are
+
+        none : packet_received one history ≡ None
+        none = none_before phases done left station channel octets history stations_are wanted has.seen one handle link in_one at on
+
+        aired_so : packet_received one after ≡ (if has_received one (hearing ∷ []) then Some octets else None)
+        aired_so =
+            received_event one history (Transmitted station channel octets hearings)
+            ∙ (λ i. if has_received one (one_hearing given are_two fates station channel octets history in_it i) then Some octets else none i)
+
+        -- it received what was sent
+        got_it : (good : Bool) → has_received one (hearing ∷ []) ≡ good → (good ≡ true → is_good (verdict_of link.setup (facts_in link) octets) ≡ true)
+            → is_good (verdict_of link.setup (facts_in link) got) ≡ true
+        got_it true is good =
+            let both : Some octets ≡ Some got = sym (ap (λ b. if b then Some octets else None) is) ∙ sym aired_so ∙ some in
+            let same : octets ≡ got = cc in
+            ap (λ heard. is_good (verdict_of link.setup (facts_in link) heard)) (sym same) ∙ good refl
+        got_it false is good = absurd (let h : None ≡ Some got = sym (ap (λ b. if b then Some octets else None) is) ∙ sym aired_so ∙ some in absurd cc)
+
+        by : (same : Bool) → (one == station) ≡ same → is_good (verdict_of link.setup (facts_in link) got) ≡ true
+        by true same =
+            let off = own_received one hearing (ap (λ n. n == other_of station) (eqb-true one station same) ∙ own_differs station) in
+            got_it false off (λ good. absurd (let h : false ≡ true = good in absurd cc))
+        by false differs =
+            let other = other_is given are_two station one in_it in_one differs in
+            let received = other_received one hearing (ap (λ n. one == n) (sym other) ∙ same_number one) in
+            got_it (is_good hearing.verdict) received (λ good.
+            let fate = fate_at fates (fates_used history) in
+            let changed = unchanged octets hearing (ap (unseen_in octets) (sym (one_hearing given are_two fates station channel octets history in_it)) ∙ unseen) good in
+            let is_judged = judged (use_at given (other_of station) history) fate channel (facts_at given (other_of station) history) (damaged_packet fate octets) good in
+            let own = subst (λ n. is_good (verdict_at (facts_at given n history) (damaged_packet fate octets)) ≡ true) (sym other) is_judged.good in
+            judged_link (facts_at given one history) handle link octets on at (ap (λ heard. is_good (verdict_at (facts_at given one history) heard)) (sym changed) ∙ own))
 
     packet_controlled : AreSeenAt given place_after after → AreLinedAt given (IsBelongingSoFar given) place_after after → AreControlledSo given after (λ one. packet_received one after)
     packet_controlled seen lined = λ one handle link in_one at.
@@ -243,6 +293,7 @@ module _ (heard_whole : IsHeardWhole) (understood : IsUnderstood) (taken : AreTa
         let front = front_at given place history has.seen.known.front in
         let moves = packet_moves number side history station channel octets hearing received received_too handle turn link (unsent place one) (unsent place_after one) none
         (whole_at given history (λ each. packet_received each history) one handle link in_one is_open none has.control)
+        (λ got on some. heard_good one handle link got in_one is_open on some)
         (seen_whole received handle turn link number side history none (has.seen.seen one handle link in_one is_open))
         (subst (λ h. IsSeenAt received_too handle turn link number side h) aired_is
         (seen_moved handle link side after received_too received_too turn_after turn (number_at one handle after) number refl (sym turns) (sym numbers) (seen.seen one handle link in_one at)))
@@ -309,12 +360,12 @@ module _ (heard_whole : IsHeardWhole) (understood : IsUnderstood) (taken : AreTa
                   let number = number_at station handle history in
                   let held = held_at given station step history in_it lined lined_after handle link at in
                   let next = facts_after setup facts step in
-                  let moves = begin_moves (side_of station) number (withholds_at (side_of station) history) slot setup facts on handle link held
+                  let moves = begin_moves (side_of station) number (withholds_at (side_of station) history) (drawn_at (side_of station) history) slot setup facts on handle link held
                   (λ sends. first_sender 0 link.setup.link.role refl (sender_role 0 next.links next.turn.doing handle link (begins_in setup slot on facts) sends held)) in
                   moved_own given station step history in_it lined lined_after handle link at (packet_received station after) (seen.holds.hearing.hears station in_it)
                   (number_called given station step history handle (begin_noted (OpensNone handle) (opening_none handle) setup slot on facts)) moves.base moves.was tt
-                  (facts_in moves.base).control
-                  (subst (λ n. MovesTo (side_of station) number (withholds_at (side_of station) history) n moves.base link (facts_in moves.base).control)
+                  (keyed_of (facts_in moves.base))
+                  (subst (λ n. MovesTo (side_of station) number (withholds_at (side_of station) history) (drawn_at (side_of station) history) n moves.base link (keyed_of (facts_in moves.base)))
                   (sym (turn_is history slot due.slot_is)) moves.is)
                   (whole_at given history (λ one. packet_received one history) station handle moves.base in_it moves.was (λ listens. none) has.control))
                   (λ other is_too differs. received_by given other station step history false differs) has.control;
@@ -334,7 +385,7 @@ module _ (heard_whole : IsHeardWhole) (understood : IsUnderstood) (taken : AreTa
             let lined = lines.on_packet phases plan done left station channel octets history are some due has.lined in record {
               seen = seen;
               lined = lined;
-              control = packet_controlled phases done left station channel octets plan.fates history are due.is_wanted has seen lined;
+              control = packet_controlled phases done left station channel octets plan.fates history are due.is_wanted due.is_seen has seen lined;
               each = each_event (ControlBefore given) history (Transmitted station channel octets (hearings_of given plan.fates station channel octets history)) has.each
                   (packet_whole phases done left station channel octets history are due.is_wanted has);
             };
@@ -362,10 +413,12 @@ module _ (heard_whole : IsHeardWhole) (understood : IsUnderstood) (taken : AreTa
               lined = lines.on_hearing phases done left station history are some has.lined;
               control = controlled_call given station step history (λ one. packet_received one history) (λ one. packet_received one after) (apart_from understood taken nth apart given are_two six station in_it) lined lined_after
                   (passes_own understood taken given are_two six station history phases place in_it phased lined lined_after seen.known seen.seen held
-                  (turn_is history facts.turn.slot (sym phased.uses.in_turn.slot_is)) has.control)
+                  (turn_is history facts.turn.slot (sym phased.uses.in_turn.slot_is))
+                  (λ handle link at. (fixed_in given history ((Called station step ∷ notes) ++ front.rest) station handle link distinct in_it (front.at ∙ append_assoc history (Called station step ∷ notes) front.rest) at).undrawn)
+                  has.control)
                   (λ other is_too differs. received_by given other station step history false differs) has.control;
               each = call_each given station step history has.each (λ in_one handle link at.
-                  has.control station handle link in_it at ∙ ap Some (taking_next handle facts received link));
+                  (has.control station handle link in_it at).keyed ∙ ap Some (taking_next handle facts received link));
             };
         on_heard = λ phases history has. record { seen = sees.on_heard phases history has.seen; lined = lines.on_heard phases history has.lined; control = has.control; each = has.each };
         on_phases = λ history has. record { seen = sees.on_phases history has.seen; lined = lines.on_phases history has.lined; control = has.control; each = has.each };
@@ -382,11 +435,11 @@ module _ (heard_whole : IsHeardWhole) (understood : IsUnderstood) (taken : AreTa
               seen = seen;
               lined = lines.on_end done left station history are some has.lined;
               control = controlled_call given station step history (λ one. packet_received one history) (λ one. packet_received one after) (apart_from understood taken nth apart given are_two six station in_it) lined lined_after (λ handle link at.
-                  let moves = end_moves (side_of station) (number_at station handle history) (withholds_at (side_of station) history) (turn_at history) setup facts handle link
+                  let moves = end_moves (side_of station) (number_at station handle history) (withholds_at (side_of station) history) (drawn_at (side_of station) history) (turn_at history) setup facts handle link
                   (held_at given station step history in_it lined lined_after handle link at) in
                   moved_own given station step history in_it lined lined_after handle link at (packet_received station after) (seen.holds.hearing.hears station in_it)
                   (number_called given station step history handle (end_noted (OpensNone handle) (opening_none handle).starts.feeds setup facts)) moves.base moves.was tt
-                  (facts_in moves.base).control moves.is
+                  (keyed_of (facts_in moves.base)) moves.is
                   (whole_at given history (λ one. packet_received one history) station handle moves.base in_it moves.was (λ listens. none) has.control))
                   (λ other is_too differs. received_by given other station step history false differs) has.control;
               each = call_each given station step history has.each

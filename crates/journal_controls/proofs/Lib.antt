@@ -6,6 +6,7 @@ pub mod LineFolds
 pub mod EventMoves
 pub mod EndMoves
 pub mod PeripheralFixed
+pub mod Undrawn
 pub mod TurnMoves
 pub mod Counted
 pub mod FixedEnds
@@ -13,6 +14,7 @@ pub mod TakingLines
 pub mod LinkMoves
 pub mod EarlyAnswers
 pub mod OpenedControls
+pub mod GoodPackets
 pub mod AskedControls
 pub mod ControlledEnds
 pub mod ControlPackets

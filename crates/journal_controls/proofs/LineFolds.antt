@@ -1,4 +1,4 @@
--- The control part by a journal with one line more.
+-- An end by a journal with one line more.
 use Rattle.std.proofs.Common.{◌≡◌, ℕ, ◌==◌, ◌&&◌, Bool, true, false, Option, Some, None, List, [], ◌∷◌, ◌++◌, map, refl, sym, ap, subst, ◌∙◌, append-nil, append_assoc, if◌then◌else◌}
 use Rattle.std.specs.List.{flat_map}
 use Rattle.std.specs.Prelude.{Result}
@@ -18,40 +18,42 @@ use Rattle.journal_ends.specs.journal_links.Begun.{LinkBegun, link_numbered}
 use Rattle.journal_ends.specs.journal_links.LinkLines.{link_named, where_named}
 use Rattle.journal_ends.specs.journal_packets.Belonging.{is_side}
 use Rattle.journal_ends.specs.link_model.Step.{Step}
-use Rattle.journal_ends.specs.link_model.control_model.Control.{Answers, Control, after_all}
-use Rattle.journal_ends.specs.link_model.procedure_stages.Kinds.{role_of}
+use Rattle.journal_ends.specs.link_model.keyed_control.Keyed.{Keyed}
+use Rattle.journal_ends.specs.link_model.keyed_control.declared.material.Response.{Response}
+use Rattle.journal_ends.specs.link_model.phased_control.Taken.{role_now}
 use Rattle.journal_ends.specs.link_model.procedure_values.declared.asks.Ask.{Ask}
 use Rattle.journal_ends.specs.run_model.Readers.{of_side}
 use Rattle.journal_ends.proofs.SeenEvents.{unanswered_in, unasked_in}
 use Rattle.journal_ends.proofs.journal_acks.TwoStations.{same_number}
 use Rattle.journal_controls.specs.SaidLines.{NoneOpens, is_opening, moved_by}
-use Rattle.journal_controls.specs.LineSteps.{control_after, control_begun, control_from, control_moved, control_on, has_next, steps_asking, steps_heard, steps_said, steps_seen, turn_now, withholds}
+use Rattle.journal_controls.specs.KeyedLines.{answering, drawn_by, has_next, keyed_by_all}
+use Rattle.journal_controls.specs.LineSteps.{keyed_begun, keyed_from, keyed_in_line, keyed_on, moved_in_line, steps_asking, steps_heard, steps_said, steps_seen, turn_now, withholds}
 
 -- ---- a line more
 
-from_more : (side : Side) (number : ℕ) (front : List Entry) (before : Option Control) (lines : List Entry) (line : Entry)
-    → control_from side number front before (lines ++ line ∷ []) ≡ control_after side number (front ++ lines) (control_from side number front before lines) line
-from_more side number front before [] line = ap (λ xs. control_after side number xs before line) (sym (append-nil front))
+from_more : (side : Side) (number : ℕ) (front : List Entry) (before : Option Keyed) (lines : List Entry) (line : Entry)
+    → keyed_from (drawn_by side) side number front before (lines ++ line ∷ []) ≡ keyed_in_line (drawn_by side) side number (front ++ lines) (keyed_from (drawn_by side) side number front before lines) line
+from_more side number front before [] line = ap (λ xs. keyed_in_line (drawn_by side) side number xs before line) (sym (append-nil front))
 from_more side number front before (first ∷ lines) line =
-    from_more side number (front ++ first ∷ []) (control_after side number front before first) lines line
-    ∙ ap (λ xs. control_after side number xs (control_from side number (front ++ first ∷ []) (control_after side number front before first) lines) line)
+    from_more side number (front ++ first ∷ []) (keyed_in_line (drawn_by side) side number front before first) lines line
+    ∙ ap (λ xs. keyed_in_line (drawn_by side) side number xs (keyed_from (drawn_by side) side number (front ++ first ∷ []) (keyed_in_line (drawn_by side) side number front before first) lines) line)
     (append_assoc front (first ∷ []) lines)
 
-pub control_more : (side : Side) (number : ℕ) (journal : List Entry) (line : Entry)
-    → control_on side number (journal ++ line ∷ []) ≡ control_after side number journal (control_on side number journal) line
-unfolding control_on
-control_more side number journal line = from_more side number [] None journal line
+pub keyed_more : (side : Side) (number : ℕ) (journal : List Entry) (line : Entry)
+    → keyed_on side number (journal ++ line ∷ []) ≡ keyed_in_line (drawn_by side) side number journal (keyed_on side number journal) line
+unfolding keyed_on
+keyed_more side number journal line = from_more side number [] None journal line
 
 -- ---- a line that neither opens the link at this side nor shuts it
 
-moves : (side : Side) (number : ℕ) (front : List Entry) (before : Option Control) (line : Entry) → is_opening line ≡ false
-    → control_after side number front before line ≡ option_map (control_moved side number front line) before
+moves : (side : Side) (number : ℕ) (front : List Entry) (before : Option Keyed) (line : Entry) → is_opening line ≡ false
+    → keyed_in_line (drawn_by side) side number front before line ≡ option_map (moved_in_line (drawn_by side) side number front line) before
 moves side number front before (Opened other link handle role) is = absurd cc
 moves side number front before (Shut other link reason) is = absurd cc
 moves side number front before line is = refl
 
 -- of another side, or of another link
-opening_apart : (side other : Side) (same : Bool) (line : Entry) (now before : Option Control) → map Says (of_side side other (if same then line ∷ [] else [])) ≡ []
+opening_apart : (side other : Side) (same : Bool) (line : Entry) (now before : Option Keyed) → map Says (of_side side other (if same then line ∷ [] else [])) ≡ []
     → (if is_side other side && same then now else before) ≡ before
 opening_apart A A true line now before none = absurd cc
 opening_apart A A false line now before none = refl
@@ -60,42 +62,42 @@ opening_apart B A same line now before none = refl
 opening_apart B B true line now before none = absurd cc
 opening_apart B B false line now before none = refl
 
-same_moved : (before : Option Control) (move : Control → Control) → ((c : Control) → move c ≡ c) → option_map move before ≡ before
+same_moved : (before : Option Keyed) (move : Keyed → Keyed) → ((k : Keyed) → move k ≡ k) → option_map move before ≡ before
 same_moved None move same = refl
-same_moved (Some c) move same = ap Some (same c)
+same_moved (Some k) move same = ap Some (same k)
 
 -- what is seen of the end in a line, and what its host answers in it
-lines_move : (side : Side) (number : ℕ) (front : List Entry) (line : Entry) (c : Control) (seen : List Seen) (answers : List (Result Ask ErrCode))
+lines_move : (side : Side) (number : ℕ) (front : List Entry) (line : Entry) (k : Keyed) (seen : List Seen) (answers : List (Result Ask ErrCode))
     → seen_in_line side number front line ≡ seen → answers_in_line side number front line ≡ answers
-    → control_moved side number front line c ≡ after_all (map Answers answers ++ flat_map (steps_seen side number front line c) seen) c
-lines_move side number front line c seen answers is replies =
-    λ i. after_all (map Answers (replies i) ++ flat_map (steps_seen side number front line c) (is i)) c
+    → moved_in_line (drawn_by side) side number front line k ≡ keyed_by_all (map answering answers ++ flat_map (steps_seen (drawn_by side) side number front line k) seen) k
+lines_move side number front line k seen answers is replies =
+    λ i. keyed_by_all (map answering (replies i) ++ flat_map (steps_seen (drawn_by side) side number front line k) (is i)) k
 
 -- a line in which the end says and hears nothing, and in which its host asks and answers nothing
-pub quiet_line : (side : Side) (number : ℕ) (front : List Entry) (before : Option Control) (line : Entry) → seen_in_line side number front line ≡ []
-    → answers_in_line side number front line ≡ [] → control_after side number front before line ≡ before
+pub quiet_line : (side : Side) (number : ℕ) (front : List Entry) (before : Option Keyed) (line : Entry) → seen_in_line side number front line ≡ []
+    → answers_in_line side number front line ≡ [] → keyed_in_line (drawn_by side) side number front before line ≡ before
 quiet_line side number front before (Opened other link handle role) none unanswered =
-    opening_apart side other (link == number) (Opened other link handle role) (control_begun side (link_numbered number front)) before none
+    opening_apart side other (link == number) (Opened other link handle role) (keyed_begun side (link_numbered number front)) before none
 quiet_line side number front before (Shut other link reason) none unanswered =
     opening_apart side other (link == number) (Shut other link reason) None before none
 quiet_line side number front before line none unanswered =
-    same_moved before (control_moved side number front line) (λ c. lines_move side number front line c [] [] none unanswered)
+    same_moved before (moved_in_line (drawn_by side) side number front line) (λ k. lines_move side number front line k [] [] none unanswered)
 
 -- ---- lines that an end says
 
-pub moved_both : (withheld : Bool) (slot : ℕ) (lines more : List Entry) (c : Control)
-    → moved_by withheld slot (lines ++ more) c ≡ moved_by withheld slot more (moved_by withheld slot lines c)
-moved_both withheld slot [] more c = refl
-moved_both withheld slot (line ∷ lines) more c = moved_both withheld slot lines more (after_all (steps_said withheld slot c line) c)
+pub moved_both : (withheld : Bool) (response : Response) (slot : ℕ) (lines more : List Entry) (k : Keyed)
+    → moved_by withheld response slot (lines ++ more) k ≡ moved_by withheld response slot more (moved_by withheld response slot lines k)
+moved_both withheld response slot [] more k = refl
+moved_both withheld response slot (line ∷ lines) more k = moved_both withheld response slot lines more (keyed_by_all (steps_said withheld response slot k line) k)
 
 -- a line of its own
-said_line : (side : Side) (number : ℕ) (front : List Entry) (line : Entry) (c : Control) → is_opening line ≡ false → seen_in_line side number front line ≡ Says line ∷ []
+said_line : (side : Side) (number : ℕ) (front : List Entry) (line : Entry) (k : Keyed) → is_opening line ≡ false → seen_in_line side number front line ≡ Says line ∷ []
     → answers_in_line side number front line ≡ []
-    → control_after side number front (Some c) line ≡ Some (moved_by (withholds side front) (turn_now front) (line ∷ []) c)
-said_line side number front line c opens is unanswered =
-    moves side number front (Some c) line opens
-    ∙ ap Some (lines_move side number front line c (Says line ∷ []) [] is unanswered)
-    ∙ ap (λ steps. Some (after_all steps c)) (append-nil (steps_said (withholds side front) (turn_now front) c line))
+    → keyed_in_line (drawn_by side) side number front (Some k) line ≡ Some (moved_by (withholds side front) (drawn_by side front) (turn_now front) (line ∷ []) k)
+said_line side number front line k opens is unanswered =
+    moves side number front (Some k) line opens
+    ∙ ap Some (lines_move side number front line k (Says line ∷ []) [] is unanswered)
+    ∙ ap (λ steps. Some (keyed_by_all steps k)) (append-nil (steps_said (withholds side front) (drawn_by side front) (turn_now front) k line))
 
 -- the line is of this side and of this link, or it is not
 pub data IsNamed (line : Entry) (named : List Entry) : Type 0 where
@@ -115,10 +117,10 @@ named_by side number None line = Others refl
 named_by side number (Some named) line = named_if side named.0 (named.1 == number) line
 
 -- a line in which the end hears nothing, and which accepts no command of its host
-pub line_moves : (side : Side) (number : ℕ) (front : List Entry) (line : Entry) (c : Control) → heard_in_line side number front line ≡ []
+pub line_moves : (side : Side) (number : ℕ) (front : List Entry) (line : Entry) (k : Keyed) → heard_in_line side number front line ≡ []
     → accepted_in side front line ≡ [] → let named = where_named side number (link_named line) line in NoneOpens named
-    → control_after side number front (Some c) line ≡ Some (moved_by (withholds side front) (turn_now front) named c)
-line_moves side number front line c deaf unaccepted opens = by (named_by side number (link_named line) line)
+    → keyed_in_line (drawn_by side) side number front (Some k) line ≡ Some (moved_by (withholds side front) (drawn_by side front) (turn_now front) named k)
+line_moves side number front line k deaf unaccepted opens = by (named_by side number (link_named line) line)
   where
     unasked : asked_in_line side number front line ≡ []
     unasked = unasked_in side number front line unaccepted
@@ -127,25 +129,25 @@ line_moves side number front line c deaf unaccepted opens = by (named_by side nu
     unanswered = unanswered_in side number front line unaccepted
 
     by : IsNamed line (where_named side number (link_named line) line)
-        → control_after side number front (Some c) line ≡ Some (moved_by (withholds side front) (turn_now front) (where_named side number (link_named line) line) c)
+        → keyed_in_line (drawn_by side) side number front (Some k) line ≡ Some (moved_by (withholds side front) (drawn_by side front) (turn_now front) (where_named side number (link_named line) line) k)
     by (Own is) =
-        said_line side number front line c (subst NoneOpens is opens).0 (λ i. unasked i ++ (deaf i ++ map Says (is i))) unanswered
-        ∙ ap (λ lines. Some (moved_by (withholds side front) (turn_now front) lines c)) (sym is)
+        said_line side number front line k (subst NoneOpens is opens).0 (λ i. unasked i ++ (deaf i ++ map Says (is i))) unanswered
+        ∙ ap (λ lines. Some (moved_by (withholds side front) (drawn_by side front) (turn_now front) lines k)) (sym is)
     by (Others none) =
-        quiet_line side number front (Some c) line (λ i. unasked i ++ (deaf i ++ map Says (none i))) unanswered
-        ∙ ap (λ lines. Some (moved_by (withholds side front) (turn_now front) lines c)) (sym none)
+        quiet_line side number front (Some k) line (λ i. unasked i ++ (deaf i ++ map Says (none i))) unanswered
+        ∙ ap (λ lines. Some (moved_by (withholds side front) (drawn_by side front) (turn_now front) lines k)) (sym none)
 
 -- ---- a good packet that the end hears
 
-pub heard_line : (side : Side) (number : ℕ) (front : List Entry) (line : Entry) (c : Control) (slot : ℕ) (octets : List ℕ) → is_opening line ≡ false
+pub heard_line : (side : Side) (number : ℕ) (front : List Entry) (line : Entry) (k : Keyed) (slot : ℕ) (octets : List ℕ) → is_opening line ≡ false
     → seen_in_line side number front line ≡ Hears slot octets ∷ [] → answers_in_line side number front line ≡ []
-    → control_after side number front (Some c) line
-    ≡ Some (after_all (steps_heard (role_of c.table.progress) slot (exchange_of number front side) (exchange_of number (front ++ line ∷ []) side) (carried_of number front side) (has_next c)) c)
-heard_line side number front line c slot octets opens is unanswered =
-    moves side number front (Some c) line opens
-    ∙ ap Some (lines_move side number front line c (Hears slot octets ∷ []) [] is unanswered)
-    ∙ ap (λ steps. Some (after_all steps c))
-    (append-nil (steps_heard (role_of c.table.progress) slot (exchange_of number front side) (exchange_of number (front ++ line ∷ []) side) (carried_of number front side) (has_next c)))
+    → keyed_in_line (drawn_by side) side number front (Some k) line
+    ≡ Some (keyed_by_all (steps_heard (role_now k.phased) slot (exchange_of number front side) (exchange_of number (front ++ line ∷ []) side) (carried_of number front side) (has_next k)) k)
+heard_line side number front line k slot octets opens is unanswered =
+    moves side number front (Some k) line opens
+    ∙ ap Some (lines_move side number front line k (Hears slot octets ∷ []) [] is unanswered)
+    ∙ ap (λ steps. Some (keyed_by_all steps k))
+    (append-nil (steps_heard (role_now k.phased) slot (exchange_of number front side) (exchange_of number (front ++ line ∷ []) side) (carried_of number front side) (has_next k)))
 
 -- ---- what its host asks
 
@@ -162,12 +164,12 @@ opening_unasked side number front (Shut other link reason) step asked =
     absurd (named_unasked (Shut other link reason) _ step (named_by side number (Some (other, link)) (Shut other link reason)) asked)
 opening_unasked side number front line step asked = refl
 
-pub asked_line : (side : Side) (number : ℕ) (front : List Entry) (line : Entry) (c : Control) (step : Step) → seen_in_line side number front line ≡ Asks step ∷ []
-    → answers_in_line side number front line ≡ [] → control_after side number front (Some c) line ≡ Some (after_all (steps_asking c step) c)
-asked_line side number front line c step is unanswered =
-    moves side number front (Some c) line (opening_unasked side number front line step is)
-    ∙ ap Some (lines_move side number front line c (Asks step ∷ []) [] is unanswered)
-    ∙ ap (λ steps. Some (after_all steps c)) (append-nil (steps_asking c step))
+pub asked_line : (side : Side) (number : ℕ) (front : List Entry) (line : Entry) (k : Keyed) (step : Step) → seen_in_line side number front line ≡ Asks step ∷ []
+    → answers_in_line side number front line ≡ [] → keyed_in_line (drawn_by side) side number front (Some k) line ≡ Some (keyed_by_all (steps_asking k step) k)
+asked_line side number front line k step is unanswered =
+    moves side number front (Some k) line (opening_unasked side number front line step is)
+    ∙ ap Some (lines_move side number front line k (Asks step ∷ []) [] is unanswered)
+    ∙ ap (λ steps. Some (keyed_by_all steps k)) (append-nil (steps_asking k step))
 
 -- ---- what its host answers the peer
 
@@ -177,18 +179,18 @@ opening_unanswered side number front (Opened other link handle role) answer is =
 opening_unanswered side number front (Shut other link reason) answer is = absurd cc
 opening_unanswered side number front line answer is = refl
 
-pub answered_line : (side : Side) (number : ℕ) (front : List Entry) (line : Entry) (c : Control) (answer : Result Ask ErrCode) → seen_in_line side number front line ≡ []
-    → answers_in_line side number front line ≡ answer ∷ [] → control_after side number front (Some c) line ≡ Some (after_all (Answers answer ∷ []) c)
-answered_line side number front line c answer none is =
-    moves side number front (Some c) line (opening_unanswered side number front line answer is)
-    ∙ ap Some (lines_move side number front line c [] (answer ∷ []) none is)
+pub answered_line : (side : Side) (number : ℕ) (front : List Entry) (line : Entry) (k : Keyed) (answer : Result Ask ErrCode) → seen_in_line side number front line ≡ []
+    → answers_in_line side number front line ≡ answer ∷ [] → keyed_in_line (drawn_by side) side number front (Some k) line ≡ Some (keyed_by_all (answering answer ∷ []) k)
+answered_line side number front line k answer none is =
+    moves side number front (Some k) line (opening_unanswered side number front line answer is)
+    ∙ ap Some (lines_move side number front line k [] (answer ∷ []) none is)
 
 -- ---- the line that opens the link
 
-pub opened_line : (side : Side) (number handle : ℕ) (role : Role) (front : List Entry) (before : Option Control) (link : LinkBegun) → link_numbered number front ≡ Some link
-    → control_after side number front before (Opened side number handle role) ≡ control_begun side (Some link)
+pub opened_line : (side : Side) (number handle : ℕ) (role : Role) (front : List Entry) (before : Option Keyed) (link : LinkBegun) → link_numbered number front ≡ Some link
+    → keyed_in_line (drawn_by side) side number front before (Opened side number handle role) ≡ keyed_begun side (Some link)
 opened_line side number handle role front before link is =
-    ap (λ b. if b then control_begun side (link_numbered number front) else before) (λ i. own_side side i && same_number number i) ∙ ap (control_begun side) is
+    ap (λ b. if b then keyed_begun side (link_numbered number front) else before) (λ i. own_side side i && same_number number i) ∙ ap (keyed_begun side) is
   where
     own_side : (one : Side) → is_side one one ≡ true
     own_side A = refl

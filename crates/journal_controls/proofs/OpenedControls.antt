@@ -1,4 +1,4 @@
--- The control part of an end that only said that its link is opened.
+-- An end that only said that its link is opened, by the lines.
 use Rattle.std.proofs.Common.{◌≡◌, ℕ, suc, ◌⊎◌, Bool, true, false, Option, Some, None, List, [], ◌∷◌, ◌++◌, map, refl, sym, ap, subst, ◌+◌, ◌∙◌, append-nil, append_assoc, arith}
 use Rattle.std.specs.Prelude.{◌&&◌, ◌-◌, length, slice_get}
 use Rattle.ble_base.specs.Side.{other_side}
@@ -21,10 +21,10 @@ use Rattle.journal_ends.specs.journal_links.Opened.{central_side}
 use Rattle.journal_ends.specs.journal_acks.Shut.{is_of_link}
 use Rattle.journal_ends.specs.journal_acks.link_calls.Ranges.{HasRanges}
 use Rattle.journal_ends.specs.journal_packets.Belonging.{is_side}
-use Rattle.journal_ends.specs.link_model.Facts.{first_facts}
+use Rattle.journal_ends.specs.link_model.Facts.{first_facts, keyed_of}
 use Rattle.journal_ends.specs.link_model.Step.{Step}
 use Rattle.journal_ends.specs.link_model.Setup.{Setup as EndSetup, first_params}
-use Rattle.journal_ends.specs.link_model.control_model.Control.{Control, first_control}
+use Rattle.journal_ends.specs.link_model.keyed_control.Keyed.{Keyed, first_keyed}
 use Rattle.journal_ends.specs.open_links.OpenLinks.{OpenLink}
 use Rattle.journal_ends.specs.run_model.Due.{Each}
 use Rattle.journal_ends.specs.run_model.History.{Event, TurnBegan, HostFed, Called, Noted, Transmitted, is_good}
@@ -49,9 +49,10 @@ use Rattle.journal_ends.proofs.run_model.Journals.{each_front}
 use Rattle.journal_ends.proofs.run_model.OfStations.{OfStations, run_of_stations}
 use Rattle.journal_ends.proofs.run_model.Places.{each_at}
 use Rattle.journal_ends.proofs.run_model.Stations.{is_in}
-use Rattle.journal_controls.specs.LineSteps.{control_after, control_begun, control_from, control_on}
+use Rattle.journal_controls.specs.KeyedLines.{drawn_by}
+use Rattle.journal_controls.specs.LineSteps.{keyed_begun, keyed_from, keyed_in_line, keyed_on}
 use Rattle.journal_controls.proofs.EarlyAnswers.{none_answered}
-use Rattle.journal_controls.proofs.EventMoves.{control_at, turn_at}
+use Rattle.journal_controls.proofs.EventMoves.{keyed_at, turn_at}
 use Rattle.journal_controls.proofs.LineFolds.{IsNamed, Others, Own, named_by, opened_line, quiet_line}
 
 -- ---- lines of which one says that the link is opened, and in which the end says and hears nothing else
@@ -64,13 +65,13 @@ pub none_of : {A : Type 0} (one other : List A) → one ++ other ≡ [] → AreN
 none_of [] other is = record { first = refl; second = is }
 none_of (seen ∷ one) other is = absurd cc
 
-pub quiet_lines : (side : Side) (number : ℕ) (front : List Entry) (before : Option Control) (lines : List Entry) → seen_from side number front lines ≡ []
-    → answers_from side number front lines ≡ [] → control_from side number front before lines ≡ before
+pub quiet_lines : (side : Side) (number : ℕ) (front : List Entry) (before : Option Keyed) (lines : List Entry) → seen_from side number front lines ≡ []
+    → answers_from side number front lines ≡ [] → keyed_from (drawn_by side) side number front before lines ≡ before
 quiet_lines side number front before [] none unanswered = refl
 quiet_lines side number front before (line ∷ lines) none unanswered =
     let both = none_of (seen_in_line side number front line) (seen_from side number (front ++ line ∷ []) lines) none in
     let answers = none_of (answers_in_line side number front line) (answers_from side number (front ++ line ∷ []) lines) unanswered in
-    quiet_lines side number (front ++ line ∷ []) (control_after side number front before line) lines both.second answers.second
+    quiet_lines side number (front ++ line ∷ []) (keyed_in_line (drawn_by side) side number front before line) lines both.second answers.second
     ∙ quiet_line side number front before line both.first answers.first
 
 -- what is heard in a line
@@ -104,26 +105,26 @@ same_line asked heard named line one are so name said = by are.steps are.is
     by (step ∷ steps) is =
         absurd (let h : Asks step ∷ (map Asks steps ++ (heard ++ map Says named)) ≡ Says one ∷ [] = ap (λ xs. xs ++ (heard ++ map Says named)) (sym is) ∙ said in absurd cc)
 
--- the line that says so, and the control part from there on
-record IsOpenedIn (side : Side) (number handle : ℕ) (role : Role) (front : List Entry) (before : Option Control) (lines : List Entry) : Type 0 where
+-- the line that says so, and the end from there on
+record IsOpenedIn (side : Side) (number handle : ℕ) (role : Role) (front : List Entry) (before : Option Keyed) (lines : List Entry) : Type 0 where
   first : List Entry
   rest : List Entry
   is_at : lines ≡ first ++ Opened side number handle role ∷ rest
-  begins : (link : LinkBegun) → link_numbered number (front ++ first) ≡ Some link → control_from side number front before lines ≡ control_begun side (Some link)
+  begins : (link : LinkBegun) → link_numbered number (front ++ first) ≡ Some link → keyed_from (drawn_by side) side number front before lines ≡ keyed_begun side (Some link)
 
-opened_in : (side : Side) (number handle : ℕ) (role : Role) (front : List Entry) (before : Option Control) (lines : List Entry)
+opened_in : (side : Side) (number handle : ℕ) (role : Role) (front : List Entry) (before : Option Keyed) (lines : List Entry)
     → seen_from side number front lines ≡ Says (Opened side number handle role) ∷ [] → answers_from side number front lines ≡ []
     → IsOpenedIn side number handle role front before lines
 opened_in side number handle role front before [] said unanswered = absurd cc
 opened_in side number handle role front before (line ∷ lines) said unanswered =
-    by (seen_in_line side number front line) refl (λ later. opened_in side number handle role (front ++ line ∷ []) (control_after side number front before line) lines later answers.second)
+    by (seen_in_line side number front line) refl (λ later. opened_in side number handle role (front ++ line ∷ []) (keyed_in_line (drawn_by side) side number front before line) lines later answers.second)
   where
     answers : AreNone (answers_in_line side number front line) (answers_from side number (front ++ line ∷ []) lines)
     answers = none_of (answers_in_line side number front line) (answers_from side number (front ++ line ∷ []) lines) unanswered
 
     by : (seen : List Seen) → seen_in_line side number front line ≡ seen
         → (seen_from side number (front ++ line ∷ []) lines ≡ Says (Opened side number handle role) ∷ []
-        → IsOpenedIn side number handle role (front ++ line ∷ []) (control_after side number front before line) lines)
+        → IsOpenedIn side number handle role (front ++ line ∷ []) (keyed_in_line (drawn_by side) side number front before line) lines)
         → IsOpenedIn side number handle role front before (line ∷ lines)
     by [] none then_on =
         let later = then_on (ap (λ xs. xs ++ seen_from side number (front ++ line ∷ []) lines) (sym none) ∙ said) in record {
@@ -145,8 +146,8 @@ opened_in side number handle role front before (line ∷ lines) said unanswered 
           rest = lines;
           is_at = ap (λ l. l ∷ lines) same;
           begins = λ link is_link.
-              quiet_lines side number (front ++ line ∷ []) (control_after side number front before line) lines both.second answers.second
-              ∙ ap (control_after side number front before) same
+              quiet_lines side number (front ++ line ∷ []) (keyed_in_line (drawn_by side) side number front before line) lines both.second answers.second
+              ∙ ap (keyed_in_line (drawn_by side) side number front before) same
               ∙ opened_line side number handle role front before link (ap (link_numbered number) (sym (append-nil front)) ∙ is_link);
         }
 
@@ -215,12 +216,12 @@ noted_at history before after event station note other at is same = at ∙ ap (�
 event_in : (all history before after rest : List Event) (event : Event) → all ≡ history ++ rest → history ≡ before ++ event ∷ after → all ≡ before ++ event ∷ (after ++ rest)
 event_in all history before after rest event at is = at ∙ ap (λ xs. xs ++ rest) is ∙ append_assoc before (event ∷ after) rest
 
--- the first control part of the end of a link
+-- the end of a link as it begins
 begun_first : (station : ℕ) (setup : EndSetup) (link : LinkBegun) → link.central ≡ central_side setup.link.role (side_of station) → link.fields ≡ setup.link.fields
-    → link.slot ≡ setup.opened → setup.link.max_rx ≡ payload_octets → control_begun (side_of station) (Some link) ≡ Some (first_facts setup).control
+    → link.slot ≡ setup.opened → setup.link.max_rx ≡ payload_octets → keyed_begun (side_of station) (Some link) ≡ Some (keyed_of (first_facts setup))
 begun_first station setup link central fields slot most =
     let role = ap (λ s. role_by s (side_of station)) central ∙ role_is setup.link.role (side_of station) in
-    λ i. Some (first_control (role i) (sym most i) (first_params (fields i)) (slot i + 2 + (fields i).win_offset))
+    λ i. Some (first_keyed (role i) (sym most i) (first_params (fields i)) (slot i + 2 + (fields i).win_offset))
 
 record HasLink (history : List Event) (number : ℕ) : Type 0 where
   link : LinkBegun
@@ -265,8 +266,8 @@ module _ (understood : IsUnderstood) (taken : AreTaken) (given : Given) (are_two
       → is_in station given.stations ≡ true → HasNumber history number station link.setup → HasRanges link
       → turn_at history ≡ link.setup.opened
       → seen_at number (side_of station) history ≡ Says (line_of (side_of station) number (note_opened link.setup.link)) ∷ []
-      → control_at number (side_of station) history ≡ Some (first_facts link.setup).control
-  unfolding seen_on control_on
+      → keyed_at number (side_of station) history ≡ Some (keyed_of (first_facts link.setup))
+  unfolding seen_on keyed_on
   opened_control history rest number station link at two in_it has ranges turn said =
       let side = side_of station in
       let setup = link.setup in
@@ -277,4 +278,4 @@ module _ (understood : IsUnderstood) (taken : AreTaken) (given : Given) (are_two
       let line = Opened side number setup.link.handle setup.link.role in
       let both : Some opening.link ≡ Some of.link =
       sym (number_stays number opened.first (line ∷ opened.rest) opening.link opening.early) ∙ ap (link_numbered number) (sym opened.is_at) ∙ of.is_link in
-      opened.begins opening.link opening.early ∙ ap (control_begun side) both ∙ begun_first station setup of.link of.central of.fields of.slot ranges.max_rx
+      opened.begins opening.link opening.early ∙ ap (keyed_begun side) both ∙ begun_first station setup of.link of.central of.fields of.slot ranges.max_rx

@@ -1,4 +1,4 @@
--- A phase passes at a station: what its control parts are then by the journal.
+-- A phase passes at a station: what its ends are then by the journal.
 use Rattle.std.proofs.Common.{◌≡◌, ℕ, ◌⊎◌, inl, inr, true, false, Option, Some, None, List, [], ◌∷◌, refl, sym, ap, subst, ◌∙◌}
 use Rattle.std.specs.Prelude.{All}
 use Rattle.journal_ends.proofs.controller_model.Always.{IsInTurn}
@@ -12,7 +12,7 @@ use Rattle.journal_ends.specs.journal_acks.link_calls.Phases.{HasPassed, IsNew, 
 use Rattle.journal_ends.specs.journal_acks.link_calls.Uses.{sends_under}
 use Rattle.journal_ends.specs.journal_links.LinkLines.{line_of}
 use Rattle.journal_ends.specs.link_model.End.{facts_of}
-use Rattle.journal_ends.specs.link_model.Facts.{first_facts}
+use Rattle.journal_ends.specs.link_model.Facts.{first_facts, keyed_of}
 use Rattle.journal_ends.specs.open_links.OpenLinks.{OpenLink, facts_in, link_at}
 use Rattle.journal_ends.specs.run_model.Feeding.{is_octet}
 use Rattle.journal_ends.specs.run_model.History.{Event, packet_received, turns_begun}
@@ -35,12 +35,14 @@ use Rattle.journal_ends.proofs.run_model.LinkEnds.{AreTaken, IsUnderstood, recei
 use Rattle.journal_ends.proofs.run_model.Calls.{same_station}
 use Rattle.journal_ends.proofs.run_model.Stations.{is_in}
 use Rattle.journal_ends.proofs.run_model.Walk.{Place}
-use Rattle.journal_controls.specs.Hearing.{control_if}
-use Rattle.journal_controls.proofs.ControlledEnds.{AreControlledSo, IsControlledAt, control_taking, from_whole, moved_own, whole}
-use Rattle.journal_controls.proofs.EventMoves.{call_moving, turn_answers, turn_at, withholds_at}
+use Rattle.journal_controls.specs.Hearing.{keyed_if}
+use Rattle.journal_controls.proofs.ControlledEnds.{AreControlledSo, IsControlledAt, from_whole, keyed_taking, moved_own, whole}
+use Rattle.journal_controls.proofs.EventMoves.{call_moving, drawn_at, turn_answers, turn_at, withholds_at}
 use Rattle.journal_controls.proofs.FixedEnds.{sends_replying}
+use Rattle.journal_controls.proofs.GoodPackets.{good_has}
 use Rattle.journal_controls.proofs.LinkMoves.{MovesTo, same_moves, taken_moves}
 use Rattle.journal_controls.proofs.OpenedControls.{opened_control}
+use Rattle.journal_controls.proofs.Undrawn.{IsUndrawn}
 
 pub no_octet : (received : Option (List ℕ)) → is_octet (step_of received) ≡ false
 no_octet None = refl
@@ -52,9 +54,9 @@ first_said : (number station : ℕ) (link : OpenLink) → link.past ≡ []
 unfolding seen_of
 first_said number station link none = ap (λ past. seen_of (side_of station) number link.setup past) none
 
-first_control_is : (link : OpenLink) → link.past ≡ [] → (first_facts link.setup).control ≡ (facts_in link).control
+first_is : (link : OpenLink) → link.past ≡ [] → keyed_of (first_facts link.setup) ≡ keyed_of (facts_in link)
 unfolding facts_of
-first_control_is link none = ap (λ past. (facts_of link.setup past).control) (sym none)
+first_is link none = ap (λ past. keyed_of (facts_of link.setup past)) (sym none)
 
 module _ (understood : IsUnderstood) (taken : AreTaken) (given : Given) (are_two : IsOfTwo given) (six : HaveAddresses given) (station : ℕ) (history : List Event) (phases : ℕ)
     (place : Place) (in_it : is_in station given.stations ≡ true) (phased : PhasedBy given history station (at_stage (Within phases) (turns_begun history)))
@@ -63,7 +65,8 @@ module _ (understood : IsUnderstood) (taken : AreTaken) (given : Given) (are_two
     (seen : AreSeenSo given (after_call given station (step_of (packet_received station history)) history)
     (λ one. packet_received one (after_call given station (step_of (packet_received station history)) history)))
     (held : withholds_at (side_of station) history ≡ withholds_requests (view_masks (facts_at given station history).view))
-    (slot_is : turn_at history ≡ (facts_at given station history).turn.slot) (are : AreControlledSo given history (λ one. packet_received one history)) where
+    (slot_is : turn_at history ≡ (facts_at given station history).turn.slot)
+    (undrawn : (handle : ℕ) (link : OpenLink) → link_at handle (facts_at given station history).links ≡ Some link → IsUndrawn link) (are : AreControlledSo given history (λ one. packet_received one history)) where
   abbrev received : Option (List ℕ)
   received = packet_received station history
 
@@ -99,15 +102,15 @@ module _ (understood : IsUnderstood) (taken : AreTaken) (given : Given) (are_two
       from_whole (packet_received station next) handle turn link number (side_of station) next (λ on. none_next)
       (opened_control understood taken given are_two six next front.rest number station link front.at known.asked.sent in_it (known.numbered.numbered station handle link at)
       (ranges_in given next front.rest station handle link (are_distinct given are_two) in_it front.at at) (turn_stays ∙ sym opened) said
-      ∙ ap Some (first_control_is link none))
+      ∙ ap Some (first_is link none))
 
   passed : (handle : ℕ) (link : OpenLink) → link_at handle (facts_at given station next).links ≡ Some link → number_at station handle next ≡ number_at station handle history
       → HasPassed facts (has_room (setup_at given station) facts) received handle (facts_after (setup_at given station) facts (step_of received)).turn.doing link → IsNow handle link
   passed handle link at number (IsNew end made opened off) = fresh handle link at (ap (λ (l : OpenLink). l.past) made) (ap (λ (l : OpenLink). l.setup.opened) made ∙ opened)
   passed handle link at number (Stays was none nothing listened) =
       let own = number_at station handle history in
-      moved_own given station (step_of received) history in_it lined lined_after handle link at (packet_received station next) none_next number link was (phase_turn received) (facts_in link).control
-      (same_moves (side_of station) own (withholds_at (side_of station) history) (turn_at history) link)
+      moved_own given station (step_of received) history in_it lined lined_after handle link at (packet_received station next) none_next number link was (phase_turn received) (keyed_of (facts_in link))
+      (same_moves (side_of station) own (withholds_at (side_of station) history) (drawn_at (side_of station) history) (turn_at history) link)
       (whole received handle facts.turn link own (side_of station) history nothing (are station handle link in_it was))
   passed handle link at number (Takes base octets was some on same) =
       let own = number_at station handle history in
@@ -115,12 +118,15 @@ module _ (understood : IsUnderstood) (taken : AreTaken) (given : Given) (are_two
       let setup = setup_at given station in
       let room = has_room setup facts in
       let sends = sends_under handle (facts_after setup facts (step_of received)).turn.doing in
-      let from = control_if true facts.turn.slot octets base in
-      let moves = taken_moves side own facts handle room octets base was sends link (sends_replying setup facts received handle base octets was some on) same in
+      let from = keyed_if true facts.turn.slot octets base in
+      let before = are station handle base in_it was in
+      let has = good_has base.setup (facts_in base) octets (before.good octets on some) in
+      let moves = taken_moves side own facts handle room octets has.pdu base was has.is sends link (sends_replying setup facts received handle base octets was some on) same in
       moved_own given station (step_of received) history in_it lined lined_after handle link at (packet_received station next) none_next number base was (phase_turn received) from
-      (subst (λ w. MovesTo side own w (turn_at history) base link from) (sym held)
-      (subst (λ n. MovesTo side own (withholds_requests (view_masks facts.view)) n base link from) (sym slot_is) moves))
-      (are station handle base in_it was ∙ (λ i. Some (control_taking (on i) (some i) facts.turn.slot base)))
+      (subst (λ w. MovesTo side own w (drawn_at side history) (turn_at history) base link from) (sym held)
+      (subst (λ n. MovesTo side own (withholds_requests (view_masks facts.view)) (drawn_at side history) n base link from) (sym slot_is)
+      (subst (λ r. MovesTo side own (withholds_requests (view_masks facts.view)) r facts.turn.slot base link from) (undrawn handle base was) moves)))
+      (before.keyed ∙ (λ i. Some (keyed_taking (on i) (some i) facts.turn.slot base)))
 
   pub passes_own : (handle : ℕ) (link : OpenLink) → link_at handle (facts_at given station next).links ≡ Some link → IsNow handle link
   passes_own handle link at = by (phase_quiet (setup_at given station) facts received handle)

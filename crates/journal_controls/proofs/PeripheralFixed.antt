@@ -1,5 +1,5 @@
 -- What a peripheral has fixed as it hears: a control PDU where one waits, and none that has left the queue.
-use Rattle.std.proofs.Common.{◌≡◌, ℕ, ◌&&◌, not, Bool, true, false, Option, Some, None, is_none, is_some, List, refl, ap, sym, ◌∙◌, if◌then◌else◌}
+use Rattle.std.proofs.Common.{◌≡◌, ℕ, ◌&&◌, not, Bool, true, false, Option, Some, None, is_none, List, refl, ap, sym, ◌∙◌, if◌then◌else◌}
 use Rattle.std.specs.Prelude.{◌||◌}
 use Rattle.ble_base.specs.ErrorCodes.{mic_failure}
 use Rattle.ble_base.specs.declared.roles.Role.TheVariants.{Peripheral}
@@ -9,31 +9,26 @@ use Rattle.journal_ends.specs.link_model.Acknowledgement.{Pdu, is_acked}
 use Rattle.journal_ends.specs.link_model.Controls.{is_procedure_pdu}
 use Rattle.journal_ends.specs.link_model.Data.{Data, is_control, is_data}
 use Rattle.journal_ends.specs.link_model.End.{facts_after}
-use Rattle.journal_ends.specs.link_model.Facts.{Facts}
+use Rattle.journal_ends.specs.link_model.Facts.{Facts, keyed_of}
 use Rattle.journal_ends.specs.link_model.Fixing.{fixed_anew}
 use Rattle.journal_ends.specs.link_model.Packets.{good_pdu, is_forged}
 use Rattle.journal_ends.specs.link_model.Payload.{payload_made}
-use Rattle.journal_ends.specs.link_model.Plain.{IsPlain}
 use Rattle.journal_ends.specs.link_model.Receiving.{accepted_if, accepts, acknowledged_if, data_taken_if, facts_before_taking, facts_forged_if, facts_hearing, facts_received, has_acknowledged, has_ended, heard_in_slot, procedures_take_if, replies_by, replies_of}
 use Rattle.journal_ends.specs.link_model.Sending.{control_gone_if, data_sent_as, facts_sent, takes_leave}
 use Rattle.journal_ends.specs.link_model.Setup.{Setup}
 use Rattle.journal_ends.specs.link_model.Step.{PacketReceived, PacketSent, PduFixed}
 use Rattle.journal_ends.specs.link_model.Verdicts.{pdu_of}
-use Rattle.journal_ends.specs.link_model.control_end.Answers.{next_ctrl}
-use Rattle.journal_ends.specs.link_model.control_end.Held.{held_of}
 use Rattle.journal_ends.specs.link_model.control_model.Control.{Control, ended}
-use Rattle.journal_ends.proofs.link_model.Plain.{quiet_plain}
-use Rattle.journal_controls.specs.LineSteps.{has_next}
+use Rattle.journal_controls.specs.KeyedLines.{has_next}
 use Rattle.journal_controls.proofs.CentralFixed.{IsFree, acked_free, data_free, facts_sent_free, forged_free, gone_acked, sent_free, taking_free}
 use Rattle.journal_controls.proofs.EndSteps.{heard_leave}
 
 -- ---- as it fixes its PDU
 
-pub fixes_next : (setup : Setup) (facts : Facts) → IsPlain setup.link.role facts → IsFree facts → let now = facts_after setup facts PduFixed in now.fixes_control ≡ has_next now.control
-fixes_next setup facts plain free =
+pub fixes_next : (setup : Setup) (facts : Facts) → IsFree facts → let now = facts_after setup facts PduFixed in now.fixes_control ≡ has_next (keyed_of now)
+fixes_next setup facts free =
     let anew : facts_after setup facts PduFixed ≡ fixed_anew facts = ap (λ b. if b then facts else fixed_anew facts) free in
-    ap (λ (f : Facts). f.fixes_control) anew ∙ ap (λ quiet. is_some (next_ctrl quiet (held_of facts.control))) (quiet_plain setup.link.role facts plain)
-    ∙ sym (ap (λ (f : Facts). has_next f.control) anew)
+    ap (λ (f : Facts). f.fixes_control) anew ∙ sym (ap (λ (f : Facts). has_next (keyed_of f)) anew)
 
 -- ---- as it hears and answers
 

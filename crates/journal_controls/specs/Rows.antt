@@ -1,4 +1,4 @@
--- The journals of worked examples, and the first control part of their link.
+-- The journals of worked examples, and the ends of their link as it begins.
 use Rattle.std.specs.Prelude.{List, [], ◌∷◌, ◌++◌}
 use Rattle.ble_base.specs.declared.roles.Role.{Role}
 use Rattle.ble_base.specs.declared.roles.Role.TheVariants.{Central}
@@ -9,6 +9,12 @@ use Rattle.host_masks.specs.Rows.{masking_octets}
 use Rattle.journal_ends.specs.journal_acks.Rows.{second_slot}
 use Rattle.journal_ends.specs.link_model.Acknowledgement.{Pdu}
 use Rattle.journal_ends.specs.link_model.control_model.Control.{Asks, Control, after, first_control}
+use Rattle.journal_ends.specs.link_model.enc_phase.declared.facts.PhaseFacts.TheVariants.{Secure}
+use Rattle.journal_ends.specs.link_model.enc_phase.Sealing.{end_with}
+use Rattle.journal_ends.specs.link_model.keyed_control.Keyed.{Keyed, first_keyed}
+use Rattle.journal_ends.specs.link_model.enc_phase.declared.facts.PhaseFacts.TheVariants.{Secure}
+use Rattle.journal_ends.specs.link_model.enc_phase.Sealing.{end_with}
+use Rattle.journal_ends.specs.link_model.keyed_control.KeyedSteps.{Asks as KeyedAsks, keyed_after}
 use Rattle.journal_ends.specs.link_model.procedure_values.declared.asks.Ask.TheVariants.{Version}
 use Rattle.journal_ends.specs.run_model.Rows.{answer, reset_answer}
 
@@ -17,6 +23,10 @@ use Rattle.journal_ends.specs.run_model.Rows.{answer, reset_answer}
 abbrev pub first_on : Role → Control
 first_on role =
     first_control role 251 (record { interval = 24; latency = 0; timeout = 72; map = 0x1FFFFFFFFF }) 2
+
+abbrev pub begun_on : Role → Keyed
+begun_on role =
+    first_keyed role 251 (record { interval = 24; latency = 0; timeout = 72; map = 0x1FFFFFFFFF }) 2
 
 -- LL_VERSION_IND of version 5.2, with the company identifier FFFF (Core 5.2, volume 6 part B, section 2.4.2.13)
 abbrev pub version_pdu : Pdu
@@ -52,3 +62,17 @@ param_told =
 -- the control part of the central, of which the host has asked for an exchange of versions
 abbrev pub version_wanted : Control
 version_wanted = after (Asks Version) (first_on Central)
+
+-- the central itself
+abbrev pub version_asked : Keyed
+version_asked = keyed_after (KeyedAsks Version) (begun_on Central)
+
+-- it is in phase Secure, and has sealed and opened nothing yet
+abbrev pub secured : Keyed
+secured =
+    let k = begun_on Central in
+    record k { phased = record k.phased { phase = Secure }; end = end_with Central Secure [] [] 0 0 }
+
+-- the start of a message, of one octet
+abbrev pub one_octet : Pdu
+one_octet = record { llid = 2; body = 0x01 ∷ [] }

@@ -6,7 +6,7 @@ ghost use Rattle.ble_base.specs.declared.roles.Role.{Role};
 ghost use Rattle.journal_ends.specs.journal_acks.link_calls.Uses.{listens_under};
 ghost use Rattle.journal_ends.specs.link_model.Data.{is_control};
 ghost use Rattle.journal_ends.specs.link_model.End.{facts_after, facts_of};
-ghost use Rattle.journal_ends.specs.link_model.Facts.{Facts};
+ghost use Rattle.journal_ends.specs.link_model.Facts.{Facts, keyed_of};
 ghost use Rattle.journal_ends.specs.link_model.Receiving.{has_ended, replies_of};
 ghost use Rattle.journal_ends.specs.link_model.Setup.{Setup};
 ghost use Rattle.journal_ends.specs.link_model.Step.{Step, PacketReceived, PacketSent, PduFixed};
@@ -14,7 +14,7 @@ ghost use Rattle.journal_ends.specs.open_links.OpenLinks.{OpenLink, facts_in, li
 ghost use Rattle.journal_ends.specs.run_model.Feeding.{AreDistinct};
 ghost use Rattle.journal_ends.specs.run_model.History.{Event};
 ghost use Rattle.journal_ends.specs.run_model.Run.{Given, facts_at, history_of, run_of};
-ghost use Rattle.journal_controls.specs.LineSteps.{has_next};
+ghost use Rattle.journal_controls.specs.KeyedLines.{has_next};
 
 /// An end of which no control PDU has left the queue and waits to be sent fixes a control PDU
 /// exactly where one waits. A central is always such an end, and a peripheral that is one before a
@@ -23,7 +23,7 @@ ghost use Rattle.journal_controls.specs.LineSteps.{has_next};
 pub fn a_control_pdu_is_fixed_where_one_waits()
     ensures fixes { (setup : Setup) (past : List Step) → let facts = facts_of setup past in
         is_control facts.outgoing.fixed ≡ false → let now = facts_after setup facts PduFixed in
-        now.fixes_control ≡ has_next now.control }
+        now.fixes_control ≡ has_next (keyed_of now) }
     ensures central { (setup : Setup) (past : List Step) → setup.link.role ≡ Role.Central
         → is_control (facts_of setup past).outgoing.fixed ≡ false }
     ensures peripheral { (setup : Setup) (facts : Facts) (slot later : ℕ) (octets : List ℕ)
@@ -55,5 +55,5 @@ pub fn what_open_ends_have_fixed()
         → link_at handle (facts_at given station before).links ≡ Some link
         → listens_under handle (facts_at given station before).turn.doing ≡ true
         → link.setup.link.role ≡ Role.Peripheral
-        → (facts_in link).fixes_control ≡ has_next (facts_in link).control }
+        → (facts_in link).fixes_control ≡ has_next (keyed_of (facts_in link)) }
 {}

@@ -1,5 +1,6 @@
-//! Laws of the control part by any list of lines. The bodies are empty: the contracts are the laws.
+//! Laws of an end by any list of lines. The bodies are empty: the contracts are the laws.
 ghost use Rattle.std.specs.Prelude.{◌≡◌, ◌++◌, ◌∷◌, [], ℕ, List, Some};
+ghost use Rattle.std.specs.Option.{option_map};
 ghost use Rattle.ble_base.specs.declared.roles.Role.{Role};
 ghost use Rattle.ble_base.specs.declared.roles.Side.{Side};
 ghost use Rattle.journal.specs.declared.entries.Entry.{Entry};
@@ -7,18 +8,23 @@ ghost use Rattle.journal.specs.declared.entries.Entry.TheVariants.{Opened};
 ghost use Rattle.journal_ends.specs.Answering.{answers_in_line};
 ghost use Rattle.journal_ends.specs.Seen.{seen_in_line};
 ghost use Rattle.journal_ends.specs.journal_links.Begun.{LinkBegun, link_numbered};
-ghost use Rattle.journal_controls.specs.LineSteps.{control_begun, control_on};
+ghost use Rattle.journal_ends.specs.link_model.keyed_control.Keyed.{Keyed};
+ghost use Rattle.journal_controls.specs.LineSteps.{control_on, keyed_begun, keyed_on};
 
-/// The control part of an end begins with the line that says that its link is opened there. A line
-/// in which the end says and hears nothing, and its host asks nothing of it and answers nothing to
-/// the peer, leaves it as it is.
+/// The control part, the phase and the keys of an end begin with the line that says that its link is
+/// opened there. A line in which the end says and hears nothing, and its host asks nothing of it and
+/// answers nothing to the peer, leaves them as they are. What a journal says of its control part alone
+/// is that part of it.
 pub fn only_what_an_end_says_and_hears_moves_its_control_part()
     ensures begins { (side : Side) (number handle : ℕ) (role : Role) (journal : List Entry)
         (link : LinkBegun) → link_numbered number journal ≡ Some link
-        → control_on side number (journal ++ Opened side number handle role ∷ [])
-        ≡ control_begun side (Some link) }
+        → keyed_on side number (journal ++ Opened side number handle role ∷ [])
+        ≡ keyed_begun side (Some link) }
     ensures stays { (side : Side) (number : ℕ) (journal : List Entry) (line : Entry)
         → seen_in_line side number journal line ≡ []
         → answers_in_line side number journal line ≡ []
-        → control_on side number (journal ++ line ∷ []) ≡ control_on side number journal }
+        → keyed_on side number (journal ++ line ∷ []) ≡ keyed_on side number journal }
+    ensures part { (side : Side) (number : ℕ) (journal : List Entry)
+        → control_on side number journal
+        ≡ option_map (λ (k : Keyed). k.phased.control) (keyed_on side number journal) }
 {}

@@ -1,6 +1,6 @@
-//! The control part of each end of a link, by the lines of a journal, what moves it at one end, and
-//! the law that in each run of two stations it is the one that the end holds. Definitions and laws;
-//! no code.
+//! The control part, the phase and the keys of each end of a link, by the lines of a journal, what
+//! moves them at one end, and the law that in each run of two stations they are those that the end
+//! holds. Definitions and laws; no code.
 #![tactic(auto)]
 
 mod calls;
@@ -28,9 +28,13 @@ pub use crate::events::{
 pub use crate::fixing::{a_control_pdu_is_fixed_where_one_waits, what_open_ends_have_fixed};
 pub use crate::journals::only_what_an_end_says_and_hears_moves_its_control_part;
 pub use crate::rows::{
-    worked_asks, worked_controls, worked_lines_due, worked_requests, worked_versions,
+    worked_asks, worked_controls, worked_counters, worked_lines_due, worked_requests,
+    worked_versions,
 };
-pub use crate::runs::the_control_part_by_lines_is_the_one_that_the_end_holds;
+pub use crate::runs::{
+    the_control_part_by_lines_is_the_one_that_the_end_holds,
+    the_keys_by_lines_are_those_that_the_end_holds,
+};
 pub use crate::turns::{
     a_packet_that_is_taken_moves_the_control_part_by_its_lines,
     a_turn_that_begins_moves_the_control_part_by_its_lines,

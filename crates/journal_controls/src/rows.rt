@@ -10,27 +10,35 @@ ghost use Rattle.journal.specs.declared.entries.Entry.TheVariants.{Began, Enter,
 ghost use Rattle.journal_ends.specs.journal_acks.Rows.{data_acknowledged};
 ghost use Rattle.journal_ends.specs.journal_acks.link_calls.Phases.{refusal};
 ghost use Rattle.journal_ends.specs.link_model.Controls.{read_of};
+ghost use Rattle.journal_ends.specs.link_model.Facts.{no_response};
 ghost use Rattle.journal_ends.specs.Rows.{asked_of_central, ended_by_central};
 ghost use Rattle.journal_ends.specs.Rows.{refused_to_central, replied, replied_negatively};
 ghost use Rattle.journal_ends.specs.link_model.control_model.Control.{Answers, Asks, Control};
 ghost use Rattle.journal_ends.specs.link_model.control_model.Control.{Disconnects};
 ghost use Rattle.journal_ends.specs.link_model.control_model.Control.{Enters, Sends, Takes};
 ghost use Rattle.journal_ends.specs.link_model.control_model.Control.{after_all};
+ghost use Rattle.journal_ends.specs.link_model.keyed_control.KeyedSteps.{Enters as KeyedEnters};
+ghost use Rattle.journal_ends.specs.link_model.keyed_control.KeyedSteps.{keyed_after};
 ghost use Rattle.journal_ends.specs.link_model.procedure_stages.InProgress.{is_host_asked};
 ghost use Rattle.journal_ends.specs.link_model.procedure_values.declared.asks.Ask.TheVariants.{Update, Version};
 ghost use Rattle.journal_ends.specs.run_model.Rows.{one_connection_journal, one_event_journal, turn_entry};
-ghost use Rattle.journal_controls.specs.LineSteps.{control_on};
+ghost use Rattle.journal_controls.specs.KeyedLines.{keyed_by_all, steps_sending, steps_taking};
+ghost use Rattle.journal_controls.specs.LineSteps.{control_on, keyed_on};
 ghost use Rattle.journal_controls.specs.LinesDue.{applied_due, due_saying, lines_due};
-ghost use Rattle.journal_controls.specs.Rows.{first_on, version_pdu, version_sent, version_taken};
-ghost use Rattle.journal_controls.specs.Rows.{param_pdu, param_taken, param_told, version_wanted};
+ghost use Rattle.journal_controls.specs.Rows.{begun_on, first_on, one_octet, secured, version_pdu};
+ghost use Rattle.journal_controls.specs.Rows.{version_sent};
+ghost use Rattle.journal_controls.specs.Rows.{version_taken};
+ghost use Rattle.journal_controls.specs.Rows.{param_pdu, param_taken, param_told, version_asked};
 
-/// As a link is opened, each end has the first control part of its role; and then that part enters
-/// an event with the end. An empty PDU and a PDU of data do not move it. A side has none on another
+/// As a link is opened, each end has the first control part of its role, and is in phase Clear; and
+/// then it enters an event. An empty PDU and a PDU of data do not move it. A side has none on another
 /// link, nor on one that it shut.
 pub fn worked_controls()
     ensures opened { control_on A 1 one_connection_journal ≡ Some (first_on Peripheral) }
     ensures central { control_on B 1 one_event_journal
         ≡ Some (after_all (Enters 2 true ∷ []) (first_on Central)) }
+    ensures keyed { keyed_on B 1 one_event_journal
+        ≡ Some (keyed_after (KeyedEnters 2) (begun_on Central)) }
     ensures peripheral { control_on A 1 data_acknowledged
         ≡ Some (after_all (Enters 2 true ∷ []) (first_on Peripheral)) }
     ensures other { control_on A 2 one_event_journal ≡ None }
@@ -88,12 +96,23 @@ pub fn worked_requests()
 /// line of the next event, and not that another procedure did. After that line no other one is due.
 /// In a run in which no host asks for anything no such line is due, and no indication.
 pub fn worked_lines_due()
-    ensures begins { due_saying B 1 2 version_wanted [] (Enter B 1 0 25)
+    ensures begins { due_saying B 1 no_response 2 version_asked [] (Enter B 1 0 25)
         ≡ Began B 1 Kind.Version ∷ [] }
-    ensures other { due_saying B 1 2 version_wanted [] (Enter B 1 0 25)
+    ensures other { due_saying B 1 no_response 2 version_asked [] (Enter B 1 0 25)
         ≡ Began B 1 Kind.Features ∷ [] → ⊥ }
-    ensures begun { due_saying B 1 2 version_wanted (Began B 1 Kind.Version ∷ [])
+    ensures begun { due_saying B 1 no_response 2 version_asked (Began B 1 Kind.Version ∷ [])
         (Began B 1 Kind.Version) ≡ [] }
     ensures none { lines_due B 1 one_event_journal ≡ [] }
     ensures no_indication { applied_due A 1 one_connection_journal ≡ None }
+{}
+
+/// In phase Secure the line of a PDU that is sent takes a counter of an end, and that of one that is
+/// taken the other counter. In phase Clear neither does.
+pub fn worked_counters()
+    ensures sent { (keyed_by_all (steps_sending Central 3 one_octet) secured).end.sent ≡ 1 }
+    ensures taken { (keyed_by_all (steps_taking no_response 3 one_octet) secured).end.opened ≡ 1 }
+    ensures apart { (keyed_by_all (steps_taking no_response 3 one_octet) secured).end.sent ≡ 1
+        → ⊥ }
+    ensures clear { keyed_by_all (steps_taking no_response 3 one_octet) (begun_on Central)
+        ≡ begun_on Central }
 {}

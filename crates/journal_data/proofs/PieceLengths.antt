@@ -1,15 +1,18 @@
 -- What a host receives of data is the payload of a PDU, so its length fits into the length of an ACL packet.
-use Rattle.std.proofs.Common.{◌≡◌, ℕ, ◌≤◌, ◌%◌, ◌==◌, Bool, true, false, Option, Some, None, List, [], ◌∷◌, ◌++◌, length, cond, refl, sym, subst, ◌∙◌, arith, ◌*◌, ◌/◌, ◌+◌}
-use Rattle.std.specs.Prelude.{IfSome, not, take, if◌then◌else◌}
+use Rattle.std.proofs.Common.{◌≡◌, ℕ, ◌≤◌, ◌%◌, ◌==◌, Bool, true, false, Option, Some, None, List, [], ◌∷◌, ◌++◌, length, ap, cond, refl, ◌∙◌, arith, ◌*◌, ◌/◌, ◌+◌}
+use Rattle.std.specs.Prelude.{◌-◌, IfSome, drop, not, take, if◌then◌else◌}
 use Rattle.std.specs.List.{AllByRecursion}
 use Rattle.std.specs.Str.{bytes_eq}
 use Rattle.std.proofs.lemmas.Bool.{and_parts}
-use Rattle.std.proofs.lemmas.List.{length-drop}
+use Rattle.std.proofs.lemmas.List.{length-append, length-drop, length-take-le, take-append-drop}
 use Rattle.acl_banks.specs.declared.pieces.Piece.{Piece}
 use Rattle.air_frame.specs.declared.Heard.TheVariants.{NotOurs, Broken, Whole}
 use Rattle.air_frame.specs.Hearing.{heard_in}
 use Rattle.air_frame.specs.Packet.{access_octets, is_packet, is_pdu, on_air, pdu_in}
 use Rattle.air_frame.proofs.Forms.{form-fits}
+use Rattle.ccm_link.specs.Ccm.{opened_payload}
+use Rattle.ccm_link.specs.Payload.{nonce}
+use Rattle.ccm_link.proofs.Sealing.{length-ciphertext}
 use Rattle.hci_cmd.specs.declared.command.Command.{Command}
 use Rattle.hci_cmd.specs.declared.command.Command.TheVariants.{Reset}
 use Rattle.host_view.specs.Noted.{two_octets}
@@ -18,12 +21,11 @@ use Rattle.journal_acks.specs.link_model.Facts.{Facts as EndFacts}
 use Rattle.journal_acks.specs.link_model.Kept.{kept_from}
 use Rattle.journal_acks.specs.link_model.Pieces.{kept_if}
 use Rattle.journal_acks.specs.link_model.Verdicts.{has_room_for, pdu_by, pdu_of, whole_in}
-use Rattle.journal_acks.specs.link_model.Packets.{good_pdu, whole_pdu}
-use Rattle.journal_acks.specs.link_model.Payload.{opens_now}
+use Rattle.journal_acks.specs.link_model.Packets.{counts_here, good_pdu, pdu_read_in, whole_pdu}
+use Rattle.journal_acks.specs.link_model.Payload.{first_octet, opened_if, opens_now, read_pdu}
+use Rattle.journal_acks.specs.link_model.enc_phase.Phases.{is_central}
+use Rattle.journal_acks.specs.link_model.enc_phase.Sealing.{EncEnd, is_right, opened_body}
 use Rattle.journal_acks.specs.link_model.Setup.{Setup as EndSetup}
-use Rattle.journal_acks.specs.link_model.Step.{Step as EndStep}
-use Rattle.journal_acks.specs.link_model.End.{facts_of as end_facts}
-use Rattle.journal_acks.proofs.link_model.Plain.{good_plain, past_plain}
 use Rattle.journal_acks.specs.open_links.declared.ended.LinkEnded.{LinkEnded}
 use Rattle.journal_acks.specs.open_links.Data.{received_past}
 use Rattle.journal_acks.specs.open_links.Ended.{received_without}
@@ -91,11 +93,38 @@ whole_short setup facts octets =
         (form-fits pdu (and_parts (is_pdu pdu)
         (bytes_eq octets (on_air facts.event.channel setup.link.fields.access setup.link.fields.crc_init pdu)) is).0)
 
--- so has a good one: no end encrypts yet
-good_short : (setup : EndSetup) (past : List EndStep) (octets : List ℕ) → IfSome (good_pdu setup (end_facts setup past) octets) (λ pdu. length pdu ≤ 257)
-good_short setup past octets =
-    let facts = end_facts setup past in
-    subst (λ found. IfSome found (λ pdu. length pdu ≤ 257)) (sym (good_plain setup facts octets (past_plain setup past))) (whole_short setup facts octets)
+-- a payload that is opened is not longer than it was
+body_short : (end : EncEnd) (payload : List ℕ) → length (opened_body end payload) ≤ length payload
+unfolding opened_payload
+body_short end payload = by (opens_now end)
+  where
+    now : List ℕ
+    now = nonce end.opened (not (is_central end.role)) end.iv
+
+    by : (opens : Bool) → length (if opens then opened_payload end.key now payload else payload) ≤ length payload
+    by true =
+        let count = length payload - 4 in
+        omega (arith, length-ciphertext end.key now (take count payload), length-take-le count payload (omega arith))
+    by false = omega arith
+
+read_short : (counts : Bool) (end : EncEnd) (pdu : List ℕ) → length pdu ≤ 257 → IfSome (read_pdu counts end pdu) (λ read. length read ≤ 257)
+read_short false end pdu short = short
+read_short true end pdu short = by (is_right end (first_octet pdu) (drop 2 pdu))
+  where
+    by : (right : Bool) → IfSome (opened_if right end pdu) (λ read. length read ≤ 257)
+    by true =
+        let body = opened_body end (drop 2 pdu) in
+        omega (arith, short, length-append (take 2 pdu) body, length-append (take 2 pdu) (drop 2 pdu), ap length (take-append-drop 2 pdu), body_short end (drop 2 pdu))
+    by false = tt
+
+-- so a good one has no more
+good_short : (setup : EndSetup) (facts : EndFacts) (octets : List ℕ) → IfSome (good_pdu setup facts octets) (λ pdu. length pdu ≤ 257)
+unfolding good_pdu
+good_short setup facts octets = by (whole_pdu setup facts octets) (whole_short setup facts octets)
+  where
+    by : (whole : Option (List ℕ)) → IfSome whole (λ pdu. length pdu ≤ 257) → IfSome (pdu_read_in facts whole) (λ pdu. length pdu ≤ 257)
+    by None short = tt
+    by (Some pdu) short = read_short (counts_here facts pdu) facts.encryption.end pdu short
 
 piece_short : (keeps : Bool) (handle : ℕ) (pdu : Pdu) → length pdu.body ≤ 255 → AreShort (kept_if keeps handle pdu)
 piece_short true handle pdu short = (short, tt)
@@ -110,7 +139,7 @@ found_short setup slot room (Some pdu) facts short =
 taken_short : (slot : ℕ) (room : Bool) (octets : List ℕ) (place : Option OpenLink) → AreShort (piece_taken slot room place octets)
 taken_short slot room octets None = tt
 taken_short slot room octets (Some link) =
-    found_short link.setup slot room (good_pdu link.setup (facts_in link) octets) (facts_in link) (good_short link.setup link.past octets)
+    found_short link.setup slot room (good_pdu link.setup (facts_in link) octets) (facts_in link) (good_short link.setup (facts_in link) octets)
 
 -- ---- at any time
 

@@ -28,21 +28,21 @@ use Rattle.journal.specs.declared.entries.Entry.{Entry}
 use Rattle.journal.specs.declared.entries.Entry.TheVariants.{Done, Refused, Took}
 use Rattle.journal_controls.specs.journal_links.LinkLines.{line_of}
 use Rattle.journal_controls.specs.link_model.End.{notes_after as end_notes}
+use Rattle.journal_controls.specs.link_model.Facts.{keyed_of}
 use Rattle.journal_controls.specs.link_model.Packets.{good_pdu}
 use Rattle.journal_controls.specs.link_model.Receiving.{acks_control, facts_before_taking, has_acknowledged}
 use Rattle.journal_controls.specs.link_model.Step.{PacketReceived}
 use Rattle.journal_controls.proofs.journal_acks.link_calls.CallNotes.{doing_noted, ending_noted}
 use Rattle.journal_controls.specs.run_model.Journal.{entry_of}
-use Rattle.journal_controls.specs.LineSteps.{control_on, turn_now}
+use Rattle.journal_controls.specs.LineSteps.{keyed_on, turn_now}
 use Rattle.journal_controls.specs.LinesDue.{due_hearing}
 use Rattle.journal_due.specs.EachLine.{IsDueOn}
 use Rattle.journal_due.specs.ProcedureLines.{RestsAt}
-use Rattle.journal_controls.proofs.link_model.Plain.{past_plain}
 use Rattle.journal_due.proofs.DueEntries.{AreAllTold, told_both}
 use Rattle.journal_due.proofs.DuePhases.{plain_feeds}
 use Rattle.journal_due.proofs.DuePlain.{IsPlain, plain_told}
 use Rattle.journal_due.proofs.DueReceptions.{receiving_told}
-use Rattle.journal_due.proofs.DueSteps.{IsOwnLine, control_apart}
+use Rattle.journal_due.proofs.DueSteps.{IsOwnLine, keyed_apart}
 use Rattle.journal_due.proofs.DueTurns.{AreKnownFrom, all_told, at_first, at_later, events_keep, events_told, plain_lines, same_lines}
 
 -- a link that stays was open, and has no reason to end
@@ -70,31 +70,31 @@ module _ (side : Side) (link_of : ℕ → ℕ) (last : ℕ) where
   shut_own : (handle code : ℕ) → IsOwnLine side (link_of handle) (line (note_shut handle code))
   shut_own handle code = record { named = refl; deaf = λ other front. refl; unaccepted = λ front. refl; own = refl; no_turn = refl }
 
-  -- links that end leave the control part of another one
+  -- links that end leave another one
   ends_keep : (view : View) (reason : OpenLink → Option ℕ) (number first : ℕ) (links : Links) (front : List Entry)
       → ((handle code : ℕ) (link : OpenLink) → link_from first handle links ≡ Some link → reason link ≡ Some code → (link_of handle == number) ≡ false)
-      → control_on side number (front ++ map line (flat_map (notes_ended view) (ends_by reason first links))) ≡ control_on side number front
-  ends_keep view reason number first [] front apart = ap (control_on side number) (append-nil front)
+      → keyed_on side number (front ++ map line (flat_map (notes_ended view) (ends_by reason first links))) ≡ keyed_on side number front
+  ends_keep view reason number first [] front apart = ap (keyed_on side number) (append-nil front)
   ends_keep view reason number first (None ∷ links) front apart =
       ends_keep view reason number (first + 1) links front (λ handle code link at. apart handle code link (at_later first handle None links link at))
   ends_keep view reason number first (Some link ∷ links) front apart =
       by (λ next. ends_keep view reason number (first + 1) links next (λ handle code one at. apart handle code one (at_later first handle (Some link) links one at))) (reason link) refl
     where
-      by : ((next : List Entry) → control_on side number (next ++ map line (flat_map (notes_ended view) (ends_by reason (first + 1) links))) ≡ control_on side number next)
+      by : ((next : List Entry) → keyed_on side number (next ++ map line (flat_map (notes_ended view) (ends_by reason (first + 1) links))) ≡ keyed_on side number next)
           → (why : Option ℕ) → reason link ≡ why
-          → control_on side number (front ++ map line (flat_map (notes_ended view) (end_by first why ++ ends_by reason (first + 1) links))) ≡ control_on side number front
+          → keyed_on side number (front ++ map line (flat_map (notes_ended view) (end_by first why ++ ends_by reason (first + 1) links))) ≡ keyed_on side number front
       by rest None none = rest front
       by rest (Some code) some =
           let shut = line (note_shut first code) in
           let events = notes_of_events view (DisconnectionComplete 0 first code ∷ []) in
           let later = flat_map (notes_ended view) (ends_by reason (first + 1) links) in
           let next = front ++ shut ∷ [] in
-          ap (λ lines. control_on side number (front ++ shut ∷ lines)) (map-append line events later)
-          ∙ ap (control_on side number) (sym (append_assoc front (shut ∷ []) (map line events ++ map line later)))
-          ∙ ap (control_on side number) (sym (append_assoc next (map line events) (map line later)))
+          ap (λ lines. keyed_on side number (front ++ shut ∷ lines)) (map-append line events later)
+          ∙ ap (keyed_on side number) (sym (append_assoc front (shut ∷ []) (map line events ++ map line later)))
+          ∙ ap (keyed_on side number) (sym (append_assoc next (map line events) (map line later)))
           ∙ rest (next ++ map line events)
           ∙ events_keep side link_of last view (DisconnectionComplete 0 first code ∷ []) next number (tt, tt)
-          ∙ control_apart side (link_of first) number front shut (shut_own first code) (apart first code link (at_first first (Some link) links) some)
+          ∙ keyed_apart side (link_of first) number front shut (shut_own first code) (apart first code link (at_first first (Some link) links) some)
 
   -- what is known of the links that stay
   ending_known : (slot : ℕ) (facts : Facts) (front : List Entry) → AreKnownFrom side link_of last 0 facts.links front
@@ -153,10 +153,10 @@ module _ (side : Side) (link_of : ℕ → ℕ) (last : ℕ) where
   pub received_told : (setup : Setup) (facts : Facts) (handle : ℕ) (octets pdu : List ℕ) (room : Bool) (link : OpenLink) (front : List Entry)
       → heard setup facts.turn.doing octets facts ≡ link_hearing handle room octets facts → link_at handle facts.links ≡ Some link → link.setup.link.handle ≡ handle
       → good_pdu link.setup (facts_in link) octets ≡ Some pdu → turn_now front ≡ facts.turn.slot
-      → control_on side (link_of handle) front ≡ Some (facts_before_taking link.setup.link.role facts.turn.slot (header_in pdu) (facts_in link)).control
+      → keyed_on side (link_of handle) front ≡ Some (keyed_of (facts_before_taking link.setup.link.role facts.turn.slot (header_in pdu) (facts_in link)))
       → IsDueOn side (link_of handle) (due_hearing side (link_of handle) (acks_control (has_acknowledged (facts_in link) (header_in pdu)) (facts_in link)) (facts_in link).control) front
       → AreAllTold side front (map line (notes_after setup facts (PacketHeard octets)))
-  received_told setup facts handle octets pdu room link front is at own good now control on =
+  received_told setup facts handle octets pdu room link front is at own good now keyed on =
       let slot = facts.turn.slot in
       let taken = end_notes link.setup (facts_in link) (PacketReceived slot octets room) in
       let events = events_received handle slot room (Some link) octets in
@@ -164,7 +164,7 @@ module _ (side : Side) (link_of : ℕ → ℕ) (last : ℕ) where
       let doing = reply_if (replies_in slot room (link_at handle facts.links) octets) handle in
       let sends = notes_doing doing (link_received handle room octets facts) in
       let one = subst (λ lines. AreAllTold side front lines) (sym (received_lines handle slot octets room link own))
-      (receiving_told side (link_of handle) front link.setup (facts_in link) octets pdu room slot (past_plain link.setup link.past) now good control on) in
+      (receiving_told side (link_of handle) front link.setup (facts_in link) octets pdu room slot now good keyed on) in
       let mid = front ++ map line taken in
       let two = events_told side link_of last facts.view events mid one.left in
       let next = mid ++ map line ups in

@@ -13,18 +13,15 @@ use Rattle.journal_controls.specs.link_model.Controls.{goes_on}
 use Rattle.journal_controls.specs.link_model.End.{notes_after}
 use Rattle.journal_controls.specs.link_model.Entering.{began_notes, done_notes, event_notes, facts_entered}
 use Rattle.journal_controls.specs.link_model.Events.{applied_notes}
-use Rattle.journal_controls.specs.link_model.Facts.{Facts}
-use Rattle.journal_controls.specs.link_model.Plain.{IsPlain}
+use Rattle.journal_controls.specs.link_model.Facts.{Facts, keyed_of}
 use Rattle.journal_controls.specs.link_model.Setup.{Setup}
 use Rattle.journal_controls.specs.link_model.Step.{EventEntered}
-use Rattle.journal_controls.specs.link_model.control_end.Answers.{entry_of}
-use Rattle.journal_controls.specs.link_model.control_end.Held.{held_of}
 use Rattle.journal_controls.specs.link_model.control_end.declared.answers.Entry.{Entry as Entered}
-use Rattle.journal_controls.specs.link_model.control_model.Control.{Control}
-use Rattle.journal_controls.specs.LineSteps.{control_after, control_moved, control_on, turn_now}
-use Rattle.journal_controls.specs.LinesDue.{applied_due, applied_with, due_entering, lines_due}
-use Rattle.journal_controls.proofs.LineFolds.{control_more}
-use Rattle.journal_controls.proofs.link_model.Plain.{quiet_plain}
+use Rattle.journal_controls.specs.link_model.keyed_control.Keyed.{Keyed}
+use Rattle.journal_controls.specs.KeyedLines.{drawn_by}
+use Rattle.journal_controls.specs.LineSteps.{keyed_in_line, keyed_on, moved_in_line, turn_now}
+use Rattle.journal_controls.specs.LinesDue.{applied_due, applied_with, due_entering, entry_by, lines_due}
+use Rattle.journal_controls.proofs.LineFolds.{keyed_more}
 use Rattle.journal_due.specs.EachLine.{AreDueLines}
 use Rattle.journal_due.specs.ProcedureLines.{RestsAt, applied_last, applied_line, first_of}
 use Rattle.journal_due.proofs.DueLines.{own_applied, said_due}
@@ -71,18 +68,18 @@ module _ (side : Side) (number : ℕ) where
   enter_own event channel = record { named = refl; deaf = λ other front. refl; unaccepted = λ front. refl; own = refl; no_turn = refl }
 
   -- the line of an event, and those that are due then
-  enter_told : (front : List Entry) (c : Control) (event channel : ℕ) → control_on side number front ≡ Some c → ((other : ℕ) → lines_due side other front ≡ [])
+  enter_told : (front : List Entry) (k : Keyed) (event channel : ℕ) → keyed_on side number front ≡ Some k → ((other : ℕ) → lines_due side other front ≡ [])
       → applied_last side front ≡ option_map (applied_line number event) (applied_due side number front)
-      → AreAllTold side front (Enter side number event channel ∷ due_entering side number (entry_of (turn_now front) true (held_of c)))
-  enter_told front c event channel is none applied =
+      → AreAllTold side front (Enter side number event channel ∷ due_entering side number (entry_by (turn_now front) k))
+  enter_told front k event channel is none applied =
       let line = Enter side number event channel in
-      let entry = entry_of (turn_now front) true (held_of c) in
+      let entry = entry_by (turn_now front) k in
       let own = enter_own event channel in
-      let moved : control_on side number (front ++ line ∷ []) ≡ Some (control_moved side number front line c) =
-      control_more side number front line ∙ ap (λ before. control_after side number front before line) is in
+      let moved : keyed_on side number (front ++ line ∷ []) ≡ Some (moved_in_line (drawn_by side) side number front line k) =
+      keyed_more side number front line ∙ ap (λ before. keyed_in_line (drawn_by side) side number front before line) is in
       let on = after_own side number front (due_entering side number entry) line own (λ other apart. none other)
-      (said_due side number front line c is (seen_own side number front line own)) refl in
-      let rest = each_told side number (front ++ line ∷ []) (due_entering side number entry) (control_moved side number front line c) (entry_lines side number number entry.done entry.began) moved on in
+      (said_due side number front line k is (seen_own side number front line own)) refl in
+      let rest = each_told side number (front ++ line ∷ []) (due_entering side number entry) (moved_in_line (drawn_by side) side number front line k) (entry_lines side number number entry.done entry.began) moved on in
       line_then side front (due_entering side number entry) line (λ mine. record { procedures = λ other. ap first_of (sym (none other)); indication = applied }, tt)
       (turn_stays front line refl) (record { each = rest.each; left = on_rests side number _ rest.left; turn_is = rest.turn_is })
 
@@ -98,41 +95,41 @@ module _ (side : Side) (number : ℕ) where
   entry_notes_of handle event channel applied entry =
       applied_notes handle event applied ++ NotesEnter handle (record { 0 = event }) channel ∷ [] ++ done_notes handle entry.done ++ began_notes handle entry.began
 
-  due_is : (front : List Entry) (c : Control) → control_on side number front ≡ Some c → applied_due side number front ≡ (entry_of (turn_now front) true (held_of c)).applied
-  due_is front c is = ap (applied_with (turn_now front)) is
+  due_is : (front : List Entry) (k : Keyed) → keyed_on side number front ≡ Some k → applied_due side number front ≡ (entry_by (turn_now front) k).applied
+  due_is front k is = ap (applied_with (turn_now front)) is
 
-  event_told : (front : List Entry) (c : Control) (handle event channel : ℕ) (applied : Option ℕ) → control_on side number front ≡ Some c → RestsAt side front
-      → (entry_of (turn_now front) true (held_of c)).applied ≡ applied
-      → AreAllTold side front (map (line_of side number) (entry_notes_of handle event channel applied (entry_of (turn_now front) true (held_of c))))
-  event_told front c handle event channel None is rests none =
-      let entry = entry_of (turn_now front) true (held_of c) in
+  event_told : (front : List Entry) (k : Keyed) (handle event channel : ℕ) (applied : Option ℕ) → keyed_on side number front ≡ Some k → RestsAt side front
+      → (entry_by (turn_now front) k).applied ≡ applied
+      → AreAllTold side front (map (line_of side number) (entry_notes_of handle event channel applied (entry_by (turn_now front) k)))
+  event_told front k handle event channel None is rests none =
+      let entry = entry_by (turn_now front) k in
       subst (λ xs. AreAllTold side front (Enter side number event channel ∷ xs)) (same_entries handle entry.done entry.began)
-      (enter_told front c event channel is rests.procedures (rests.indication ∙ sym (ap (option_map (applied_line number event)) (due_is front c is ∙ none))))
-  event_told front c handle event channel (Some indication) is rests some =
+      (enter_told front k event channel is rests.procedures (rests.indication ∙ sym (ap (option_map (applied_line number event)) (due_is front k is ∙ none))))
+  event_told front k handle event channel (Some indication) is rests some =
       let line = Applied side number indication event in
       let next = front ++ line ∷ [] in
       let own : IsOwnLine side number line = record { named = refl; deaf = λ other front. refl; unaccepted = λ front. refl; own = refl; no_turn = refl } in
-      let still = still_if side number line front c own refl refl is in
+      let still = still_if side number line front k own refl refl is in
       let turn = turn_stays front line refl in
-      let entry = entry_of (turn_now front) true (held_of c) in
+      let entry = entry_by (turn_now front) k in
       let lines = Enter side number event channel ∷ map (line_of side number) (done_notes handle entry.done ++ began_notes handle entry.began) in
       let rest : AreAllTold side next lines =
-      subst (λ xs. AreAllTold side next (Enter side number event channel ∷ xs)) (ap (λ slot. due_entering side number (entry_of slot true (held_of c))) turn ∙ same_entries handle entry.done entry.began)
-      (enter_told next c event channel still (λ other. quiet_own side number front line own other (rests.procedures other) (λ slot c due none. refl) c is)
+      subst (λ xs. AreAllTold side next (Enter side number event channel ∷ xs)) (ap (λ slot. due_entering side number (entry_by slot k)) turn ∙ same_entries handle entry.done entry.began)
+      (enter_told next k event channel still (λ other. quiet_own side number front line own other (rests.procedures other) (λ response slot k due none. refl) k is)
       (own_applied side front line refl
-      ∙ sym (ap (option_map (applied_line number event)) (due_is next c still ∙ ap (λ slot. (entry_of slot true (held_of c)).applied) turn ∙ some)))) in
+      ∙ sym (ap (option_map (applied_line number event)) (due_is next k still ∙ ap (λ slot. (entry_by slot k).applied) turn ∙ some)))) in
       line_then side front lines line (λ mine. record { procedures = λ other. ap first_of (sym (rests.procedures other)); indication = rests.indication }, tt) turn rest
 
 -- an end enters an event, or does not
-pub entering_told : (side : Side) (number : ℕ) (setup : Setup) (facts : Facts) (front : List Entry) → IsPlain setup.link.role facts → control_on side number front ≡ Some facts.control → RestsAt side front
+pub entering_told : (side : Side) (number : ℕ) (setup : Setup) (facts : Facts) (front : List Entry) → keyed_on side number front ≡ Some (keyed_of facts) → RestsAt side front
     → AreAllTold side front (map (line_of side number) (notes_after setup facts (EventEntered (turn_now front))))
-entering_told side number setup facts front plain is rests =
-    subst (λ quiet. AreAllTold side front (map (line_of side number) (if goes_on facts
-    then event_notes setup.link.handle (facts_entered setup (turn_now front) facts).event (entry_of (turn_now front) quiet (held_of facts.control)) else [])))
-    (sym (quiet_plain setup.link.role facts plain)) (by (goes_on facts))
+entering_told side number setup facts front is rests = by (goes_on facts)
   where
-    by : (goes : Bool) → AreAllTold side front (map (line_of side number) (if goes then event_notes setup.link.handle (facts_entered setup (turn_now front) facts).event (entry_of (turn_now front) true (held_of facts.control)) else []))
+    entry : Entered
+    entry = entry_by (turn_now front) (keyed_of facts)
+
+    by : (goes : Bool) → AreAllTold side front (map (line_of side number) (if goes then event_notes setup.link.handle (facts_entered setup (turn_now front) facts).event entry else []))
     by false = no_lines side front rests
     by true =
         let event = (facts_entered setup (turn_now front) facts).event in
-        event_told side number front facts.control setup.link.handle event.number event.channel (entry_of (turn_now front) true (held_of facts.control)).applied is rests refl
+        event_told side number front (keyed_of facts) setup.link.handle event.number event.channel entry.applied is rests refl

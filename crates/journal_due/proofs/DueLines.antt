@@ -13,109 +13,110 @@ use Rattle.journal_controls.specs.journal_links.Begun.{link_numbered}
 use Rattle.journal_controls.specs.journal_packets.Belonging.{is_side}
 use Rattle.journal_controls.specs.link_model.Data.{is_control}
 use Rattle.journal_controls.specs.link_model.Step.{Step}
-use Rattle.journal_controls.specs.link_model.control_model.Control.{Control}
+use Rattle.journal_controls.specs.link_model.keyed_control.Keyed.{Keyed}
 use Rattle.journal_controls.specs.run_model.Readers.{of_side}
-use Rattle.journal_controls.specs.LineSteps.{control_after, control_begun, control_on, is_more_acked, turn_now}
+use Rattle.journal_controls.specs.KeyedLines.{drawn_by}
+use Rattle.journal_controls.specs.LineSteps.{is_more_acked, keyed_begun, keyed_in_line, keyed_on, turn_now}
 use Rattle.journal_controls.specs.LinesDue.{due_from, due_hearing, due_saying, due_seen, due_with, lines_due}
 use Rattle.journal_controls.proofs.journal_ends.SeenLists.{AreAsks, line_are_asks}
-use Rattle.journal_controls.proofs.LineFolds.{control_more}
+use Rattle.journal_controls.proofs.LineFolds.{keyed_more}
 use Rattle.journal_due.specs.ProcedureLines.{applied_after, applied_in, applied_last, is_same_side, side_of_line}
 
 -- ---- a line more
 
 from_more : (side : Side) (number : ℕ) (front due lines : List Entry) (line : Entry)
     → due_from side number front due (lines ++ line ∷ [])
-    ≡ due_with side number (front ++ lines) line (due_from side number front due lines) (control_on side number (front ++ lines))
-from_more side number front due [] line = ap (λ xs. due_with side number xs line due (control_on side number xs)) (sym (append-nil front))
+    ≡ due_with side number (front ++ lines) line (due_from side number front due lines) (keyed_on side number (front ++ lines))
+from_more side number front due [] line = ap (λ xs. due_with side number xs line due (keyed_on side number xs)) (sym (append-nil front))
 from_more side number front due (first ∷ lines) line =
-    let next = due_with side number front first due (control_on side number front) in
+    let next = due_with side number front first due (keyed_on side number front) in
     from_more side number (front ++ first ∷ []) next lines line
-    ∙ ap (λ xs. due_with side number xs line (due_from side number (front ++ first ∷ []) next lines) (control_on side number xs)) (append_assoc front (first ∷ []) lines)
+    ∙ ap (λ xs. due_with side number xs line (due_from side number (front ++ first ∷ []) next lines) (keyed_on side number xs)) (append_assoc front (first ∷ []) lines)
 
 pub due_more : (side : Side) (number : ℕ) (journal : List Entry) (line : Entry)
-    → lines_due side number (journal ++ line ∷ []) ≡ due_with side number journal line (lines_due side number journal) (control_on side number journal)
+    → lines_due side number (journal ++ line ∷ []) ≡ due_with side number journal line (lines_due side number journal) (keyed_on side number journal)
 unfolding lines_due
 due_more side number journal line = from_more side number [] [] journal line
 
 -- ---- nothing is due where the link is not open
 
 -- a line of this side, of this link
-named_due : (side other : Side) (same : Bool) (number : ℕ) (front : List Entry) (line : Entry) (due : List Entry) (control : Control) (begun : Option Control)
-    → due_saying side number (turn_now front) control due line ≡ [] → (if is_side other side && same then begun else Some control) ≡ None
-    → fold (due_seen side number front line control) due (map Says (of_side side other (if same then line ∷ [] else []))) ≡ []
-named_due A A true number front line due control begun none is = none
-named_due A A false number front line due control begun none is = absurd cc
-named_due A B same number front line due control begun none is = absurd cc
-named_due B A same number front line due control begun none is = absurd cc
-named_due B B true number front line due control begun none is = none
-named_due B B false number front line due control begun none is = absurd cc
+named_due : (side other : Side) (same : Bool) (number : ℕ) (front : List Entry) (line : Entry) (due : List Entry) (k : Keyed) (begun : Option Keyed)
+    → due_saying side number (drawn_by side front) (turn_now front) k due line ≡ [] → (if is_side other side && same then begun else Some k) ≡ None
+    → fold (due_seen side number front line k) due (map Says (of_side side other (if same then line ∷ [] else []))) ≡ []
+named_due A A true number front line due k begun none is = none
+named_due A A false number front line due k begun none is = absurd cc
+named_due A B same number front line due k begun none is = absurd cc
+named_due B A same number front line due k begun none is = absurd cc
+named_due B B true number front line due k begun none is = none
+named_due B B false number front line due k begun none is = absurd cc
 
-shut_leaves : (side : Side) (number : ℕ) (front : List Entry) (line : Entry) (due : List Entry) (control : Control) → control_after side number front (Some control) line ≡ None
-    → due_with side number front line due (Some control) ≡ []
-shut_leaves side number front (Opened other link handle role) due control is =
-    named_due side other (link == number) number front (Opened other link handle role) due control (control_begun side (link_numbered number front)) refl is
-shut_leaves side number front (Shut other link reason) due control is =
-    named_due side other (link == number) number front (Shut other link reason) due control None refl is
-shut_leaves side number front line due control is = absurd cc
+shut_leaves : (side : Side) (number : ℕ) (front : List Entry) (line : Entry) (due : List Entry) (k : Keyed) → keyed_in_line (drawn_by side) side number front (Some k) line ≡ None
+    → due_with side number front line due (Some k) ≡ []
+shut_leaves side number front (Opened other link handle role) due k is =
+    named_due side other (link == number) number front (Opened other link handle role) due k (keyed_begun side (link_numbered number front)) refl is
+shut_leaves side number front (Shut other link reason) due k is =
+    named_due side other (link == number) number front (Shut other link reason) due k None refl is
+shut_leaves side number front line due k is = absurd cc
 
-step_leaves : (side : Side) (number : ℕ) (front : List Entry) (line : Entry) (due : List Entry) (before : Option Control) → control_after side number front before line ≡ None
+step_leaves : (side : Side) (number : ℕ) (front : List Entry) (line : Entry) (due : List Entry) (before : Option Keyed) → keyed_in_line (drawn_by side) side number front before line ≡ None
     → due_with side number front line due before ≡ []
 step_leaves side number front line due None is = refl
-step_leaves side number front line due (Some control) is = shut_leaves side number front line due control is
+step_leaves side number front line due (Some k) is = shut_leaves side number front line due k is
 
-unopened_from : (side : Side) (number : ℕ) (front due lines : List Entry) → (control_on side number front ≡ None → due ≡ []) → control_on side number (front ++ lines) ≡ None
+unopened_from : (side : Side) (number : ℕ) (front due lines : List Entry) → (keyed_on side number front ≡ None → due ≡ []) → keyed_on side number (front ++ lines) ≡ None
     → due_from side number front due lines ≡ []
-unopened_from side number front due [] none is = none (ap (control_on side number) (sym (append-nil front)) ∙ is)
+unopened_from side number front due [] none is = none (ap (keyed_on side number) (sym (append-nil front)) ∙ is)
 unopened_from side number front due (line ∷ lines) none is =
-    unopened_from side number (front ++ line ∷ []) (due_with side number front line due (control_on side number front)) lines
-    (λ shut. step_leaves side number front line due (control_on side number front) (sym (control_more side number front line) ∙ shut))
-    (ap (control_on side number) (append_assoc front (line ∷ []) lines) ∙ is)
+    unopened_from side number (front ++ line ∷ []) (due_with side number front line due (keyed_on side number front)) lines
+    (λ shut. step_leaves side number front line due (keyed_on side number front) (sym (keyed_more side number front line) ∙ shut))
+    (ap (keyed_on side number) (append_assoc front (line ∷ []) lines) ∙ is)
 
-pub none_unopened : (side : Side) (number : ℕ) (journal : List Entry) → control_on side number journal ≡ None → lines_due side number journal ≡ []
+pub none_unopened : (side : Side) (number : ℕ) (journal : List Entry) → keyed_on side number journal ≡ None → lines_due side number journal ≡ []
 unfolding lines_due
 none_unopened side number journal is = unopened_from side number [] [] journal (λ none. refl) is
 
 -- ---- lines of an end that is open, and others
 
-pub said_due : (side : Side) (number : ℕ) (journal : List Entry) (line : Entry) (control : Control) → control_on side number journal ≡ Some control
+pub said_due : (side : Side) (number : ℕ) (journal : List Entry) (line : Entry) (k : Keyed) → keyed_on side number journal ≡ Some k
     → seen_in_line side number journal line ≡ Says line ∷ []
-    → lines_due side number (journal ++ line ∷ []) ≡ due_saying side number (turn_now journal) control (lines_due side number journal) line
-said_due side number journal line control is said =
+    → lines_due side number (journal ++ line ∷ []) ≡ due_saying side number (drawn_by side journal) (turn_now journal) k (lines_due side number journal) line
+said_due side number journal line k is said =
     due_more side number journal line ∙ ap (due_with side number journal line (lines_due side number journal)) is
-    ∙ ap (fold (due_seen side number journal line control) (lines_due side number journal)) said
+    ∙ ap (fold (due_seen side number journal line k) (lines_due side number journal)) said
 
-pub heard_due : (side : Side) (number slot : ℕ) (octets : List ℕ) (journal : List Entry) (line : Entry) (control : Control) → control_on side number journal ≡ Some control
+pub heard_due : (side : Side) (number slot : ℕ) (octets : List ℕ) (journal : List Entry) (line : Entry) (k : Keyed) → keyed_on side number journal ≡ Some k
     → seen_in_line side number journal line ≡ Hears slot octets ∷ []
     → lines_due side number (journal ++ line ∷ [])
-    ≡ due_hearing side number (is_more_acked (exchange_of number journal side) (exchange_of number (journal ++ line ∷ []) side) && is_control (carried_of number journal side)) control
-heard_due side number slot octets journal line control is heard =
+    ≡ due_hearing side number (is_more_acked (exchange_of number journal side) (exchange_of number (journal ++ line ∷ []) side) && is_control (carried_of number journal side)) k.phased.control
+heard_due side number slot octets journal line k is heard =
     due_more side number journal line ∙ ap (due_with side number journal line (lines_due side number journal)) is
-    ∙ ap (fold (due_seen side number journal line control) (lines_due side number journal)) heard
+    ∙ ap (fold (due_seen side number journal line k) (lines_due side number journal)) heard
 
 pub quiet_due : (side : Side) (number : ℕ) (journal : List Entry) (line : Entry) → seen_in_line side number journal line ≡ []
     → lines_due side number (journal ++ line ∷ []) ≡ lines_due side number journal
-quiet_due side number journal line none = due_more side number journal line ∙ by (control_on side number journal) refl
+quiet_due side number journal line none = due_more side number journal line ∙ by (keyed_on side number journal) refl
   where
-    by : (found : Option Control) → control_on side number journal ≡ found → due_with side number journal line (lines_due side number journal) found ≡ lines_due side number journal
+    by : (found : Option Keyed) → keyed_on side number journal ≡ found → due_with side number journal line (lines_due side number journal) found ≡ lines_due side number journal
     by None is = sym (none_unopened side number journal is)
-    by (Some control) is = ap (fold (due_seen side number journal line control) (lines_due side number journal)) none
+    by (Some k) is = ap (fold (due_seen side number journal line k) (lines_due side number journal)) none
 
 -- ---- what a host asks leaves what is due
 
-asks_leave : (side : Side) (number : ℕ) (front : List Entry) (line : Entry) (control : Control) (due : List Entry) (steps : List Step)
-    → fold (due_seen side number front line control) due (map Asks steps) ≡ due
-asks_leave side number front line control due [] = refl
-asks_leave side number front line control due (step ∷ steps) = asks_leave side number front line control due steps
+asks_leave : (side : Side) (number : ℕ) (front : List Entry) (line : Entry) (k : Keyed) (due : List Entry) (steps : List Step)
+    → fold (due_seen side number front line k) due (map Asks steps) ≡ due
+asks_leave side number front line k due [] = refl
+asks_leave side number front line k due (step ∷ steps) = asks_leave side number front line k due steps
 
 asked_due : (side : Side) (number : ℕ) (journal : List Entry) (line : Entry) → AreAsks (seen_in_line side number journal line)
     → lines_due side number (journal ++ line ∷ []) ≡ lines_due side number journal
-asked_due side number journal line asks = due_more side number journal line ∙ by (control_on side number journal) refl
+asked_due side number journal line asks = due_more side number journal line ∙ by (keyed_on side number journal) refl
   where
-    by : (found : Option Control) → control_on side number journal ≡ found → due_with side number journal line (lines_due side number journal) found ≡ lines_due side number journal
+    by : (found : Option Keyed) → keyed_on side number journal ≡ found → due_with side number journal line (lines_due side number journal) found ≡ lines_due side number journal
     by None is = sym (none_unopened side number journal is)
-    by (Some control) is =
-        ap (fold (due_seen side number journal line control) (lines_due side number journal)) asks.is
-        ∙ asks_leave side number journal line control (lines_due side number journal) asks.steps
+    by (Some k) is =
+        ap (fold (due_seen side number journal line k) (lines_due side number journal)) asks.is
+        ∙ asks_leave side number journal line k (lines_due side number journal) asks.steps
 
 -- a packet to a host is no more than an answer
 pub packet_due : (side other : Side) (number : ℕ) (journal : List Entry) (octets : List ℕ)

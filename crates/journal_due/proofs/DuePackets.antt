@@ -15,7 +15,7 @@ use Rattle.journal.specs.declared.entries.Entry.{Entry}
 use Rattle.journal.specs.declared.entries.Entry.TheVariants.{Air}
 use Rattle.radio_replay.specs.Damage.{damaged_packet}
 use Rattle.radio_replay.specs.declared.fates.Fate.{Fate}
-use Rattle.journal_controls.specs.LineSteps.{control_on, is_more_acked, turn_now}
+use Rattle.journal_controls.specs.LineSteps.{is_more_acked, keyed_on, turn_now}
 use Rattle.journal_controls.specs.LinesDue.{due_hearing, lines_due}
 use Rattle.journal_controls.specs.journal_acks.Carried.{carried_of}
 use Rattle.journal_controls.specs.journal_acks.Exchange.{exchange_of}
@@ -25,6 +25,7 @@ use Rattle.journal_controls.specs.journal_acks.link_calls.Uses.{listens_under}
 use Rattle.journal_controls.specs.journal_ends.Seen.{Hears, heard_where, seen_in_line}
 use Rattle.journal_controls.specs.journal_packets.Belonging.{is_side}
 use Rattle.journal_controls.specs.journal_packets.Senders.{IsOfSendersLink}
+use Rattle.journal_controls.specs.link_model.Facts.{keyed_of}
 use Rattle.journal_controls.specs.link_model.Receiving.{acks_control, has_acknowledged}
 use Rattle.journal_controls.specs.run_model.History.{Event, Hearing, Transmitted, fates_used, has_received, is_good, packet_received, past_of, turns_begun}
 use Rattle.journal_controls.specs.run_model.Journal.{air_entries, entries_of, journal_of, mark_of, side_of}
@@ -54,7 +55,9 @@ use Rattle.journal_controls.proofs.run_model.Stations.{among, is_in}
 use Rattle.journal_controls.proofs.run_model.Walk.{AtPackets, Place}
 use Rattle.journal_due.specs.EachLine.{IsDueOn}
 use Rattle.journal_due.specs.ProcedureLines.{RestsAt}
-use Rattle.journal_due.proofs.DueAhead.{IsDueAhead, Nothing, Taking, acks_told, good_has, taking_counts}
+use Rattle.journal_controls.proofs.ControlPackets.{taking_counts}
+use Rattle.journal_controls.proofs.GoodPackets.{good_has}
+use Rattle.journal_due.proofs.DueAhead.{IsDueAhead, Nothing, Taking, acks_told}
 use Rattle.journal_due.proofs.DueLines.{heard_due, other_applied, quiet_due}
 use Rattle.journal_due.proofs.DuePlain.{IsPlainLine, StaysDue}
 use Rattle.journal_due.proofs.DueSides.{AreDueBy, IsTold, other_each, plain_event, rests_stay}
@@ -227,7 +230,7 @@ module _ (nth : AreNth) (apart : AreApart) (given : Given) (are_two : IsOfTwo gi
         others_unheard : (one : ℕ) → (number == one) ≡ false → is_heard_of one side history station channel octets hearing ≡ false
         others_unheard one differs = unheard_apart one own side history station channel octets hearing off sent.belongs (ap (λ n. n == one) own_is ∙ differs)
 
-        heard_ahead : ((one : ℕ) (end : OpenLink) → link_at one (facts other).links ≡ Some end → control_on side (number_at other one history) (journal_of history) ≡ Some (facts_in end).control)
+        heard_ahead : ((one : ℕ) (end : OpenLink) → link_at one (facts other).links ≡ Some end → keyed_on side (number_at other one history) (journal_of history) ≡ Some (keyed_of (facts_in end)))
             → AreLinedAt given (IsBelongingSoFar given) here history
             → AreLinedAt given (IsBelongingSoFar given) (AtPackets phases (done ++ station ∷ []) left) after → IsDueAhead given other after (packet_received other after)
         heard_ahead controls lined lined_after =
@@ -243,7 +246,7 @@ module _ (nth : AreNth) (apart : AreApart) (given : Given) (are_two : IsOfTwo gi
             (sym (ap (λ (f : Facts). f.turn) (same_facts other))) (ap (λ n. exchange_at n after side) (sym number_is)) (lined_after.counts.counted other handle link is_too open_after)) in
             let acks = acks_told link turn.slot octets has_pdu.pdu (exchange_at number history side) (exchange_at number after side) (sent_line_at number history side) has_pdu.is counts counts_too
             (lined.lines other handle link is_too listening.is_open) in
-            let due = heard_due side number (turn_now (journal_of history)) octets (journal_of history) line (facts_in link).control (controls handle link listening.is_open) seen
+            let due = heard_due side number (turn_now (journal_of history)) octets (journal_of history) line (keyed_of (facts_in link)) (controls handle link listening.is_open) seen
             ∙ ap (λ xs. due_hearing side number (is_more_acked (exchange_at number history side) (exchange_of number xs side) && is_control (carried_of number (journal_of history) side)) (facts_in link).control)
             (sym after_is)
             ∙ ap (λ b. due_hearing side number b (facts_in link).control) acks in
@@ -262,7 +265,7 @@ module _ (nth : AreNth) (apart : AreApart) (given : Given) (are_two : IsOfTwo gi
 
     -- either way
     pub other_ahead : unseen_in octets hearings ≡ None → AreSeenAt given (AtPackets phases (done ++ station ∷ []) left) after
-        → ((one : ℕ) (end : OpenLink) → link_at one (facts other).links ≡ Some end → control_on side (number_at other one history) (journal_of history) ≡ Some (facts_in end).control)
+        → ((one : ℕ) (end : OpenLink) → link_at one (facts other).links ≡ Some end → keyed_on side (number_at other one history) (journal_of history) ≡ Some (keyed_of (facts_in end)))
         → AreLinedAt given (IsBelongingSoFar given) here history → AreLinedAt given (IsBelongingSoFar given) (AtPackets phases (done ++ station ∷ []) left) after
         → IsDueAhead given other after (packet_received other after)
     other_ahead unseen seen_after controls lined lined_after = by (has_received other hearings) refl

@@ -19,10 +19,11 @@ use Rattle.journal_controls.specs.link_model.Facts.{Facts}
 use Rattle.journal_controls.specs.link_model.Sending.{sent_notes}
 use Rattle.journal_controls.specs.link_model.Setup.{Setup}
 use Rattle.journal_controls.specs.link_model.Step.{Step, EventEntered, PacketReceived, PacketSent}
-use Rattle.journal_controls.specs.link_model.control_model.Control.{Control}
+use Rattle.journal_controls.specs.link_model.keyed_control.Keyed.{Keyed}
 use Rattle.journal_controls.specs.run_model.Journal.{entry_of}
 use Rattle.journal_controls.specs.run_model.Readers.{of_side, pair_openings_in}
-use Rattle.journal_controls.specs.LineSteps.{control_on, turn_now}
+use Rattle.journal_controls.specs.KeyedLines.{drawn_by}
+use Rattle.journal_controls.specs.LineSteps.{keyed_on, turn_now}
 use Rattle.journal_controls.specs.LinesDue.{due_saying, due_seen, due_with, lines_due}
 use Rattle.journal_due.specs.EachLine.{IsDueLine, is_of_procedures}
 use Rattle.journal_due.specs.ProcedureLines.{RestsAt, applied_by, applied_in, applied_last, first_of, is_same_side, procedure_line, side_of_line}
@@ -40,27 +41,27 @@ pub record IsPlainLine (side : Side) (line : Entry) : Type 0 where
   pub no_turn : pair_openings_in line ≡ []
   pub leaves : (front : List Entry) (number : ℕ) → lines_due side number front ≡ [] → lines_due side number (front ++ line ∷ []) ≡ []
 
-said_none : (side other : Side) (same : Bool) (number : ℕ) (front : List Entry) (line : Entry) (c : Control) (due : List Entry) → due ≡ []
-    → due_saying side number (turn_now front) c due line ≡ []
-    → fold (due_seen side number front line c) due (map Says (of_side side other (if same then line ∷ [] else []))) ≡ []
-said_none A A true number front line c due none saying = saying
-said_none A A false number front line c due none saying = none
-said_none A B same number front line c due none saying = none
-said_none B A same number front line c due none saying = none
-said_none B B true number front line c due none saying = saying
-said_none B B false number front line c due none saying = none
+said_none : (side other : Side) (same : Bool) (number : ℕ) (front : List Entry) (line : Entry) (k : Keyed) (due : List Entry) → due ≡ []
+    → due_saying side number (drawn_by side front) (turn_now front) k due line ≡ []
+    → fold (due_seen side number front line k) due (map Says (of_side side other (if same then line ∷ [] else []))) ≡ []
+said_none A A true number front line k due none saying = saying
+said_none A A false number front line k due none saying = none
+said_none A B same number front line k due none saying = none
+said_none B A same number front line k due none saying = none
+said_none B B true number front line k due none saying = saying
+said_none B B false number front line k due none saying = none
 
 leaves_if : (side : Side) (link number : ℕ) (front : List Entry) (line : Entry)
     → seen_in_line side number front line ≡ map Says (of_side side side (if link == number then line ∷ [] else []))
-    → ((c : Control) (due : List Entry) → due_saying side number (turn_now front) c due line ≡ []) → lines_due side number front ≡ []
+    → ((k : Keyed) (due : List Entry) → due_saying side number (drawn_by side front) (turn_now front) k due line ≡ []) → lines_due side number front ≡ []
     → lines_due side number (front ++ line ∷ []) ≡ []
-leaves_if side link number front line seen saying none = due_more side number front line ∙ by (control_on side number front)
+leaves_if side link number front line seen saying none = due_more side number front line ∙ by (keyed_on side number front)
   where
-    by : (found : Option Control) → due_with side number front line (lines_due side number front) found ≡ []
+    by : (found : Option Keyed) → due_with side number front line (lines_due side number front) found ≡ []
     by None = refl
-    by (Some c) =
-        ap (fold (due_seen side number front line c) (lines_due side number front)) seen
-        ∙ said_none side side (link == number) number front line c (lines_due side number front) none (saying c (lines_due side number front))
+    by (Some k) =
+        ap (fold (due_seen side number front line k) (lines_due side number front)) seen
+        ∙ said_none side side (link == number) number front line k (lines_due side number front) none (saying k (lines_due side number front))
 
 abbrev pub is_plain : Note → Bool
 is_plain (Up packet) = true
@@ -87,7 +88,7 @@ note_plain side link_of last (Opened handle role own peer) plain = record {
   none = refl;
   quiet = λ front. refl;
   no_turn = refl;
-  leaves = λ front number none. leaves_if side last number front _ refl (λ c due. refl) none;
+  leaves = λ front number none. leaves_if side last number front _ refl (λ k due. refl) none;
 }
 note_plain side link_of last (Shut handle reason) plain = record {
   is = λ number. refl;
@@ -95,7 +96,7 @@ note_plain side link_of last (Shut handle reason) plain = record {
   none = refl;
   quiet = λ front. refl;
   no_turn = refl;
-  leaves = λ front number none. leaves_if side (link_of handle) number front _ refl (λ c due. refl) none;
+  leaves = λ front number none. leaves_if side (link_of handle) number front _ refl (λ k due. refl) none;
 }
 note_plain side link_of last (Sent handle count llid body) plain = record {
   is = λ number. refl;
@@ -103,7 +104,7 @@ note_plain side link_of last (Sent handle count llid body) plain = record {
   none = refl;
   quiet = λ front. refl;
   no_turn = refl;
-  leaves = λ front number none. leaves_if side (link_of handle) number front _ refl (λ c due. refl) none;
+  leaves = λ front number none. leaves_if side (link_of handle) number front _ refl (λ k due. refl) none;
 }
 note_plain side link_of last note plain = absurd cc
 

@@ -4,6 +4,7 @@ use Rattle.std.specs.Prelude.{drop, if◌then◌else◌}
 use Rattle.std.specs.List.{AllByRecursion, flat_map}
 use Rattle.std.proofs.lemmas.Bool.{eqb-true}
 use Rattle.std.proofs.lemmas.Grind.{flat_map-append}
+use Rattle.std.proofs.lemmas.List.{map-append}
 use Rattle.ble_base.specs.declared.error_codes.ErrCode.{ErrCode}
 use Rattle.ble_base.specs.declared.procedure_kinds.Kind.{Kind}
 use Rattle.ble_base.specs.declared.roles.Side.{Side}
@@ -16,11 +17,14 @@ use Rattle.journal_controls.specs.journal_links.LinkLines.{line_of, link_named, 
 use Rattle.journal_controls.specs.link_model.Entering.{began_notes, done_notes}
 use Rattle.journal_controls.specs.link_model.Receiving.{given_notes, refused_notes}
 use Rattle.journal_controls.specs.link_model.control_end.declared.answers.Taken.{Taken}
-use Rattle.journal_controls.specs.link_model.control_model.Control.{Control, after_all}
+use Rattle.journal_controls.specs.link_model.keyed_control.Keyed.{Keyed}
+use Rattle.journal_controls.specs.link_model.keyed_control.declared.material.Response.{Response}
+use Rattle.journal_controls.specs.link_model.phased_end.declared.taking.TakenKeyed.{TakenKeyed}
 use Rattle.journal_controls.specs.run_model.Readers.{of_side, pair_openings_in, turns_of}
-use Rattle.journal_controls.specs.LineSteps.{control_after, control_on, steps_seen, turn_now}
-use Rattle.journal_controls.specs.LinesDue.{due_saying, lines_due}
-use Rattle.journal_controls.proofs.LineFolds.{control_more, quiet_line}
+use Rattle.journal_controls.specs.KeyedLines.{drawn_by, keyed_by_all}
+use Rattle.journal_controls.specs.LineSteps.{keyed_in_line, keyed_on, steps_seen, turn_now}
+use Rattle.journal_controls.specs.LinesDue.{due_saying, lines_due, notes_given}
+use Rattle.journal_controls.proofs.LineFolds.{keyed_more, quiet_line}
 use Rattle.journal_controls.proofs.journal_ends.SeenEvents.{unanswered_in, unasked_in}
 use Rattle.journal_controls.proofs.journal_acks.TwoStations.{same_number}
 use Rattle.journal_due.specs.EachLine.{AreDueLines, IsDueOn}
@@ -58,11 +62,11 @@ module _ (side : Side) (number : ℕ) where
   seen_apart other front line own apart =
       (λ i. unasked_in side other front line (own.unaccepted front) i ++ (own.deaf other front i ++ map Says (where_named side other (own.named i) line))) ∙ ap (map Says) (named_apart side (number == other) line apart)
 
-  pub control_apart : (other : ℕ) (front : List Entry) (line : Entry) → IsOwnLine side number line → (number == other) ≡ false
-      → control_on side other (front ++ line ∷ []) ≡ control_on side other front
-  control_apart other front line own apart =
-      control_more side other front line
-      ∙ quiet_line side other front (control_on side other front) line (seen_apart other front line own apart)
+  pub keyed_apart : (other : ℕ) (front : List Entry) (line : Entry) → IsOwnLine side number line → (number == other) ≡ false
+      → keyed_on side other (front ++ line ∷ []) ≡ keyed_on side other front
+  keyed_apart other front line own apart =
+      keyed_more side other front line
+      ∙ quiet_line side other front (keyed_on side other front) line (seen_apart other front line own apart)
       (unanswered_in side other front line (own.unaccepted front))
 
   -- lines that are due are those of one link
@@ -93,16 +97,16 @@ turn_stays front line none =
 
 -- a line of an end that has no line due after it
 pub quiet_own : (side : Side) (number : ℕ) (front : List Entry) (line : Entry) → IsOwnLine side number line → (other : ℕ) → lines_due side other front ≡ []
-    → (saying : (slot : ℕ) (c : Control) (due : List Entry) → due ≡ [] → due_saying side number slot c due line ≡ [])
-    → (c : Control) → control_on side number front ≡ Some c → lines_due side other (front ++ line ∷ []) ≡ []
-quiet_own side number front line own other none saying c is = by (number == other) refl
+    → (saying : (response : Response) (slot : ℕ) (k : Keyed) (due : List Entry) → due ≡ [] → due_saying side number response slot k due line ≡ [])
+    → (k : Keyed) → keyed_on side number front ≡ Some k → lines_due side other (front ++ line ∷ []) ≡ []
+quiet_own side number front line own other none saying k is = by (number == other) refl
   where
     by : (same : Bool) → (number == other) ≡ same → lines_due side other (front ++ line ∷ []) ≡ []
     by true same =
         let one = eqb-true number other same in
         ap (λ n. lines_due side n (front ++ line ∷ [])) (sym one)
-        ∙ said_due side number front line c is (seen_own side number front line own)
-        ∙ saying (turn_now front) c (lines_due side number front) (ap (λ n. lines_due side n front) one ∙ none)
+        ∙ said_due side number front line k is (seen_own side number front line own)
+        ∙ saying (drawn_by side front) (turn_now front) k (lines_due side number front) (ap (λ n. lines_due side n front) one ∙ none)
     by false same = quiet_due side other front line (seen_apart side number other front line own same) ∙ none
 
 -- ---- lines of procedures, each of which is due
@@ -110,49 +114,49 @@ quiet_own side number front line own other none saying c is = by (number == othe
 pub record IsProcedureLine (side : Side) (number : ℕ) (line : Entry) : Type 0 where
   pub line_is : IsOwnLine side number line
   pub is : (other : ℕ) → procedure_line other line ≡ line_if (number == other) line
-  pub drops : (slot : ℕ) (control : Control) (due : List Entry) → due_saying side number slot control due line ≡ drop 1 due
+  pub drops : (response : Response) (slot : ℕ) (k : Keyed) (due : List Entry) → due_saying side number response slot k due line ≡ drop 1 due
   pub none : applied_in line ≡ None
   pub quiet : (front : List Entry) → applied_by side front line ≡ None
-  pub still : (front : List Entry) (control : Control) → control_on side number front ≡ Some control → control_on side number (front ++ line ∷ []) ≡ Some control
+  pub still : (front : List Entry) (k : Keyed) → keyed_on side number front ≡ Some k → keyed_on side number (front ++ line ∷ []) ≡ Some k
 
--- a line that moves no control part
-pub still_if : (side : Side) (number : ℕ) (line : Entry) (front : List Entry) (c : Control) → IsOwnLine side number line
-    → control_after side number front (Some c) line ≡ Some (after_all (flat_map (steps_seen side number front line c) (seen_in_line side number front line)) c)
-    → flat_map (steps_seen side number front line c) (Says line ∷ []) ≡ [] → control_on side number front ≡ Some c → control_on side number (front ++ line ∷ []) ≡ Some c
-still_if side number line front c own moved none is =
-    control_more side number front line ∙ ap (λ before. control_after side number front before line) is ∙ moved
-    ∙ ap (λ seen. Some (after_all (flat_map (steps_seen side number front line c) seen) c)) (seen_own side number front line own)
-    ∙ ap (λ steps. Some (after_all steps c)) none
+-- a line that moves nothing of an end
+pub still_if : (side : Side) (number : ℕ) (line : Entry) (front : List Entry) (k : Keyed) → IsOwnLine side number line
+    → keyed_in_line (drawn_by side) side number front (Some k) line ≡ Some (keyed_by_all (flat_map (steps_seen (drawn_by side) side number front line k) (seen_in_line side number front line)) k)
+    → flat_map (steps_seen (drawn_by side) side number front line k) (Says line ∷ []) ≡ [] → keyed_on side number front ≡ Some k → keyed_on side number (front ++ line ∷ []) ≡ Some k
+still_if side number line front k own moved none is =
+    keyed_more side number front line ∙ ap (λ before. keyed_in_line (drawn_by side) side number front before line) is ∙ moved
+    ∙ ap (λ seen. Some (keyed_by_all (flat_map (steps_seen (drawn_by side) side number front line k) seen) k)) (seen_own side number front line own)
+    ∙ ap (λ steps. Some (keyed_by_all steps k)) none
 
 module _ (side : Side) (number : ℕ) where
   began_line : (kind : Kind) → IsProcedureLine side number (Began side number kind)
   began_line kind = let own : IsOwnLine side number (Began side number kind) = record { named = refl; deaf = λ other front. refl; unaccepted = λ front. refl; own = refl; no_turn = refl } in record {
     line_is = own;
     is = λ other. refl;
-    drops = λ slot control due. refl;
+    drops = λ response slot k due. refl;
     none = refl;
     quiet = λ front. refl;
-    still = λ front c is. still_if side number (Began side number kind) front c own refl refl is;
+    still = λ front k is. still_if side number (Began side number kind) front k own refl refl is;
   }
 
   done_line : (kind : Kind) → IsProcedureLine side number (Done side number kind)
   done_line kind = let own : IsOwnLine side number (Done side number kind) = record { named = refl; deaf = λ other front. refl; unaccepted = λ front. refl; own = refl; no_turn = refl } in record {
     line_is = own;
     is = λ other. refl;
-    drops = λ slot control due. refl;
+    drops = λ response slot k due. refl;
     none = refl;
     quiet = λ front. refl;
-    still = λ front c is. still_if side number (Done side number kind) front c own refl refl is;
+    still = λ front k is. still_if side number (Done side number kind) front k own refl refl is;
   }
 
   refused_line : (kind : Kind) (code : ErrCode) → IsProcedureLine side number (Refused side number kind code)
   refused_line kind code = let own : IsOwnLine side number (Refused side number kind code) = record { named = refl; deaf = λ other front. refl; unaccepted = λ front. refl; own = refl; no_turn = refl } in record {
     line_is = own;
     is = λ other. refl;
-    drops = λ slot control due. refl;
+    drops = λ response slot k due. refl;
     none = refl;
     quiet = λ front. refl;
-    still = λ front c is. still_if side number (Refused side number kind code) front c own refl refl is;
+    still = λ front k is. still_if side number (Refused side number kind code) front k own refl refl is;
   }
 
   abbrev pub AreProcedureLines : List Entry → Type 0
@@ -177,31 +181,42 @@ module _ (side : Side) (number : ℕ) where
   pub given_lines : (handle : ℕ) (given : Taken) → AreProcedureLines (map (line_of side number) (given_notes handle given))
   given_lines handle given = both_lines handle given.refused given.done
 
-  -- lines of an end, each of which is due, with the control part after them
-  pub record AreTold (front lines : List Entry) (control : Control) : Type 0 where
+  -- those of a PDU that is taken, and of one that was kept
+  pub taking_lines : (handle : ℕ) (given : TakenKeyed) → AreProcedureLines (map (line_of side number) (notes_given handle given))
+  taking_lines handle given =
+      subst AreProcedureLines (sym (map-append (line_of side number) (given_notes handle given.taken) (given_notes handle given.kept)))
+      (both_all (map (line_of side number) (given_notes handle given.taken)) (map (line_of side number) (given_notes handle given.kept))
+      (given_lines handle given.taken) (given_lines handle given.kept))
+    where
+      both_all : (lines more : List Entry) → AreProcedureLines lines → AreProcedureLines more → AreProcedureLines (lines ++ more)
+      both_all [] more here there = there
+      both_all (line ∷ lines) more here there = (here.0, both_all lines more here.1 there)
+
+  -- lines of an end, each of which is due, with the end after them
+  pub record AreTold (front lines : List Entry) (k : Keyed) : Type 0 where
     pub each : AreDueLines side front lines
     pub left : IsDueOn side number [] (front ++ lines)
-    pub control_is : control_on side number (front ++ lines) ≡ Some control
+    pub keyed_is : keyed_on side number (front ++ lines) ≡ Some k
     pub turn_is : turn_now (front ++ lines) ≡ turn_now front
 
   first_due : (same : Bool) (line : Entry) (due : List Entry) → line_if same line ≡ first_of (if same then line ∷ due else [])
   first_due true line due = refl
   first_due false line due = refl
 
-  pub each_told : (front lines : List Entry) (c : Control) → AreProcedureLines lines → control_on side number front ≡ Some c → IsDueOn side number lines front → AreTold front lines c
-  each_told front [] c all is on = record {
+  pub each_told : (front lines : List Entry) (k : Keyed) → AreProcedureLines lines → keyed_on side number front ≡ Some k → IsDueOn side number lines front → AreTold front lines k
+  each_told front [] k all is on = record {
     each = tt;
     left = subst (λ xs. IsDueOn side number [] xs) (sym (append-nil front)) on;
-    control_is = ap (control_on side number) (append-nil front) ∙ is;
+    keyed_is = ap (keyed_on side number) (append-nil front) ∙ is;
     turn_is = ap turn_now (append-nil front);
   }
-  each_told front (line ∷ lines) c all is on =
+  each_told front (line ∷ lines) k all is on =
       let one = all.0 in
       let next = front ++ line ∷ [] in
       let joins = append_assoc front (line ∷ []) lines in
-      let due = said_due side number front line c is (seen_own side number front line one.line_is) ∙ one.drops (turn_now front) c (lines_due side number front)
+      let due = said_due side number front line k is (seen_own side number front line one.line_is) ∙ one.drops (drawn_by side front) (turn_now front) k (lines_due side number front)
       ∙ ap (drop 1) (own_due side number front (line ∷ lines) on) in
-      let rest = each_told next lines c all.1 (one.still front c is)
+      let rest = each_told next lines k all.1 (one.still front k is)
       (after_own side number front lines line one.line_is (apart_none side number front (line ∷ lines) on) due one.none) in record {
         each = (
           λ own. record {
@@ -211,6 +226,6 @@ module _ (side : Side) (number : ℕ) where
           rest.each,
         );
         left = subst (λ xs. IsDueOn side number [] xs) joins rest.left;
-        control_is = ap (control_on side number) (sym joins) ∙ rest.control_is;
+        keyed_is = ap (keyed_on side number) (sym joins) ∙ rest.keyed_is;
         turn_is = ap turn_now (sym joins) ∙ rest.turn_is ∙ turn_stays front line one.line_is.no_turn;
       }

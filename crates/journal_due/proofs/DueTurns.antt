@@ -29,18 +29,18 @@ use Rattle.journal_controls.specs.run_model.Readers.{of_side}
 use Rattle.journal_controls.specs.journal_links.LinkLines.{line_of}
 use Rattle.journal_controls.specs.link_model.End.{notes_after}
 use Rattle.journal_controls.specs.link_model.Entering.{facts_entered}
+use Rattle.journal_controls.specs.link_model.Facts.{keyed_of}
 use Rattle.journal_controls.specs.link_model.Step.{EventEntered}
-use Rattle.journal_controls.proofs.link_model.Plain.{past_plain}
 use Rattle.journal_controls.specs.journal_ends.open_links.OpenLinks.{Links, OpenLink, facts_in, link_from}
 use Rattle.journal_controls.specs.journal_ends.open_links.Turns.{enters_in, notes_if}
 use Rattle.journal_controls.specs.run_model.Journal.{entry_of}
-use Rattle.journal_controls.specs.LineSteps.{control_on, turn_now}
-use Rattle.journal_controls.proofs.LineFolds.{control_more, quiet_line}
+use Rattle.journal_controls.specs.LineSteps.{keyed_on, turn_now}
+use Rattle.journal_controls.proofs.LineFolds.{keyed_more, quiet_line}
 use Rattle.journal_controls.proofs.journal_acks.TwoStations.{same_number}
 use Rattle.journal_due.specs.ProcedureLines.{RestsAt}
 use Rattle.journal_due.proofs.DueEntries.{AreAllTold, entering_told, no_lines, told_both}
 use Rattle.journal_due.proofs.DuePlain.{IsPlain, IsPlainLine, note_plain, plain_told}
-use Rattle.journal_due.proofs.DueSteps.{IsOwnLine, control_apart}
+use Rattle.journal_due.proofs.DueSteps.{IsOwnLine, keyed_apart}
 
 -- ---- the links by handle, from one on
 
@@ -121,29 +121,29 @@ module _ (side : Side) (link_of : ℕ → ℕ) (last : ℕ) where
       by false later = later
 
   pub events_keep : (view : View) (events : List Event) (front : List Entry) (number : ℕ) → AllByRecursion IsNoAnswer events
-      → control_on side number (front ++ map line (notes_of_events view events)) ≡ control_on side number front
+      → keyed_on side number (front ++ map line (notes_of_events view events)) ≡ keyed_on side number front
   events_keep view events front number are = by (filter (λ event. passes view (mask_bit_of event)) events) front (passed_no_answers view events are)
     where
       by : (events : List Event) (front : List Entry) → AllByRecursion IsNoAnswer events
-          → control_on side number (front ++ map line (map (λ event. Up (record { items = written event })) events)) ≡ control_on side number front
-      by [] front are = ap (control_on side number) (append-nil front)
+          → keyed_on side number (front ++ map line (map (λ event. Up (record { items = written event })) events)) ≡ keyed_on side number front
+      by [] front are = ap (keyed_on side number) (append-nil front)
       by (event ∷ events) front are =
           let up = line (Up (record { items = written event })) in
-          ap (control_on side number) (sym (append_assoc front (up ∷ []) _))
+          ap (keyed_on side number) (sym (append_assoc front (up ∷ []) _))
           ∙ by events (front ++ up ∷ []) are.1
-          ∙ control_more side number front up
-          ∙ quiet_line side number front (control_on side number front) up (event_silent front number event are.0)
+          ∙ keyed_more side number front up
+          ∙ quiet_line side number front (keyed_on side number front) up (event_silent front number event are.0)
           (unanswered_in side number front up (event_accepts front event are.0))
 
   -- ---- an event of one link
 
   own_keep : (own other : ℕ) (lines front : List Entry) → AllByRecursion (IsOwnLine side own) lines → (own == other) ≡ false
-      → control_on side other (front ++ lines) ≡ control_on side other front
-  own_keep own other [] front all apart = ap (control_on side other) (append-nil front)
+      → keyed_on side other (front ++ lines) ≡ keyed_on side other front
+  own_keep own other [] front all apart = ap (keyed_on side other) (append-nil front)
   own_keep own other (one ∷ lines) front all apart =
-      ap (control_on side other) (sym (append_assoc front (one ∷ []) lines))
+      ap (keyed_on side other) (sym (append_assoc front (one ∷ []) lines))
       ∙ own_keep own other lines (front ++ one ∷ []) all.1 apart
-      ∙ control_apart side own other front one all.0 apart
+      ∙ keyed_apart side own other front one all.0 apart
 
   -- its lines are those of its notes
   pub same_lines : (handle : ℕ) (notes : List Note) → AllByRecursion (λ note. line note ≡ line_of side (link_of handle) note) notes
@@ -181,25 +181,25 @@ module _ (side : Side) (link_of : ℕ → ℕ) (last : ℕ) where
       }
 
   entry_told : (handle slot : ℕ) (enters : Bool) (link : OpenLink) (front : List Entry) → turn_now front ≡ slot → link.setup.link.handle ≡ handle
-      → control_on side (link_of handle) front ≡ Some (facts_in link).control → RestsAt side front → AreAllTold side front (map line (notes_if enters slot link))
-  entry_told handle slot false link front now is control rests = no_lines side front rests
-  entry_told handle slot true link front now is control rests =
+      → keyed_on side (link_of handle) front ≡ Some (keyed_of (facts_in link)) → RestsAt side front → AreAllTold side front (map line (notes_if enters slot link))
+  entry_told handle slot false link front now is keyed rests = no_lines side front rests
+  entry_told handle slot true link front now is keyed rests =
       subst (λ lines. AreAllTold side front lines) (sym (entry_of_link handle slot true link is).lines_are)
       (subst (λ one. AreAllTold side front (map (line_of side (link_of handle)) (notes_after link.setup (facts_in link) (EventEntered one)))) now
-      (entering_told side (link_of handle) link.setup (facts_in link) front (past_plain link.setup link.past) control rests))
+      (entering_told side (link_of handle) link.setup (facts_in link) front keyed rests))
 
   -- ---- all links enter their events
 
-  -- the open links from a handle on: their handles and numbers, and their control parts by the lines so far
+  -- the open links from a handle on: their handles and numbers, and what they are by the lines so far
   pub record AreKnownFrom (first : ℕ) (links : Links) (front : List Entry) : Type 0 where
     pub handles : (handle : ℕ) (link : OpenLink) → link_from first handle links ≡ Some link → link.setup.link.handle ≡ handle
-    pub controls : (handle : ℕ) (link : OpenLink) → link_from first handle links ≡ Some link → control_on side (link_of handle) front ≡ Some (facts_in link).control
+    pub controls : (handle : ℕ) (link : OpenLink) → link_from first handle links ≡ Some link → keyed_on side (link_of handle) front ≡ Some (keyed_of (facts_in link))
     pub numbers : (one other : ℕ) (a b : OpenLink) → link_from first one links ≡ Some a → link_from first other links ≡ Some b → (one == other) ≡ false
         → (link_of one == link_of other) ≡ false
 
-  -- the later ones, by lines that move no control part of them
+  -- the later ones, by lines that move none of them
   later_known : (first : ℕ) (place : Option OpenLink) (links : Links) (front after : List Entry) → AreKnownFrom first (place ∷ links) front
-      → ((handle : ℕ) (link : OpenLink) → link_from (first + 1) handle links ≡ Some link → control_on side (link_of handle) after ≡ control_on side (link_of handle) front)
+      → ((handle : ℕ) (link : OpenLink) → link_from (first + 1) handle links ≡ Some link → keyed_on side (link_of handle) after ≡ keyed_on side (link_of handle) front)
       → AreKnownFrom (first + 1) links after
   later_known first place links front after known keep = record {
     handles = λ handle link at. known.handles handle link (at_later first handle place links link at);

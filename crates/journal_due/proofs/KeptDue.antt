@@ -19,10 +19,11 @@ use Rattle.journal_controls.proofs.controller_model.open_links.Handles.{handle_i
 use Rattle.data_pdu.specs.Header.{header_in}
 use Rattle.journal.specs.declared.entries.Entry.TheVariants.{Fed}
 use Rattle.radio_replay.specs.declared.fates.Fate.{Fate}
-use Rattle.journal_controls.specs.LineSteps.{control_on, turn_now}
+use Rattle.journal_controls.specs.LineSteps.{keyed_on, turn_now}
 use Rattle.journal_controls.specs.LinesDue.{due_hearing}
 use Rattle.journal_controls.specs.journal_acks.link_calls.Uses.{listens_under}
 use Rattle.journal_controls.specs.journal_packets.Belonging.{is_side}
+use Rattle.journal_controls.specs.link_model.Facts.{keyed_of}
 use Rattle.journal_controls.specs.link_model.Packets.{good_pdu}
 use Rattle.journal_controls.specs.link_model.Receiving.{acks_control, facts_before_taking, has_acknowledged}
 use Rattle.journal_controls.specs.run_model.Due.{Each}
@@ -67,21 +68,21 @@ use Rattle.journal_due.proofs.DuePhases.{heard_plain, plain_feeds, unheard_plain
 use Rattle.journal_due.proofs.DuePlain.{IsPlain, IsPlainLine, StaysDue}
 use Rattle.journal_due.proofs.DueSides.{AreDueBy, IsTold, OpensNo, PassesBy, lines_called, other_called, other_each, other_event, plain_called, plain_event, rests_stay, told_lines}
 
--- what the control part of an open end is by the journal, before the calls and the packets of a run
+-- what an open end is by the journal, before the calls and the packets of a run
 pub record KnowsControls (given : Given) : Type 0 where
   pub begins : (before rest : List Event) (station slot : ℕ) (on : Bool) (handle : ℕ) (link : OpenLink) → history_of (run_of given) ≡ before ++ Called station (TurnBegins slot on) ∷ rest
       → is_in station given.stations ≡ true → link_at handle (facts_at given station before).links ≡ Some link
-      → control_on (side_of station) (number_at station handle before) (journal_of before) ≡ Some (facts_in link).control
+      → keyed_on (side_of station) (number_at station handle before) (journal_of before) ≡ Some (keyed_of (facts_in link))
   pub hears : (before rest : List Event) (station : ℕ) (octets pdu : List ℕ) (handle : ℕ) (link : OpenLink)
       → history_of (run_of given) ≡ before ++ Called station (PacketHeard octets) ∷ rest → is_in station given.stations ≡ true
       → listens_under handle (facts_at given station before).turn.doing ≡ true → link_at handle (facts_at given station before).links ≡ Some link
       → good_pdu link.setup (facts_in link) octets ≡ Some pdu
-      → control_on (side_of station) (number_at station handle before) (journal_of before)
-      ≡ Some (facts_before_taking link.setup.link.role (facts_at given station before).turn.slot (header_in pdu) (facts_in link)).control
+      → keyed_on (side_of station) (number_at station handle before) (journal_of before)
+      ≡ Some (keyed_of (facts_before_taking link.setup.link.role (facts_at given station before).turn.slot (header_in pdu) (facts_in link)))
   pub packets : (before rest : List Event) (sender channel : ℕ) (octets : List ℕ) (hearings : List Hearing) (station handle : ℕ) (link : OpenLink)
       → history_of (run_of given) ≡ before ++ Transmitted sender channel octets hearings ∷ rest → is_in station given.stations ≡ true
       → link_at handle (facts_at given station before).links ≡ Some link
-      → control_on (side_of station) (number_at station handle before) (journal_of before) ≡ Some (facts_in link).control
+      → keyed_on (side_of station) (number_at station handle before) (journal_of before) ≡ Some (keyed_of (facts_in link))
 
 -- ---- what is kept
 

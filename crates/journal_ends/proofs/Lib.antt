@@ -4,6 +4,7 @@ pub mod PastSeen
 pub mod GrownLinks
 pub mod HostedLinks
 pub mod StandingLinks
+pub mod PeersTaken
 pub mod PeersKnown
 pub mod SeenEvents
 pub mod AskedCalls

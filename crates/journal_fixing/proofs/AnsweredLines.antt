@@ -22,14 +22,14 @@ use Rattle.journal_controls.specs.link_model.Acknowledgement.{Pdu, is_acked}
 use Rattle.journal_controls.specs.link_model.Controls.{pdu_fixed}
 use Rattle.journal_controls.specs.link_model.Data.{is_empty, next_piece, numbered}
 use Rattle.journal_controls.specs.link_model.End.{facts_after as end_after}
-use Rattle.journal_controls.specs.link_model.Facts.{Facts as EndFacts}
+use Rattle.journal_controls.specs.link_model.Facts.{Facts as EndFacts, keyed_of}
 use Rattle.journal_controls.specs.link_model.Fixing.{data_cut}
 use Rattle.journal_controls.specs.link_model.Packets.{good_pdu}
 use Rattle.journal_controls.specs.link_model.Receiving.{replies_by, replies_of}
 use Rattle.journal_controls.specs.link_model.Sending.{sent_notes_if}
 use Rattle.journal_controls.specs.link_model.Setup.{Setup as EndSetup}
 use Rattle.journal_controls.specs.link_model.Step.{PacketReceived}
-use Rattle.journal_controls.specs.link_model.control_model.Control.{Control}
+use Rattle.journal_controls.specs.link_model.keyed_control.Keyed.{Keyed}
 use Rattle.journal_controls.specs.run_model.History.{Event, Called, Noted, past_of}
 use Rattle.journal_controls.specs.run_model.Journal.{journal_of, side_of}
 use Rattle.journal_controls.specs.run_model.LinkEnds.{HaveAddresses}
@@ -85,10 +85,11 @@ note_in : (P : Note → Type 0) (earlier later : List Note) (note : Note) → Al
 note_in P [] later note all = All-head P note later all
 note_in P (first ∷ earlier) later note all = note_in P earlier later note (All-tail P first (earlier ++ note ∷ later) all)
 
-record IsReply (setup : EndSetup) (facts : EndFacts) (octets : List ℕ) : Type 0 where
-  role : setup.link.role ≡ Peripheral
-  pdu : List ℕ
-  good : good_pdu setup facts octets ≡ Some pdu
+-- an end that replies is a peripheral, and the packet is good
+pub record IsReply (setup : EndSetup) (facts : EndFacts) (octets : List ℕ) : Type 0 where
+  pub role : setup.link.role ≡ Peripheral
+  pub pdu : List ℕ
+  pub good : good_pdu setup facts octets ≡ Some pdu
 
 reply_by : (setup : EndSetup) (facts : EndFacts) (octets : List ℕ) (role : Role) (ended : Bool) (found : Option (List ℕ)) → setup.link.role ≡ role → good_pdu setup facts octets ≡ found
     → replies_by role ended found ≡ true → IsReply setup facts octets
@@ -96,7 +97,7 @@ reply_by setup facts octets Central ended found role_is good is = absurd cc
 reply_by setup facts octets Peripheral ended None role_is good is = absurd cc
 reply_by setup facts octets Peripheral ended (Some pdu) role_is good is = record { role = role_is; pdu = pdu; good = good }
 
-replies_as : (setup : EndSetup) (facts : EndFacts) (slot : ℕ) (octets : List ℕ) (room : Bool) → replies_of setup facts slot octets room ≡ true → IsReply setup facts octets
+pub replies_as : (setup : EndSetup) (facts : EndFacts) (slot : ℕ) (octets : List ℕ) (room : Bool) → replies_of setup facts slot octets room ≡ true → IsReply setup facts octets
 unfolding replies_of
 replies_as setup facts slot octets room is = reply_by setup facts octets setup.link.role _ (good_pdu setup facts octets) refl refl is
 
@@ -239,12 +240,12 @@ module _ (heard_whole : IsHeardWhole) (understood : IsUnderstood) (taken : AreTa
       ap (number_at station handle) (sym (append_assoc before (Called station (PacketHeard octets) ∷ []) (map (Noted station) earlier)))
       ∙ number_notes station handle (PacketHeard octets) before earlier answer.opens
 
-  pub fixing_in_answer : control_fixing side (number_at station handle now) (journal_of now) ≡ Some (facts_fixing link.setup link.past).control
+  pub fixing_in_answer : control_fixing side (number_at station handle now) (journal_of now) ≡ Some (keyed_of (facts_fixing link.setup link.past))
   fixing_in_answer =
       ap (λ n. control_fixing side n (journal_of now)) number
       ∙ fixing_in_call heard_whole understood taken nth apart given are_two six before rest octets answer.reply.pdu earlier station handle link in_it at is_open answer.on answer.reply.role answer.reply.good
 
-  pub pdu_in_answer : (fixing going : Control) → control_fixing side (number_at station handle now) (journal_of now) ≡ Some fixing
+  pub pdu_in_answer : (fixing going : Keyed) → control_fixing side (number_at station handle now) (journal_of now) ≡ Some fixing
       → control_going side (number_at station handle now) (journal_of now) ≡ Some going → said ≡ pdu_next fixing going (next_piece (data_cut (facts_fixing link.setup link.past)))
   pdu_in_answer fixing going fixes goes =
       let facts = facts_at given station before in

@@ -1,5 +1,5 @@
 -- What a peripheral sends that hears a packet after it fixed its PDU.
-use Rattle.std.proofs.Common.{◌≡◌, ℕ, ◌+◌, ◌≤◌, ◌&&◌, nat_lt, not, Bool, true, false, Some, List, refl, ap, sym, ◌∙◌, arith, if◌then◌else◌}
+use Rattle.std.proofs.Common.{◌≡◌, ℕ, ◌≤◌, ◌&&◌, not, Bool, true, false, Some, List, refl, ap, sym, ◌∙◌, if◌then◌else◌}
 use Rattle.ble_base.specs.declared.roles.Role.{Role}
 use Rattle.ble_base.specs.declared.roles.Role.TheVariants.{Peripheral}
 use Rattle.ack_bit.specs.AckBits.{acknowledges}
@@ -9,20 +9,19 @@ use Rattle.journal_controls.specs.LineSteps.{is_more_acked}
 use Rattle.journal_controls.specs.OneEnd.{IsToldOf}
 use Rattle.journal_controls.specs.journal_acks.Exchange.{Exchanged}
 use Rattle.journal_controls.specs.link_model.Acknowledgement.{Pdu, bits_of, is_acked}
-use Rattle.journal_controls.specs.link_model.Controls.{is_procedure_pdu, is_quiet_now, next_control, pdu_fixed, pdu_of_control}
+use Rattle.journal_controls.specs.link_model.Controls.{is_procedure_pdu, next_control, pdu_fixed, pdu_of_control}
 use Rattle.journal_controls.specs.link_model.Data.{Data, data_acked_if, is_control, is_data, is_empty, next_piece}
 use Rattle.journal_controls.specs.link_model.End.{facts_after}
-use Rattle.journal_controls.specs.link_model.Facts.{Facts}
+use Rattle.journal_controls.specs.link_model.Facts.{Facts, keyed_of}
 use Rattle.journal_controls.specs.link_model.Packets.{good_pdu, more_sent, pdu_sent}
-use Rattle.journal_controls.specs.link_model.Plain.{IsPlain, control_acked_if, plain_accepted_if as accepted_if, plain_acknowledged_if as acknowledged_if, plain_before_taking as facts_before_taking, plain_hearing as facts_hearing, plain_takes_if as procedures_take_if}
-use Rattle.journal_controls.specs.link_model.Receiving.{accepts, acks_control, facts_received, has_acknowledged, heard_in_slot}
+use Rattle.journal_controls.specs.link_model.Receiving.{accepted_if, accepts, acknowledged_if, acks_control, data_taken_if, facts_before_taking, facts_hearing, has_acknowledged, heard_in_slot, keyed_acked_if, procedures_take_if}
 use Rattle.journal_controls.specs.link_model.Sending.{control_gone_if, takes_leave}
 use Rattle.journal_controls.specs.link_model.Setup.{Setup}
 use Rattle.journal_controls.specs.link_model.Step.{PacketReceived}
 use Rattle.journal_controls.specs.link_model.Verdicts.{pdu_of}
-use Rattle.journal_controls.specs.link_model.control_model.Control.{Control}
-use Rattle.journal_controls.proofs.CentralFixed.{acked_free, gone_acked}
-use Rattle.journal_controls.proofs.link_model.Plain.{hearing_plain, quiet_plain, received_plain, step_plain}
+use Rattle.journal_controls.specs.link_model.keyed_control.Keyed.{Keyed}
+use Rattle.journal_controls.proofs.CentralFixed.{acked_free, data_free, gone_acked, taking_free}
+use Rattle.journal_controls.proofs.EndSteps.{acks_by, left_of, not_true, received_is}
 use Rattle.journal_fixing.specs.NextPdu.{IsFixedBy, data_waits, data_waits_after, more_with_new, more_with_old, pdu_next}
 use Rattle.journal_fixing.proofs.FixedPdus.{fixed_next, more_fixed, more_old}
 
@@ -44,9 +43,13 @@ taken_fixes : (takes : Bool) (pdu : Pdu) (slot : ℕ) (facts : Facts) → (proce
 taken_fixes true pdu slot facts = refl
 taken_fixes false pdu slot facts = refl
 
-taken_outgoing : (takes : Bool) (pdu : Pdu) (slot : ℕ) (facts : Facts) → (procedures_take_if takes pdu slot facts).outgoing ≡ facts.outgoing
-taken_outgoing true pdu slot facts = refl
-taken_outgoing false pdu slot facts = refl
+data_acked : (takes : Bool) (facts : Facts) → is_acked (data_taken_if takes facts).acknowledgement ≡ is_acked facts.acknowledgement
+data_acked true facts = refl
+data_acked false facts = refl
+
+data_fixes : (takes : Bool) (facts : Facts) → (data_taken_if takes facts).fixes_control ≡ facts.fixes_control
+data_fixes true facts = refl
+data_fixes false facts = refl
 
 -- where the last PDU is acknowledged, the fixed one is a PDU from then on
 gone_fixes : (fixes : Bool) (slot : ℕ) (facts : Facts) → facts.fixes_control ≡ fixes → (control_gone_if fixes slot facts).fixes_control ≡ false
@@ -57,7 +60,7 @@ gone_fixed : (fixes : Bool) (slot : ℕ) (facts : Facts) → facts.fixes_control
 gone_fixed true slot facts is = refl
 gone_fixed false slot facts is = sym (ap (λ b. if b then pdu_of_control (next_control facts) else facts.outgoing.fixed) is)
 
-module _ (fixing : Control) (outgoing : Data) (facts : Facts) (is : IsFixedBy fixing outgoing facts) (quiet : is_quiet_now facts ≡ true)
+module _ (fixing : Keyed) (outgoing : Data) (facts : Facts) (is : IsFixedBy fixing outgoing facts)
     (slot : ℕ) (room : Bool) (header : DataHeader) (pdu : Pdu) where
   abbrev acks : Bool
   acks = has_acknowledged facts header
@@ -74,6 +77,12 @@ module _ (fixing : Control) (outgoing : Data) (facts : Facts) (is : IsFixedBy fi
   abbrev takes : Bool
   takes = accepted && is_procedure_pdu pdu
 
+  abbrev carries : Bool
+  carries = accepted && is_data pdu
+
+  abbrev seen : Facts
+  seen = procedures_take_if takes pdu slot (accepted_if accepted pdu untaken)
+
   abbrev heard : Facts
   heard = facts_hearing Peripheral slot room header pdu facts
 
@@ -87,13 +96,13 @@ module _ (fixing : Control) (outgoing : Data) (facts : Facts) (is : IsFixedBy fi
       }
 
   heard_acked : is_acked heard.acknowledgement ≡ is_acked own.acknowledgement
-  heard_acked = taken_acked takes pdu slot (accepted_if accepted pdu untaken) ∙ gone_acked (takes_leave own) slot own
+  heard_acked = data_acked carries seen ∙ taken_acked takes pdu slot (accepted_if accepted pdu untaken) ∙ gone_acked (takes_leave own) slot own
 
   heard_outgoing : heard.outgoing ≡ untaken.outgoing
-  heard_outgoing = taken_outgoing takes pdu slot (accepted_if accepted pdu untaken)
+  heard_outgoing = data_free carries seen ∙ taking_free takes pdu slot (accepted_if accepted pdu untaken)
 
   heard_fixes : heard.fixes_control ≡ untaken.fixes_control
-  heard_fixes = taken_fixes takes pdu slot (accepted_if accepted pdu untaken)
+  heard_fixes = data_fixes carries seen ∙ taken_fixes takes pdu slot (accepted_if accepted pdu untaken)
 
   -- the last PDU is acknowledged
   leaves : is_acked heard.acknowledgement ≡ true → takes_leave own ≡ own.fixes_control
@@ -108,15 +117,15 @@ module _ (fixing : Control) (outgoing : Data) (facts : Facts) (is : IsFixedBy fi
       ∙ ap (λ b. (control_gone_if b slot own).outgoing.fixed) gone
       ∙ gone_fixed own.fixes_control slot own refl
 
-  new_heard : is_acked heard.acknowledgement ≡ true → pdu_sent heard ≡ pdu_next fixing own.control (next_piece outgoing)
+  new_heard : is_acked heard.acknowledgement ≡ true → pdu_sent heard ≡ pdu_next fixing (keyed_of own) (next_piece outgoing)
   new_heard acked =
-      ap (λ b. if b then pdu_fixed heard else heard.acknowledgement.last) acked ∙ heard_pdu acked ∙ fixed_next fixing outgoing own own_fixed quiet
+      ap (λ b. if b then pdu_fixed heard else heard.acknowledgement.last) acked ∙ heard_pdu acked ∙ fixed_next fixing outgoing own own_fixed
 
   more_heard : is_acked heard.acknowledgement ≡ true → more_sent heard ≡ more_with_new fixing (data_waits_after (pdu_sent heard) outgoing)
   more_heard acked =
       ap (λ b. if b then heard.outgoing.more else not (is_empty (pdu_fixed heard))) acked
       ∙ ap (λ (o : Data). o.more) heard_outgoing ∙ gone_more (takes_leave own) slot own
-      ∙ more_fixed fixing outgoing own own_fixed quiet own.control
+      ∙ more_fixed fixing outgoing own own_fixed (keyed_of own)
       ∙ ap (λ one. more_with_new fixing (data_waits_after one outgoing)) (sym (new_heard acked))
 
   -- it is not
@@ -132,66 +141,41 @@ module _ (fixing : Control) (outgoing : Data) (facts : Facts) (is : IsFixedBy fi
 
 -- ---- a good packet
 
-module _ (setup : Setup) (facts : Facts) (slot : ℕ) (octets pdu : List ℕ) (room : Bool) (fixing : Control) (outgoing : Data)
-    (role : setup.link.role ≡ Peripheral) (is : IsFixedBy fixing outgoing facts) (good : good_pdu setup facts octets ≡ Some pdu) (plain : IsPlain setup.link.role facts) where
+module _ (setup : Setup) (facts : Facts) (slot : ℕ) (octets pdu : List ℕ) (room : Bool) (fixing : Keyed) (outgoing : Data)
+    (role : setup.link.role ≡ Peripheral) (is : IsFixedBy fixing outgoing facts) (good : good_pdu setup facts octets ≡ Some pdu) where
   abbrev answering : Facts
   answering = facts_after setup facts (PacketReceived slot octets room)
 
   answering_is : answering ≡ facts_hearing Peripheral slot room (header_in pdu) (pdu_of pdu) facts
   answering_is =
-      received_plain setup facts slot octets room plain ∙ (λ i. facts_received (role i) slot room (good i) facts)
-      ∙ hearing_plain setup.link.role Peripheral slot room (header_in pdu) (pdu_of pdu) facts plain
+      received_is setup facts slot octets pdu room good
+      ∙ ap (λ one. facts_hearing one slot room (header_in pdu) (pdu_of pdu) facts) role
 
-  quiet : is_quiet_now facts ≡ true
-  quiet = quiet_plain setup.link.role facts plain
-
-  abbrev going : Control
-  going = control_acked_if (acks_control (has_acknowledged facts (header_in pdu)) facts) facts.control
+  abbrev going : Keyed
+  going = keyed_acked_if (acks_control (has_acknowledged facts (header_in pdu)) facts) (keyed_of facts)
 
   acked_heard : (value : Bool) → is_acked answering.acknowledgement ≡ value
       → is_acked (facts_hearing Peripheral slot room (header_in pdu) (pdu_of pdu) facts).acknowledgement ≡ value
   acked_heard value acked = sym (ap (λ (f : Facts). is_acked f.acknowledgement) answering_is) ∙ acked
 
   pub answer_new : is_acked answering.acknowledgement ≡ true → pdu_sent answering ≡ pdu_next fixing going (next_piece outgoing)
-  answer_new acked = ap pdu_sent answering_is ∙ new_heard fixing outgoing facts is quiet slot room (header_in pdu) (pdu_of pdu) (acked_heard true acked)
+  answer_new acked = ap pdu_sent answering_is ∙ new_heard fixing outgoing facts is slot room (header_in pdu) (pdu_of pdu) (acked_heard true acked)
 
   pub answer_more : is_acked answering.acknowledgement ≡ true → more_sent answering ≡ more_with_new fixing (data_waits_after (pdu_sent answering) outgoing)
   answer_more acked =
       ap more_sent answering_is
-      ∙ more_heard fixing outgoing facts is quiet slot room (header_in pdu) (pdu_of pdu) (acked_heard true acked)
+      ∙ more_heard fixing outgoing facts is slot room (header_in pdu) (pdu_of pdu) (acked_heard true acked)
       ∙ ap (λ f. more_with_new fixing (data_waits_after (pdu_sent f) outgoing)) (sym answering_is)
 
-  pub answer_old : 1 ≤ outgoing.limit → is_acked answering.acknowledgement ≡ false → more_sent answering ≡ more_with_old fixing answering.control (data_waits outgoing)
+  pub answer_old : 1 ≤ outgoing.limit → is_acked answering.acknowledgement ≡ false → more_sent answering ≡ more_with_old fixing (keyed_of answering) (data_waits outgoing)
   answer_old some unacked =
       let heard = facts_hearing Peripheral slot room (header_in pdu) (pdu_of pdu) facts in
-      let kept = heard_fixed fixing outgoing facts is quiet slot room (header_in pdu) (pdu_of pdu) (acked_heard false unacked) in
+      let kept = heard_fixed fixing outgoing facts is slot room (header_in pdu) (pdu_of pdu) (acked_heard false unacked) in
       ap more_sent answering_is
-      ∙ more_old fixing outgoing heard kept
-      (ap is_quiet_now (sym answering_is) ∙ quiet_plain setup.link.role answering (step_plain setup facts (PacketReceived slot octets room) plain)) some (acked_heard false unacked)
-      ∙ ap (λ (f : Facts). more_with_old fixing f.control (data_waits outgoing)) (sym answering_is)
+      ∙ more_old fixing outgoing heard kept some (acked_heard false unacked)
+      ∙ ap (λ (f : Facts). more_with_old fixing (keyed_of f) (data_waits outgoing)) (sym answering_is)
 
 -- ---- what the lines tell of it
-
-more_by_one : (count : ℕ) → nat_lt count (count + 1) ≡ true
-more_by_one count = grind arith
-
-none_more : (count : ℕ) → nat_lt count count ≡ false
-none_more count = grind arith
-
-acks_by : (acks : Bool) (before after count : ℕ) (last sent : Pdu) → before ≡ count → after ≡ (if acks then count + 1 else count) → (acks ≡ true → last ≡ sent)
-    → (nat_lt before after && is_control last) ≡ (acks && is_control sent)
-acks_by true before after count last sent was is same =
-    (λ i. nat_lt (was i) (is i) && is_control (same refl i)) ∙ ap (λ b. b && is_control sent) (more_by_one count)
-acks_by false before after count last sent was is same =
-    (λ i. nat_lt (was i) (is i) && is_control last) ∙ ap (λ b. b && is_control last) (none_more count)
-
-left_of : (a b : Bool) → (a && b) ≡ true → a ≡ true
-left_of true b is = refl
-left_of false b is = is
-
-not_true : (a : Bool) → not a ≡ true → a ≡ false
-not_true false is = refl
-not_true true is = absurd cc
 
 pub acks_told : (role : Role) (facts : Facts) (header : DataHeader) (before after : Exchanged) (last : Pdu) → IsToldOf role facts header before after last
     → (is_more_acked before after && is_control last) ≡ acks_control (has_acknowledged facts header) facts

@@ -18,11 +18,11 @@ use Rattle.journal_controls.specs.journal_ends.open_links.Turns.{enters_in}
 use Rattle.journal_controls.specs.link_model.Acknowledgement.{Pdu}
 use Rattle.journal_controls.specs.link_model.Data.{next_piece}
 use Rattle.journal_controls.specs.link_model.End.{facts_after as end_after, notes_from}
-use Rattle.journal_controls.specs.link_model.Facts.{Facts as EndFacts}
+use Rattle.journal_controls.specs.link_model.Facts.{Facts as EndFacts, keyed_of, no_response}
 use Rattle.journal_controls.specs.link_model.Fixing.{data_cut}
 use Rattle.journal_controls.specs.link_model.Setup.{Setup as EndSetup}
 use Rattle.journal_controls.specs.link_model.Step.{EventEntered, PduFixed}
-use Rattle.journal_controls.specs.link_model.control_model.Control.{Control}
+use Rattle.journal_controls.specs.link_model.keyed_control.Keyed.{Keyed}
 use Rattle.journal_controls.specs.run_model.History.{Event, Called, Noted}
 use Rattle.journal_controls.specs.run_model.Journal.{journal_from, journal_of, side_of}
 use Rattle.journal_controls.specs.run_model.LinkEnds.{HaveAddresses}
@@ -42,7 +42,6 @@ use Rattle.journal_controls.proofs.journal_ends.run_laws.LinkPhases.{begins_in}
 use Rattle.journal_controls.proofs.journal_links.OfTwo.{are_distinct}
 use Rattle.journal_controls.proofs.journal_packets.AccessOrder.{AreNth}
 use Rattle.journal_controls.proofs.link_model.Hearing.{IsHeardWhole}
-use Rattle.journal_controls.proofs.link_model.Plain.{past_plain, quiet_plain, step_plain}
 use Rattle.journal_controls.proofs.run_model.Calls.{past_own}
 use Rattle.journal_controls.proofs.run_model.LinkEnds.{AreTaken, IsUnderstood}
 use Rattle.journal_controls.proofs.run_model.Parts.{journal_more, notes_noted}
@@ -65,7 +64,7 @@ use Rattle.journal_fixing.proofs.SentPdus.{same_some}
 use Rattle.journal_fixing.proofs.SentLines.{fixing_then, number_then, said_in}
 use Rattle.journal_fixing.proofs.TurnFixing.{begun_said}
 
--- what is fixed, by the control part and the data of that moment
+-- what is fixed, by the end and the data of that moment
 sent_fixed : (enters : Bool) (slot : ℕ) (setup : EndSetup) (facts : EndFacts)
     → fold (end_after setup) facts (first_if enters (EventEntered slot) (first_if true PduFixed [])) ≡ end_after setup (fold (end_after setup) facts (first_if enters (EventEntered slot) [])) PduFixed
 sent_fixed true slot setup facts = refl
@@ -148,7 +147,7 @@ module _ (heard_whole : IsHeardWhole) (understood : IsUnderstood) (taken : AreTa
       let begun_facts : Bool → EndFacts = λ b. fold (end_after base.setup) (facts_in base) (first_if enters (EventEntered slot) (first_if b PduFixed [])) in
       let new = said_in given station call history earlier later handle count llid body notes_are opens (IsSaidBy sends (begun_facts fixes))
       (map (line_of side own) (notes_from base.setup (facts_in base) (steps_begun enters fixes sends slot))) lines
-      (begun_said side own true slot base.setup (facts_in base) enters fixes sends) in
+      (begun_said side own true no_response slot base.setup (facts_in base) enters fixes sends) in
       let phase = begins_in setup slot on facts in
       let fixing = user_fixes handle next.links doing phase (sends_uses handle doing new.sends) in
       let all_past = past ∙ ap (λ b. base.past ++ steps_begun enters b sends slot) fixing in
@@ -161,7 +160,7 @@ module _ (heard_whole : IsHeardWhole) (understood : IsUnderstood) (taken : AreTa
         role = first_role 0 link.setup.link.role refl (sender_role 0 next.links doing handle link phase new.sends at_now);
       }
 
-  pub fixing_in_begin : control_fixing side (number_at station handle now) (journal_of now) ≡ Some held.control
+  pub fixing_in_begin : control_fixing side (number_at station handle now) (journal_of now) ≡ Some (keyed_of held)
   fixing_in_begin =
       ap (λ n. control_fixing side n (journal_of now)) (number_then given station call history earlier later handle count llid body notes_are opens)
       ∙ fixing_then given station call history earlier later handle count llid body notes_are opens
@@ -197,18 +196,17 @@ module _ (heard_whole : IsHeardWhole) (understood : IsUnderstood) (taken : AreTa
       ∙ notes_unheard side side own (journal_of history) middle (notes_noted (links_of history) station earlier)
       (going_before_call heard_whole understood taken nth apart given are_two six history rest station call at side own)
 
-  pub going_in_begin : control_going side (number_at station handle now) (journal_of now) ≡ Some held.control
+  pub going_in_begin : control_going side (number_at station handle now) (journal_of now) ≡ Some (keyed_of held)
   going_in_begin =
       let numbers = number_then given station call history earlier later handle count llid body notes_are opens in
       ap (λ n. control_going side n (journal_of now)) numbers ∙ going_now side own (journal_of now) unheard ∙ sym (fixing_now side own (journal_of now) unfixed)
       ∙ ap (λ n. control_fixing side n (journal_of now)) (sym numbers) ∙ fixing_in_begin
 
   -- the line says the PDU that is next
-  pub pdu_in_begin : (fixing going : Control) → control_fixing side (number_at station handle now) (journal_of now) ≡ Some fixing
+  pub pdu_in_begin : (fixing going : Keyed) → control_fixing side (number_at station handle now) (journal_of now) ≡ Some fixing
       → control_going side (number_at station handle now) (journal_of now) ≡ Some going → pdu ≡ pdu_next fixing going (next_piece (data_cut held))
   pdu_in_begin fixing going fixing_is going_is =
-      let same = same_some held.control fixing (sym fixing_in_begin ∙ fixing_is) in
-      let goes = same_some held.control going (sym going_in_begin ∙ going_is) in
-      let plain = past_plain link.setup (past_fixing link.past) in
-      of_line.new.is ∙ fixed_next held.control (data_cut held) sent (fixed_by link.setup held plain free) (quiet_plain link.setup.link.role sent (step_plain link.setup held PduFixed plain))
+      let same = same_some (keyed_of held) fixing (sym fixing_in_begin ∙ fixing_is) in
+      let goes = same_some (keyed_of held) going (sym going_in_begin ∙ going_is) in
+      of_line.new.is ∙ fixed_next (keyed_of held) (data_cut held) sent (fixed_by link.setup held free)
       ∙ (λ i. pdu_next (same i) ((fixing_stays link.setup held ∙ goes) i) (next_piece (data_cut held)))

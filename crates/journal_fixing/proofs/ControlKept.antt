@@ -1,23 +1,23 @@
--- The control part as the next PDU is fixed, and as it goes, by a journal with a line more.
+-- An end as its next PDU is fixed, and as that goes, by a journal with a line more.
 use Rattle.std.proofs.Common.{◌≡◌, ℕ, ◌||◌, Bool, true, false, Option, Some, None, List, [], ◌∷◌, ◌++◌, is_some, refl, sym, ap, ◌∙◌}
 use Rattle.ble_base.specs.declared.roles.Side.{Side}
 use Rattle.journal.specs.declared.entries.Entry.{Entry}
 use Rattle.journal.specs.declared.entries.Entry.TheVariants.{Turn}
-use Rattle.journal_controls.specs.LineSteps.{control_on}
+use Rattle.journal_controls.specs.LineSteps.{keyed_on}
 use Rattle.journal_controls.specs.journal_ends.Answering.{answers_in_line}
 use Rattle.journal_controls.specs.journal_ends.Seen.{seen_in_line}
-use Rattle.journal_controls.specs.link_model.control_model.Control.{Control}
-use Rattle.journal_controls.proofs.LineFolds.{control_more, quiet_line}
+use Rattle.journal_controls.specs.link_model.keyed_control.Keyed.{Keyed}
+use Rattle.journal_controls.proofs.LineFolds.{keyed_more, quiet_line}
 use Rattle.journal_fixing.specs.OnLines.{begins_turn, control_answering, control_fixing, control_going, fixing_kept, going_kept, has_heard, is_fixed, is_fixed_from, is_heard_at, kept_or}
 use Rattle.journal_fixing.proofs.KeptFolds.{kept_begins, kept_first, kept_is, kept_stays, or_kept, or_now}
 
 module _ (side : Side) (number : ℕ) where
-  abbrev now : List Entry → Option Control
-  now journal = control_on side number journal
+  abbrev now : List Entry → Option Keyed
+  now journal = keyed_on side number journal
 
   quiet_now : (journal : List Entry) (line : Entry) → seen_in_line side number journal line ≡ [] → answers_in_line side number journal line ≡ []
       → now (journal ++ line ∷ []) ≡ now journal
-  quiet_now journal line none unanswered = control_more side number journal line ∙ quiet_line side number journal (now journal) line none unanswered
+  quiet_now journal line none unanswered = keyed_more side number journal line ∙ quiet_line side number journal (now journal) line none unanswered
 
   -- ---- a turn begins
 

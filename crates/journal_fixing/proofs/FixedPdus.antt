@@ -1,77 +1,58 @@
--- What an end fixes by its control part and its data, and what it sends then.
+-- What an end fixes by its procedures, its phase and its data, and what it sends then.
 use Rattle.std.proofs.Common.{◌≡◌, ℕ, ◌≤◌, nat_lt, ◌&&◌, ◌||◌, not, Bool, true, false, Option, Some, None, List, [], length, is_some, refl, ap, sym, ◌∙◌, if◌then◌else◌}
 use Rattle.data_pdu.specs.declared.ctrl.Ctrl.{Ctrl}
 use Rattle.data_pdu.specs.declared.ctrl.Ctrl.TheVariants.{StartEncReq}
 use Rattle.wire_fields.specs.Field.{little_endian}
 use Rattle.acl_banks.specs.declared.pieces.Piece.{Piece}
-use Rattle.journal_controls.specs.LineSteps.{has_next}
+use Rattle.journal_controls.specs.KeyedLines.{has_next}
 use Rattle.journal_controls.specs.link_model.Acknowledgement.{Pdu, empty_pdu, is_acked}
 use Rattle.journal_controls.specs.link_model.Controls.{is_quiet_now, next_control, pdu_fixed, pdu_of_control}
 use Rattle.journal_controls.specs.link_model.Data.{Data, data_in, is_control, is_empty, next_piece, pdu_with, unsent_of}
-use Rattle.journal_controls.specs.link_model.End.{facts_after, facts_of}
-use Rattle.journal_controls.specs.link_model.Facts.{Facts}
-use Rattle.journal_controls.specs.link_model.Fixing.{data_cut, data_fixed_by, data_goes, fixed_anew}
+use Rattle.journal_controls.specs.link_model.End.{facts_after}
+use Rattle.journal_controls.specs.link_model.Facts.{Facts, keyed_of}
+use Rattle.journal_controls.specs.link_model.Fixing.{data_cut, data_fixed_by, fixed_anew}
 use Rattle.journal_controls.specs.link_model.Packets.{more_sent, pdu_sent}
-use Rattle.journal_controls.specs.link_model.Plain.{IsPlain}
 use Rattle.journal_controls.specs.link_model.Setup.{Setup}
-use Rattle.journal_controls.specs.link_model.Step.{Step, PduFixed}
+use Rattle.journal_controls.specs.link_model.Step.{PduFixed}
 use Rattle.journal_controls.specs.link_model.control_end.Answers.{next_ctrl}
 use Rattle.journal_controls.specs.link_model.control_end.Held.{held_of}
-use Rattle.journal_controls.specs.link_model.control_model.Control.{Control}
+use Rattle.journal_controls.specs.link_model.keyed_control.Keyed.{Keyed}
+use Rattle.journal_controls.specs.link_model.phased_control.Phased.{is_quiet_now as is_quiet_phase}
 use Rattle.journal_controls.specs.link_model.procedure_stages.Queue.{waiting_in}
 use Rattle.journal_fixing.specs.NextPdu.{IsFixedBy, data_pdu_next, data_waits, data_waits_after, lets_data_go, more_with_new, more_with_old, pdu_next}
-use Rattle.journal_controls.proofs.link_model.Plain.{past_plain, quiet_plain}
 use Rattle.journal_fixing.proofs.UnsentOctets.{data_length, piece_full, piece_waits}
-
--- ---- no end encrypts
-
-pub past_quiet : (setup : Setup) (past : List Step) → is_quiet_now (facts_of setup past) ≡ true
-past_quiet setup past = quiet_plain setup.link.role (facts_of setup past) (past_plain setup past)
 
 -- ---- as it fixes its PDU
 
-stays_if : (same : Bool) (facts : Facts) → (if same then facts else fixed_anew facts).control ≡ facts.control
+stays_if : (same : Bool) (facts : Facts) → keyed_of (if same then facts else fixed_anew facts) ≡ keyed_of facts
 stays_if true facts = refl
 stays_if false facts = refl
 
-pub fixing_stays : (setup : Setup) (facts : Facts) → (facts_after setup facts PduFixed).control ≡ facts.control
+pub fixing_stays : (setup : Setup) (facts : Facts) → keyed_of (facts_after setup facts PduFixed) ≡ keyed_of facts
 fixing_stays setup facts = stays_if (is_control facts.outgoing.fixed) facts
 
-piece_by : (next : Bool) (waiting : ℕ) (goes : Bool) (cut : Data) → next ≡ false
-    → (data_fixed_by next waiting true goes cut).fixed ≡ (if goes then pdu_with (next_piece cut) else empty_pdu)
-piece_by true waiting goes cut none = absurd cc
-piece_by false waiting true cut none = refl
-piece_by false waiting false cut none = refl
+piece_by : (next : Bool) (waiting : ℕ) (quiet goes : Bool) (cut : Data) → next ≡ false
+    → (data_fixed_by next waiting quiet goes cut).fixed ≡ (if goes then pdu_with (next_piece cut) else empty_pdu)
+piece_by true waiting quiet goes cut none = absurd cc
+piece_by false waiting quiet true cut none = refl
+piece_by false waiting quiet false cut none = refl
 
-more_by : (control : Option Ctrl) (waiting : ℕ) (goes : Bool) (cut : Data)
+more_by : (control : Option Ctrl) (waiting : ℕ) (quiet goes : Bool) (cut : Data)
     → let waits = data_waits_after (if is_some control then pdu_of_control control else (if goes then pdu_with (next_piece cut) else empty_pdu)) cut in
-    (data_fixed_by (is_some control) waiting true goes cut).more ≡ (if is_some control then nat_lt 1 waiting || waits else goes && waits)
-more_by (Some ctrl) waiting goes cut = ap (λ b. nat_lt 1 waiting || b) (piece_waits cut)
-more_by None waiting true cut = ap (λ n. nat_lt n (length (unsent_of cut))) (sym (data_length (next_piece cut)))
-more_by None waiting false cut = refl
+    (data_fixed_by (is_some control) waiting quiet goes cut).more ≡ (if is_some control then nat_lt 1 waiting || (quiet && waits) else goes && waits)
+more_by (Some ctrl) waiting quiet goes cut = ap (λ b. nat_lt 1 waiting || (quiet && b)) (piece_waits cut)
+more_by None waiting quiet true cut = ap (λ n. nat_lt n (length (unsent_of cut))) (sym (data_length (next_piece cut)))
+more_by None waiting quiet false cut = refl
 
--- in phase Clear or Secure
-next_now : (facts : Facts) → is_quiet_now facts ≡ true → next_control facts ≡ next_ctrl true (held_of facts.control)
-next_now facts quiet = ap (λ now. next_ctrl now (held_of facts.control)) quiet
-
-goes_now : (facts : Facts) → is_quiet_now facts ≡ true → data_goes facts ≡ lets_data_go facts.control
-goes_now facts quiet = ap (λ now. now && lets_data_go facts.control) quiet
-
-pub fixed_by : (setup : Setup) (facts : Facts) → IsPlain setup.link.role facts → is_control facts.outgoing.fixed ≡ false
-    → IsFixedBy facts.control (data_cut facts) (facts_after setup facts PduFixed)
-fixed_by setup facts plain free =
+pub fixed_by : (setup : Setup) (facts : Facts) → is_control facts.outgoing.fixed ≡ false
+    → IsFixedBy (keyed_of facts) (data_cut facts) (facts_after setup facts PduFixed)
+fixed_by setup facts free =
     let anew : facts_after setup facts PduFixed ≡ fixed_anew facts = ap (λ b. if b then facts else fixed_anew facts) free in
-    let quiet = quiet_plain setup.link.role facts plain in
-    let next = next_now facts quiet in
-    let goes = goes_now facts quiet in
-    let waiting = waiting_in facts.control.table.queue in
-    let fixed : (fixed_anew facts).outgoing ≡ data_fixed_by (has_next facts.control) waiting true (lets_data_go facts.control) (data_cut facts) =
-    (λ i. data_fixed_by (is_some (next i)) waiting (quiet i) (goes i) (data_cut facts)) in record {
-      control = ap (λ (f : Facts). f.fixes_control) anew ∙ ap (λ (may : Option Ctrl). is_some may) next;
-      pdu = λ none. ap (λ (f : Facts). f.outgoing.fixed) anew ∙ ap (λ (o : Data). o.fixed) fixed
-          ∙ piece_by (has_next facts.control) waiting (lets_data_go facts.control) (data_cut facts) none;
-      more = ap (λ (f : Facts). f.outgoing.more) anew ∙ ap (λ (o : Data). o.more) fixed
-          ∙ more_by (next_ctrl true (held_of facts.control)) waiting (lets_data_go facts.control) (data_cut facts);
+    let k = keyed_of facts in
+    let waiting = waiting_in facts.control.table.queue in record {
+      control = ap (λ (f : Facts). f.fixes_control) anew;
+      pdu = λ none. ap (λ (f : Facts). f.outgoing.fixed) anew ∙ piece_by (has_next k) waiting (is_quiet_now facts) (lets_data_go k) (data_cut facts) none;
+      more = ap (λ (f : Facts). f.outgoing.more) anew ∙ more_by (next_control facts) waiting (is_quiet_now facts) (lets_data_go k) (data_cut facts);
     }
 
 -- ---- as it sends
@@ -104,34 +85,34 @@ next_by : (next : Bool) (control : Option Ctrl) (fixed pdu : Pdu) → (next ≡ 
 next_by true control fixed pdu same = refl
 next_by false control fixed pdu same = same refl
 
-module _ (fixing : Control) (outgoing : Data) (facts : Facts) (is : IsFixedBy fixing outgoing facts) (quiet : is_quiet_now facts ≡ true) where
+module _ (fixing : Keyed) (outgoing : Data) (facts : Facts) (is : IsFixedBy fixing outgoing facts) where
   abbrev piece : Option Piece
   piece = next_piece outgoing
 
-  pub fixed_next : pdu_fixed facts ≡ pdu_next fixing facts.control piece
+  pub fixed_next : pdu_fixed facts ≡ pdu_next fixing (keyed_of facts) piece
   fixed_next =
       ap (λ b. if b then pdu_of_control (next_control facts) else facts.outgoing.fixed) is.control
       ∙ next_by (has_next fixing) (next_control facts) facts.outgoing.fixed (data_pdu_next fixing piece) is.pdu
-      ∙ ap (λ control. if has_next fixing then pdu_of_control control else data_pdu_next fixing piece) (next_now facts quiet)
 
-  pub more_fixed : (going : Control) → facts.outgoing.more ≡ more_with_new fixing (data_waits_after (pdu_next fixing going piece) outgoing)
+  pub more_fixed : (going : Keyed) → facts.outgoing.more ≡ more_with_new fixing (data_waits_after (pdu_next fixing going piece) outgoing)
   more_fixed going =
       is.more
       ∙ ap (λ octets. more_with_new fixing (nat_lt (length octets) (length (unsent_of outgoing))))
-      (same_data (has_next fixing) (next_ctrl true (held_of fixing)) (next_ctrl true (held_of going)) (data_pdu_next fixing piece))
+      (same_data (has_next fixing) (next_ctrl (is_quiet_phase fixing.phased) (held_of fixing.phased.control))
+      (next_ctrl (is_quiet_phase going.phased) (held_of going.phased.control)) (data_pdu_next fixing piece))
 
-  pub fixed_left : 1 ≤ outgoing.limit → not (is_empty (pdu_fixed facts)) ≡ more_with_old fixing facts.control (data_waits outgoing)
-  fixed_left some = ap (λ pdu. not (is_empty pdu)) fixed_next ∙ old_by (has_next fixing) (lets_data_go fixing) (next_ctrl true (held_of facts.control)) outgoing some
+  pub fixed_left : 1 ≤ outgoing.limit → not (is_empty (pdu_fixed facts)) ≡ more_with_old fixing (keyed_of facts) (data_waits outgoing)
+  fixed_left some = ap (λ pdu. not (is_empty pdu)) fixed_next ∙ old_by (has_next fixing) (lets_data_go fixing) (next_control facts) outgoing some
 
   -- a new PDU
-  pub new_sent : is_acked facts.acknowledgement ≡ true → pdu_sent facts ≡ pdu_next fixing facts.control piece
+  pub new_sent : is_acked facts.acknowledgement ≡ true → pdu_sent facts ≡ pdu_next fixing (keyed_of facts) piece
   new_sent acked = ap (λ b. if b then pdu_fixed facts else facts.acknowledgement.last) acked ∙ fixed_next
 
   pub more_new : is_acked facts.acknowledgement ≡ true → more_sent facts ≡ more_with_new fixing (data_waits_after (pdu_sent facts) outgoing)
   more_new acked =
       ap (λ b. if b then facts.outgoing.more else not (is_empty (pdu_fixed facts))) acked
-      ∙ more_fixed facts.control ∙ ap (λ pdu. more_with_new fixing (data_waits_after pdu outgoing)) (sym (new_sent acked))
+      ∙ more_fixed (keyed_of facts) ∙ ap (λ pdu. more_with_new fixing (data_waits_after pdu outgoing)) (sym (new_sent acked))
 
   -- the last one again
-  pub more_old : 1 ≤ outgoing.limit → is_acked facts.acknowledgement ≡ false → more_sent facts ≡ more_with_old fixing facts.control (data_waits outgoing)
+  pub more_old : 1 ≤ outgoing.limit → is_acked facts.acknowledgement ≡ false → more_sent facts ≡ more_with_old fixing (keyed_of facts) (data_waits outgoing)
   more_old some acked = ap (λ b. if b then facts.outgoing.more else not (is_empty (pdu_fixed facts))) acked ∙ fixed_left some

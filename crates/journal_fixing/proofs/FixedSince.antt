@@ -16,7 +16,6 @@ use Rattle.journal_controls.specs.link_model.Controls.{goes_on}
 use Rattle.journal_controls.specs.link_model.End.{facts_after as end_after, facts_of as end_facts}
 use Rattle.journal_controls.specs.link_model.Facts.{Facts as EndFacts}
 use Rattle.journal_controls.specs.link_model.Setup.{Setup as EndSetup}
-use Rattle.journal_controls.proofs.link_model.Plain.{past_plain}
 use Rattle.journal_controls.specs.link_model.Step.{Step, EventEntered, PacketReceived, PacketSent, PduFixed}
 use Rattle.journal_controls.specs.journal_ends.open_links.OpenLinks.{OpenLink, facts_in, link_after, link_at}
 use Rattle.journal_controls.specs.journal_ends.open_links.Turns.{enters_in}
@@ -38,7 +37,7 @@ use Rattle.journal_fixing.proofs.FixingLinks.{listens_uses, receiving_fixed, sen
 use Rattle.journal_fixing.proofs.GoingLinks.{receiving_setup}
 use Rattle.journal_fixing.proofs.TellingMore.{TellsMore, answer_tells, fixed_tells}
 
--- by the control part and the data that it had then, of which no control PDU had left the queue
+-- by what it held then, of which no control PDU had left the queue
 pub record IsSince (doing : Doing) (handle slot : ℕ) (link : OpenLink) : Type 0 where
   pub listens : listens_under handle doing ≡ true → link.setup.link.role ≡ Peripheral
       → let fixing = facts_fixing link.setup link.past in IsFree fixing × (facts_in link ≡ end_after link.setup fixing PduFixed)
@@ -110,7 +109,7 @@ module _ (base link : OpenLink) (enters fixes sends : Bool) (slot : ℕ) (setup_
 
   tells_then : sends ≡ true → (one : OpenLink) (now : ℕ) → link ≡ link_after (PacketSent now) one → TellsMore (facts_fixing link.setup link.past) (facts_in one)
   tells_then sending one now is =
-      subst (TellsMore (facts_fixing link.setup link.past)) (sym (sent_then sending one now is)) (fixed_tells link.setup (facts_fixing link.setup link.past) (past_plain link.setup (past_fixing link.past)) free_then)
+      subst (TellsMore (facts_fixing link.setup link.past)) (sym (sent_then sending one now is)) (fixed_tells link.setup (facts_fixing link.setup link.past) free_then)
 
 other_role : (X : Type 0) (role : Role) → role ≡ Central → role ≡ Peripheral → X
 other_role X role is is_too = absurd (let h : Central ≡ Peripheral = sym is ∙ is_too in absurd cc)
@@ -146,7 +145,7 @@ module _ (setup : Setup) (facts : Facts) (received : Option (List ℕ)) (handle 
       (λ i. end_facts (setup_one i) (past i)) ∙ step_facts base (PacketReceived slot octets room) ∙ ap (λ f. end_after base.setup f (PacketReceived slot octets room)) was_fixed.1 in
       let held_is : facts_fixing link.setup link.past ≡ held =
       ap (λ (l : OpenLink). facts_fixing l.setup l.past) same ∙ receiving_fixed (sends_under handle doing) handle room octets facts base in
-      subst (λ f. TellsMore f (facts_in one)) (sym held_is) (subst (TellsMore held) (sym facts_one) (answer_tells base.setup held slot octets room (past_plain base.setup (past_fixing base.past)) role_is was_fixed.0))
+      subst (λ f. TellsMore f (facts_in one)) (sym held_is) (subst (TellsMore held) (sym facts_one) (answer_tells base.setup held slot octets room role_is was_fixed.0))
 
 pub since_kept : (setup : Setup) → IsTurned setup (AreSince setup)
 since_kept setup = record {

@@ -1,4 +1,4 @@
--- What an event or a call does to the control part as the next PDU is fixed, and as it goes.
+-- What an event or a call does to what is kept of an end as its next PDU is fixed, and as that goes.
 use Rattle.std.proofs.Common.{◌≡◌, ℕ, ◌&&◌, ◌||◌, Bool, true, false, Some, List, [], ◌∷◌, ◌++◌, map, refl, sym, ap, subst, ◌∙◌, append-nil}
 use Rattle.std.specs.List.{AllByRecursion}
 use Rattle.std.specs.Option.{option_map}
@@ -12,15 +12,16 @@ use Rattle.journal_controls.specs.host_answers.Calls.{call_lines}
 use Rattle.journal_controls.proofs.host_answers.LineAnswers.{IsQuiet}
 use Rattle.journal.specs.declared.entries.Entry.{Entry}
 use Rattle.journal.specs.declared.entries.Entry.TheVariants.{Air, Fed, Turn}
-use Rattle.journal_controls.specs.LineSteps.{control_on, is_more_acked, turn_now, withholds}
+use Rattle.journal_controls.specs.KeyedLines.{drawn_by}
+use Rattle.journal_controls.specs.LineSteps.{is_more_acked, keyed_on, turn_now, withholds}
 use Rattle.journal_controls.specs.SaidLines.{NoneOpens, moved_by}
 use Rattle.journal_controls.specs.journal_acks.Carried.{carried_of}
 use Rattle.journal_controls.specs.journal_acks.Exchange.{exchange_of}
 use Rattle.journal_controls.specs.journal_ends.Seen.{Hears, heard_in_line}
 use Rattle.journal_controls.specs.journal_links.LinkLines.{lines_of}
 use Rattle.journal_controls.specs.link_model.Data.{is_control}
-use Rattle.journal_controls.specs.link_model.Plain.{control_acked_if}
-use Rattle.journal_controls.specs.link_model.control_model.Control.{Control}
+use Rattle.journal_controls.specs.link_model.Receiving.{keyed_acked_if}
+use Rattle.journal_controls.specs.link_model.keyed_control.Keyed.{Keyed}
 use Rattle.journal_controls.specs.run_model.Feeding.{is_octet}
 use Rattle.journal_controls.specs.run_model.Links.{Links, links_after, links_of}
 use Rattle.journal_controls.specs.run_model.History.{Event, Hearing, Noted, HostFed, Transmitted, TurnBegan}
@@ -54,10 +55,10 @@ module _ (side : Side) (number : ℕ) (history : List Event) where
     journal_begun : journal_of begun ≡ before ++ Turn slot (radio_in 0 radios) (Some (radio_in 1 radios)) ∷ []
     journal_begun = journal_event history (TurnBegan slot radios)
 
-    pub turn_fixing : control_fixing side number (journal_of begun) ≡ control_on side number before
+    pub turn_fixing : control_fixing side number (journal_of begun) ≡ keyed_on side number before
     turn_fixing = ap (control_fixing side number) journal_begun ∙ fixing_begins side number before slot (radio_in 0 radios) (Some (radio_in 1 radios))
 
-    pub turn_going : control_going side number (journal_of begun) ≡ control_on side number before
+    pub turn_going : control_going side number (journal_of begun) ≡ keyed_on side number before
     turn_going = ap (control_going side number) journal_begun ∙ going_begins side number before slot (radio_in 0 radios) (Some (radio_in 1 radios))
 
     pub turn_unfixed : is_fixed side number (journal_of begun) ≡ false
@@ -111,15 +112,15 @@ module _ (side : Side) (number : ℕ) (history : List Event) where
         ap (control_going side number) journal_aired
         ∙ going_quiet side number before line refl (ap is_some_seen none) (ap (λ xs. xs ++ []) none) refl
 
-    pub packet_heard : (slot : ℕ) (heard : List ℕ) (control : Control) → has_heard side number before ≡ false
-        → heard_in_line side number before line ≡ Hears slot heard ∷ [] → control_on side number before ≡ Some control
+    pub packet_heard : (slot : ℕ) (heard : List ℕ) (k : Keyed) → has_heard side number before ≡ false
+        → heard_in_line side number before line ≡ Hears slot heard ∷ [] → keyed_on side number before ≡ Some k
         → let after = journal_of aired in control_going side number after
-        ≡ Some (control_acked_if (is_more_acked (exchange_of number before side) (exchange_of number after side) && is_control (carried_of number before side)) control)
-    packet_heard slot heard control none is was =
+        ≡ Some (keyed_acked_if (is_more_acked (exchange_of number before side) (exchange_of number after side) && is_control (carried_of number before side)) k)
+    packet_heard slot heard k none is was =
         ap (control_going side number) journal_aired
         ∙ going_answers side number before line refl none (ap is_some_seen is)
-        ∙ ap (option_map (control_acked_if (acks_control_at side number before line))) was
-        ∙ ap (λ xs. Some (control_acked_if (is_more_acked (exchange_of number before side) (exchange_of number xs side) && is_control (carried_of number before side)) control))
+        ∙ ap (option_map (keyed_acked_if (acks_control_at side number before line))) was
+        ∙ ap (λ xs. Some (keyed_acked_if (is_more_acked (exchange_of number before side) (exchange_of number xs side) && is_control (carried_of number before side)) k))
         (sym journal_aired)
 
     pub packet_hears : (slot : ℕ) (heard : List ℕ) → heard_in_line side number before line ≡ Hears slot heard ∷ [] → has_heard side number (journal_of aired) ≡ true
@@ -155,17 +156,17 @@ module _ (side : Side) (number : ℕ) (history : List Event) where
         (append_cancel_left before (call_lines given station call history) adds.entries (sym (call_journal given station call history) ∙ adds.journal_is))
         (notes_silent side station (links_of history) (notes_after (setup_at given station) (facts_at given station history) call) (turn_answers given side station call history turn))
 
-    pub call_fixes : is_octet call ≡ false → (more : List Entry) (control : Control) → lines_of side number (journal_of called) ≡ lines_of side number before ++ more → NoneOpens more
-        → is_fixed side number before ≡ false → control_on side number before ≡ Some control
-        → control_fixing side number (journal_of called) ≡ Some (moved_by (withholds side before) (turn_now before) (before_sending more) control)
-    call_fixes turn more control lines opens none was =
+    pub call_fixes : is_octet call ≡ false → (more : List Entry) (k : Keyed) → lines_of side number (journal_of called) ≡ lines_of side number before ++ more → NoneOpens more
+        → is_fixed side number before ≡ false → keyed_on side number before ≡ Some k
+        → control_fixing side number (journal_of called) ≡ Some (moved_by (withholds side before) (drawn_by side before) (turn_now before) (before_sending more) k)
+    call_fixes turn more k lines opens none was =
         let adds = call_adds given station call history in
         let same : lines_of side number adds.entries ≡ more =
         append_cancel_left (lines_of side number before) (lines_of side number adds.entries) more
         (sym (lines_append side number before adds.entries) ∙ ap (lines_of side number) (sym adds.journal_is) ∙ lines) in
         ap (control_fixing side number) adds.journal_is
-        ∙ notes_fix (side_of station) side number before adds.entries control adds.are_notes (silent turn) (subst NoneOpens (sym same) opens) none was
-        ∙ ap (λ xs. Some (moved_by (withholds side before) (turn_now before) (before_sending xs) control)) same
+        ∙ notes_fix (side_of station) side number before adds.entries k adds.are_notes (silent turn) (subst NoneOpens (sym same) opens) none was
+        ∙ ap (λ xs. Some (moved_by (withholds side before) (drawn_by side before) (turn_now before) (before_sending xs) k)) same
 
     -- a call in which the end says nothing
     pub call_still : is_octet call ≡ false → lines_of side number (journal_of called) ≡ lines_of side number before → control_fixing side number (journal_of called) ≡ control_fixing side number before
@@ -191,5 +192,5 @@ module _ (side : Side) (number : ℕ) (history : List Event) where
         let adds = call_adds given station call history in
         ap (has_heard side number) adds.journal_is ∙ notes_unheard (side_of station) side number before adds.entries adds.are_notes none
 
-    pub call_goes : has_heard side number before ≡ false → control_going side number (journal_of called) ≡ control_on side number (journal_of called)
+    pub call_goes : has_heard side number before ≡ false → control_going side number (journal_of called) ≡ keyed_on side number (journal_of called)
     call_goes none = going_now side number (journal_of called) (call_unheard none)

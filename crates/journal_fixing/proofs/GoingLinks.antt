@@ -1,4 +1,4 @@
--- Which ends heard nothing yet in a turn, by what a controller does, and the control part with which an answer goes.
+-- Which ends heard nothing yet in a turn, by what a controller does, and the end with which an answer goes.
 use Rattle.std.proofs.Common.{◌≡◌, ℕ, suc, ◌==◌, ◌||◌, ◌⊎◌, inl, inr, Bool, true, false, Some, List, refl, sym, ap, ◌∙◌, arith}
 use Rattle.ble_base.specs.declared.roles.Role.TheVariants.{Central, Peripheral}
 use Rattle.ble_base.specs.declared.roles.Side.{Side}
@@ -10,11 +10,10 @@ use Rattle.data_pdu.specs.Header.{header_in}
 use Rattle.journal_controls.specs.journal_acks.link_calls.Phases.{link_receiving, refused_if, refuses_at}
 use Rattle.journal_controls.specs.journal_acks.link_calls.Turns.{sent_if}
 use Rattle.journal_controls.specs.journal_acks.link_calls.Uses.{listens_under, sends_under, uses_under}
-use Rattle.journal_controls.specs.link_model.Facts.{Facts as EndFacts}
-use Rattle.journal_controls.specs.link_model.Plain.{control_acked_if}
-use Rattle.journal_controls.specs.link_model.Receiving.{acks_control, has_acknowledged}
+use Rattle.journal_controls.specs.link_model.Facts.{Facts as EndFacts, keyed_of}
+use Rattle.journal_controls.specs.link_model.Receiving.{acks_control, has_acknowledged, keyed_acked_if}
 use Rattle.journal_controls.specs.link_model.Step.{PacketReceived}
-use Rattle.journal_controls.specs.link_model.control_model.Control.{Control}
+use Rattle.journal_controls.specs.link_model.keyed_control.Keyed.{Keyed}
 use Rattle.journal_controls.specs.journal_ends.open_links.OpenLinks.{Links, OpenLink, link_after}
 use Rattle.journal_controls.specs.run_model.History.{Event}
 use Rattle.journal_controls.specs.run_model.Journal.{journal_of}
@@ -24,12 +23,12 @@ use Rattle.journal_fixing.specs.OnLines.{control_going, has_heard}
 -- ---- what is kept of an end
 
 -- once a packet with this PDU has acknowledged its last one, and before it is taken
-abbrev pub control_acking : EndFacts → List ℕ → Control
-control_acking facts pdu = control_acked_if (acks_control (has_acknowledged facts (header_in pdu)) facts) facts.control
+abbrev pub control_acking : EndFacts → List ℕ → Keyed
+control_acking facts pdu = keyed_acked_if (acks_control (has_acknowledged facts (header_in pdu)) facts) (keyed_of facts)
 
-pub record IsGoing (number : ℕ) (side : Side) (history : List Event) (control : Control) : Type 0 where
+pub record IsGoing (number : ℕ) (side : Side) (history : List Event) (k : Keyed) : Type 0 where
   pub heard : has_heard side number (journal_of history) ≡ true
-  pub going : control_going side number (journal_of history) ≡ Some control
+  pub going : control_going side number (journal_of history) ≡ Some k
 
 -- ---- an exchange goes on under this handle, in which the end heard nothing yet
 

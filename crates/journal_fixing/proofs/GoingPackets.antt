@@ -1,6 +1,6 @@
--- A packet on the air keeps the control part with which the answer of the end goes that hears it, as it has acknowledged
--- the last control PDU of that end.
-use Rattle.std.proofs.Common.{◌≡◌, ℕ, ◌&&◌, Bool, true, false, Option, Some, None, is_none, List, [], ◌∷◌, ◌++◌, length, refl, sym, ap, subst, ◌∙◌, if◌then◌else◌}
+-- A packet on the air keeps the end that hears it with which its answer goes, as the packet has acknowledged the last
+-- control PDU of that end.
+use Rattle.std.proofs.Common.{◌≡◌, ℕ, Bool, true, false, Option, Some, None, is_none, List, [], ◌∷◌, ◌++◌, length, refl, sym, ap, ◌∙◌, if◌then◌else◌}
 use Rattle.std.proofs.lemmas.List.{append_cancel_left}
 use Rattle.air_frame.specs.declared.Heard.{Heard}
 use Rattle.air_frame.specs.declared.Heard.TheVariants.{NotOurs, Broken as Faulty, Whole}
@@ -9,25 +9,24 @@ use Rattle.ble_base.specs.declared.roles.Side.{Side}
 use Rattle.ble_base.specs.declared.verdicts.Verdict.TheVariants.{Broken, Forged, Good}
 use Rattle.journal_controls.specs.controller_model.declared.doing.Turn.{Turn}
 use Rattle.data_pdu.specs.Header.{header_in}
-use Rattle.journal_controls.specs.LineSteps.{has_next}
+use Rattle.journal_controls.specs.KeyedLines.{has_next}
 use Rattle.journal_controls.specs.journal_acks.Carried.{pdu_carried}
-use Rattle.journal_controls.specs.journal_acks.Counted.{IsCounted}
-use Rattle.journal_controls.specs.journal_acks.Exchange.{Exchanged}
 use Rattle.journal_controls.specs.journal_acks.link_calls.Uses.{listens_under}
 use Rattle.journal_controls.specs.journal_ends.Seen.{heard_in_line, heard_where}
 use Rattle.journal_controls.specs.journal_ends.open_links.OpenLinks.{OpenLink, facts_in}
-use Rattle.journal_controls.specs.link_model.Facts.{Facts as EndFacts}
+use Rattle.journal_controls.specs.link_model.Facts.{Facts as EndFacts, keyed_of}
 use Rattle.journal_controls.specs.link_model.Packets.{good_pdu, heard_of, is_forged_pdu, pdu_read_in, verdict_of, whole_pdu}
 use Rattle.journal_controls.specs.link_model.Payload.{opens_now}
-use Rattle.journal_controls.specs.link_model.Plain.{control_acked_if}
+use Rattle.journal_controls.specs.link_model.Receiving.{keyed_acked_if}
 use Rattle.journal_controls.specs.link_model.Setup.{Setup}
 use Rattle.journal_controls.specs.link_model.Step.{PacketReceived}
 use Rattle.journal_controls.specs.link_model.Verdicts.{has_room_for, pdu_by, verdict_by, whole_in}
 use Rattle.journal_controls.specs.run_model.History.{Event, Hearing, is_good}
 use Rattle.journal_controls.specs.run_model.Journal.{journal_of}
+use Rattle.journal_controls.proofs.ControlPackets.{taking_counts}
 use Rattle.journal_controls.proofs.Counted.{told_by}
-use Rattle.journal_controls.proofs.EventMoves.{air_line, aired, control_at, turn_at}
-use Rattle.journal_controls.proofs.journal_acks.Counting.{IsEndCounted, ack_taking, ahead_if, plain}
+use Rattle.journal_controls.proofs.EventMoves.{air_line, aired, keyed_at, turn_at}
+use Rattle.journal_controls.proofs.journal_acks.Counting.{IsEndCounted, plain}
 use Rattle.journal_controls.proofs.journal_acks.Exchanging.{exchange_at}
 use Rattle.journal_controls.proofs.journal_acks.KeptLines.{IsLined}
 use Rattle.journal_controls.proofs.journal_acks.SentLines.{sent_line_at}
@@ -58,20 +57,6 @@ unfolding good_pdu verdict_of whole_pdu
 good_packet setup facts octets pdu is =
     good_verdict setup.link.max_rx (opens_now facts.encryption.end) facts (heard_of setup facts octets) pdu is
 
--- ---- the counts of an end that is to take it
-
-taking_counts : (unsent : Bool) (received : Option (List ℕ)) (octets : List ℕ) (handle : ℕ) (turn : Turn) (link : OpenLink) (end : Exchanged)
-    → listens_under handle turn.doing ≡ true → received ≡ Some octets → IsEndCounted unsent received handle turn link end → IsCounted end (ack_taking true (Some octets) turn.slot link)
-taking_counts unsent received octets handle turn link end on some is =
-    subst (λ may. IsCounted end (ack_taking true may turn.slot link)) some
-    (subst (λ b. IsCounted end (ack_taking b received turn.slot link)) on
-    (subst (λ b. IsCounted (ahead_if b end) (ack_taking (listens_under handle turn.doing) received turn.slot link))
-    (ap (λ b. unsent && b) (listener_sends handle turn.doing on) ∙ none unsent) is))
-  where
-    none : (b : Bool) → (b && false) ≡ false
-    none true = refl
-    none false = refl
-
 -- ---- what is kept of an end
 
 abbrev pub IsUnheardAt : Option (List ℕ) → ℕ → Turn → ℕ → Side → List Event → Type 0
@@ -87,13 +72,13 @@ IsGoingAt received handle turn link number side history =
 
 module _ (number : ℕ) (side : Side) (history : List Event) (station channel : ℕ) (octets : List ℕ) (hearing : Hearing)
     (received received_too : Option (List ℕ)) (handle : ℕ) (turn : Turn) (link : OpenLink) (unsent unsent_too : Bool)
-    (silent : listens_under handle turn.doing ≡ true → received ≡ None) (was : control_at number side history ≡ Some (facts_in link).control)
+    (silent : listens_under handle turn.doing ≡ true → received ≡ None) (was : keyed_at number side history ≡ Some (keyed_of (facts_in link)))
     (seen : seen_at number side history ≡ seen_in_link number side link)
     (seen_too : seen_at number side (aired number side history station channel octets hearing) ≡ seen_in_link number side link ++ to_hear (listens_under handle turn.doing) received_too turn.slot link)
     (counted : IsEndCounted unsent received handle turn link (exchange_at number history side))
     (counted_too : IsEndCounted unsent_too received_too handle turn link (exchange_at number (aired number side history station channel octets hearing) side))
     (lined : IsLined (sent_line_at number history side) (ack_of link))
-    (fixes : listens_under handle turn.doing ≡ true → link.setup.link.role ≡ Peripheral → (facts_in link).fixes_control ≡ has_next (facts_in link).control)
+    (fixes : listens_under handle turn.doing ≡ true → link.setup.link.role ≡ Peripheral → (facts_in link).fixes_control ≡ has_next (keyed_of (facts_in link)))
     (unheard : awaits_under handle turn.doing ≡ true → has_heard side number (journal_of history) ≡ false) where
   abbrev after : List Event
   after = aired number side history station channel octets hearing
@@ -134,7 +119,7 @@ module _ (number : ℕ) (side : Side) (history : List Event) (station channel : 
       lined.last (fixes on) in
       let hears = heard_is ∙ (λ i. to_hear (on i) (some i) turn.slot link) ∙ ap (λ b. heard_where b turn.slot got) (good_packet setup facts got pdu good) in record {
         heard = packet_hears side number history station channel octets hearing turn.slot got hears;
-        going = packet_heard side number history station channel octets hearing turn.slot got facts.control (unheard (listens_awaits handle turn.doing on)) hears was
-            ∙ ap (λ b. Some (control_acked_if b facts.control))
+        going = packet_heard side number history station channel octets hearing turn.slot got (keyed_of facts) (unheard (listens_awaits handle turn.doing on)) hears was
+            ∙ ap (λ b. Some (keyed_acked_if b (keyed_of facts)))
             (acks_told setup.link.role facts (header_in pdu) before then_on (pdu_carried line before.acked) told);
       }

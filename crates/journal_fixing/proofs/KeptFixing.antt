@@ -1,5 +1,5 @@
--- Each step of a run of two stations keeps that the control part by which an open end fixed its next PDU in the turn is, by
--- the journal, the one that the end had then.
+-- Each step of a run of two stations keeps that an open end as it fixed its next PDU in the turn is, by the journal, what it
+-- was then.
 use Rattle.std.proofs.Common.{◌≡◌, ℕ, suc, ◌+◌, ◌-◌, ◌==◌, ◌<◌, ◌⊎◌, inl, inr, Bool, true, false, Option, Some, None, List, [], ◌∷◌, ◌++◌, length, map, refl, sym, ap, subst, ◌∙◌, append-nil, append_assoc, arith}
 use Rattle.std.specs.Prelude.{All, take, if◌then◌else◌}
 use Rattle.std.proofs.lemmas.Bool.{eqb-true}
@@ -11,16 +11,15 @@ use Rattle.journal_controls.specs.controller_model.Side.{facts_after, notes_afte
 use Rattle.journal_controls.specs.controller_model.Since.{notes_opened_on}
 use Rattle.journal_controls.specs.controller_model.Step.{Step as Call, HostOctet, NothingHeard, PacketHeard, TurnBegins, TurnEnds}
 use Rattle.journal_controls.specs.controller_model.declared.doing.Doing.TheVariants.{Rests}
-use Rattle.journal_controls.specs.LineSteps.{control_on, turn_now}
+use Rattle.journal_controls.specs.LineSteps.{keyed_on, turn_now}
 use Rattle.journal_controls.specs.TurnSteps.{steps_begun}
 use Rattle.journal_controls.specs.journal_acks.link_calls.Phases.{HasPassed, IsNew, Stays, Takes}
 use Rattle.journal_controls.specs.journal_acks.link_calls.Uses.{sends_under, uses_under}
 use Rattle.journal_controls.specs.journal_links.LinkLines.{line_of, lines_of}
 use Rattle.journal_controls.specs.link_model.End.{notes_from}
 use Rattle.journal_controls.specs.link_model.Step.{Step}
-use Rattle.journal_controls.specs.link_model.Facts.{Facts as EndFacts}
-use Rattle.journal_controls.specs.link_model.control_model.Control.{Control}
-use Rattle.journal_controls.proofs.link_model.Plain.{past_plain}
+use Rattle.journal_controls.specs.link_model.Facts.{Facts as EndFacts, keyed_of}
+use Rattle.journal_controls.specs.link_model.keyed_control.Keyed.{Keyed}
 use Rattle.journal_controls.specs.journal_ends.open_links.OpenLinks.{OpenLink, facts_in, link_at}
 use Rattle.journal_controls.specs.journal_ends.open_links.Turns.{enters_in}
 use Rattle.journal_controls.specs.run_model.Due.{Each}
@@ -67,12 +66,12 @@ use Rattle.journal_fixing.proofs.UnfixedEnds.{apart_same, feed_same}
 
 -- ---- what is kept
 
-abbrev pub fixing_at : ℕ → Side → List Event → Option Control
+abbrev pub fixing_at : ℕ → Side → List Event → Option Keyed
 fixing_at number side history = control_fixing side number (journal_of history)
 
 abbrev pub IsFixing : List Event → ℕ → ℕ → OpenLink → Type 0
 IsFixing history station handle link =
-    fixing_at (number_at station handle history) (side_of station) history ≡ Some (facts_fixing link.setup link.past).control
+    fixing_at (number_at station handle history) (side_of station) history ≡ Some (keyed_of (facts_fixing link.setup link.past))
 
 -- of each end of a station that sends or listens
 abbrev pub AreFixingOf : Given → List Event → ℕ → Type 0
@@ -202,14 +201,14 @@ module _ (given : Given) where
           ap (λ n. fixing_at n side after) number
           ∙ call_still side own history given station call in_turn
           (own_lines [] (ap (λ (l : OpenLink). l.setup) same) (ap (λ (l : OpenLink). l.past) same ∙ sym (append-nil base.past)) ∙ append-nil (lines_of side own (journal_of history)))
-          ∙ is ∙ ap (λ (l : OpenLink). Some (facts_fixing l.setup l.past).control) (sym same)
+          ∙ is ∙ ap (λ (l : OpenLink). Some (keyed_of (facts_fixing l.setup l.past))) (sym same)
 
 -- ---- a turn begins at a station
 
 module _ (given : Given) (station slot : ℕ) (on : Bool) (history : List Event) (lined : AreLined given history)
     (lined_after : AreLined given (after_call given station (TurnBegins slot on) history)) (in_it : is_in station given.stations ≡ true)
     (controls : (handle : ℕ) (link : OpenLink) → link_at handle (facts_at given station history).links ≡ Some link
-    → control_on (side_of station) (number_at station handle history) (journal_of history) ≡ Some (facts_in link).control)
+    → keyed_on (side_of station) (number_at station handle history) (journal_of history) ≡ Some (keyed_of (facts_in link)))
     (turn : turn_now (journal_of history) ≡ slot) (unfixed : IsUnfixed history station) where
   abbrev call : Call
   call = TurnBegins slot on
@@ -234,10 +233,10 @@ module _ (given : Given) (station slot : ℕ) (on : Bool) (history : List Event)
       let number = number_called given station call history handle (begin_noted (OpensNone handle) (opening_none handle) setup slot on facts) in
       let steps = steps_begun enters true sends slot in
       ap (λ n. fixing_at n side after) number
-      ∙ begun_fixes side own slot given station call history base.setup (facts_in base) (past_plain base.setup base.past) enters true sends refl
+      ∙ begun_fixes side own slot given station call history base.setup (facts_in base) enters true sends refl
       (own_lines given station call refl history lined lined_after in_it handle link at number base has.was steps has.setup_is past) turn (unfixed own) (controls handle base has.was)
-      ∙ ap (λ (f : EndFacts). Some f.control) (sym (facts_begun base.setup base.past enters sends slot))
-      ∙ (λ i. Some (facts_fixing (sym has.setup_is i) (sym past i)).control)
+      ∙ ap (λ (f : EndFacts). Some (keyed_of f)) (sym (facts_begun base.setup base.past enters sends slot))
+      ∙ (λ i. Some (keyed_of (facts_fixing (sym has.setup_is i) (sym past i))))
 
 -- ---- a phase passes at a station
 
@@ -274,8 +273,8 @@ module _ (given : Given) (station phases : ℕ) (history : List Event) (lined : 
       ap (λ n. fixing_at n side passed) number
       ∙ call_fixing side own history given station (step_of received) (aired octets some side own)
       ∙ are handle base was (listens_uses handle held.turn.doing on)
-      ∙ ap (λ (f : EndFacts). Some f.control) (sym (receiving_fixed sends handle room octets held base))
-      ∙ ap (λ (l : OpenLink). Some (facts_fixing l.setup l.past).control) (sym same)
+      ∙ ap (λ (f : EndFacts). Some (keyed_of f)) (sym (receiving_fixed sends handle room octets held base))
+      ∙ ap (λ (l : OpenLink). Some (keyed_of (facts_fixing l.setup l.past))) (sym same)
 
   -- a link that is new is not used
   new_unused : (handle : ℕ) (link : OpenLink) → link_at handle (facts_at given station passed).links ≡ Some link → link.setup.opened ≡ held.turn.slot
@@ -308,12 +307,12 @@ module _ (given : Given) (station phases : ℕ) (history : List Event) (lined : 
 
 -- ---- each step
 
--- before a controller begins a turn, the control part of each of its open ends is by the journal the one that the end holds
+-- before a controller begins a turn, each of its open ends is by the journal what it holds
 abbrev pub AreKnownAtBegins : Given → Type 0
 AreKnownAtBegins given = (before rest : List Event) (station slot : ℕ) (on : Bool) (handle : ℕ) (link : OpenLink)
     → history_of (run_of given) ≡ before ++ Called station (TurnBegins slot on) ∷ rest → is_in station given.stations ≡ true
     → link_at handle (facts_at given station before).links ≡ Some link
-    → control_on (side_of station) (number_at station handle before) (journal_of before) ≡ Some (facts_in link).control
+    → keyed_on (side_of station) (number_at station handle before) (journal_of before) ≡ Some (keyed_of (facts_in link))
 
 -- a call, and all that is noted in it
 call_each : (given : Given) (station : ℕ) (call : Call) (history : List Event) → Each (FixingBefore given) [] history → AtCall given history station call

@@ -1,6 +1,5 @@
--- Each step of a run of two stations keeps that an end that awaits a packet heard nothing yet in the turn, and that the
--- control part with which an end answers is, by the journal, the one that the end has as the packet has acknowledged
--- its last control PDU.
+-- Each step of a run of two stations keeps that an end that awaits a packet heard nothing yet in the turn, and that an end
+-- that answers is, by the journal, what it is as the packet has acknowledged its last control PDU.
 use Rattle.std.proofs.Common.{◌≡◌, ℕ, suc, ◌==◌, ◌<◌, ◌⊎◌, inl, inr, Bool, true, false, Option, Some, None, List, [], ◌∷◌, ◌++◌, map, refl, sym, ap, subst, ◌∙◌, arith}
 use Rattle.std.specs.Prelude.{All, take, if◌then◌else◌}
 use Rattle.std.proofs.lemmas.Bool.{eqb-true}
@@ -14,6 +13,7 @@ use Rattle.radio_replay.specs.declared.fates.Fate.{Fate}
 use Rattle.journal_controls.specs.journal_acks.link_calls.Phases.{HasPassed, IsNew, Stays, Takes}
 use Rattle.journal_controls.specs.journal_acks.link_calls.Uses.{is_on_link, listens_under, sends_under, uses_under}
 use Rattle.journal_controls.specs.journal_ends.open_links.OpenLinks.{OpenLink, facts_in, link_at}
+use Rattle.journal_controls.specs.link_model.Facts.{keyed_of}
 use Rattle.journal_controls.specs.link_model.Packets.{good_pdu}
 use Rattle.journal_controls.specs.run_model.Due.{Each}
 use Rattle.journal_controls.specs.run_model.History.{Event, Called, Hearing, HostFed, Noted, Transmitted, TurnBegan, packet_received, turns_begun}
@@ -21,7 +21,7 @@ use Rattle.journal_controls.specs.run_model.Journal.{journal_of, side_of}
 use Rattle.journal_controls.specs.run_model.LinkEnds.{HaveAddresses}
 use Rattle.journal_controls.specs.run_model.Run.{Given, after_call, after_feed, after_octets, facts_at, hearings_of, octets_left, setup_at, step_of, use_at}
 use Rattle.journal_controls.proofs.ControlledEnds.{whole as control_whole}
-use Rattle.journal_controls.proofs.EventMoves.{control_at}
+use Rattle.journal_controls.proofs.EventMoves.{keyed_at}
 use Rattle.journal_controls.proofs.FixedEnds.{fixed_in}
 use Rattle.journal_controls.proofs.KeptControls.{AreControlledAt, controls_first, controls_kept}
 use Rattle.journal_controls.proofs.journal_acks.Counting.{IsEndCounted, facts_event, moved as count_moved}
@@ -338,7 +338,7 @@ module _ (heard_whole : IsHeardWhole) (understood : IsUnderstood) (taken : AreTa
       unheard_before : awaits_under handle turn.doing ≡ true → has_heard side number (journal_of history) ≡ false
       unheard_before awaits = has.so_far.unheard one in_one handle link was_open awaits none
 
-      was_control : control_at number side history ≡ Some (facts_in link).control
+      was_control : keyed_at number side history ≡ Some (keyed_of (facts_in link))
       was_control = control_whole (packet_received one history) handle turn link number side history none (has.controls.control one handle link in_one was_open)
 
       abbrev received_too : Option (List ℕ)

@@ -1,4 +1,4 @@
--- The control part as the next PDU is fixed, and as it goes, by a journal with the lines of notes more.
+-- An end as its next PDU is fixed, and as that goes, by a journal with the lines of notes more.
 use Rattle.std.proofs.Common.{◌≡◌, ℕ, ◌-◌, ◌==◌, ◌&&◌, ◌||◌, Bool, true, false, Option, Some, None, List, [], ◌∷◌, ◌++◌, length, map, refl, sym, ap, ◌∙◌, append-nil, append_assoc, if◌then◌else◌}
 use Rattle.std.specs.List.{AllByRecursion}
 use Rattle.std.proofs.lemmas.Grind.{flat_map-append}
@@ -8,15 +8,16 @@ use Rattle.journal_controls.proofs.host_answers.LineAnswers.{statuses_in}
 use Rattle.journal_controls.specs.host_masks.Masks.{masks_of, withholds_requests}
 use Rattle.journal.specs.declared.entries.Entry.{Entry}
 use Rattle.journal.specs.declared.entries.Entry.TheVariants.{Air, Fed, Sent, Turn}
-use Rattle.journal_controls.specs.LineSteps.{control_after, control_on, turn_now, withholds}
+use Rattle.journal_controls.specs.KeyedLines.{drawn_by}
+use Rattle.journal_controls.specs.LineSteps.{keyed_in_line, keyed_on, turn_now, withholds}
 use Rattle.journal_controls.specs.SaidLines.{NoneOpens, moved_by}
 use Rattle.journal_controls.specs.journal_ends.Seen.{Says, heard_in_line}
 use Rattle.journal_controls.specs.journal_links.LinkLines.{lines_of, link_named, where_named}
 use Rattle.journal_controls.specs.journal_packets.Belonging.{is_side}
-use Rattle.journal_controls.specs.link_model.control_model.Control.{Control}
+use Rattle.journal_controls.specs.link_model.keyed_control.Keyed.{Keyed}
 use Rattle.journal_controls.specs.run_model.Order.{AreNotes, side_of_note}
 use Rattle.journal_controls.specs.run_model.Readers.{PairOpening, fed_in, fed_to_side, of_side, pair_openings_in, turns_of}
-use Rattle.journal_controls.proofs.LineFolds.{control_more, line_moves, moved_both}
+use Rattle.journal_controls.proofs.LineFolds.{keyed_more, line_moves, moved_both}
 use Rattle.journal_controls.proofs.journal_ends.SeenEvents.{unaccepted_by, unanswered_in, unasked_by}
 use Rattle.journal_fixing.specs.OnLines.{before_sending, begins_turn, control_fixing, control_going, has_heard, is_fixed, is_fixed_from, is_heard_at, is_sending, is_some_seen}
 use Rattle.journal_fixing.proofs.ControlKept.{fixed_is, fixing_now, fixing_quiet, fixing_stays, going_stays, heard_is}
@@ -178,19 +179,19 @@ module _ (own side : Side) (number : ℕ) where
         ap (λ named. before_sending (named ++ rest)) none ∙ sym (ap (λ named. named ++ before_sending rest) none)
     unsent_here line is = unsent_named (link_named line) line refl
 
-  pub notes_fix : (journal lines : List Entry) (control : Control) → AreNotes own lines → AreSilent side lines → NoneOpens (lines_of side number lines)
-      → is_fixed side number journal ≡ false → control_on side number journal ≡ Some control
-      → control_fixing side number (journal ++ lines) ≡ Some (moved_by (withholds side journal) (turn_now journal) (before_sending (lines_of side number lines)) control)
-  notes_fix journal [] control are silent opens none was = ap (control_fixing side number) (append-nil journal) ∙ fixing_now side number journal none ∙ was
-  notes_fix journal (line ∷ lines) control are silent opens none was =
+  pub notes_fix : (journal lines : List Entry) (k : Keyed) → AreNotes own lines → AreSilent side lines → NoneOpens (lines_of side number lines)
+      → is_fixed side number journal ≡ false → keyed_on side number journal ≡ Some k
+      → control_fixing side number (journal ++ lines) ≡ Some (moved_by (withholds side journal) (drawn_by side journal) (turn_now journal) (before_sending (lines_of side number lines)) k)
+  notes_fix journal [] k are silent opens none was = ap (control_fixing side number) (append-nil journal) ∙ fixing_now side number journal none ∙ was
+  notes_fix journal (line ∷ lines) k are silent opens none was =
       by (is_fixed_from side number line) refl (λ moved none_yet now.
       notes_fix (journal ++ line ∷ []) lines moved are.1 silent.1 (last_none (where_named side number (link_named line) line) (lines_of side number lines) opens) none_yet now)
     where
       by : (from : Bool) → is_fixed_from side number line ≡ from
-          → ((moved : Control) → is_fixed side number (journal ++ line ∷ []) ≡ false → control_on side number (journal ++ line ∷ []) ≡ Some moved
-          → control_fixing side number ((journal ++ line ∷ []) ++ lines) ≡ Some (moved_by (withholds side (journal ++ line ∷ [])) (turn_now (journal ++ line ∷ [])) (before_sending (lines_of side number lines)) moved))
+          → ((moved : Keyed) → is_fixed side number (journal ++ line ∷ []) ≡ false → keyed_on side number (journal ++ line ∷ []) ≡ Some moved
+          → control_fixing side number ((journal ++ line ∷ []) ++ lines) ≡ Some (moved_by (withholds side (journal ++ line ∷ [])) (drawn_by side (journal ++ line ∷ [])) (turn_now (journal ++ line ∷ [])) (before_sending (lines_of side number lines)) moved))
           → control_fixing side number (journal ++ line ∷ lines)
-          ≡ Some (moved_by (withholds side journal) (turn_now journal) (before_sending (where_named side number (link_named line) line ++ lines_of side number lines)) control)
+          ≡ Some (moved_by (withholds side journal) (drawn_by side journal) (turn_now journal) (before_sending (where_named side number (link_named line) line ++ lines_of side number lines)) k)
       by true from later =
           let next = journal ++ line ∷ [] in
           let rest = lines_of side number lines in
@@ -199,20 +200,21 @@ module _ (own side : Side) (number : ℕ) where
           ap (control_fixing side number) (sym (append_assoc journal (line ∷ []) lines))
           ∙ notes_fixing next lines are.1 (fixed_is side number journal line goes ∙ fixed)
           ∙ fixing_stays side number journal line goes fixed ∙ fixing_now side number journal none ∙ was
-          ∙ ap (λ xs. Some (moved_by (withholds side journal) (turn_now journal) xs control)) (sym (sent_here rest line are.0 from))
+          ∙ ap (λ xs. Some (moved_by (withholds side journal) (drawn_by side journal) (turn_now journal) xs k)) (sym (sent_here rest line are.0 from))
       by false from later =
           let next = journal ++ line ∷ [] in
           let named = where_named side number (link_named line) line in
           let rest = lines_of side number lines in
           let slot = turn_now journal in
           let held = withholds side journal in
+          let words = drawn_by side journal in
           let goes = note_goes line own are.0 in
           let unfixed : (is_fixed side number journal || is_fixed_from side number line) ≡ false = λ i. none i || from i in
-          let moves : control_on side number next ≡ Some (moved_by held slot named control) =
-          control_more side number journal line ∙ ap (λ before. control_after side number journal before line) was
-          ∙ line_moves side number journal line control (note_deaf line own side number journal are.0) (unaccepted_by side journal line silent.0) (first_none named rest opens) in
+          let moves : keyed_on side number next ≡ Some (moved_by held words slot named k) =
+          keyed_more side number journal line ∙ ap (λ before. keyed_in_line (drawn_by side) side number journal before line) was
+          ∙ line_moves side number journal line k (note_deaf line own side number journal are.0) (unaccepted_by side journal line silent.0) (first_none named rest opens) in
           ap (control_fixing side number) (sym (append_assoc journal (line ∷ []) lines))
-          ∙ later (moved_by held slot named control) (fixed_is side number journal line goes ∙ unfixed) moves
-          ∙ (λ i. Some (moved_by (withholds_stay own side journal line are.0 i) (turn_stays journal line goes i) (before_sending rest) (moved_by held slot named control)))
-          ∙ ap Some (sym (moved_both held slot named (before_sending rest) control))
-          ∙ ap (λ xs. Some (moved_by held slot xs control)) (sym (unsent_here rest line from))
+          ∙ later (moved_by held words slot named k) (fixed_is side number journal line goes ∙ unfixed) moves
+          ∙ (λ i. Some (moved_by (withholds_stay own side journal line are.0 i) words (turn_stays journal line goes i) (before_sending rest) (moved_by held words slot named k)))
+          ∙ ap Some (sym (moved_both held words slot named (before_sending rest) k))
+          ∙ ap (λ xs. Some (moved_by held words slot xs k)) (sym (unsent_here rest line from))

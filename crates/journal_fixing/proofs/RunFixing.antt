@@ -1,4 +1,4 @@
--- The control part by which each end that sends or listens fixed its next PDU, by the journal of a run.
+-- Each end that sends or listens, as it fixed its next PDU, by the journal of a run.
 use Rattle.std.proofs.Common.{◌≡◌, ℕ, Bool, Option, List, [], ◌∷◌, ◌++◌}
 use Rattle.journal_controls.specs.controller_model.Step.{TurnBegins}
 use Rattle.journal_controls.specs.run_model.Due.{Each}
@@ -6,7 +6,7 @@ use Rattle.journal_controls.specs.run_model.History.{Event, Called, Hearing, Tra
 use Rattle.journal_controls.specs.run_model.LinkEnds.{HaveAddresses}
 use Rattle.journal_controls.specs.run_model.Run.{Given, history_of, run_of, step_of}
 use Rattle.journal_controls.proofs.journal_acks.TwoStations.{IsOfTwo}
-use Rattle.journal_controls.proofs.RunControls.{control_before_call}
+use Rattle.journal_controls.proofs.RunControls.{keyed_before_call}
 use Rattle.journal_controls.proofs.link_model.Hearing.{IsHeardWhole}
 use Rattle.journal_controls.proofs.journal_packets.AccessOrder.{AreNth}
 use Rattle.journal_controls.proofs.journal_ends.run_laws.DistinctAccess.{AreApart}
@@ -19,7 +19,7 @@ module _ (heard_whole : IsHeardWhole) (understood : IsUnderstood) (taken : AreTa
     (six : HaveAddresses given) where
   known : AreKnownAtBegins given
   known before rest station slot on handle link at in_it open_is =
-      control_before_call heard_whole understood taken nth apart given are_two six before rest station (TurnBegins slot on) at in_it handle link open_is
+      keyed_before_call heard_whole understood taken nth apart given are_two six before rest station (TurnBegins slot on) at in_it handle link open_is
 
   ends : Ends (run_of given) (IsWhole given (AreFixingAt given)) (IsStopped given (AreFixingAt given))
   ends = run_kept given (AreFixingAt given) (fixing_kept understood taken nth apart given are_two six known) (fixing_first given)

@@ -1,5 +1,5 @@
--- The control part with which an end answers, by the journal of a run, in the call in which it takes a packet; and that no
--- end heard anything yet as a controller begins a turn.
+-- An end as its answer goes, by the journal of a run, in the call in which it takes a packet; and that no end heard anything
+-- yet as a controller begins a turn.
 use Rattle.std.proofs.Common.{◌≡◌, ℕ, Bool, true, false, Some, List, [], ◌∷◌, ◌++◌, map, ap, ◌∙◌}
 use Rattle.ble_base.specs.declared.notes.Note.{Note}
 use Rattle.ble_base.specs.declared.roles.Side.{Side}

@@ -82,7 +82,7 @@ module _ (given : Given) (station : ℕ) (call : Call) (history : List Event) (e
       ap journal_of split_call ∙ journal_more now (Noted station note ∷ map (Noted station) later)
       ∙ ap (λ n. journal_of now ++ Sent side n count llid body ∷ rest) number_then
 
-  -- before the line the control part that fixed the PDU is the one after the call
+  -- before the line the end as it fixed the PDU is the one after the call
   pub fixing_then : control_fixing side own (journal_of now) ≡ control_fixing side own (journal_of after)
   fixing_then =
       let front = journal_of now in

@@ -1,4 +1,4 @@
--- As a turn begins, the lines of an end before that of a new PDU move its control part to the one by which it fixes.
+-- As a turn begins, the lines of an end before that of a new PDU move it to what it is as it fixes the PDU.
 use Rattle.std.proofs.Common.{◌≡◌, ℕ, ◌&&◌, not, Bool, true, false, Option, Some, None, List, [], ◌∷◌, ◌++◌, fold, map, refl, sym, ap, subst, ◌∙◌, append-nil, if◌then◌else◌}
 use Rattle.std.specs.List.{AllByRecursion}
 use Rattle.std.proofs.lemmas.List.{map-append}
@@ -8,7 +8,8 @@ use Rattle.ble_base.specs.declared.procedure_kinds.Kind.{Kind}
 use Rattle.ble_base.specs.declared.roles.Side.{Side}
 use Rattle.journal_controls.specs.controller_model.Step.{Step as Call}
 use Rattle.journal.specs.declared.entries.Entry.{Entry}
-use Rattle.journal_controls.specs.LineSteps.{control_on, turn_now, withholds}
+use Rattle.journal_controls.specs.KeyedLines.{drawn_by}
+use Rattle.journal_controls.specs.LineSteps.{keyed_on, turn_now, withholds}
 use Rattle.journal_controls.specs.SaidLines.{moved_by}
 use Rattle.journal_controls.specs.TurnSteps.{first_if, steps_begun}
 use Rattle.journal_controls.specs.journal_links.LinkLines.{line_of, lines_of}
@@ -18,22 +19,22 @@ use Rattle.journal_controls.specs.link_model.Data.{is_empty, numbered}
 use Rattle.journal_controls.specs.link_model.End.{facts_after, notes_after, notes_from}
 use Rattle.journal_controls.specs.link_model.Entering.{began_notes, done_notes, event_notes, facts_entered}
 use Rattle.journal_controls.specs.link_model.Events.{applied_notes}
-use Rattle.journal_controls.specs.link_model.Facts.{Facts}
-use Rattle.journal_controls.specs.link_model.Plain.{IsPlain}
+use Rattle.journal_controls.specs.link_model.Facts.{Facts, keyed_of}
 use Rattle.journal_controls.specs.link_model.Sending.{sent_notes_if}
 use Rattle.journal_controls.specs.link_model.Setup.{Setup}
 use Rattle.journal_controls.specs.link_model.Step.{EventEntered, PacketSent, PduFixed}
 use Rattle.journal_controls.specs.link_model.control_end.Answers.{entry_of}
 use Rattle.journal_controls.specs.link_model.control_end.Held.{held_of}
 use Rattle.journal_controls.specs.link_model.control_end.declared.answers.Entry.{Entry as Entered}
-use Rattle.journal_controls.specs.link_model.control_model.Control.{Control, Enters, after}
+use Rattle.journal_controls.specs.link_model.keyed_control.Keyed.{Keyed}
+use Rattle.journal_controls.specs.link_model.keyed_control.KeyedSteps.{Enters, keyed_after}
+use Rattle.journal_controls.specs.link_model.keyed_control.declared.material.Response.{Response}
 use Rattle.journal_controls.specs.link_model.declared.events.ConnectionEvent.{ConnectionEvent}
 use Rattle.journal_controls.specs.run_model.Feeding.{is_octet}
 use Rattle.journal_controls.specs.run_model.History.{Event}
 use Rattle.journal_controls.specs.run_model.Journal.{journal_of}
 use Rattle.journal_controls.specs.run_model.Run.{Given, after_call}
 use Rattle.journal_controls.proofs.EndMoves.{steps_later}
-use Rattle.journal_controls.proofs.link_model.Plain.{entered_control_plain}
 use Rattle.journal_controls.proofs.LineFolds.{moved_both}
 use Rattle.journal_fixing.specs.OnLines.{before_sending, control_fixing, is_fixed, is_sending}
 use Rattle.journal_fixing.proofs.FixingEvents.{call_fixes}
@@ -48,7 +49,7 @@ before_unsent (line ∷ lines) more none =
 unsent_both : (lines more : List Entry) → AreUnsent lines → AreUnsent more → AreUnsent (lines ++ more)
 unsent_both lines more here there = all_both (λ line. is_sending line ≡ false) lines more here there
 
-module _ (side : Side) (number : ℕ) (withheld : Bool) (slot : ℕ) where
+module _ (side : Side) (number : ℕ) (withheld : Bool) (response : Response) (slot : ℕ) where
   abbrev said : List Note → List Entry
   said notes = map (line_of side number) notes
 
@@ -93,41 +94,40 @@ module _ (side : Side) (number : ℕ) (withheld : Bool) (slot : ℕ) where
       (unsent_both (applied ++ enter) done (unsent_both applied enter (applied_unsent handle event.number entry.applied) (refl, tt)) (done_unsent handle entry.done))
       (began_unsent handle entry.began))
 
-  done_still : (handle : ℕ) (kind : Option Kind) (c : Control) → moved_by withheld slot (said (done_notes handle kind)) c ≡ c
-  done_still handle None c = refl
-  done_still handle (Some kind) c = refl
+  done_still : (handle : ℕ) (kind : Option Kind) (k : Keyed) → moved_by withheld response slot (said (done_notes handle kind)) k ≡ k
+  done_still handle None k = refl
+  done_still handle (Some kind) k = refl
 
-  began_still : (handle : ℕ) (kind : Option Kind) (c : Control) → moved_by withheld slot (said (began_notes handle kind)) c ≡ c
-  began_still handle None c = refl
-  began_still handle (Some kind) c = refl
+  began_still : (handle : ℕ) (kind : Option Kind) (k : Keyed) → moved_by withheld response slot (said (began_notes handle kind)) k ≡ k
+  began_still handle None k = refl
+  began_still handle (Some kind) k = refl
 
-  applied_still : (handle event : ℕ) (applied : Option ℕ) (c : Control) → moved_by withheld slot (said (applied_notes handle event applied)) c ≡ c
-  applied_still handle event None c = refl
-  applied_still handle event (Some change) c = refl
+  applied_still : (handle event : ℕ) (applied : Option ℕ) (k : Keyed) → moved_by withheld response slot (said (applied_notes handle event applied)) k ≡ k
+  applied_still handle event None k = refl
+  applied_still handle event (Some change) k = refl
 
-  event_moves : (handle : ℕ) (event : ConnectionEvent) (entry : Entered) (c : Control)
-      → moved_by withheld slot (said (event_notes handle event entry)) c ≡ after (Enters slot true) c
-  event_moves handle event entry c =
+  event_moves : (handle : ℕ) (event : ConnectionEvent) (entry : Entered) (k : Keyed)
+      → moved_by withheld response slot (said (event_notes handle event entry)) k ≡ keyed_after (Enters slot) k
+  event_moves handle event entry k =
       let applied = said (applied_notes handle event.number entry.applied) in
       let enter = said (Enter handle (record { 0 = event.number }) event.channel ∷ []) in
       let done = said (done_notes handle entry.done) in
       let began = said (began_notes handle entry.began) in
-      ap (λ xs. moved_by withheld slot xs c) (event_said handle event entry)
-      ∙ moved_both withheld slot ((applied ++ enter) ++ done) began c ∙ began_still handle entry.began (moved_by withheld slot ((applied ++ enter) ++ done) c)
-      ∙ moved_both withheld slot (applied ++ enter) done c ∙ done_still handle entry.done (moved_by withheld slot (applied ++ enter) c)
-      ∙ moved_both withheld slot applied enter c ∙ ap (moved_by withheld slot enter) (applied_still handle event.number entry.applied c)
+      ap (λ xs. moved_by withheld response slot xs k) (event_said handle event entry)
+      ∙ moved_both withheld response slot ((applied ++ enter) ++ done) began k ∙ began_still handle entry.began (moved_by withheld response slot ((applied ++ enter) ++ done) k)
+      ∙ moved_both withheld response slot (applied ++ enter) done k ∙ done_still handle entry.done (moved_by withheld response slot (applied ++ enter) k)
+      ∙ moved_both withheld response slot applied enter k ∙ ap (moved_by withheld response slot enter) (applied_still handle event.number entry.applied k)
 
   entry_if_unsent : (goes : Bool) (setup : Setup) (facts : Facts) → AreUnsent (said (if goes then event_notes setup.link.handle (facts_entered setup slot facts).event (entry_of slot (is_quiet_now facts) (held_of facts.control)) else []))
   entry_if_unsent false setup facts = tt
   entry_if_unsent true setup facts = event_unsent setup.link.handle (facts_entered setup slot facts).event (entry_of slot (is_quiet_now facts) (held_of facts.control))
 
-  entry_if_moves : (goes : Bool) (setup : Setup) (facts : Facts) → IsPlain setup.link.role facts
-      → moved_by withheld slot (said (if goes then event_notes setup.link.handle (facts_entered setup slot facts).event (entry_of slot (is_quiet_now facts) (held_of facts.control)) else [])) facts.control
-      ≡ (if goes then facts_entered setup slot facts else facts).control
-  entry_if_moves false setup facts plain = refl
-  entry_if_moves true setup facts plain =
-      event_moves setup.link.handle (facts_entered setup slot facts).event (entry_of slot (is_quiet_now facts) (held_of facts.control)) facts.control
-      ∙ sym (entered_control_plain setup.link.role slot facts plain)
+  entry_if_moves : (goes : Bool) (setup : Setup) (facts : Facts)
+      → moved_by withheld response slot (said (if goes then event_notes setup.link.handle (facts_entered setup slot facts).event (entry_of slot (is_quiet_now facts) (held_of facts.control)) else [])) (keyed_of facts)
+      ≡ keyed_of (if goes then facts_entered setup slot facts else facts)
+  entry_if_moves false setup facts = refl
+  entry_if_moves true setup facts =
+      event_moves setup.link.handle (facts_entered setup slot facts).event (entry_of slot (is_quiet_now facts) (held_of facts.control)) (keyed_of facts)
 
   -- ---- the PDU is fixed, and the packet sent
 
@@ -147,18 +147,18 @@ module _ (side : Side) (number : ℕ) (withheld : Bool) (slot : ℕ) where
 
   -- ---- all of it
 
-  pub begun_before : (setup : Setup) (facts : Facts) → IsPlain setup.link.role facts → (enters fixes sends : Bool)
-      → moved_by withheld slot (before_sending (said (notes_from setup facts (steps_begun enters fixes sends slot)))) facts.control
-      ≡ (fold (facts_after setup) facts (first_if enters (EventEntered slot) [])).control
-  begun_before setup facts plain false fixes sends = ap (λ xs. moved_by withheld slot xs facts.control) (fixed_before setup facts fixes sends)
-  begun_before setup facts plain true fixes sends =
+  pub begun_before : (setup : Setup) (facts : Facts) (enters fixes sends : Bool)
+      → moved_by withheld response slot (before_sending (said (notes_from setup facts (steps_begun enters fixes sends slot)))) (keyed_of facts)
+      ≡ keyed_of (fold (facts_after setup) facts (first_if enters (EventEntered slot) []))
+  begun_before setup facts false fixes sends = ap (λ xs. moved_by withheld response slot xs (keyed_of facts)) (fixed_before setup facts fixes sends)
+  begun_before setup facts true fixes sends =
       let now = facts_after setup facts (EventEntered slot) in
       let here = notes_after setup facts (EventEntered slot) in
       let later = notes_from setup now (first_if fixes PduFixed (first_if sends (PacketSent slot) [])) in
-      ap (λ xs. moved_by withheld slot (before_sending xs) facts.control) (said_both here later)
-      ∙ ap (λ xs. moved_by withheld slot xs facts.control)
+      ap (λ xs. moved_by withheld response slot (before_sending xs) (keyed_of facts)) (said_both here later)
+      ∙ ap (λ xs. moved_by withheld response slot xs (keyed_of facts))
       (before_unsent (said here) (said later) (entry_if_unsent (goes_on facts) setup facts) ∙ ap (λ xs. said here ++ xs) (fixed_before setup now fixes sends) ∙ append-nil (said here))
-      ∙ entry_if_moves (goes_on facts) setup facts plain
+      ∙ entry_if_moves (goes_on facts) setup facts
 
   -- ---- the line of a new PDU
 
@@ -184,16 +184,17 @@ module _ (side : Side) (number : ℕ) (withheld : Bool) (slot : ℕ) where
       (all_both (IsSaidBy sends sent) (said here) (said later) (unsent_said sends sent (said here) (entry_if_unsent (goes_on facts) setup facts)) (fixed_said setup now fixes sends))
 
 -- a call on the controller of its station
-pub begun_fixes : (side : Side) (number slot : ℕ) (given : Given) (station : ℕ) (call : Call) (history : List Event) (setup : Setup) (facts : Facts) → IsPlain setup.link.role facts
+pub begun_fixes : (side : Side) (number slot : ℕ) (given : Given) (station : ℕ) (call : Call) (history : List Event) (setup : Setup) (facts : Facts)
     → (enters fixes sends : Bool) → is_octet call ≡ false → lines_of side number (journal_of (after_call given station call history))
     ≡ lines_of side number (journal_of history) ++ map (line_of side number) (notes_from setup facts (steps_begun enters fixes sends slot))
-    → turn_now (journal_of history) ≡ slot → is_fixed side number (journal_of history) ≡ false → control_on side number (journal_of history) ≡ Some facts.control
+    → turn_now (journal_of history) ≡ slot → is_fixed side number (journal_of history) ≡ false → keyed_on side number (journal_of history) ≡ Some (keyed_of facts)
     → control_fixing side number (journal_of (after_call given station call history))
-    ≡ Some (fold (facts_after setup) facts (first_if enters (EventEntered slot) [])).control
-begun_fixes side number slot given station call history setup facts plain enters fixes sends in_turn lines turn none was =
+    ≡ Some (keyed_of (fold (facts_after setup) facts (first_if enters (EventEntered slot) [])))
+begun_fixes side number slot given station call history setup facts enters fixes sends in_turn lines turn none was =
     let held = withholds side (journal_of history) in
+    let words = drawn_by side (journal_of history) in
     let steps = steps_begun enters fixes sends slot in
     let more = map (line_of side number) (notes_from setup facts steps) in
-    call_fixes side number history given station call in_turn more facts.control lines (steps_later side number setup facts steps) none was
-    ∙ ap (λ now. Some (moved_by held now (before_sending more) facts.control)) turn
-    ∙ ap Some (begun_before side number held slot setup facts plain enters fixes sends)
+    call_fixes side number history given station call in_turn more (keyed_of facts) lines (steps_later side number setup facts steps) none was
+    ∙ ap (λ now. Some (moved_by held words now (before_sending more) (keyed_of facts))) turn
+    ∙ ap Some (begun_before side number held words slot setup facts enters fixes sends)

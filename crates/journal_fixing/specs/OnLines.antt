@@ -1,18 +1,18 @@
--- The control part of an end as its next PDU is fixed, and as that leaves the queue, from the lines of a journal alone
--- (Core 5.2, volume 6 part B, sections 4.5.6 and 4.5.9; when each is looked at is our choice).
+-- The procedures, the phase and the keys of an end as its next PDU is fixed, and as that leaves the queue, from the lines
+-- of a journal alone (Core 5.2, volume 6 part B, sections 4.5.6 and 4.5.9; when each is looked at is our choice).
 use Rattle.std.specs.Prelude.{ℕ, ◌==◌, ◌&&◌, Bool, true, false, List, [], ◌∷◌, ◌++◌, Option, Some, None, is_some, if◌then◌else◌}
 use Rattle.std.specs.Option.{option_map}
 use Rattle.ble_base.specs.declared.roles.Side.{Side}
 use Rattle.journal.specs.declared.entries.Entry.{Entry}
 use Rattle.journal.specs.declared.entries.Entry.TheVariants.{Air, Sent, Turn}
-use Rattle.journal_controls.specs.LineSteps.{control_on, is_more_acked}
+use Rattle.journal_controls.specs.LineSteps.{is_more_acked, keyed_on}
 use Rattle.journal_controls.specs.journal_acks.Carried.{carried_of}
 use Rattle.journal_controls.specs.journal_acks.Exchange.{exchange_of}
 use Rattle.journal_controls.specs.journal_ends.Seen.{Seen, heard_in_line}
 use Rattle.journal_controls.specs.journal_packets.Belonging.{is_side}
 use Rattle.journal_controls.specs.link_model.Data.{is_control}
-use Rattle.journal_controls.specs.link_model.Plain.{control_acked_if}
-use Rattle.journal_controls.specs.link_model.control_model.Control.{Control}
+use Rattle.journal_controls.specs.link_model.Receiving.{keyed_acked_if}
+use Rattle.journal_controls.specs.link_model.keyed_control.Keyed.{Keyed}
 
 -- ---- what is read at the first line of a turn that passes a test, by that line and the entries before it
 
@@ -48,17 +48,17 @@ is_fixed_from side number (Air sender channel octets fate verdict) = true
 is_fixed_from side number (Sent other link count llid body) = is_side other side && link == number
 is_fixed_from side number line = false
 
-unfoldable pub fixing_kept : Side → ℕ → List Entry → Option (Option Control)
+unfoldable pub fixing_kept : Side → ℕ → List Entry → Option (Option Keyed)
 fixing_kept side number journal =
-    kept_from (λ front line. is_fixed_from side number line) (λ front line. control_on side number front) [] None journal
+    kept_from (λ front line. is_fixed_from side number line) (λ front line. keyed_on side number front) [] None journal
 
 -- its next PDU is fixed in this turn
 abbrev pub is_fixed : Side → ℕ → List Entry → Bool
 is_fixed side number journal = is_some (fixing_kept side number journal)
 
--- the control part of the end of a side on the link with this number, as it fixed its next PDU in this turn, or else now
-abbrev pub control_fixing : Side → ℕ → List Entry → Option Control
-control_fixing side number journal = kept_or (fixing_kept side number journal) (control_on side number journal)
+-- the end of a side on the link with this number, as it fixed its next PDU in this turn, or else now
+abbrev pub control_fixing : Side → ℕ → List Entry → Option Keyed
+control_fixing side number journal = kept_or (fixing_kept side number journal) (keyed_on side number journal)
 
 -- ---- as a control PDU leaves the queue: a central sends it as the turn begins, and a peripheral as it hears the packet
 -- of the central, which may acknowledge the last one
@@ -77,12 +77,12 @@ acks_control_at side number front line =
     is_more_acked (exchange_of number front side) (exchange_of number (front ++ line ∷ []) side)
     && is_control (carried_of number front side)
 
--- the control part of the end once that is done, and before it takes the PDU of the packet
-abbrev pub control_answering : Side → ℕ → List Entry → Entry → Option Control
+-- the end once that is done, and before it takes the PDU of the packet
+abbrev pub control_answering : Side → ℕ → List Entry → Entry → Option Keyed
 control_answering side number front line =
-    option_map (control_acked_if (acks_control_at side number front line)) (control_on side number front)
+    option_map (keyed_acked_if (acks_control_at side number front line)) (keyed_on side number front)
 
-unfoldable pub going_kept : Side → ℕ → List Entry → Option (Option Control)
+unfoldable pub going_kept : Side → ℕ → List Entry → Option (Option Keyed)
 going_kept side number journal =
     kept_from (is_heard_at side number) (control_answering side number) [] None journal
 
@@ -90,9 +90,9 @@ going_kept side number journal =
 abbrev pub has_heard : Side → ℕ → List Entry → Bool
 has_heard side number journal = is_some (going_kept side number journal)
 
--- the control part of that end as its next control PDU leaves the queue in this turn, or else now
-abbrev pub control_going : Side → ℕ → List Entry → Option Control
-control_going side number journal = kept_or (going_kept side number journal) (control_on side number journal)
+-- that end as its next control PDU leaves the queue in this turn, or else now
+abbrev pub control_going : Side → ℕ → List Entry → Option Keyed
+control_going side number journal = kept_or (going_kept side number journal) (keyed_on side number journal)
 
 -- ---- the lines of an end before the first of them that says a new PDU
 

@@ -1,4 +1,4 @@
--- The control parts, the data and the journals of worked examples.
+-- The ends, the data and the journals of worked examples.
 use Rattle.std.specs.Prelude.{ℕ, true, List, [], ◌∷◌, ◌++◌, replicate}
 use Rattle.ble_base.specs.declared.roles.Role.TheVariants.{Central, Peripheral}
 use Rattle.ble_base.specs.declared.roles.Side.TheVariants.{A}
@@ -7,51 +7,60 @@ use Rattle.data_pdu.specs.declared.ctrl.Ctrl.TheVariants.{LengthReq, PeripheralF
 use Rattle.data_pdu.specs.declared.ctrl.CtrlRead.TheVariants.{Known}
 use Rattle.journal.specs.declared.entries.Entry.{Entry}
 use Rattle.journal.specs.declared.entries.Entry.TheVariants.{Took}
-use Rattle.journal_controls.specs.Rows.{first_on, version_pdu, version_wanted}
+use Rattle.journal_controls.specs.Rows.{begun_on, version_asked, version_pdu}
 use Rattle.journal_controls.specs.journal_acks.Rows.{data_heard}
 use Rattle.journal_controls.specs.link_model.Acknowledgement.{Pdu}
 use Rattle.journal_controls.specs.link_model.Data.{Data, first_data}
-use Rattle.journal_controls.specs.link_model.control_model.Control.{Asks, Control, Disconnects, Enters, Sends, Takes, after}
+use Rattle.journal_controls.specs.link_model.Facts.{no_response}
+use Rattle.journal_controls.specs.link_model.enc_phase.declared.facts.PhaseFacts.TheVariants.{HalfKeyed}
+use Rattle.journal_controls.specs.link_model.keyed_control.Keyed.{Keyed}
+use Rattle.journal_controls.specs.link_model.keyed_control.KeyedSteps.{Asks, Disconnects, Enters, Sends, Takes, keyed_after}
+use Rattle.journal_controls.specs.link_model.phased_end.Taking.{drawn}
 use Rattle.journal_controls.specs.link_model.procedure_values.declared.asks.Ask.TheVariants.{Length}
 use Rattle.journal_fixing.specs.NextPdu.{piece_limit}
 
 -- the exchange of versions begins with the event in turn 2
-abbrev pub version_begun : Control
-version_begun = after (Enters 2 true) version_wanted
+abbrev pub version_begun : Keyed
+version_begun = keyed_after (Enters 2) version_asked
+
+-- a central in a phase that is not Clear or Secure
+abbrev pub not_quiet : Keyed
+not_quiet =
+    let k = begun_on Central in
+    record k { phased = record k.phased { phase = HalfKeyed } }
 
 -- LL_VERSION_IND of this controller (Core 5.2, volume 6 part B, section 2.4.2.13; the sub-version is our choice)
 abbrev pub own_version : Pdu
 own_version = record { llid = 3; body = 0x0C ∷ 0x0B ∷ 0xFF ∷ 0xFF ∷ 0x01 ∷ 0x00 ∷ [] }
 
 -- it takes LL_PERIPHERAL_FEATURE_REQ, and is to answer that with LL_FEATURE_RSP (section 5.1.4)
-abbrev pub two_waiting : Control
-two_waiting = after (Takes (Known (PeripheralFeatureReq 0)) 2 true) version_begun
+abbrev pub two_waiting : Keyed
+two_waiting = keyed_after (Takes (Known (PeripheralFeatureReq 0)) 2 (drawn no_response)) version_begun
 
 -- the host of a peripheral lets its payloads have 251 octets
-abbrev pub long_allowed : Control
-long_allowed = after (Asks (Length 251)) (first_on Peripheral)
+abbrev pub long_allowed : Keyed
+long_allowed = keyed_after (Asks (Length 251)) (begun_on Peripheral)
 
 -- it takes LL_LENGTH_REQ of a central that receives and sends 251 octets in 2120 µs (section 5.1.9)
-abbrev pub length_taken : Control
-length_taken = after (Takes (Known (LengthReq 251 2120 251 2120)) 2 true) long_allowed
+abbrev pub length_taken : Keyed
+length_taken = keyed_after (Takes (Known (LengthReq 251 2120 251 2120)) 2 (drawn no_response)) long_allowed
 
--- the host gave a message of 28 octets, cut as this control part has it
+-- the host gave a message of 28 octets, cut as this end has it
 abbrev pub octets_given : ℕ → List ℕ
 octets_given count = replicate count 0xAA
 
-abbrev pub message_cut : Control → Data
-message_cut control =
-    record first_data { packets = new_packet 0 true (octets_given 28) ∷ []; limit = piece_limit control }
+abbrev pub message_cut : Keyed → Data
+message_cut k = record first_data { packets = new_packet 0 true (octets_given 28) ∷ []; limit = piece_limit k }
 
 abbrev pub message_pdu : ℕ → Pdu
 message_pdu count = record { llid = 2; body = octets_given count }
 
 -- the host of a central ends the link with Remote User Terminated Connection, and LL_TERMINATE_IND is sent
-abbrev pub link_ended : Control
-link_ended = after (Disconnects (record { 0 = 0x13 })) (first_on Central)
+abbrev pub link_ended : Keyed
+link_ended = keyed_after (Disconnects (record { 0 = 0x13 })) (begun_on Central)
 
-abbrev pub end_sent : Control
-end_sent = after (Sends 2 true) link_ended
+abbrev pub end_sent : Keyed
+end_sent = keyed_after (Sends 2) link_ended
 
 -- LL_TERMINATE_IND with that code (section 2.4.2.3)
 abbrev pub terminate_pdu : Pdu

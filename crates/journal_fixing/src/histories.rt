@@ -1,11 +1,12 @@
-//! Laws of the control part as an end fixes its next PDU, and as that goes, after each event and
-//! call of a history. The bodies are empty: the contracts are the laws.
+//! Laws of an end as it fixes its next PDU, and as that goes, after each event and call of a
+//! history. The bodies are empty: the contracts are the laws.
 ghost use Rattle.std.specs.Prelude.{◌≡◌, ◌&&◌, ◌++◌, ◌∷◌, [], ℕ, Bool, List, Some, false, true};
 ghost use Rattle.ble_base.specs.declared.roles.Side.{Side};
 ghost use Rattle.journal_controls.specs.controller_model.Step.{Step as Call};
 ghost use Rattle.journal.specs.declared.entries.Entry.{Entry};
 ghost use Rattle.journal.specs.declared.entries.Entry.TheVariants.{Air};
-ghost use Rattle.journal_controls.specs.LineSteps.{control_on, is_more_acked, turn_now};
+ghost use Rattle.journal_controls.specs.KeyedLines.{drawn_by};
+ghost use Rattle.journal_controls.specs.LineSteps.{is_more_acked, keyed_on, turn_now};
 ghost use Rattle.journal_controls.specs.LineSteps.{withholds};
 ghost use Rattle.journal_controls.specs.SaidLines.{NoneOpens, moved_by};
 ghost use Rattle.journal_controls.specs.journal_acks.Carried.{carried_of};
@@ -13,8 +14,8 @@ ghost use Rattle.journal_controls.specs.journal_acks.Exchange.{exchange_of};
 ghost use Rattle.journal_controls.specs.journal_ends.Seen.{Hears, heard_in_line};
 ghost use Rattle.journal_controls.specs.journal_links.LinkLines.{lines_of};
 ghost use Rattle.journal_controls.specs.link_model.Data.{is_control};
-ghost use Rattle.journal_controls.specs.link_model.Plain.{control_acked_if};
-ghost use Rattle.journal_controls.specs.link_model.control_model.Control.{Control};
+ghost use Rattle.journal_controls.specs.link_model.Receiving.{keyed_acked_if};
+ghost use Rattle.journal_controls.specs.link_model.keyed_control.Keyed.{Keyed};
 ghost use Rattle.journal_controls.specs.run_model.Feeding.{is_octet};
 ghost use Rattle.journal_controls.specs.run_model.History.{Event, Hearing, HostFed, Transmitted};
 ghost use Rattle.journal_controls.specs.run_model.History.{TurnBegan};
@@ -24,14 +25,14 @@ ghost use Rattle.journal_fixing.specs.OnLines.{control_fixing, control_going, ha
 ghost use Rattle.journal_fixing.specs.OnLines.{before_sending};
 
 /// After any history, a turn that begins has no PDU fixed and nothing heard yet, and what a host
-/// sends keeps the control part with which the next PDU is fixed, and goes.
+/// sends keeps the end with which the next PDU is fixed, and goes.
 pub fn a_turn_begins_with_no_pdu_fixed()
     ensures fixing { (side : Side) (number slot : ℕ) (radios : List Bool) (history : List Event)
         → control_fixing side number (journal_of (history ++ TurnBegan slot radios ∷ []))
-        ≡ control_on side number (journal_of history) }
+        ≡ keyed_on side number (journal_of history) }
     ensures going { (side : Side) (number slot : ℕ) (radios : List Bool) (history : List Event)
         → control_going side number (journal_of (history ++ TurnBegan slot radios ∷ []))
-        ≡ control_on side number (journal_of history) }
+        ≡ keyed_on side number (journal_of history) }
     ensures unfixed { (side : Side) (number slot : ℕ) (radios : List Bool) (history : List Event)
         → is_fixed side number (journal_of (history ++ TurnBegan slot radios ∷ [])) ≡ false }
     ensures unheard { (side : Side) (number slot : ℕ) (radios : List Bool) (history : List Event)
@@ -46,10 +47,9 @@ pub fn a_turn_begins_with_no_pdu_fixed()
         ≡ control_going side number (journal_of history) }
 {}
 
-/// After any history, a packet on the air leaves the next PDU of each end fixed, with the control
-/// part that it was fixed with. Where an end hears it as the first of its turn, the control part
-/// with which its next control PDU goes is that of now, with the last control PDU acknowledged if
-/// the packet does that (Core 5.2, volume 6 part B, section 4.5.9; the order is our choice).
+/// After any history, a packet on the air leaves the next PDU of each end fixed, by the end that it
+/// was fixed with. Where an end hears it as the first of its turn, the end with which its next
+/// control PDU goes is that of now, with the last control PDU acknowledged if the packet does that (Core 5.2, volume 6 part B, section 4.5.9; the order is our choice).
 pub fn a_packet_keeps_the_control_part_that_fixed_a_pdu()
     ensures fixed { (side : Side) (number station channel : ℕ) (octets : List ℕ)
         (hearing : Hearing) (history : List Event)
@@ -68,24 +68,24 @@ pub fn a_packet_keeps_the_control_part_that_fixed_a_pdu()
         (journal_of (history ++ Transmitted station channel octets (hearing ∷ []) ∷ []))
         ≡ control_going side number (journal_of history) }
     ensures heard { (side : Side) (number station channel slot : ℕ) (octets heard : List ℕ)
-        (hearing : Hearing) (history : List Event) (control : Control)
+        (hearing : Hearing) (history : List Event) (k : Keyed)
         → has_heard side number (journal_of history) ≡ false
         → heard_in_line side number (journal_of history)
         (Air (side_of station) channel octets (mark_of hearing.fate) hearing.verdict)
         ≡ Hears slot heard ∷ []
-        → control_on side number (journal_of history) ≡ Some control
+        → keyed_on side number (journal_of history) ≡ Some k
         → let after = history ++ Transmitted station channel octets (hearing ∷ []) ∷ [] in
         control_going side number (journal_of after)
-        ≡ Some (control_acked_if
+        ≡ Some (keyed_acked_if
         (is_more_acked (exchange_of number (journal_of history) side)
         (exchange_of number (journal_of after) side)
-        && is_control (carried_of number (journal_of history) side)) control) }
+        && is_control (carried_of number (journal_of history) side)) k) }
 {}
 
-/// A call on a controller, after any history, keeps the control part that fixed the next PDU of an
-/// end, once that is fixed. Else, where the call is one of a turn, that is the control part before
-/// the line of a new PDU that the call adds for the end, or after all its lines. What is kept as a
-/// packet is heard stays as well, and else it is the control part after the call.
+/// A call on a controller, after any history, keeps the end that fixed its next PDU, once that is
+/// fixed. Else, where the call is one of a turn, that is the end before the line of a new PDU that
+/// the call adds for it, or after all its lines. What is kept as a packet is heard stays as well, and
+/// else it is the end after the call.
 pub fn calls_keep_the_control_part_that_fixed_a_pdu()
     ensures fixed { (given : Given) (side : Side) (number station : ℕ) (call : Call)
         (history : List Event)
@@ -93,14 +93,15 @@ pub fn calls_keep_the_control_part_that_fixed_a_pdu()
         → control_fixing side number (journal_of (after_call given station call history))
         ≡ control_fixing side number (journal_of history) }
     ensures fixes { (given : Given) (side : Side) (number station : ℕ) (call : Call)
-        (history : List Event) (more : List Entry) (control : Control) → is_octet call ≡ false
+        (history : List Event) (more : List Entry) (k : Keyed) → is_octet call ≡ false
         → lines_of side number (journal_of (after_call given station call history))
         ≡ lines_of side number (journal_of history) ++ more
         → NoneOpens more → is_fixed side number (journal_of history) ≡ false
-        → control_on side number (journal_of history) ≡ Some control
+        → keyed_on side number (journal_of history) ≡ Some k
         → control_fixing side number (journal_of (after_call given station call history))
-        ≡ Some (moved_by (withholds side (journal_of history)) (turn_now (journal_of history))
-        (before_sending more) control) }
+        ≡ Some (moved_by (withholds side (journal_of history))
+        (drawn_by side (journal_of history)) (turn_now (journal_of history)) (before_sending more)
+        k) }
     ensures heard { (given : Given) (side : Side) (number station : ℕ) (call : Call)
         (history : List Event)
         → has_heard side number (journal_of history) ≡ true
@@ -110,5 +111,5 @@ pub fn calls_keep_the_control_part_that_fixed_a_pdu()
         (history : List Event)
         → has_heard side number (journal_of history) ≡ false
         → control_going side number (journal_of (after_call given station call history))
-        ≡ control_on side number (journal_of (after_call given station call history)) }
+        ≡ keyed_on side number (journal_of (after_call given station call history)) }
 {}

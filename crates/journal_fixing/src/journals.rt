@@ -1,10 +1,10 @@
-//! Laws of the control part as an end fixes its next PDU, and as that goes, by any list of lines.
+//! Laws of an end as it fixes its next PDU, and as that goes, by any list of lines.
 //! The bodies are empty: the contracts are the laws.
 ghost use Rattle.std.specs.Prelude.{◌≡◌, ◌||◌, ◌++◌, ◌∷◌, [], ℕ, Bool, List, Option, false, true};
 ghost use Rattle.ble_base.specs.declared.roles.Side.{Side};
 ghost use Rattle.journal.specs.declared.entries.Entry.{Entry};
 ghost use Rattle.journal.specs.declared.entries.Entry.TheVariants.{Turn};
-ghost use Rattle.journal_controls.specs.LineSteps.{control_on};
+ghost use Rattle.journal_controls.specs.LineSteps.{keyed_on};
 ghost use Rattle.journal_controls.specs.journal_ends.Answering.{answers_in_line};
 ghost use Rattle.journal_controls.specs.journal_ends.Seen.{seen_in_line};
 ghost use Rattle.journal_fixing.specs.OnLines.{begins_turn, control_answering, control_fixing};
@@ -12,18 +12,18 @@ ghost use Rattle.journal_fixing.specs.OnLines.{control_going, has_heard, is_fixe
 ghost use Rattle.journal_fixing.specs.OnLines.{is_heard_at};
 
 /// As a turn begins, the next PDU of an end is not fixed. From the first packet of the turn on, or
-/// from the line of a new PDU of the end, it is, and the control part is kept as it was then. No
-/// other line changes what is kept; until then it is the control part of now.
+/// from the line of a new PDU of the end, it is, and the end is kept as it was then. No other line
+/// changes what is kept; until then it is the end of now.
 pub fn the_control_part_is_kept_as_a_pdu_is_fixed()
     ensures begins { (side : Side) (number slot : ℕ) (a_on : Bool) (b_on : Option Bool)
         (journal : List Entry)
         → control_fixing side number (journal ++ Turn slot a_on b_on ∷ [])
-        ≡ control_on side number journal }
+        ≡ keyed_on side number journal }
     ensures unfixed { (side : Side) (number slot : ℕ) (a_on : Bool) (b_on : Option Bool)
         (journal : List Entry) → is_fixed side number (journal ++ Turn slot a_on b_on ∷ []) ≡ false }
     ensures now { (side : Side) (number : ℕ) (journal : List Entry)
         → is_fixed side number journal ≡ false
-        → control_fixing side number journal ≡ control_on side number journal }
+        → control_fixing side number journal ≡ keyed_on side number journal }
     ensures fixed { (side : Side) (number : ℕ) (journal : List Entry) (line : Entry)
         → begins_turn line ≡ false
         → is_fixed side number (journal ++ line ∷ [])
@@ -38,20 +38,19 @@ pub fn the_control_part_is_kept_as_a_pdu_is_fixed()
         → control_fixing side number (journal ++ line ∷ []) ≡ control_fixing side number journal }
 {}
 
-/// As a turn begins, an end heard nothing in it. Where it hears a good packet of the other end, its
-/// control part is kept as it is once the packet has acknowledged a control PDU, and before the PDU
-/// of the packet is taken. No other line of the turn changes what is kept; until then it is the
-/// control part of now (Core 5.2, volume 6 part B, section 4.5.9; the order is our choice).
+/// As a turn begins, an end heard nothing in it. Where it hears a good packet of the other end, it is
+/// kept as it is once the packet has acknowledged a control PDU, and before the PDU of the packet is
+/// taken. No other line of the turn changes what is kept; until then it is the end of now (Core 5.2, volume 6 part B, section 4.5.9; the order is our choice).
 pub fn the_control_part_is_kept_as_a_packet_is_heard()
     ensures begins { (side : Side) (number slot : ℕ) (a_on : Bool) (b_on : Option Bool)
         (journal : List Entry)
         → control_going side number (journal ++ Turn slot a_on b_on ∷ [])
-        ≡ control_on side number journal }
+        ≡ keyed_on side number journal }
     ensures unheard { (side : Side) (number slot : ℕ) (a_on : Bool) (b_on : Option Bool)
         (journal : List Entry) → has_heard side number (journal ++ Turn slot a_on b_on ∷ []) ≡ false }
     ensures now { (side : Side) (number : ℕ) (journal : List Entry)
         → has_heard side number journal ≡ false
-        → control_going side number journal ≡ control_on side number journal }
+        → control_going side number journal ≡ keyed_on side number journal }
     ensures heard { (side : Side) (number : ℕ) (journal : List Entry) (line : Entry)
         → begins_turn line ≡ false
         → has_heard side number (journal ++ line ∷ [])

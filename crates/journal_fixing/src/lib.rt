@@ -1,5 +1,5 @@
-//! Which PDU an end of a link sends next and what MD says, and the control part by which it is
-//! fixed and goes, by the lines of a journal. Definitions and laws; no code.
+//! Which PDU an end of a link sends next and what MD says, and the end as that PDU is fixed and goes,
+//! by the lines of a journal, in all phases of encryption. Definitions and laws; no code.
 #![tactic(auto)]
 
 mod histories;

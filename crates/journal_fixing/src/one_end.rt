@@ -11,46 +11,45 @@ ghost use Rattle.journal_controls.specs.link_model.Acknowledgement.{Pdu, is_acke
 ghost use Rattle.journal_controls.specs.link_model.Data.{Data, is_control, is_empty, next_piece};
 ghost use Rattle.journal_controls.specs.link_model.Data.{pdu_with};
 ghost use Rattle.journal_controls.specs.link_model.End.{facts_after, facts_of};
-ghost use Rattle.journal_controls.specs.link_model.Facts.{Facts};
+ghost use Rattle.journal_controls.specs.link_model.Facts.{Facts, keyed_of};
 ghost use Rattle.journal_controls.specs.link_model.Fixing.{data_cut};
 ghost use Rattle.journal_controls.specs.link_model.Packets.{good_pdu, more_sent, pdu_sent};
-ghost use Rattle.journal_controls.specs.link_model.Plain.{control_acked_if};
 ghost use Rattle.journal_controls.specs.link_model.Receiving.{acks_control};
-ghost use Rattle.journal_controls.specs.link_model.Receiving.{has_acknowledged};
+ghost use Rattle.journal_controls.specs.link_model.Receiving.{has_acknowledged, keyed_acked_if};
 ghost use Rattle.journal_controls.specs.link_model.Setup.{Setup};
 ghost use Rattle.journal_controls.specs.link_model.Step.{Step, PacketReceived, PduFixed};
-ghost use Rattle.journal_controls.specs.link_model.control_model.Control.{Control};
+ghost use Rattle.journal_controls.specs.link_model.keyed_control.Keyed.{Keyed};
 ghost use Rattle.journal_fixing.specs.NextPdu.{IsFixedBy, data_waits, data_waits_after};
 ghost use Rattle.journal_fixing.specs.NextPdu.{more_with_new, more_with_old, pdu_next};
 
-/// An end fixes its next PDU by its control part and by its data, which is cut at the effective
-/// length of that time. Its control part stays as it is. A control PDU that has left the queue and
+/// An end fixes its next PDU by its procedures and its phase, and by its data, which is cut at the
+/// effective length of that time. The end stays as it is. A control PDU that has left the queue and
 /// is not sent would stay fixed (Core 5.2, volume 6 part B, sections 4.5.6 and 4.5.10; when a PDU
 /// is fixed is our choice).
 pub fn a_pdu_is_fixed_by_the_control_part()
     ensures stays { (setup : Setup) (facts : Facts)
-        → (facts_after setup facts PduFixed).control ≡ facts.control }
+        → keyed_of (facts_after setup facts PduFixed) ≡ keyed_of facts }
     ensures fixed { (setup : Setup) (past : List Step) → let facts = facts_of setup past in
         is_control facts.outgoing.fixed ≡ false
-        → IsFixedBy facts.control (data_cut facts) (facts_after setup facts PduFixed) }
+        → IsFixedBy (keyed_of facts) (data_cut facts) (facts_after setup facts PduFixed) }
 {}
 
 /// An end that fixed its PDU sends it where the last one is acknowledged, and MD says whether more
 /// waits after it. Otherwise it sends the last one again, and MD says whether the fixed one is not
 /// empty (Core 5.2, volume 6 part B, sections 4.5.6 and 4.5.9).
 pub fn an_end_sends_the_pdu_that_it_fixed()
-    ensures pdu { (fixing : Control) (outgoing : Data) (setup : Setup) (past : List Step)
+    ensures pdu { (fixing : Keyed) (outgoing : Data) (setup : Setup) (past : List Step)
         → let facts = facts_of setup past in IsFixedBy fixing outgoing facts
         → is_acked facts.acknowledgement ≡ true
-        → pdu_sent facts ≡ pdu_next fixing facts.control (next_piece outgoing) }
-    ensures more_new { (fixing : Control) (outgoing : Data) (setup : Setup) (past : List Step)
+        → pdu_sent facts ≡ pdu_next fixing (keyed_of facts) (next_piece outgoing) }
+    ensures more_new { (fixing : Keyed) (outgoing : Data) (setup : Setup) (past : List Step)
         → let facts = facts_of setup past in IsFixedBy fixing outgoing facts
         → is_acked facts.acknowledgement ≡ true
         → more_sent facts ≡ more_with_new fixing (data_waits_after (pdu_sent facts) outgoing) }
-    ensures more_old { (fixing : Control) (outgoing : Data) (setup : Setup) (past : List Step)
+    ensures more_old { (fixing : Keyed) (outgoing : Data) (setup : Setup) (past : List Step)
         → let facts = facts_of setup past in IsFixedBy fixing outgoing facts → 1 ≤ outgoing.limit
         → is_acked facts.acknowledgement ≡ false
-        → more_sent facts ≡ more_with_old fixing facts.control (data_waits outgoing) }
+        → more_sent facts ≡ more_with_old fixing (keyed_of facts) (data_waits outgoing) }
 {}
 
 /// A peripheral that fixed its PDU and then hears a good packet of the central answers with that
@@ -61,28 +60,28 @@ pub fn an_end_sends_the_pdu_that_it_fixed()
 /// choice).
 pub fn a_peripheral_answers_with_the_pdu_that_it_fixed()
     ensures pdu { (setup : Setup) (past : List Step) (slot : ℕ) (octets pdu : List ℕ)
-        (room : Bool) (fixing : Control) (outgoing : Data) → let facts = facts_of setup past in
+        (room : Bool) (fixing : Keyed) (outgoing : Data) → let facts = facts_of setup past in
         setup.link.role ≡ Role.Peripheral → IsFixedBy fixing outgoing facts
         → good_pdu setup facts octets ≡ Some pdu
         → let heard = facts_after setup facts (PacketReceived slot octets room) in
         is_acked heard.acknowledgement ≡ true
         → pdu_sent heard ≡ pdu_next fixing
-        (control_acked_if (acks_control (has_acknowledged facts (header_in pdu)) facts)
-        facts.control) (next_piece outgoing) }
+        (keyed_acked_if (acks_control (has_acknowledged facts (header_in pdu)) facts)
+        (keyed_of facts)) (next_piece outgoing) }
     ensures more_new { (setup : Setup) (past : List Step) (slot : ℕ) (octets pdu : List ℕ)
-        (room : Bool) (fixing : Control) (outgoing : Data) → let facts = facts_of setup past in
+        (room : Bool) (fixing : Keyed) (outgoing : Data) → let facts = facts_of setup past in
         setup.link.role ≡ Role.Peripheral → IsFixedBy fixing outgoing facts
         → good_pdu setup facts octets ≡ Some pdu
         → let heard = facts_after setup facts (PacketReceived slot octets room) in
         is_acked heard.acknowledgement ≡ true
         → more_sent heard ≡ more_with_new fixing (data_waits_after (pdu_sent heard) outgoing) }
     ensures more_old { (setup : Setup) (past : List Step) (slot : ℕ) (octets pdu : List ℕ)
-        (room : Bool) (fixing : Control) (outgoing : Data) → let facts = facts_of setup past in
+        (room : Bool) (fixing : Keyed) (outgoing : Data) → let facts = facts_of setup past in
         setup.link.role ≡ Role.Peripheral → IsFixedBy fixing outgoing facts
         → good_pdu setup facts octets ≡ Some pdu → 1 ≤ outgoing.limit
         → let heard = facts_after setup facts (PacketReceived slot octets room) in
         is_acked heard.acknowledgement ≡ false
-        → more_sent heard ≡ more_with_old fixing heard.control (data_waits outgoing) }
+        → more_sent heard ≡ more_with_old fixing (keyed_of heard) (data_waits outgoing) }
 {}
 
 /// Lines that tell of an end that hears tell whether the packet acknowledges a control PDU of it

@@ -2,13 +2,15 @@
 ghost use Rattle.std.specs.Prelude.{◌≡◌, ◌++◌, ◌∷◌, [], None, Some, false, true};
 ghost use Rattle.ble_base.specs.declared.roles.Role.TheVariants.{Central, Peripheral};
 ghost use Rattle.ble_base.specs.declared.roles.Side.TheVariants.{A, B};
-ghost use Rattle.journal_controls.specs.LineSteps.{control_on};
-ghost use Rattle.journal_controls.specs.Rows.{first_on, version_pdu, version_sent};
+ghost use Rattle.journal_controls.specs.LineSteps.{keyed_on};
+ghost use Rattle.journal_controls.specs.Rows.{begun_on, version_pdu, version_sent};
 ghost use Rattle.journal_controls.specs.link_model.Acknowledgement.{empty_pdu};
 ghost use Rattle.journal_controls.specs.link_model.Controls.{read_of};
 ghost use Rattle.journal_controls.specs.link_model.Data.{next_piece};
-ghost use Rattle.journal_controls.specs.link_model.control_model.Control.{Enters, Sends, Takes};
-ghost use Rattle.journal_controls.specs.link_model.control_model.Control.{after_all};
+ghost use Rattle.journal_controls.specs.link_model.Facts.{no_response};
+ghost use Rattle.journal_controls.specs.link_model.keyed_control.KeyedSteps.{Enters, Sends, Takes};
+ghost use Rattle.journal_controls.specs.link_model.keyed_control.KeyedSteps.{keyed_after_all};
+ghost use Rattle.journal_controls.specs.link_model.phased_end.Taking.{drawn};
 ghost use Rattle.journal_controls.specs.run_model.Rows.{turn_entry};
 ghost use Rattle.journal_fixing.specs.NextPdu.{data_waits_after, more_with_new, more_with_old};
 ghost use Rattle.journal_fixing.specs.NextPdu.{pdu_next, piece_limit};
@@ -16,11 +18,13 @@ ghost use Rattle.journal_fixing.specs.OnLines.{control_fixing, control_going};
 ghost use Rattle.journal_fixing.specs.Rows.{end_sent, length_taken, link_ended, long_allowed};
 ghost use Rattle.journal_fixing.specs.Rows.{message_cut, message_pdu, own_version, terminate_pdu};
 ghost use Rattle.journal_fixing.specs.Rows.{two_waiting, version_begun, version_heard};
+ghost use Rattle.journal_fixing.specs.Rows.{not_quiet};
 
 /// A central whose exchange of versions begins sends LL_VERSION_IND next. A peripheral cuts its data
 /// at the effective length with which the turn began, though it takes LL_LENGTH_REQ before it
 /// sends: 27 octets of the 28, and not all of them. Once the host has ended the link no data goes:
-/// LL_TERMINATE_IND, and then empty PDUs.
+/// LL_TERMINATE_IND, and then empty PDUs. In a phase that is not Clear or Secure no data goes either,
+/// and MD does not tell of it (Core 5.2, volume 6 part B, section 5.1.3).
 pub fn worked_next_pdus()
     ensures version { pdu_next version_begun version_begun None ≡ own_version }
     ensures limit { piece_limit long_allowed ≡ 27 }
@@ -34,6 +38,8 @@ pub fn worked_next_pdus()
     ensures ended { pdu_next end_sent end_sent (next_piece (message_cut end_sent)) ≡ empty_pdu }
     ensures no_data { pdu_next end_sent end_sent (next_piece (message_cut end_sent))
         ≡ message_pdu 27 → ⊥ }
+    ensures held { pdu_next not_quiet not_quiet (next_piece (message_cut not_quiet)) ≡ empty_pdu }
+    ensures held_back { more_with_new not_quiet true ≡ false }
 {}
 
 /// MD is 0 with LL_VERSION_IND where nothing else waits, and 1 where data or another control PDU
@@ -45,27 +51,28 @@ pub fn worked_md()
         (data_waits_after own_version (message_cut version_begun)) ≡ true }
     ensures another { more_with_new two_waiting false ≡ true }
     ensures not_alone { more_with_new two_waiting false ≡ false → ⊥ }
-    ensures part { more_with_new (first_on Central)
-        (data_waits_after (message_pdu 27) (message_cut (first_on Central))) ≡ true }
-    ensures whole { more_with_new (first_on Central)
-        (data_waits_after (message_pdu 28) (message_cut (first_on Central))) ≡ false }
+    ensures part { more_with_new (begun_on Central)
+        (data_waits_after (message_pdu 27) (message_cut (begun_on Central))) ≡ true }
+    ensures whole { more_with_new (begun_on Central)
+        (data_waits_after (message_pdu 28) (message_cut (begun_on Central))) ≡ false }
     ensures again { more_with_old version_begun version_begun false ≡ true }
-    ensures nothing { more_with_old (first_on Central) (first_on Central) false ≡ false }
+    ensures nothing { more_with_old (begun_on Central) (begun_on Central) false ≡ false }
 {}
 
-/// A central fixes LL_VERSION_IND with the control part before its line, and the next turn begins
-/// with that after it. The answer of a peripheral was fixed, and goes, with the control part before
-/// it takes the PDU of the packet that it hears.
+/// A central fixes LL_VERSION_IND as it is before its line, and the next turn begins as it is after
+/// that. The answer of a peripheral was fixed, and goes, as it is before it takes the PDU of the
+/// packet that it hears.
 pub fn worked_fixing()
     ensures fixes { control_fixing B 1 version_sent
-        ≡ Some (after_all (Enters 2 true ∷ []) (first_on Central)) }
+        ≡ Some (keyed_after_all (Enters 2 ∷ []) (begun_on Central)) }
     ensures later { control_fixing B 1 (version_sent ++ turn_entry 4 ∷ [])
-        ≡ Some (after_all (Enters 2 true ∷ Sends 3 true ∷ []) (first_on Central)) }
+        ≡ Some (keyed_after_all (Enters 2 ∷ Sends 3 ∷ []) (begun_on Central)) }
     ensures fixed { control_fixing A 1 version_heard
-        ≡ Some (after_all (Enters 2 true ∷ []) (first_on Peripheral)) }
+        ≡ Some (keyed_after_all (Enters 2 ∷ []) (begun_on Peripheral)) }
     ensures goes { control_going A 1 version_heard
-        ≡ Some (after_all (Enters 2 true ∷ []) (first_on Peripheral)) }
-    ensures taken { control_on A 1 version_heard
-        ≡ Some (after_all (Enters 2 true ∷ Takes (read_of version_pdu) 3 true ∷ [])
-        (first_on Peripheral)) }
+        ≡ Some (keyed_after_all (Enters 2 ∷ []) (begun_on Peripheral)) }
+    ensures taken { keyed_on A 1 version_heard
+        ≡ Some (keyed_after_all (Enters 2
+        ∷ Takes (read_of version_pdu) 3 (drawn no_response) ∷ [])
+        (begun_on Peripheral)) }
 {}

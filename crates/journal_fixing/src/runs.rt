@@ -1,5 +1,5 @@
-//! What an open end of a run fixed, and the control part by which it did so, by the lines of the
-//! journal. The bodies are empty, or only call the laws that they rest on: the contracts are the
+//! What an open end of a run fixed, and what it was as it did so, by the lines of the journal. The
+//! bodies are empty, or only call the laws that they rest on: the contracts are the
 //! laws.
 ghost use Rattle.std.specs.Prelude.{◌≡◌, ◌++◌, ◌∷◌, [], ℕ, Bool, List, Option, Some, false, map};
 ghost use Rattle.std.specs.Prelude.{true};
@@ -13,10 +13,10 @@ ghost use Rattle.journal_controls.specs.journal_acks.link_calls.Uses.{listens_un
 ghost use Rattle.journal_controls.specs.journal_acks.link_calls.Uses.{uses_under};
 ghost use Rattle.journal_controls.specs.link_model.Data.{is_control};
 ghost use Rattle.journal_controls.specs.link_model.End.{facts_after};
+ghost use Rattle.journal_controls.specs.link_model.Facts.{keyed_of};
 ghost use Rattle.journal_controls.specs.link_model.Packets.{good_pdu};
-ghost use Rattle.journal_controls.specs.link_model.Plain.{control_acked_if};
 ghost use Rattle.journal_controls.specs.link_model.Receiving.{acks_control};
-ghost use Rattle.journal_controls.specs.link_model.Receiving.{has_acknowledged};
+ghost use Rattle.journal_controls.specs.link_model.Receiving.{has_acknowledged, keyed_acked_if};
 ghost use Rattle.journal_controls.specs.link_model.Step.{PacketSent, PduFixed};
 ghost use Rattle.journal_controls.specs.run_model.Feeding.{AreDistinct};
 ghost use Rattle.journal_controls.specs.journal_ends.open_links.OpenLinks.{OpenLink, facts_in};
@@ -31,8 +31,8 @@ ghost use Rattle.journal_fixing.specs.OnLines.{control_fixing, control_going, ha
 ghost use Rattle.journal_fixing.specs.PastFixing.{facts_fixing};
 
 /// In a run of two stations, with any number of links each and whatever procedures they carry: while
-/// an open end sends or listens, the control part by which it fixed its next PDU is by the lines of
-/// the journal the one that it had as it did so. So it is before each packet, and before each call in
+/// an open end sends or listens, what it was as it fixed its next PDU, with its procedures, its phase
+/// and its keys, is in the lines of the journal. So it is before each packet, and before each call in
 /// which a controller takes what it heard in a phase (Core 5.2, volume 6 part B, sections 4.5.1 and
 /// 4.5.9; when a PDU is fixed is our choice).
 pub fn the_control_part_that_fixed_a_pdu_is_kept_by_the_lines()
@@ -43,7 +43,7 @@ pub fn the_control_part_that_fixed_a_pdu_is_kept_by_the_lines()
         → link_at handle (facts_at given station before).links ≡ Some link
         → uses_under handle (facts_at given station before).turn.doing ≡ true
         → control_fixing (side_of station) ((links_of before).link_of station handle)
-        (journal_of before) ≡ Some (facts_fixing link.setup link.past).control }
+        (journal_of before) ≡ Some (keyed_of (facts_fixing link.setup link.past)) }
     ensures before_a_phase { (given : Given) (before rest : List Event) (called : ℕ)
         (received : Option (List ℕ)) (station handle : ℕ) (link : OpenLink)
         → given.stations ≡ 0 ∷ 1 ∷ [] → HaveAddresses given → Contains given.stations station
@@ -51,7 +51,7 @@ pub fn the_control_part_that_fixed_a_pdu_is_kept_by_the_lines()
         → link_at handle (facts_at given station before).links ≡ Some link
         → uses_under handle (facts_at given station before).turn.doing ≡ true
         → control_fixing (side_of station) ((links_of before).link_of station handle)
-        (journal_of before) ≡ Some (facts_fixing link.setup link.past).control }
+        (journal_of before) ≡ Some (keyed_of (facts_fixing link.setup link.past)) }
 {
     journal_controls::a_pdu_is_understood();
     advertise::laws::connections_are_taken();
@@ -59,8 +59,8 @@ pub fn the_control_part_that_fixed_a_pdu_is_kept_by_the_lines()
     air_frame::laws::packet_tells_its_pdu();
 }
 
-/// In such a run, as an end takes a good packet, the control part with which its next control PDU
-/// goes is by the lines its own, once the packet has acknowledged its last control PDU, and before
+/// In such a run, as an end takes a good packet, the end with which its next control PDU goes is by
+/// the lines what it is itself, once the packet has acknowledged its last control PDU, and before
 /// the PDU of the packet is taken. So it stays with each line of that call. In the call in which a
 /// controller begins a turn no end heard anything yet (Core 5.2, volume 6 part B, section 4.5.9; the
 /// order is our choice).
@@ -75,9 +75,9 @@ pub fn the_control_part_with_which_a_pdu_goes_is_kept_by_the_lines()
         → good_pdu link.setup (facts_in link) octets ≡ Some pdu
         → control_going (side_of station) ((links_of before).link_of station handle)
         (journal_of (before ++ Called station (PacketHeard octets) ∷ map (Noted station) notes))
-        ≡ Some (control_acked_if
+        ≡ Some (keyed_acked_if
         (acks_control (has_acknowledged (facts_in link) (header_in pdu)) (facts_in link))
-        (facts_in link).control) }
+        (keyed_of (facts_in link))) }
     ensures begins { (given : Given) (before rest : List Event) (slot : ℕ) (on : Bool)
         (notes : List Note) (station number : ℕ) (side : Side)
         → given.stations ≡ 0 ∷ 1 ∷ [] → HaveAddresses given

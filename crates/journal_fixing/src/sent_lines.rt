@@ -1,5 +1,4 @@
-//! Which PDU the line of a new PDU says, by the control part with which it was fixed by the lines
-//! before it. The bodies only call the laws that they rest on: the contracts are the laws.
+//! Which PDU the line of a new PDU says, by the end as it was fixed by the lines before it. The bodies only call the laws that they rest on: the contracts are the laws.
 ghost use Rattle.std.specs.Prelude.{◌≡◌, ◌++◌, ◌∷◌, [], ℕ, Bool, List, Some, map};
 ghost use Rattle.std.specs.List.{Contains};
 ghost use Rattle.ble_base.specs.declared.notes.Note.{Note};
@@ -9,8 +8,9 @@ ghost use Rattle.journal_controls.specs.controller_model.Step.{PacketHeard, Turn
 ghost use Rattle.journal_controls.specs.journal_ends.open_links.OpenLinks.{OpenLink, link_at};
 ghost use Rattle.journal_controls.specs.link_model.Acknowledgement.{Pdu};
 ghost use Rattle.journal_controls.specs.link_model.Data.{next_piece};
+ghost use Rattle.journal_controls.specs.link_model.Facts.{keyed_of};
 ghost use Rattle.journal_controls.specs.link_model.Fixing.{data_cut};
-ghost use Rattle.journal_controls.specs.link_model.control_model.Control.{Control};
+ghost use Rattle.journal_controls.specs.link_model.keyed_control.Keyed.{Keyed};
 ghost use Rattle.journal_controls.specs.run_model.History.{Event, Called, Noted};
 ghost use Rattle.journal_controls.specs.run_model.Journal.{journal_of, side_of};
 ghost use Rattle.journal_controls.specs.run_model.LinkEnds.{HaveAddresses};
@@ -22,11 +22,10 @@ ghost use Rattle.journal_fixing.specs.OnLines.{control_fixing, control_going};
 ghost use Rattle.journal_fixing.specs.PastFixing.{facts_fixing};
 
 /// In a run of two stations, with any number of links each and whatever procedures they carry: as a
-/// controller begins a turn, the line of a new PDU of a link comes where the control part by which
-/// the end fixed that PDU is by the lines before it the one that it had as it did so, and a control
-/// PDU goes with the same one. The line says the PDU that is next by that control part, and by the
-/// data of the end then (Core 5.2, volume 6
-/// part B, sections 4.5.6 and 4.5.9; when a PDU is fixed is our choice).
+/// controller begins a turn, the line of a new PDU of a link comes where the lines before it have the
+/// end as it was when it fixed that PDU, and a control PDU goes by the same. The line says the PDU that
+/// is next by that end, and by its data then (Core 5.2, volume 6 part B, sections 4.5.6 and 4.5.9;
+/// when a PDU is fixed is our choice).
 pub fn a_turn_begins_with_the_line_of_the_pdu_that_the_lines_fix()
     ensures fixing { (given : Given) (before rest : List Event)
         (station slot handle count llid : ℕ) (on : Bool) (body : List ℕ) (earlier later : List Note)
@@ -39,7 +38,7 @@ pub fn a_turn_begins_with_the_line_of_the_pdu_that_the_lines_fix()
         → let now = before ++ Called station (TurnBegins slot on) ∷ map (Noted station) earlier in
         link_at handle (facts_at given station now).links ≡ Some link
         → control_fixing (side_of station) ((links_of now).link_of station handle)
-        (journal_of now) ≡ Some (facts_fixing link.setup link.past).control }
+        (journal_of now) ≡ Some (keyed_of (facts_fixing link.setup link.past)) }
     ensures going { (given : Given) (before rest : List Event)
         (station slot handle count llid : ℕ) (on : Bool) (body : List ℕ) (earlier later : List Note)
         (link : OpenLink)
@@ -51,10 +50,10 @@ pub fn a_turn_begins_with_the_line_of_the_pdu_that_the_lines_fix()
         → let now = before ++ Called station (TurnBegins slot on) ∷ map (Noted station) earlier in
         link_at handle (facts_at given station now).links ≡ Some link
         → control_going (side_of station) ((links_of now).link_of station handle)
-        (journal_of now) ≡ Some (facts_fixing link.setup link.past).control }
+        (journal_of now) ≡ Some (keyed_of (facts_fixing link.setup link.past)) }
     ensures pdu { (given : Given) (before rest : List Event)
         (station slot handle count llid : ℕ) (on : Bool) (body : List ℕ) (earlier later : List Note)
-        (link : OpenLink) (fixing going : Control)
+        (link : OpenLink) (fixing going : Keyed)
         → given.stations ≡ 0 ∷ 1 ∷ [] → HaveAddresses given → Contains given.stations station
         → history_of (run_of given) ≡ before ++ Called station (TurnBegins slot on) ∷ rest
         → notes_after (setup_at given station) (facts_at given station before)
@@ -76,9 +75,8 @@ pub fn a_turn_begins_with_the_line_of_the_pdu_that_the_lines_fix()
 }
 
 /// In such a run, as a peripheral takes a packet on a link, the line of a new PDU of that link comes
-/// where the control part by which the peripheral fixed that PDU is by the lines before it the one
-/// that it had as it did so. The line says the PDU that is next by the control parts of the lines,
-/// and by the data of the end as it fixed that PDU (Core 5.2, volume 6 part B, sections 4.5.6 and
+/// where the lines before it have the peripheral as it was when it fixed that PDU. The line says the
+/// PDU that is next by the ends of the lines, and by the data of the end as it fixed that PDU (Core 5.2, volume 6 part B, sections 4.5.6 and
 /// 4.5.9; when a PDU is fixed is our choice).
 pub fn a_peripheral_answers_with_the_line_of_the_pdu_that_the_lines_fix()
     ensures fixing { (given : Given) (before rest : List Event) (octets : List ℕ)
@@ -93,10 +91,10 @@ pub fn a_peripheral_answers_with_the_line_of_the_pdu_that_the_lines_fix()
         → link_at handle (facts_at given station before).links ≡ Some link
         → let now = before ++ Called station (PacketHeard octets) ∷ map (Noted station) earlier in
         control_fixing (side_of station) ((links_of now).link_of station handle)
-        (journal_of now) ≡ Some (facts_fixing link.setup link.past).control }
+        (journal_of now) ≡ Some (keyed_of (facts_fixing link.setup link.past)) }
     ensures pdu { (given : Given) (before rest : List Event) (octets : List ℕ)
         (station handle count llid : ℕ) (body : List ℕ) (earlier later : List Note)
-        (link : OpenLink) (fixing going : Control)
+        (link : OpenLink) (fixing going : Keyed)
         → given.stations ≡ 0 ∷ 1 ∷ [] → HaveAddresses given → Contains given.stations station
         → history_of (run_of given) ≡ before
         ++ Called station (PacketHeard octets) ∷ (map (Noted station) earlier ++ rest)

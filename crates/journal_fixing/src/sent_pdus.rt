@@ -11,10 +11,11 @@ ghost use Rattle.journal_controls.specs.journal_ends.open_links.OpenLinks.{link_
 ghost use Rattle.journal_controls.specs.link_model.Acknowledgement.{is_acked};
 ghost use Rattle.journal_controls.specs.link_model.Data.{next_piece};
 ghost use Rattle.journal_controls.specs.link_model.End.{facts_after};
+ghost use Rattle.journal_controls.specs.link_model.Facts.{keyed_of};
 ghost use Rattle.journal_controls.specs.link_model.Fixing.{data_cut};
 ghost use Rattle.journal_controls.specs.link_model.Packets.{good_pdu, more_sent, pdu_sent};
 ghost use Rattle.journal_controls.specs.link_model.Step.{PacketReceived, PduFixed};
-ghost use Rattle.journal_controls.specs.link_model.control_model.Control.{Control};
+ghost use Rattle.journal_controls.specs.link_model.keyed_control.Keyed.{Keyed};
 ghost use Rattle.journal_controls.specs.run_model.History.{Event, Called, Hearing, Noted};
 ghost use Rattle.journal_controls.specs.run_model.History.{Transmitted};
 ghost use Rattle.journal_controls.specs.run_model.Journal.{journal_of, side_of};
@@ -28,14 +29,13 @@ ghost use Rattle.journal_fixing.specs.PastFixing.{facts_fixing};
 
 /// In a run of two stations, with any number of links each and whatever procedures they carry: as a
 /// peripheral takes a good packet that leaves all its PDUs acknowledged, the PDU with which it
-/// answers is the one that is next by the control parts of the lines, and by its data as it fixed
-/// that PDU. MD says whether more waits after it. If a PDU is sent again, MD says whether the one
+/// answers is the one that is next by the ends of the lines, and by its data as it fixed that PDU. MD says whether more waits after it. If a PDU is sent again, MD says whether the one
 /// that would go now is not empty. So it is at each line of that call, also before the line of the
 /// new PDU (Core 5.2, volume 6 part B, sections 4.5.6 and 4.5.9; when a PDU is fixed is our
 /// choice).
 pub fn a_peripheral_answers_with_the_pdu_that_the_lines_fix()
     ensures pdu { (given : Given) (before rest : List Event) (octets pdu : List ℕ)
-        (notes : List Note) (station handle : ℕ) (link : OpenLink) (fixing going : Control)
+        (notes : List Note) (station handle : ℕ) (link : OpenLink) (fixing going : Keyed)
         (slot : ℕ) (room : Bool)
         → given.stations ≡ 0 ∷ 1 ∷ [] → HaveAddresses given → Contains given.stations station
         → history_of (run_of given) ≡ before
@@ -54,7 +54,7 @@ pub fn a_peripheral_answers_with_the_pdu_that_the_lines_fix()
         → pdu_sent heard ≡ pdu_next fixing going
         (next_piece (data_cut (facts_fixing link.setup link.past))) }
     ensures more { (given : Given) (before rest : List Event) (octets pdu : List ℕ)
-        (notes : List Note) (station handle : ℕ) (link : OpenLink) (fixing : Control)
+        (notes : List Note) (station handle : ℕ) (link : OpenLink) (fixing : Keyed)
         (slot : ℕ) (room : Bool)
         → given.stations ≡ 0 ∷ 1 ∷ [] → HaveAddresses given → Contains given.stations station
         → history_of (run_of given) ≡ before
@@ -72,7 +72,7 @@ pub fn a_peripheral_answers_with_the_pdu_that_the_lines_fix()
         → more_sent heard ≡ more_with_new fixing
         (data_waits_after (pdu_sent heard) (data_cut (facts_fixing link.setup link.past))) }
     ensures again { (given : Given) (before rest : List Event) (octets pdu : List ℕ)
-        (notes : List Note) (station handle : ℕ) (link : OpenLink) (fixing : Control)
+        (notes : List Note) (station handle : ℕ) (link : OpenLink) (fixing : Keyed)
         (slot : ℕ) (room : Bool)
         → given.stations ≡ 0 ∷ 1 ∷ [] → HaveAddresses given → Contains given.stations station
         → history_of (run_of given) ≡ before
@@ -88,7 +88,7 @@ pub fn a_peripheral_answers_with_the_pdu_that_the_lines_fix()
         let heard = facts_after link.setup (facts_in link) (PacketReceived slot octets room) in
         control_fixing (side_of station) number lines ≡ Some fixing
         → is_acked heard.acknowledgement ≡ false
-        → more_sent heard ≡ more_with_old fixing heard.control (data_waits outgoing) }
+        → more_sent heard ≡ more_with_old fixing (keyed_of heard) (data_waits outgoing) }
 {
     journal_controls::a_pdu_is_understood();
     advertise::laws::connections_are_taken();
@@ -97,14 +97,14 @@ pub fn a_peripheral_answers_with_the_pdu_that_the_lines_fix()
 }
 
 /// In such a run, before a packet, a central that sends it on a link, and of which all PDUs were
-/// acknowledged, sends the PDU that is next by the control part with which it fixed that PDU by the
-/// lines, and by its data then. MD says whether more waits after it. If a PDU is sent again, MD
+/// acknowledged, sends the PDU that is next by what it was as it fixed that PDU by the lines, and by
+/// its data then. MD says whether more waits after it. If a PDU is sent again, MD
 /// says whether the fixed one is not empty (Core 5.2, volume 6 part B, sections 4.5.6 and 4.5.9;
 /// when a PDU is fixed is our choice).
 pub fn a_central_sends_the_pdu_that_the_lines_fix()
     ensures pdu { (given : Given) (before rest : List Event) (sender channel : ℕ)
         (octets : List ℕ) (hearings : List Hearing) (station handle : ℕ) (link : OpenLink)
-        (fixing : Control)
+        (fixing : Keyed)
         → given.stations ≡ 0 ∷ 1 ∷ [] → HaveAddresses given → Contains given.stations station
         → history_of (run_of given) ≡ before ++ Transmitted sender channel octets hearings ∷ rest
         → link_at handle (facts_at given station before).links ≡ Some link
@@ -118,7 +118,7 @@ pub fn a_central_sends_the_pdu_that_the_lines_fix()
         (next_piece (data_cut (facts_fixing link.setup link.past))) }
     ensures more { (given : Given) (before rest : List Event) (sender channel : ℕ)
         (octets : List ℕ) (hearings : List Hearing) (station handle : ℕ) (link : OpenLink)
-        (fixing : Control)
+        (fixing : Keyed)
         → given.stations ≡ 0 ∷ 1 ∷ [] → HaveAddresses given → Contains given.stations station
         → history_of (run_of given) ≡ before ++ Transmitted sender channel octets hearings ∷ rest
         → link_at handle (facts_at given station before).links ≡ Some link
@@ -132,7 +132,7 @@ pub fn a_central_sends_the_pdu_that_the_lines_fix()
         (data_waits_after (pdu_sent sent) (data_cut (facts_fixing link.setup link.past))) }
     ensures again { (given : Given) (before rest : List Event) (sender channel : ℕ)
         (octets : List ℕ) (hearings : List Hearing) (station handle : ℕ) (link : OpenLink)
-        (fixing : Control)
+        (fixing : Keyed)
         → given.stations ≡ 0 ∷ 1 ∷ [] → HaveAddresses given → Contains given.stations station
         → history_of (run_of given) ≡ before ++ Transmitted sender channel octets hearings ∷ rest
         → link_at handle (facts_at given station before).links ≡ Some link

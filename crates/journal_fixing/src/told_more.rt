@@ -1,14 +1,14 @@
-//! What MD says in each packet of a link, by the control parts that the lines of the journal give.
+//! What MD says in each packet of a link, by the ends that the lines of the journal give.
 //! The bodies only call the laws that they rest on: the contracts are the laws.
 ghost use Rattle.std.specs.Prelude.{◌≡◌, ◌++◌, ◌∷◌, [], ℕ, List, Some, false, true};
 ghost use Rattle.std.specs.List.{Contains};
-ghost use Rattle.journal_controls.specs.LineSteps.{control_on};
+ghost use Rattle.journal_controls.specs.LineSteps.{keyed_on};
 ghost use Rattle.journal_controls.specs.journal_ends.open_links.OpenLinks.{facts_in};
 ghost use Rattle.journal_controls.specs.journal_packets.Senders.{IsOfSendersLink};
 ghost use Rattle.journal_controls.specs.link_model.Acknowledgement.{is_acked};
 ghost use Rattle.journal_controls.specs.link_model.Fixing.{data_cut};
 ghost use Rattle.journal_controls.specs.link_model.Packets.{more_sent, pdu_sent};
-ghost use Rattle.journal_controls.specs.link_model.control_model.Control.{Control};
+ghost use Rattle.journal_controls.specs.link_model.keyed_control.Keyed.{Keyed};
 ghost use Rattle.journal_controls.specs.run_model.History.{Event, Hearing, Transmitted};
 ghost use Rattle.journal_controls.specs.run_model.Journal.{journal_of, side_of};
 ghost use Rattle.journal_controls.specs.run_model.LinkEnds.{HaveAddresses};
@@ -37,16 +37,16 @@ pub fn each_packet_carries_the_pdu_and_md_of_its_end()
     air_frame::laws::packet_tells_its_pdu();
 }
 
-/// In such a run, MD of each packet of a link, at either role, follows from the control part with
-/// which the lines before the packet fixed the next PDU of its end, and from the data of the end
+/// In such a run, MD of each packet of a link, at either role, follows from the end as it
+/// fixed its next PDU by the lines before the packet, and from the data of the end
 /// then. Where all PDUs of the end were acknowledged, MD says whether more waits after the PDU of
 /// the packet. If a PDU is sent again, MD says whether the one that would go now is not empty, by
-/// the control part of the lines before the packet (Core 5.2, volume 6 part B, sections 4.5.6 and
+/// the end of the lines before the packet (Core 5.2, volume 6 part B, sections 4.5.6 and
 /// 4.5.9; when a PDU is fixed is our choice).
 pub fn each_packet_tells_what_waits_by_the_lines()
     ensures new { (given : Given) (before rest : List Event) (station channel : ℕ)
         (octets : List ℕ) (hearings : List Hearing)
-        (sent : IsOfSendersLink given before station channel octets) (fixing : Control)
+        (sent : IsOfSendersLink given before station channel octets) (fixing : Keyed)
         → given.stations ≡ 0 ∷ 1 ∷ [] → HaveAddresses given → Contains given.stations station
         → history_of (run_of given) ≡ before ++ Transmitted station channel octets hearings ∷ rest
         → control_fixing (side_of station) ((links_of before).link_of station sent.handle)
@@ -57,13 +57,13 @@ pub fn each_packet_tells_what_waits_by_the_lines()
         (data_cut (facts_fixing sent.link.setup sent.link.past))) }
     ensures again { (given : Given) (before rest : List Event) (station channel : ℕ)
         (octets : List ℕ) (hearings : List Hearing)
-        (sent : IsOfSendersLink given before station channel octets) (fixing now : Control)
+        (sent : IsOfSendersLink given before station channel octets) (fixing now : Keyed)
         → given.stations ≡ 0 ∷ 1 ∷ [] → HaveAddresses given → Contains given.stations station
         → history_of (run_of given) ≡ before ++ Transmitted station channel octets hearings ∷ rest
         → let number = (links_of before).link_of station sent.handle in
         let facts = facts_in sent.link in
         control_fixing (side_of station) number (journal_of before) ≡ Some fixing
-        → control_on (side_of station) number (journal_of before) ≡ Some now
+        → keyed_on (side_of station) number (journal_of before) ≡ Some now
         → is_acked facts.acknowledgement ≡ false
         → more_sent facts ≡ more_with_old fixing now
         (data_waits (data_cut (facts_fixing sent.link.setup sent.link.past))) }

@@ -31,6 +31,7 @@ use Rattle.journal_agreement.specs.Taken.{AllCameInTime}
 use Rattle.journal_data.specs.journal_links.Begun.{LinkBegun, link_numbered}
 use Rattle.journal_data.specs.journal_links.Changes.{notes_said, role_by, role_on}
 use Rattle.journal_data.specs.journal_links.Opened.{central_side}
+use Rattle.journal_data.specs.link_model.Controls.{is_quiet_now}
 use Rattle.journal_data.specs.link_model.End.{facts_of as end_facts_of, notes_of as end_notes_of}
 use Rattle.journal_data.specs.link_model.Events.{applied_notes}
 use Rattle.journal_data.specs.link_model.Setup.{Setup as EndSetup, algorithm_of}
@@ -111,7 +112,7 @@ module _ (setup : Setup) (past : List Step) (slot : ℕ) (on : Bool) (handle eve
       → notes_after setup (facts_of setup past) (TurnBegins slot on) ≡ earlier ++ EnterNote handle (record { 0 = event }) channel ∷ later
       → flat_map (said_under handle) earlier ≡ applied_then
   said_before earlier later notes_are =
-      let entry = entry_when link.setup slot (facts_in link).control true in
+      let entry = entry_when slot (is_quiet_now (facts_in link)) (facts_in link).control true in
       let note = EnterNote own own_event own_channel in
       let entry_is = entry_are link.setup link.past slot (λ central. ranges) entered.is_on in
       let call = call_said handle setup past slot on link entered.is_open entered.stays enters_now in

@@ -15,13 +15,14 @@ use Rattle.journal_controls.proofs.run_model.EntryEvents.{is_of_event}
 use Rattle.journal_controls.proofs.run_model.LinkEnds.{AreTaken, IsUnderstood}
 use Rattle.journal_leaving.specs.Reasons.{AllEndInTime, AllStayOpen, StaysOpen}
 use Rattle.journal_leaving.proofs.InTime.{NoneOverdue, none_overdue_at_end, none_overdue_before_turn}
-use Rattle.journal_leaving.proofs.OnlyOpen.{OnlyOpen, only_open_at_end, only_open_before_turn, turn_of_line}
+use Rattle.journal_leaving.proofs.OnlyOpen.{OnlyOpen, has_end, only_open_at_end, only_open_before_turn, turn_of_line}
 use Rattle.journal_leaving.proofs.RunLeavings.{NoneLeaves, none_leaves_at_end, none_leaves_before_turn}
 
 -- each end with a control part is open, and no open end was to end
 all_stay_open : (given : Given) (history : List Event) → OnlyOpen given history → NoneOverdue given history → NoneLeaves given history → AllStayOpen (journal_of history)
 all_stay_open given history only overdue leaves = λ side number control is.
-    let one = only side number control is in
+    let has = has_end side number history control is in
+    let one = only side number has.keyed has.is in
     subst (λ n. StaysOpen side n (journal_of history)) one.number_is
     (subst (λ s. StaysOpen s (number_at one.station one.handle history) (journal_of history)) one.side_is (record {
       not_overdue = overdue one.station one.in_it one.handle one.link one.is_open;

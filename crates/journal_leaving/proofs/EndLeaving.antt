@@ -11,34 +11,39 @@ use Rattle.data_pdu.specs.Header.{header_in}
 use Rattle.ack_bit.specs.AckBits.{acknowledges}
 use Rattle.journal.specs.declared.entries.Entry.{Entry}
 use Rattle.journal.specs.declared.entries.Entry.TheVariants.{Took}
+use Rattle.journal_controls.specs.KeyedLines.{given_by, keyed_by_all}
 use Rattle.journal_controls.specs.LineSteps.{is_more_acked, steps_said}
 use Rattle.journal_controls.specs.OneEnd.{IsToldOf}
 use Rattle.journal_controls.specs.journal_acks.Exchange.{Exchanged}
 use Rattle.journal_controls.specs.journal_links.LinkLines.{line_of}
 use Rattle.journal_controls.specs.link_model.Acknowledgement.{Pdu, bits_of, is_acked}
 use Rattle.journal_controls.specs.link_model.Controls.{goes_on, is_procedure_pdu, is_quiet_now, is_terminate, pdu_fixed, read_of}
-use Rattle.journal_controls.specs.link_model.Data.{is_control, is_empty, numbered}
+use Rattle.journal_controls.specs.link_model.Data.{is_control, is_data, is_empty, numbered}
 use Rattle.journal_controls.specs.link_model.End.{facts_after, notes_after}
 use Rattle.journal_controls.specs.link_model.Entering.{began_notes, done_notes, event_notes, facts_entered, facts_entered_if}
 use Rattle.journal_controls.specs.link_model.Events.{applied_notes}
-use Rattle.journal_controls.specs.link_model.Facts.{Facts}
-use Rattle.journal_controls.specs.link_model.Packets.{good_pdu}
-use Rattle.journal_controls.specs.link_model.Plain.{IsPlain, plain_accepted_if, plain_before_taking, plain_given_if, plain_hearing, plain_notes_hearing, plain_takes_if}
-use Rattle.journal_controls.specs.link_model.Receiving.{accepts, acked_kind, acknowledged_if, acks_control, answers_with_control, code_of, facts_received, given_notes, has_acknowledged, heard_in_slot, leaving_acked_if, leaving_by, received_notes, refused_notes, took_notes_if}
+use Rattle.journal_controls.specs.link_model.Facts.{Facts, keyed_of}
+use Rattle.journal_controls.specs.link_model.Packets.{good_pdu, is_forged}
+use Rattle.journal_controls.specs.link_model.Payload.{end_accepting}
+use Rattle.journal_controls.specs.link_model.Receiving.{accepted_if, accepts, acked_kind, acknowledged_if, acks_control, answers_with_control, code_of, counts_accepted, data_taken_if, facts_before_taking, facts_forged_if, facts_hearing, facts_received, given_if, given_notes, has_acknowledged, heard_in_slot, kept_given_if, leaving_acked_if, leaving_by, notes_hearing, procedures_give, procedures_take_if, received_notes, refused_notes, took_notes_if}
 use Rattle.journal_controls.specs.link_model.Sending.{control_gone_if, leaving_sent, sent_notes_if, takes_leave}
 use Rattle.journal_controls.specs.link_model.Setup.{Setup}
 use Rattle.journal_controls.specs.link_model.Step.{EventEntered, PacketReceived, PacketSent}
 use Rattle.journal_controls.specs.link_model.Verdicts.{pdu_of}
-use Rattle.journal_controls.specs.link_model.control_end.Answers.{entry_of, taken_of}
+use Rattle.journal_controls.specs.link_model.control_end.Answers.{entry_of}
 use Rattle.journal_controls.specs.link_model.control_end.Held.{held_of}
 use Rattle.journal_controls.specs.link_model.control_end.declared.answers.Entry.{Entry as Entered}
 use Rattle.journal_controls.specs.link_model.control_end.declared.answers.Taken.{Taken}
-use Rattle.journal_controls.specs.link_model.control_model.Control.{Control, after_all}
 use Rattle.journal_controls.specs.link_model.declared.events.ConnectionEvent.{ConnectionEvent}
 use Rattle.journal_controls.specs.link_model.declared.state.Leaving.{Leaving}
-use Rattle.journal_controls.proofs.link_model.Plain.{before_taking_plain, hearing_plain, notes_hearing_plain, received_plain}
+use Rattle.journal_controls.specs.link_model.keyed_control.Keyed.{Keyed}
+use Rattle.journal_controls.specs.link_model.keyed_control.declared.material.Response.{Response}
+use Rattle.journal_controls.specs.link_model.phased_end.Held.{held_of as keyed_held}
+use Rattle.journal_controls.specs.link_model.phased_end.Taking.{handed_keyed, is_handed, nothing_keyed, taken_keyed}
+use Rattle.journal_controls.specs.link_model.phased_end.declared.taking.TakenKeyed.{TakenKeyed}
+use Rattle.journal_controls.proofs.EndSteps.{before_response, left_of, not_true}
 use Rattle.journal_leaving.specs.Leaving.{acks_terminate, leaving_saying}
-use Rattle.journal_controls.specs.Hearing.{control_hearing}
+use Rattle.journal_controls.specs.Hearing.{keyed_hearing}
 use Rattle.journal_leaving.specs.Hearing.{leaving_hearing}
 use Rattle.journal_leaving.specs.Said.{leaving_noted}
 
@@ -51,9 +56,13 @@ is_taking line = false
 abbrev NoneTakes : Side → ℕ → List Note → Type 0
 NoneTakes side number notes = AllByRecursion (λ note. is_taking (line_of side number note) ≡ false) notes
 
-saying_none : (slot : ℕ) (control : Option Control) (l : Leaving) (line : Entry) → is_taking line ≡ false → leaving_saying slot control l line ≡ l
-saying_none slot control l (Took side link count llid body) is = absurd cc
-saying_none slot control l line is = refl
+saying_none : (response : Response) (slot : ℕ) (k : Option Keyed) (l : Leaving) (line : Entry) → is_taking line ≡ false → leaving_saying response slot k l line ≡ l
+saying_none response slot k l (Took side link count llid body) is = absurd cc
+saying_none response slot k l line is = refl
+
+-- a control PDU that is taken, or is not
+abbrev left_by : Bool → Response → ℕ → Pdu → Keyed → Leaving → Leaving
+left_by takes response slot pdu k l = if takes then leaving_by (code_of (given_by response slot k pdu).taken.effect) l else l
 
 module _ (side : Side) (number : ℕ) where
   none_both : (notes more : List Note) → NoneTakes side number notes → NoneTakes side number more → NoneTakes side number (notes ++ more)
@@ -95,43 +104,44 @@ module _ (side : Side) (number : ℕ) where
       (began_none handle entry.began)
 
   -- their lines change nothing
-  none_noted : (withheld : Bool) (slot : ℕ) (notes : List Note) (c : Control) (l : Leaving) → NoneTakes side number notes → leaving_noted side number withheld slot notes c l ≡ l
-  none_noted withheld slot [] c l none = refl
-  none_noted withheld slot (note ∷ notes) c l none =
+  none_noted : (withheld : Bool) (response : Response) (slot : ℕ) (notes : List Note) (k : Keyed) (l : Leaving) → NoneTakes side number notes
+      → leaving_noted side number withheld response slot notes k l ≡ l
+  none_noted withheld response slot [] k l none = refl
+  none_noted withheld response slot (note ∷ notes) k l none =
       let line = line_of side number note in
-      none_noted withheld slot notes (after_all (steps_said withheld slot c line) c) (leaving_saying slot (Some c) l line) none.1
-      ∙ saying_none slot (Some c) l line none.0
+      none_noted withheld response slot notes (keyed_by_all (steps_said withheld response slot k line) k) (leaving_saying response slot (Some k) l line) none.1
+      ∙ saying_none response slot (Some k) l line none.0
 
-  pub entry_noted : (withheld : Bool) (slot : ℕ) (setup : Setup) (facts : Facts) (l : Leaving) (c : Control) → leaving_noted side number withheld slot (notes_after setup facts (EventEntered slot)) c l ≡ l
-  entry_noted withheld slot setup facts l c =
-      none_noted withheld slot (notes_after setup facts (EventEntered slot)) c l
+  pub entry_noted : (withheld : Bool) (response : Response) (slot : ℕ) (setup : Setup) (facts : Facts) (l : Leaving) (k : Keyed)
+      → leaving_noted side number withheld response slot (notes_after setup facts (EventEntered slot)) k l ≡ l
+  entry_noted withheld response slot setup facts l k =
+      none_noted withheld response slot (notes_after setup facts (EventEntered slot)) k l
       (entered_none (goes_on facts) setup.link.handle (facts_entered setup slot facts).event (entry_of slot (is_quiet_now facts) (held_of facts.control)))
 
-  pub sent_noted : (withheld : Bool) (slot : ℕ) (setup : Setup) (facts : Facts) (l : Leaving) (c : Control) → leaving_noted side number withheld slot (notes_after setup facts (PacketSent slot)) c l ≡ l
-  sent_noted withheld slot setup facts l c =
-      none_noted withheld slot (notes_after setup facts (PacketSent slot)) c l
+  pub sent_noted : (withheld : Bool) (response : Response) (slot : ℕ) (setup : Setup) (facts : Facts) (l : Leaving) (k : Keyed)
+      → leaving_noted side number withheld response slot (notes_after setup facts (PacketSent slot)) k l ≡ l
+  sent_noted withheld response slot setup facts l k =
+      none_noted withheld response slot (notes_after setup facts (PacketSent slot)) k l
       (sent_none (is_acked facts.acknowledgement && not (is_empty (pdu_fixed facts))) setup.link.handle (numbered facts.acknowledgement.sent) (pdu_fixed facts))
 
   -- ---- the notes of a packet that is heard
 
-  done_first : (withheld : Bool) (slot handle : ℕ) (kind : Option Kind) (notes : List Note) (c : Control) (l : Leaving)
-      → leaving_noted side number withheld slot (done_notes handle kind ++ notes) c l ≡ leaving_noted side number withheld slot notes c l
-  done_first withheld slot handle None notes c l = refl
-  done_first withheld slot handle (Some kind) notes c l = refl
+  done_first : (withheld : Bool) (response : Response) (slot handle : ℕ) (kind : Option Kind) (notes : List Note) (k : Keyed) (l : Leaving)
+      → leaving_noted side number withheld response slot (done_notes handle kind ++ notes) k l ≡ leaving_noted side number withheld response slot notes k l
+  done_first withheld response slot handle None notes k l = refl
+  done_first withheld response slot handle (Some kind) notes k l = refl
 
-  abbrev left_by : Bool → ℕ → Pdu → Control → Leaving → Leaving
-  left_by takes slot pdu c l = if takes then leaving_by (code_of (taken_of (read_of pdu) slot true (held_of c)).effect) l else l
-
-  took_first : (withheld : Bool) (accepted empty control : Bool) (slot handle : ℕ) (pdu : Pdu) (now : Facts) (notes : List Note) (c : Control) (l : Leaving)
+  took_first : (withheld accepted empty control : Bool) (response : Response) (slot handle : ℕ) (pdu : Pdu) (now : Facts) (notes : List Note) (k : Keyed) (l : Leaving)
       → is_empty pdu ≡ empty → is_control pdu ≡ control → NoneTakes side number notes
-      → leaving_noted side number withheld slot (took_notes_if (accepted && not empty) handle pdu now ++ notes) c l ≡ left_by (accepted && (control && not empty)) slot pdu c l
-  took_first withheld false empty control slot handle pdu now notes c l e k none = none_noted withheld slot notes c l none
-  took_first withheld true true true slot handle pdu now notes c l e k none = none_noted withheld slot notes c l none
-  took_first withheld true true false slot handle pdu now notes c l e k none = none_noted withheld slot notes c l none
-  took_first withheld true false control slot handle pdu now notes c l e k none =
+      → leaving_noted side number withheld response slot (took_notes_if (accepted && not empty) handle pdu now ++ notes) k l
+      ≡ left_by (accepted && (control && not empty)) response slot pdu k l
+  took_first withheld false empty control response slot handle pdu now notes k l e c none = none_noted withheld response slot notes k l none
+  took_first withheld true true true response slot handle pdu now notes k l e c none = none_noted withheld response slot notes k l none
+  took_first withheld true true false response slot handle pdu now notes k l e c none = none_noted withheld response slot notes k l none
+  took_first withheld true false control response slot handle pdu now notes k l e c none =
       let line = Took side number (numbered now.acknowledgement.accepted + 1) pdu.llid pdu.body in
-      none_noted withheld slot notes (after_all (steps_said withheld slot c line) c) (leaving_saying slot (Some c) l line) none
-      ∙ ap (λ b. left_by b slot pdu c l) (λ i. k i && not (e i))
+      none_noted withheld response slot notes (keyed_by_all (steps_said withheld response slot k line) k) (leaving_saying response slot (Some k) l line) none
+      ∙ ap (λ b. left_by b response slot pdu k l) (λ i. c i && not (e i))
 
 -- ---- an end that hears
 
@@ -139,49 +149,78 @@ gone_leaving : (goes : Bool) (slot : ℕ) (facts : Facts) → (control_gone_if g
 gone_leaving true slot facts = refl
 gone_leaving false slot facts = refl
 
-taken_leaving : (side : Side) (number : ℕ) (takes : Bool) (pdu : Pdu) (slot : ℕ) (facts : Facts)
-    → (plain_takes_if takes pdu slot facts).leaving ≡ left_by side number takes slot pdu facts.control facts.leaving
-taken_leaving side number true pdu slot facts = refl
-taken_leaving side number false pdu slot facts = refl
+-- a PDU that counts as it is accepted gives what it would
+taken_alike : (handed : Bool) (one other : TakenKeyed) → one.taken ≡ other.taken → (if handed then one else nothing_keyed).taken ≡ (if handed then other else nothing_keyed).taken
+taken_alike true one other same = same
+taken_alike false one other same = refl
+
+accepted_gives : (accepted : Bool) (pdu : Pdu) (slot : ℕ) (facts : Facts) → procedures_give pdu slot (accepted_if accepted pdu facts) ≡ procedures_give pdu slot facts
+accepted_gives accepted pdu slot facts = by (counts_accepted accepted pdu)
+  where
+    by : (counts : Bool) → let k = keyed_of facts in let counted = keyed_held (record k { end = end_accepting counts k.end }) in
+        (taken_keyed slot facts.encryption.response (read_of pdu) counted).taken ≡ procedures_give pdu slot facts
+    by true =
+        let k = keyed_of facts in
+        let response = facts.encryption.response in
+        let counted = keyed_held (record k { end = end_accepting true k.end }) in
+        taken_alike (is_handed (read_of pdu) (keyed_held k)) (handed_keyed slot response (read_of pdu) counted) (handed_keyed slot response (read_of pdu) (keyed_held k)) refl
+    by false = refl
+
+taken_leaving : (takes : Bool) (pdu : Pdu) (slot : ℕ) (facts : Facts)
+    → (procedures_take_if takes pdu slot facts).leaving ≡ (if takes then leaving_by (code_of (procedures_give pdu slot facts).effect) facts.leaving else facts.leaving)
+taken_leaving true pdu slot facts = refl
+taken_leaving false pdu slot facts = refl
+
+data_leaving : (takes : Bool) (facts : Facts) → (data_taken_if takes facts).leaving ≡ facts.leaving
+data_leaving true facts = refl
+data_leaving false facts = refl
+
+forged_leaving : (forged : Bool) (facts : Facts) → (facts_forged_if forged facts).leaving ≡ facts.leaving
+forged_leaving true facts = refl
+forged_leaving false facts = refl
 
 -- what it says of the packet moves it, from what it was as the packet reached it
-module _ (side : Side) (number : ℕ) (withheld : Bool) (slot : ℕ) (room : Bool) (setup : Setup) (facts : Facts) (plain : IsPlain setup.link.role facts) where
+module _ (side : Side) (number : ℕ) (withheld : Bool) (slot : ℕ) (room : Bool) (setup : Setup) (facts : Facts) where
+  abbrev words : Response
+  words = facts.encryption.response
+
   hearing_leaves : (octets : List ℕ) → let header = header_in octets in
-      let now = plain_before_taking setup.link.role slot header facts in
-      (plain_hearing setup.link.role slot room header (pdu_of octets) facts).leaving
-      ≡ leaving_noted side number withheld slot (plain_notes_hearing setup slot room header (pdu_of octets) facts) now.control now.leaving
+      let now = facts_before_taking setup.link.role slot header facts in
+      (facts_hearing setup.link.role slot room header (pdu_of octets) facts).leaving
+      ≡ leaving_noted side number withheld words slot (notes_hearing setup slot room header (pdu_of octets) facts) (keyed_of now) now.leaving
   hearing_leaves octets =
+      let role = setup.link.role in
       let handle = setup.link.handle in
       let header = header_in octets in
       let pdu = pdu_of octets in
-      let now = plain_before_taking setup.link.role slot header facts in
+      let now = facts_before_taking role slot header facts in
       let accepted = accepts room header pdu now in
-      let given = plain_given_if (accepted && is_procedure_pdu pdu) pdu slot now in
-      taken_leaving side number (accepted && is_procedure_pdu pdu) pdu slot (plain_accepted_if accepted pdu now)
-      ∙ sym (done_first side number withheld slot handle (acked_kind (acks_control (has_acknowledged facts header) facts) facts)
-      (took_notes_if (accepted && not (is_empty pdu)) handle pdu now ++ given_notes handle given) now.control now.leaving
-      ∙ took_first side number withheld accepted (is_empty pdu) (is_control pdu) slot handle pdu now (given_notes handle given) now.control now.leaving refl refl
-      (given_none side number handle given))
+      let takes = accepted && is_procedure_pdu pdu in
+      let opened = accepted_if accepted pdu now in
+      let given = given_if takes pdu slot now in
+      let kept = kept_given_if takes pdu slot now in
+      let later = given_notes handle given ++ given_notes handle kept in
+      let k = keyed_of now in
+      data_leaving (accepted && is_data pdu) (procedures_take_if takes pdu slot opened)
+      ∙ taken_leaving takes pdu slot opened
+      ∙ ap (λ (one : Taken). if takes then leaving_by (code_of one.effect) now.leaving else now.leaving) (accepted_gives accepted pdu slot now)
+      ∙ ap (λ response. left_by takes response slot pdu k now.leaving) (before_response role slot header facts)
+      ∙ sym (done_first side number withheld words slot handle (acked_kind (acks_control (has_acknowledged facts header) facts) facts)
+      (took_notes_if (accepted && not (is_empty pdu)) handle pdu now ++ later) k now.leaving
+      ∙ took_first side number withheld accepted (is_empty pdu) (is_control pdu) words slot handle pdu now later k now.leaving refl refl
+      (none_both side number (given_notes handle given) (given_notes handle kept) (given_none side number handle given) (given_none side number handle kept)))
 
   received_leaves : (may : Option (List ℕ)) → let role = setup.link.role in
       (facts_received role slot room may facts).leaving
-      ≡ leaving_noted side number withheld slot (received_notes setup slot room may facts) (control_hearing role slot may facts) (leaving_hearing role slot may facts)
+      ≡ leaving_noted side number withheld words slot (received_notes setup slot room may facts) (keyed_hearing role slot may facts) (leaving_hearing role slot may facts)
   received_leaves None = refl
-  received_leaves (Some octets) =
-      let role = setup.link.role in
-      let header = header_in octets in
-      let pdu = pdu_of octets in
-      ap (λ (f : Facts). f.leaving) (hearing_plain role role slot room header pdu facts plain)
-      ∙ hearing_leaves octets
-      ∙ (λ i.
-      let now = sym (before_taking_plain role role slot header facts plain) i in
-      leaving_noted side number withheld slot (sym (notes_hearing_plain setup slot room header pdu facts plain) i) now.control now.leaving)
+  received_leaves (Some octets) = hearing_leaves octets
 
   pub packet_leaves : (octets : List ℕ) → let role = setup.link.role in let may = good_pdu setup facts octets in
       (facts_after setup facts (PacketReceived slot octets room)).leaving
-      ≡ leaving_noted side number withheld slot (notes_after setup facts (PacketReceived slot octets room)) (control_hearing role slot may facts) (leaving_hearing role slot may facts)
+      ≡ leaving_noted side number withheld words slot (notes_after setup facts (PacketReceived slot octets room)) (keyed_hearing role slot may facts) (leaving_hearing role slot may facts)
   packet_leaves octets =
-      ap (λ (f : Facts). f.leaving) (received_plain setup facts slot octets room plain) ∙ received_leaves (good_pdu setup facts octets)
+      forged_leaving (is_forged setup facts octets) (facts_received setup.link.role slot room (good_pdu setup facts octets) facts) ∙ received_leaves (good_pdu setup facts octets)
 
 -- ---- what the lines tell of an end that hears
 
@@ -197,14 +236,6 @@ acks_by true before after count last sent was is same =
     (λ i. nat_lt (was i) (is i) && is_terminate (same refl i)) ∙ ap (λ b. b && is_terminate sent) (more_by_one count)
 acks_by false before after count last sent was is same =
     (λ i. nat_lt (was i) (is i) && is_terminate last) ∙ ap (λ b. b && is_terminate last) (none_more count)
-
-left_of : (a b : Bool) → (a && b) ≡ true → a ≡ true
-left_of true b is = refl
-left_of false b is = is
-
-not_true : (a : Bool) → not a ≡ true → a ≡ false
-not_true false is = refl
-not_true true is = absurd cc
 
 pub hearing_told : (slot : ℕ) (setup : Setup) (facts : Facts) (before after : Exchanged) (last : Pdu) (pdu : List ℕ)
     → IsToldOf setup.link.role facts (header_in pdu) before after last

@@ -12,7 +12,8 @@ use Rattle.journal_controls.specs.host_masks.Masks.{masks_of, withholds_requests
 use Rattle.journal_controls.proofs.host_answers.LineAnswers.{IsQuiet}
 use Rattle.journal.specs.declared.entries.Entry.{Entry}
 use Rattle.journal.specs.declared.entries.Entry.TheVariants.{Fed, Turn}
-use Rattle.journal_controls.specs.LineSteps.{control_after, control_on, is_more_acked, turn_now, withholds}
+use Rattle.journal_controls.specs.KeyedLines.{drawn_by}
+use Rattle.journal_controls.specs.LineSteps.{is_more_acked, keyed_in_line, keyed_on, turn_now, withholds}
 use Rattle.journal_controls.specs.SaidLines.{NoneOpens, moved_by}
 use Rattle.journal_controls.specs.journal_acks.Carried.{carried_of}
 use Rattle.journal_controls.specs.journal_acks.Exchange.{exchange_of}
@@ -21,15 +22,15 @@ use Rattle.journal_controls.specs.journal_ends.Seen.{Hears, Says, heard_in_line}
 use Rattle.journal_controls.specs.journal_links.LinkLines.{link_named, lines_of, where_named}
 use Rattle.journal_controls.specs.link_model.Receiving.{leaving_acked_if}
 use Rattle.journal_controls.specs.link_model.Sending.{leaving_sent}
-use Rattle.journal_controls.specs.link_model.control_model.Control.{Control}
 use Rattle.journal_controls.specs.link_model.declared.state.Leaving.{Leaving}
+use Rattle.journal_controls.specs.link_model.keyed_control.Keyed.{Keyed}
 use Rattle.journal_controls.specs.run_model.History.{Event, TurnBegan, HostFed, Called, Hearing, Noted, Transmitted}
 use Rattle.journal_controls.specs.run_model.Journal.{entries_of, entry_of, journal_of, mark_of, radio_in, side_of}
 use Rattle.journal_controls.specs.run_model.Links.{links_of}
 use Rattle.journal_controls.specs.run_model.Readers.{PairOpening, fed_in, fed_to_side, pair_openings_in, turns_of}
 use Rattle.journal_controls.specs.run_model.Run.{Given, after_call, facts_at, setup_at}
-use Rattle.journal_controls.proofs.EventMoves.{AnswersNone, air_line, aired, control_at, turn_at, withholds_at}
-use Rattle.journal_controls.proofs.LineFolds.{control_more, line_moves as line_controls, moved_both}
+use Rattle.journal_controls.proofs.EventMoves.{AnswersNone, air_line, aired, drawn_at, keyed_at, turn_at, withholds_at}
+use Rattle.journal_controls.proofs.LineFolds.{keyed_more, line_moves as line_keyed, moved_both}
 use Rattle.journal_controls.proofs.journal_ends.SeenEvents.{lines_at, note_hears, unaccepted_by, unasked_in}
 use Rattle.journal_controls.proofs.journal_links.LinkLines.{line_more}
 use Rattle.journal_controls.proofs.run_model.Parts.{journal_event}
@@ -47,10 +48,11 @@ pub record IsMoving (number : ℕ) (side : Side) (history after : List Event) : 
   pub lines : lines_at number side after ≡ lines_at number side history ++ more
   pub turns : turn_at after ≡ turn_at history
   pub withheld : withholds_at side after ≡ withholds_at side history
-  pub control : (c : Control) → NoneOpens more → control_at number side history ≡ Some c
-      → control_at number side after ≡ Some (moved_by (withholds_at side history) (turn_at history) more c)
-  pub leaving : (c : Control) (l : Leaving) → NoneOpens more → control_at number side history ≡ Some c → leaving_at number side history ≡ Some l
-      → leaving_at number side after ≡ Some (leaving_said (withholds_at side history) (turn_at history) more c l)
+  pub drawn : drawn_at side after ≡ drawn_at side history
+  pub keyed : (k : Keyed) → NoneOpens more → keyed_at number side history ≡ Some k
+      → keyed_at number side after ≡ Some (moved_by (withholds_at side history) (drawn_at side history) (turn_at history) more k)
+  pub leaving : (k : Keyed) (l : Leaving) → NoneOpens more → keyed_at number side history ≡ Some k → leaving_at number side history ≡ Some l
+      → leaving_at number side after ≡ Some (leaving_said (withholds_at side history) (drawn_at side history) (turn_at history) more k l)
   -- where no line of the end comes, it is as it was
   pub still : more ≡ [] → leaving_at number side after ≡ leaving_at number side history
 
@@ -77,21 +79,24 @@ moving_then number side first second third one next = record {
   lines = next.lines ∙ ap (λ xs. xs ++ next.more) one.lines ∙ append_assoc (lines_at number side first) one.more next.more;
   turns = next.turns ∙ one.turns;
   withheld = next.withheld ∙ one.withheld;
-  control = λ c none is.
+  drawn = next.drawn ∙ one.drawn;
+  keyed = λ k none is.
       let slot = turn_at first in
       let held = withholds_at side first in
-      next.control (moved_by held slot one.more c) (last_none one.more next.more none) (one.control c (first_none one.more next.more none) is)
-      ∙ (λ i. Some (moved_by (one.withheld i) (one.turns i) next.more (moved_by held slot one.more c)))
-      ∙ ap Some (sym (moved_both held slot one.more next.more c));
-  leaving = λ c l none is was.
+      let words = drawn_at side first in
+      next.keyed (moved_by held words slot one.more k) (last_none one.more next.more none) (one.keyed k (first_none one.more next.more none) is)
+      ∙ (λ i. Some (moved_by (one.withheld i) (one.drawn i) (one.turns i) next.more (moved_by held words slot one.more k)))
+      ∙ ap Some (sym (moved_both held words slot one.more next.more k));
+  leaving = λ k l none is was.
       let slot = turn_at first in
       let held = withholds_at side first in
+      let words = drawn_at side first in
       let before = first_none one.more next.more none in
-      let then_c = moved_by held slot one.more c in
-      let then_l = leaving_said held slot one.more c l in
-      next.leaving then_c then_l (last_none one.more next.more none) (one.control c before is) (one.leaving c l before is was)
-      ∙ (λ i. Some (leaving_said (one.withheld i) (one.turns i) next.more then_c then_l))
-      ∙ ap Some (sym (said_both held slot one.more next.more c l));
+      let then_k = moved_by held words slot one.more k in
+      let then_l = leaving_said held words slot one.more k l in
+      next.leaving then_k then_l (last_none one.more next.more none) (one.keyed k before is) (one.leaving k l before is was)
+      ∙ (λ i. Some (leaving_said (one.withheld i) (one.drawn i) (one.turns i) next.more then_k then_l))
+      ∙ ap Some (sym (said_both held words slot one.more next.more k l));
   still = λ none. let both = none_of one.more next.more none in next.still both.second ∙ one.still both.first;
 }
 
@@ -111,12 +116,13 @@ line_moving number side history event line is deaf unaccepted own begins feeds =
           ∙ ap (λ (turns : List PairOpening). length turns - 1) (flat_map-append pair_openings_in front (line ∷ []) ∙ (λ i. turns_of front ++ (begins i ++ [])) ∙ append-nil (turns_of front));
       withheld = ap (withholds side) journal ∙ ap (λ octets. withholds_requests (masks_of octets))
           (flat_map-append (fed_in side) front (line ∷ []) ∙ (λ i. fed_to_side side front ++ (feeds i ++ [])) ∙ append-nil (fed_to_side side front));
-      control = λ c none was.
-          ap (control_on side number) journal ∙ control_more side number front line ∙ ap (λ before. control_after side number front before line) was
-          ∙ line_controls side number front line c deaf unaccepted none;
-      leaving = λ c l none control was.
+      drawn = refl;
+      keyed = λ k none was.
+          ap (keyed_on side number) journal ∙ keyed_more side number front line ∙ ap (λ before. keyed_in_line (drawn_by side) side number front before line) was
+          ∙ line_keyed side number front line k deaf unaccepted none;
+      leaving = λ k l none keyed was.
           ap (leaving_on side number) journal ∙ leaving_more side number front line ∙ ap (λ before. leaving_after side number front before line) was
-          ∙ line_moves side number front line c l deaf unasked own none control;
+          ∙ line_moves side number front line k l deaf unasked own none keyed;
       still = λ none.
           ap (leaving_on side number) journal ∙ leaving_more side number front line
           ∙ quiet_line side number front (leaving_on side number front) line (λ i. unasked i ++ (deaf i ++ map Says (none i))) own;
@@ -152,8 +158,9 @@ none_moving number side history after same = record {
   lines = ap (λ xs. lines_of side number xs) same ∙ sym (append-nil (lines_at number side history));
   turns = ap turn_now same;
   withheld = ap (withholds side) same;
-  control = λ c none was. ap (control_on side number) same ∙ was;
-  leaving = λ c l none control was. ap (leaving_on side number) same ∙ was;
+  drawn = refl;
+  keyed = λ k none was. ap (keyed_on side number) same ∙ was;
+  leaving = λ k l none keyed was. ap (leaving_on side number) same ∙ was;
   still = λ none. ap (leaving_on side number) same;
 }
 
@@ -182,14 +189,14 @@ call_moving given number side station step history quiet =
     part_moving number side station step (notes_after (setup_at given station) (facts_at given station history) step) history quiet
 
 -- by the lines that it adds
-pub call_moves : (given : Given) (side : Side) (number station : ℕ) (step : Call) (history : List Event) (more : List Entry) (c : Control) (l : Leaving)
+pub call_moves : (given : Given) (side : Side) (number station : ℕ) (step : Call) (history : List Event) (more : List Entry) (k : Keyed) (l : Leaving)
     → AnswersNone given side station step history → lines_at number side (after_call given station step history) ≡ lines_at number side history ++ more → NoneOpens more
-    → control_at number side history ≡ Some c → leaving_at number side history ≡ Some l
-    → leaving_at number side (after_call given station step history) ≡ Some (leaving_said (withholds_at side history) (turn_at history) more c l)
-call_moves given side number station step history more c l quiet lines none control was =
+    → keyed_at number side history ≡ Some k → leaving_at number side history ≡ Some l
+    → leaving_at number side (after_call given station step history) ≡ Some (leaving_said (withholds_at side history) (drawn_at side history) (turn_at history) more k l)
+call_moves given side number station step history more k l quiet lines none keyed was =
     let moving = call_moving given number side station step history quiet in
     let same = append_cancel_left (lines_at number side history) moving.more more (sym moving.lines ∙ lines) in
-    moving.leaving c l (subst NoneOpens (sym same) none) control was ∙ ap (λ xs. Some (leaving_said (withholds_at side history) (turn_at history) xs c l)) same
+    moving.leaving k l (subst NoneOpens (sym same) none) keyed was ∙ ap (λ xs. Some (leaving_said (withholds_at side history) (drawn_at side history) (turn_at history) xs k l)) same
 
 -- and by none
 pub call_stays : (given : Given) (number : ℕ) (side : Side) (station : ℕ) (step : Call) (history : List Event) → AnswersNone given side station step history

@@ -19,8 +19,8 @@ use Rattle.journal_controls.specs.run_model.Journal.{entries_of, journal_from, j
 use Rattle.journal_controls.specs.run_model.LinkEnds.{HaveAddresses}
 use Rattle.journal_controls.specs.run_model.Links.{links_of}
 use Rattle.journal_controls.specs.run_model.Run.{Given, GoesOn, after_call, after_feed, after_octets, facts_at, hearings_of, history_of, octets_left, run_of, setup_at, step_of}
-use Rattle.journal_controls.proofs.EventMoves.{turn_still as control_still}
-use Rattle.journal_controls.proofs.RunControls.{control_before_turn}
+use Rattle.journal_controls.proofs.EventMoves.{turn_still as keyed_still}
+use Rattle.journal_controls.proofs.RunControls.{keyed_before_turn}
 use Rattle.journal_controls.proofs.journal_acks.Counting.{facts_event}
 use Rattle.journal_controls.proofs.journal_acks.Exchanging.{number_at, number_called, number_other, number_quiet, number_sent}
 use Rattle.journal_controls.proofs.journal_acks.HeardLines.{turn_heard}
@@ -292,8 +292,8 @@ module _ (heard_whole : IsHeardWhole) (understood : IsUnderstood) (taken : AreTa
           fields = begun.fields;
           slot = begun.slot;
         };
-        control = control_still number side history slot radios
-            ∙ control_before_turn heard_whole understood taken nth apart given are_two six history rest slot radios at_turn station in_it handle link was;
+        keyed = keyed_still number side history slot radios
+            ∙ keyed_before_turn heard_whole understood taken nth apart given are_two six history rest slot radios at_turn station in_it handle link was;
         left = turn_still number side history slot radios ∙ all_left given history left station in_it handle link was;
         heard = turn_heard number side history slot radios
             ∙ heard_by_lines number side history link (seen_before_turn understood taken nth apart given are_two six history rest slot radios at_turn station in_it handle link was);

@@ -15,6 +15,7 @@ use Rattle.radio_replay.specs.declared.fates.Fate.{Fate}
 use Rattle.journal_controls.specs.journal_acks.Exchange.{is_number}
 use Rattle.journal_controls.specs.journal_acks.link_calls.Uses.{listens_under, sends_under}
 use Rattle.journal_controls.specs.journal_packets.Belonging.{is_side, link_of_packet}
+use Rattle.journal_controls.specs.link_model.Facts.{keyed_of}
 use Rattle.journal_controls.specs.link_model.Step.{PacketSent}
 use Rattle.journal_controls.specs.open_links.OpenLinks.{OpenLink, facts_in, link_after, link_at}
 use Rattle.journal_controls.specs.open_links.Turns.{ending_in}
@@ -26,10 +27,11 @@ use Rattle.journal_controls.specs.run_model.LinkEnds.{HaveAddresses}
 use Rattle.journal_controls.specs.run_model.Links.{is_advertising}
 use Rattle.journal_controls.specs.run_model.Readers.{station_of, turns_of}
 use Rattle.journal_controls.specs.run_model.Run.{Given, after_call, after_feed, after_octets, facts_at, hearings_of, history_of, octets_left, run_of, setup_at, step_of, use_at}
-use Rattle.journal_controls.proofs.EventMoves.{air_line, turn_at, withholds_at}
+use Rattle.journal_controls.proofs.ControlledEnds.{AreControlledSo}
+use Rattle.journal_controls.proofs.EventMoves.{air_line, drawn_at, turn_at, withholds_at}
 use Rattle.journal_controls.proofs.FixedEnds.{fixed_in}
 use Rattle.journal_controls.proofs.KeptControls.{AreControlledAt, IsControlledBefore, controls_first, controls_kept}
-use Rattle.journal_controls.proofs.RunControls.{control_before_call}
+use Rattle.journal_controls.proofs.RunControls.{keyed_before_call}
 use Rattle.journal_controls.proofs.journal_acks.Counting.{IsBegun, apart_numbers, facts_event, moved as count_moved}
 use Rattle.journal_controls.proofs.journal_acks.Exchanging.{exchange_at, number_at, number_called, number_quiet, number_sent}
 use Rattle.journal_controls.proofs.journal_acks.KeptCounts.{unsent}
@@ -179,11 +181,11 @@ all_stay given history has = λ station in_it handle link at.
 
 module _ (heard_whole : IsHeardWhole) (understood : IsUnderstood) (taken : AreTaken) (nth : AreNth) (apart : AreApart) (given : Given) (are_two : IsOfTwo given)
     (six : HaveAddresses given) where
-  -- what the control part of an end is before a call
-  control_in : (history notes rest : List Event) (station : ℕ) (step : Call) → history_of (run_of given) ≡ (history ++ Called station step ∷ notes) ++ rest
+  -- what an end is before a call
+  keyed_in : (history notes rest : List Event) (station : ℕ) (step : Call) → history_of (run_of given) ≡ (history ++ Called station step ∷ notes) ++ rest
       → IsControlledBefore given history station step
-  control_in history notes rest station step at =
-      control_before_call heard_whole understood taken nth apart given are_two six history (notes ++ rest) station step (at ∙ append_assoc history (Called station step ∷ notes) rest)
+  keyed_in history notes rest station step at =
+      keyed_before_call heard_whole understood taken nth apart given are_two six history (notes ++ rest) station step (at ∙ append_assoc history (Called station step ∷ notes) rest)
 
   -- ---- what a host sends
 
@@ -347,7 +349,8 @@ module _ (heard_whole : IsHeardWhole) (understood : IsUnderstood) (taken : AreTa
         ∙ ap (λ b. (not (is_advertising channel) && is_number (link_of_packet (journal_of history) (side_of station) octets) number) && b) (sender_apart station)
         ∙ and_none (not (is_advertising channel) && is_number (link_of_packet (journal_of history) (side_of station) octets) number)
 
-    module _ (seen : AreSeenAt given place_after after) (lined : AreLinedAt given (IsBelongingSoFar given) place_after after) where
+    module _ (seen : AreSeenAt given place_after after) (lined : AreLinedAt given (IsBelongingSoFar given) place_after after)
+        (controls : AreControlledSo given after (λ one. packet_received one after)) where
       -- an end whose packet it is not
       not_own : (one handle : ℕ) (link : OpenLink) → is_in one given.stations ≡ true → link_at handle (facts_at given one after).links ≡ Some link
           → own_test (side_of one) (number_at one handle history) ≡ false
@@ -368,7 +371,8 @@ module _ (heard_whole : IsHeardWhole) (understood : IsUnderstood) (taken : AreTa
           let aired = history ++ Transmitted station channel octets (hearing ∷ []) ∷ [] in
           let front = front_at given place history has.controls.seen.known.front in
           let moves = other_left number side history station channel octets hearing received received_too handle turn link (unsent place one) (unsent place_after one) none
-          (has.left one handle link in_one is_open) apart sent
+          (has.left one handle link in_one is_open) apart
+          (λ got on some. (controls one handle link in_one at).good got (ap (λ (now : Turn). listens_under handle now.doing) turns ∙ on) some) sent
           (seen_whole received handle turn link number side history none (has.controls.seen.seen one handle link in_one is_open))
           (subst (λ h. IsSeenAt received_too handle turn link number side h) aired_is
           (seen_moved handle link side after received_too received_too turn_after turn (number_at one handle after) number refl (sym turns) (sym numbers) (seen.seen one handle link in_one at)))
@@ -476,7 +480,7 @@ module _ (heard_whole : IsHeardWhole) (understood : IsUnderstood) (taken : AreTa
             let none = has.controls.seen.holds.hearing.hears station in_it in
             let phased = subst (λ b. PhasedBy given history station (if b then at_stage (Within 0) (turns_begun history) else at_stage Between (turns_begun history - 1)))
             (not_before given.stations done left station distinct are) (phased_at given (AtBegins done (station ∷ left)) history has.controls.seen.holds.hearing.stand station in_it) in
-            let before = control_in history notes front.rest station step front.at in record {
+            let before = keyed_in history notes front.rest station step front.at in record {
               controls = controls;
               left = left_call given station step history AllUnsent AllUnsent (λ one. packet_received one history) (λ one. packet_received one after)
                   (apart_from understood taken nth apart given are_two six station in_it) lined lined_after (λ handle link at.
@@ -484,12 +488,12 @@ module _ (heard_whole : IsHeardWhole) (understood : IsUnderstood) (taken : AreTa
                   let side = side_of station in
                   let withheld = withholds_at side history in
                   let sends = sends_under handle (facts_after setup facts step).turn.doing in
-                  let leaves = begin_leaves side number withheld slot setup facts on handle link (held_at given station step history in_it lined lined_after handle link at) in
-                  let c = (facts_in leaves.base).control in
+                  let leaves = begin_leaves side number withheld (drawn_at side history) slot setup facts on handle link (held_at given station step history in_it lined lined_after handle link at) in
+                  let k = keyed_of (facts_in leaves.base) in
                   let l = (facts_in leaves.base).leaving in
                   leaves_own given station step history in_it lined lined_after handle link at (packet_received station after) (controls.seen.holds.hearing.hears station in_it)
                   (number_called given station step history handle (begin_noted (OpensNone handle) (opening_none handle) setup slot on facts)) leaves.base leaves.was
-                  tt sends c l (subst (λ n. LeavesTo side number withheld n leaves.base link sends c l) (sym (turn_is history slot due.slot_is)) (leaves.is c))
+                  tt sends k l (subst (λ n. LeavesTo side number withheld (drawn_at side history) n leaves.base link sends k l) (sym (turn_is history slot due.slot_is)) (leaves.is k))
                   (ap (λ (f : Facts). sends_under handle f.turn.doing) (own_facts given station step history))
                   (before in_it handle leaves.base leaves.was)
                   (whole_at given history AllUnsent (λ one. packet_received one history) station handle leaves.base in_it leaves.was (ap (sends_under handle) phased.phase) (λ listens. none) has.left))
@@ -508,7 +512,7 @@ module _ (heard_whole : IsHeardWhole) (understood : IsUnderstood) (taken : AreTa
         on_packet = λ phases plan done left station channel octets history are some due has.
             let controls = kept.on_packet phases plan done left station channel octets history are some due has.controls in record {
               controls = controls;
-              left = packet_left phases done left station channel octets plan.fates history are due.is_wanted has controls.seen controls.lined;
+              left = packet_left phases done left station channel octets plan.fates history are due.is_wanted has controls.seen controls.lined controls.control;
               each = each_event (LeftBefore given) history (Transmitted station channel octets (hearings_of given plan.fates station channel octets history)) has.each tt;
             };
         on_air = λ phases history has. record {
@@ -542,7 +546,9 @@ module _ (heard_whole : IsHeardWhole) (understood : IsUnderstood) (taken : AreTa
                   (λ handle link at. subst (λ b. IsLeftAt b (packet_received station after) handle (facts_at given station after).turn link (number_at station handle after) (side_of station) after)
                   (sym (in_more_same station station done (same_station station)))
                   (passes_own given station history phases in_it phased lined lined_after controls.seen.seen held
-                  (turn_is history facts.turn.slot (sym phased.uses.in_turn.slot_is)) has.controls.control (λ one. is_in one done) out has.left handle link at))
+                  (turn_is history facts.turn.slot (sym phased.uses.in_turn.slot_is))
+                  (λ handle link at. (fixed_in given history ((Called station step ∷ notes) ++ front.rest) station handle link distinct in_it (front.at ∙ append_assoc history (Called station step ∷ notes) front.rest) at).undrawn)
+                  has.controls.control (λ one. is_in one done) out has.left handle link at))
                   (λ other is_too differs. in_more_other other station done differs) (λ other is_too differs. received_by given other station step history false differs) has.left;
               each = call_each given station step history has.each (any_passes given history station received) (λ in_one handle link at.
                   let left = has.left station handle link in_it at in
@@ -571,18 +577,18 @@ module _ (heard_whole : IsHeardWhole) (understood : IsUnderstood) (taken : AreTa
             let phased = subst (λ b. PhasedBy given history station (if b then at_stage Between (turns_begun history) else at_stage (Within 3) (turns_begun history)))
             (not_before given.stations done left station distinct are) (phased_at given (AtEnds done (station ∷ left)) history has.controls.seen.holds.hearing.stand station in_it) in
             let silent : (handle : ℕ) → sends_under handle facts.turn.doing ≡ false = λ handle. last_phase facts.links facts.turn.doing handle phased.phase in
-            let before = control_in history notes front.rest station step front.at in record {
+            let before = keyed_in history notes front.rest station step front.at in record {
               controls = controls;
               left = left_call given station step history AllUnsent AllUnsent (λ one. packet_received one history) (λ one. packet_received one after)
                   (apart_from understood taken nth apart given are_two six station in_it) lined lined_after (λ handle link at.
                   let number = number_at station handle history in
                   let side = side_of station in
-                  let leaves = end_leaves side number (withholds_at side history) (turn_at history) setup facts handle link
+                  let leaves = end_leaves side number (withholds_at side history) (drawn_at side history) (turn_at history) setup facts handle link
                   (held_at given station step history in_it lined lined_after handle link at) in
-                  let c = (facts_in leaves.base).control in
+                  let k = keyed_of (facts_in leaves.base) in
                   leaves_own given station step history in_it lined lined_after handle link at (packet_received station after) (controls.seen.holds.hearing.hears station in_it)
                   (number_called given station step history handle (end_noted (OpensNone handle) (opening_none handle).starts.feeds setup facts)) leaves.base leaves.was
-                  tt false c (facts_in leaves.base).leaving (leaves.is c) (ap (λ (f : Facts). sends_under handle f.turn.doing) (own_facts given station step history)) (before in_it handle leaves.base leaves.was)
+                  tt false k (facts_in leaves.base).leaving (leaves.is k) (ap (λ (f : Facts). sends_under handle f.turn.doing) (own_facts given station step history)) (before in_it handle leaves.base leaves.was)
                   (whole_at given history AllUnsent (λ one. packet_received one history) station handle leaves.base in_it leaves.was (silent handle) (λ listens. none) has.left))
                   (λ other is_too differs. refl) (λ other is_too differs. received_by given other station step history false differs) has.left;
               each = call_each given station step history has.each tt

@@ -13,14 +13,14 @@ use Rattle.journal_controls.proofs.host_answers.LineAnswers.{far_quiet, turn_qui
 use Rattle.journal_controls.specs.journal_acks.link_calls.Uses.{listens_under, sends_under}
 use Rattle.journal_controls.specs.journal_links.LinkLines.{line_of}
 use Rattle.journal_controls.specs.link_model.End.{notes_from}
-use Rattle.journal_controls.specs.link_model.control_model.Control.{Control}
 use Rattle.journal_controls.specs.link_model.declared.state.Leaving.{Leaving}
+use Rattle.journal_controls.specs.link_model.keyed_control.Keyed.{Keyed}
 use Rattle.journal_controls.specs.open_links.OpenLinks.{OpenLink, facts_in, link_at}
 use Rattle.journal_controls.specs.run_model.History.{Event, steps_in}
 use Rattle.journal_controls.specs.run_model.Journal.{side_of}
 use Rattle.journal_controls.specs.run_model.Run.{Given, after_call, facts_at, setup_at, step_of}
 use Rattle.journal_controls.proofs.EndMoves.{steps_later}
-use Rattle.journal_controls.proofs.EventMoves.{control_at, turn_at, withholds_at}
+use Rattle.journal_controls.proofs.EventMoves.{drawn_at, keyed_at, turn_at, withholds_at}
 use Rattle.journal_controls.proofs.journal_ends.EndsKnown.{AreLined}
 use Rattle.journal_controls.proofs.journal_ends.KeptSeen.{listened_as}
 use Rattle.journal_controls.proofs.journal_ends.PastSeen.{notes_more}
@@ -199,11 +199,11 @@ module _ (given : Given) where
           }
 
       -- what happened to an end in a call of a turn moves it by the lines of the call, and a packet that it is to send comes after them
-      pub leaves_own : IsInTurn step → (sends : Bool) (from : Control) (left : Leaving) → LeavesTo side own (withholds_at side history) (turn_at history) base link sends from left
+      pub leaves_own : IsInTurn step → (sends : Bool) (from : Keyed) (left : Leaving) → LeavesTo side own (withholds_at side history) (drawn_at side history) (turn_at history) base link sends from left
           → sends_under handle (facts_at given station after).turn.doing ≡ sends
-          → control_at own side history ≡ Some from → leaving_at own side history ≡ Some left
+          → keyed_at own side history ≡ Some from → leaving_at own side history ≡ Some left
           → IsLeftAt true received handle (facts_at given station after).turn link (number_at station handle after) side after
-      leaves_own in_turn sends from left leaves doing control is =
+      leaves_own in_turn sends from left leaves doing keyed is =
           let notes = notes_from base.setup (facts_in base) leaves.steps in
           let now = subst (λ n. lines_at n side after ≡ map (line_of side n) (notes_opened_on link.setup link.past)) number (lined_after station handle link in_it at) in
           let lines : lines_at own side after ≡ lines_at own side history ++ map (line_of side own) notes =
@@ -212,9 +212,9 @@ module _ (given : Given) where
           ∙ map-append (line_of side own) (notes_opened_on base.setup base.past) notes
           ∙ ap (λ xs. xs ++ map (line_of side own) notes) (sym (lined station handle base in_it was)) in
           let turn = (facts_at given station after).turn in
-          let later = leaving_noted side own (withholds_at side history) (turn_at history) notes from left in record {
+          let later = leaving_noted side own (withholds_at side history) (drawn_at side history) (turn_at history) notes from left in record {
             leaving = later;
             on = ap (λ n. leaving_at n side after) number
-                ∙ call_moves given side own station step history (map (line_of side own) notes) from left (turn_quiet given station step history in_turn) lines (steps_later side own base.setup (facts_in base) leaves.steps) control is;
+                ∙ call_moves given side own station step history (map (line_of side own) notes) from left (turn_quiet given station step history in_turn) lines (steps_later side own base.setup (facts_in base) leaves.steps) keyed is;
             is = ap (λ b. leaving_sent_if b later) doing ∙ leaves.leaves ∙ sym (takes_none (listens_under handle turn.doing) received turn.slot link (λ on. none));
           }

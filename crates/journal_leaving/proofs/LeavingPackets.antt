@@ -1,31 +1,25 @@
 -- A packet on the air moves the end that sends it and the end that hears it, by what the lines say of these.
-use Rattle.std.proofs.Common.{◌≡◌, ℕ, ◌&&◌, Bool, true, false, Option, Some, None, is_none, List, [], ◌∷◌, ◌++◌, length, if◌then◌else◌, refl, sym, ap, subst, ◌∙◌}
+use Rattle.std.proofs.Common.{◌≡◌, ℕ, ◌&&◌, Bool, true, false, Option, Some, None, List, [], ◌∷◌, ◌++◌, length, refl, sym, ap, ◌∙◌}
 use Rattle.std.proofs.lemmas.List.{append_cancel_left}
-use Rattle.air_frame.specs.declared.Heard.{Heard}
-use Rattle.air_frame.specs.declared.Heard.TheVariants.{NotOurs, Broken as Faulty, Whole}
 use Rattle.ble_base.specs.declared.roles.Role.TheVariants.{Peripheral}
 use Rattle.ble_base.specs.declared.roles.Side.{Side}
-use Rattle.ble_base.specs.declared.verdicts.Verdict.TheVariants.{Broken, Forged, Good}
 use Rattle.journal_controls.specs.controller_model.declared.doing.Turn.{Turn}
-use Rattle.journal_controls.specs.LineSteps.{has_next}
+use Rattle.journal_controls.specs.KeyedLines.{has_next}
 use Rattle.journal_controls.specs.journal_acks.Carried.{pdu_carried}
-use Rattle.journal_controls.specs.journal_acks.Counted.{IsCounted}
-use Rattle.journal_controls.specs.journal_acks.Exchange.{Exchanged}
 use Rattle.journal_controls.specs.journal_acks.link_calls.Uses.{listens_under, sends_under}
 use Rattle.journal_controls.specs.journal_ends.Seen.{heard_in_line, heard_where}
-use Rattle.journal_controls.specs.link_model.Facts.{Facts as EndFacts}
-use Rattle.journal_controls.specs.link_model.Packets.{good_pdu, heard_of, is_forged_pdu, pdu_read, pdu_read_in, verdict_of, whole_pdu}
-use Rattle.journal_controls.specs.link_model.Payload.{opens_now}
-use Rattle.journal_controls.specs.link_model.Setup.{Setup}
+use Rattle.journal_controls.specs.link_model.Facts.{Facts as EndFacts, keyed_of}
+use Rattle.journal_controls.specs.link_model.Packets.{good_pdu, verdict_of}
 use Rattle.journal_controls.specs.link_model.Sending.{leaving_sent}
 use Rattle.journal_controls.specs.link_model.Step.{PacketReceived}
-use Rattle.journal_controls.specs.link_model.Verdicts.{has_room_for, pdu_by, verdict_by, whole_in}
 use Rattle.journal_controls.specs.open_links.OpenLinks.{OpenLink, facts_in}
 use Rattle.journal_controls.specs.run_model.History.{Event, Hearing, is_good}
 use Rattle.journal_controls.specs.run_model.Journal.{journal_of}
+use Rattle.journal_controls.proofs.ControlPackets.{taking_counts}
 use Rattle.journal_controls.proofs.Counted.{told_by}
 use Rattle.journal_controls.proofs.EventMoves.{air_line, aired, turn_at}
-use Rattle.journal_controls.proofs.journal_acks.Counting.{IsEndCounted, ack_taking, ahead_if, plain}
+use Rattle.journal_controls.proofs.GoodPackets.{good_has}
+use Rattle.journal_controls.proofs.journal_acks.Counting.{IsEndCounted, plain}
 use Rattle.journal_controls.proofs.journal_acks.Exchanging.{exchange_at}
 use Rattle.journal_controls.proofs.journal_acks.KeptLines.{IsLined}
 use Rattle.journal_controls.proofs.journal_acks.SentLines.{sent_line_at}
@@ -38,57 +32,6 @@ use Rattle.journal_leaving.specs.Leaving.{is_own_packet, leaving_sent_if}
 use Rattle.journal_leaving.proofs.EndLeaving.{hearing_told}
 use Rattle.journal_leaving.proofs.EventMoves.{heard_moves, other_still, own_moves}
 use Rattle.journal_leaving.proofs.LeavingEnds.{IsLeftAt, and_none, left_taking, whole}
-
--- ---- a packet is good where it has a PDU
-
--- what an end makes of these octets
-data IsPacket (setup : Setup) (facts : EndFacts) (octets : List ℕ) : Type 0 where
-  Bad : is_good (verdict_of setup facts octets) ≡ false → good_pdu setup facts octets ≡ None → IsPacket setup facts octets
-  HasPdu : (pdu : List ℕ) → is_good (verdict_of setup facts octets) ≡ true → good_pdu setup facts octets ≡ Some pdu → IsPacket setup facts octets
-
-packet_of : (setup : Setup) (facts : EndFacts) (octets : List ℕ) → IsPacket setup facts octets
-unfolding good_pdu verdict_of whole_pdu
-packet_of setup facts octets = by (heard_of setup facts octets) refl
-  where
-    opens : Bool
-    opens = opens_now facts.encryption.end
-
-    judged : Heard → Bool
-    judged heard = is_good (verdict_by setup.link.max_rx opens (is_forged_pdu facts) heard)
-
-    read : Heard → Option (List ℕ)
-    read heard = pdu_read_in facts (whole_in setup.link.max_rx opens heard)
-
-    by : (heard : Heard) → heard_of setup facts octets ≡ heard → IsPacket setup facts octets
-    by NotOurs is =
-        Bad (ap judged is) (ap read is)
-    by Faulty is =
-        Bad (ap judged is) (ap read is)
-    by (Whole pdu) is = fits (has_room_for setup.link.max_rx opens pdu.items) refl
-      where
-        readable : (found : Option (List ℕ)) → pdu_read facts pdu.items ≡ found → has_room_for setup.link.max_rx opens pdu.items ≡ true → IsPacket setup facts octets
-        readable (Some other) found room =
-            HasPdu other (ap judged is ∙ (λ i. is_good (if room i then (if is_none (found i) then Forged else Good) else Broken)))
-            (ap read is ∙ ap (λ b. pdu_read_in facts (pdu_by b pdu.items)) room ∙ found)
-        readable None found room =
-            Bad (ap judged is ∙ (λ i. is_good (if room i then (if is_none (found i) then Forged else Good) else Broken)))
-            (ap read is ∙ ap (λ b. pdu_read_in facts (pdu_by b pdu.items)) room ∙ found)
-
-        fits : (room : Bool) → has_room_for setup.link.max_rx opens pdu.items ≡ room → IsPacket setup facts octets
-        fits true room = readable (pdu_read facts pdu.items) refl room
-        fits false room =
-            Bad (ap judged is ∙ ap (λ b. is_good (if b then (if is_forged_pdu facts pdu.items then Forged else Good) else Broken)) room)
-            (ap read is ∙ ap (λ b. pdu_read_in facts (pdu_by b pdu.items)) room)
-
--- ---- the counts of an end that is to take it
-
-taking_counts : (unsent : Bool) (received : Option (List ℕ)) (octets : List ℕ) (handle : ℕ) (turn : Turn) (link : OpenLink) (end : Exchanged)
-    → listens_under handle turn.doing ≡ true → received ≡ Some octets → IsEndCounted unsent received handle turn link end → IsCounted end (ack_taking true (Some octets) turn.slot link)
-taking_counts unsent received octets handle turn link end on some is =
-    subst (λ may. IsCounted end (ack_taking true may turn.slot link)) some
-    (subst (λ b. IsCounted end (ack_taking b received turn.slot link)) on
-    (subst (λ b. IsCounted (ahead_if b end) (ack_taking (listens_under handle turn.doing) received turn.slot link))
-    (ap (λ b. unsent && b) (listener_sends handle turn.doing on) ∙ and_none unsent) is))
 
 -- who sends does not listen
 sender_deaf : (handle : ℕ) (turn : Turn) → sends_under handle turn.doing ≡ true → (listens : Bool) → listens_under handle turn.doing ≡ listens → listens ≡ false
@@ -116,13 +59,14 @@ module _ (number : ℕ) (side : Side) (history : List Event) (station channel : 
       }
 
   module _ (apart : is_own_packet side number (journal_of history) (air_line station channel octets hearing) ≡ false)
+      (good_too : (got : List ℕ) → listens_under handle turn.doing ≡ true → received_too ≡ Some got → is_good (verdict_of link.setup (facts_in link) got) ≡ true)
       (sent : (unsent_too && sends_under handle turn.doing) ≡ (unsent && sends_under handle turn.doing))
       (seen : seen_at number side history ≡ seen_in_link number side link)
       (seen_too : seen_at number side (aired number side history station channel octets hearing) ≡ seen_in_link number side link ++ to_hear (listens_under handle turn.doing) received_too turn.slot link)
       (counted : IsEndCounted unsent received handle turn link (exchange_at number history side))
       (counted_too : IsEndCounted unsent_too received_too handle turn link (exchange_at number (aired number side history station channel octets hearing) side))
       (lined : IsLined (sent_line_at number history side) (ack_of link))
-      (fixes : listens_under handle turn.doing ≡ true → link.setup.link.role ≡ Peripheral → (facts_in link).fixes_control ≡ has_next (facts_in link).control) where
+      (fixes : listens_under handle turn.doing ≡ true → link.setup.link.role ≡ Peripheral → (facts_in link).fixes_control ≡ has_next (keyed_of (facts_in link))) where
     abbrev listens : Bool
     listens = listens_under handle turn.doing
 
@@ -179,13 +123,10 @@ module _ (number : ℕ) (side : Side) (history : List Event) (station channel : 
           }
 
       taken_then : IsLeftAt unsent_too received_too handle turn link number side after
-      taken_then = by (packet_of link.setup (facts_in link) got)
-        where
-          by : IsPacket link.setup (facts_in link) got → IsLeftAt unsent_too received_too handle turn link number side after
-          by (Bad is bad) =
-              unheard (hears ∙ ap (λ b. heard_where b turn.slot got) is)
-              (taking_is ∙ ap (λ may. leaving_hearing link.setup.link.role turn.slot may (facts_in link)) bad) before_is
-          by (HasPdu pdu is good) = good_then pdu is good
+      taken_then =
+          let is = good_too got on some in
+          let has = good_has link.setup (facts_in link) got is in
+          good_then has.pdu is has.is
 
     pub other_left : IsLeftAt unsent_too received_too handle turn link number side after
     other_left = by listens refl received_too refl

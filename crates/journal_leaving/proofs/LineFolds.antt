@@ -10,7 +10,8 @@ use Rattle.journal.specs.declared.entries.Entry.{Entry}
 use Rattle.journal.specs.declared.entries.Entry.TheVariants.{Air, Opened, Shut}
 use Rattle.journal.specs.declared.entries.Mark.{Mark}
 use Rattle.ble_base.specs.declared.verdicts.Verdict.{Verdict}
-use Rattle.journal_controls.specs.LineSteps.{control_on, is_more_acked, steps_said, turn_now, withholds}
+use Rattle.journal_controls.specs.KeyedLines.{drawn_by, keyed_by_all}
+use Rattle.journal_controls.specs.LineSteps.{is_more_acked, keyed_on, steps_said, turn_now, withholds}
 use Rattle.journal_controls.specs.SaidLines.{NoneOpens, is_opening, moved_by}
 use Rattle.journal_controls.specs.journal_acks.Carried.{carried_of}
 use Rattle.journal_controls.specs.journal_acks.Exchange.{exchange_of}
@@ -22,8 +23,9 @@ use Rattle.journal_controls.specs.link_model.Facts.{stays}
 use Rattle.journal_controls.specs.link_model.Receiving.{leaving_acked_if}
 use Rattle.journal_controls.specs.link_model.Sending.{leaving_sent}
 use Rattle.journal_controls.specs.link_model.Step.{Step}
-use Rattle.journal_controls.specs.link_model.control_model.Control.{Control, after_all}
 use Rattle.journal_controls.specs.link_model.declared.state.Leaving.{Leaving}
+use Rattle.journal_controls.specs.link_model.keyed_control.Keyed.{Keyed}
+use Rattle.journal_controls.specs.link_model.keyed_control.declared.material.Response.{Response}
 use Rattle.journal_controls.specs.run_model.History.{is_good}
 use Rattle.journal_controls.specs.run_model.Readers.{of_side}
 use Rattle.journal_controls.proofs.LineFolds.{IsNamed, Others, Own, named_by}
@@ -93,35 +95,35 @@ stays_line side number front line none =
 
 -- ---- lines that an end says
 
-pub said_both : (withheld : Bool) (slot : ℕ) (lines more : List Entry) (c : Control) (l : Leaving)
-    → leaving_said withheld slot (lines ++ more) c l ≡ leaving_said withheld slot more (moved_by withheld slot lines c) (leaving_said withheld slot lines c l)
-said_both withheld slot [] more c l = refl
-said_both withheld slot (line ∷ lines) more c l =
-    said_both withheld slot lines more (after_all (steps_said withheld slot c line) c) (leaving_saying slot (Some c) l line)
+pub said_both : (withheld : Bool) (response : Response) (slot : ℕ) (lines more : List Entry) (k : Keyed) (l : Leaving)
+    → leaving_said withheld response slot (lines ++ more) k l ≡ leaving_said withheld response slot more (moved_by withheld response slot lines k) (leaving_said withheld response slot lines k l)
+said_both withheld response slot [] more k l = refl
+said_both withheld response slot (line ∷ lines) more k l =
+    said_both withheld response slot lines more (keyed_by_all (steps_said withheld response slot k line) k) (leaving_saying response slot (Some k) l line)
 
-module _ (side : Side) (number : ℕ) (front : List Entry) (line : Entry) (c : Control) (l : Leaving) (own : is_own_packet side number front line ≡ false)
-    (control : control_on side number front ≡ Some c) where
+module _ (side : Side) (number : ℕ) (front : List Entry) (line : Entry) (k : Keyed) (l : Leaving) (own : is_own_packet side number front line ≡ false)
+    (keyed : keyed_on side number front ≡ Some k) where
   -- a line of its own
   said_line : is_opening line ≡ false → seen_in_line side number front line ≡ Says line ∷ []
-      → leaving_after side number front (Some l) line ≡ Some (leaving_said (withholds side front) (turn_now front) (line ∷ []) c l)
+      → leaving_after side number front (Some l) line ≡ Some (leaving_said (withholds side front) (drawn_by side front) (turn_now front) (line ∷ []) k l)
   said_line opens is =
       moves side number front (Some l) line opens
       ∙ (λ i. Some (fold (leaving_seen side number front line) (leaving_sent_if (own i) l) (is i)))
-      ∙ ap (λ one. Some (leaving_saying (turn_now front) one l line)) control
+      ∙ ap (λ one. Some (leaving_saying (drawn_by side front) (turn_now front) one l line)) keyed
 
 -- a line in which the end hears and sends nothing, and is asked nothing
-pub line_moves : (side : Side) (number : ℕ) (front : List Entry) (line : Entry) (c : Control) (l : Leaving) → heard_in_line side number front line ≡ []
-    → asked_in_line side number front line ≡ [] → is_own_packet side number front line ≡ false → let named = where_named side number (link_named line) line in NoneOpens named → control_on side number front ≡ Some c
-    → leaving_after side number front (Some l) line ≡ Some (leaving_said (withholds side front) (turn_now front) named c l)
-line_moves side number front line c l deaf unasked own opens control = by (named_by side number (link_named line) line)
+pub line_moves : (side : Side) (number : ℕ) (front : List Entry) (line : Entry) (k : Keyed) (l : Leaving) → heard_in_line side number front line ≡ []
+    → asked_in_line side number front line ≡ [] → is_own_packet side number front line ≡ false → let named = where_named side number (link_named line) line in NoneOpens named → keyed_on side number front ≡ Some k
+    → leaving_after side number front (Some l) line ≡ Some (leaving_said (withholds side front) (drawn_by side front) (turn_now front) named k l)
+line_moves side number front line k l deaf unasked own opens keyed = by (named_by side number (link_named line) line)
   where
     by : IsNamed line (where_named side number (link_named line) line)
-        → leaving_after side number front (Some l) line ≡ Some (leaving_said (withholds side front) (turn_now front) (where_named side number (link_named line) line) c l)
+        → leaving_after side number front (Some l) line ≡ Some (leaving_said (withholds side front) (drawn_by side front) (turn_now front) (where_named side number (link_named line) line) k l)
     by (Own is) =
-        said_line side number front line c l own control (subst NoneOpens is opens).0 (λ i. unasked i ++ (deaf i ++ map Says (is i)))
-        ∙ ap (λ lines. Some (leaving_said (withholds side front) (turn_now front) lines c l)) (sym is)
+        said_line side number front line k l own keyed (subst NoneOpens is opens).0 (λ i. unasked i ++ (deaf i ++ map Says (is i)))
+        ∙ ap (λ lines. Some (leaving_said (withholds side front) (drawn_by side front) (turn_now front) lines k l)) (sym is)
     by (Others none) =
-        quiet_line side number front (Some l) line (λ i. unasked i ++ (deaf i ++ map Says (none i))) own ∙ ap (λ lines. Some (leaving_said (withholds side front) (turn_now front) lines c l)) (sym none)
+        quiet_line side number front (Some l) line (λ i. unasked i ++ (deaf i ++ map Says (none i))) own ∙ ap (λ lines. Some (leaving_said (withholds side front) (drawn_by side front) (turn_now front) lines k l)) (sym none)
 
 -- ---- a good packet that the end hears, and one that it sends
 

@@ -6,7 +6,7 @@ use Rattle.ble_base.specs.declared.roles.Side.{Side}
 use Rattle.journal_controls.specs.controller_model.Facts.{Setup, Facts}
 use Rattle.journal_controls.specs.controller_model.Side.{facts_after}
 use Rattle.journal_controls.specs.controller_model.Step.{TurnBegins, TurnEnds}
-use Rattle.journal_controls.specs.Hearing.{control_hearing}
+use Rattle.journal_controls.specs.Hearing.{keyed_hearing}
 use Rattle.journal_controls.specs.SaidLines.{moved_by}
 use Rattle.journal_controls.specs.TurnSteps.{first_if, steps_begun}
 use Rattle.journal_controls.specs.journal_acks.link_calls.Phases.{link_receiving, refusal, refused_if, refuses_at}
@@ -18,8 +18,9 @@ use Rattle.journal_controls.specs.link_model.Facts.{Facts as EndFacts}
 use Rattle.journal_controls.specs.link_model.Packets.{good_pdu}
 use Rattle.journal_controls.specs.link_model.Setup.{Setup as EndSetup}
 use Rattle.journal_controls.specs.link_model.Step.{Step, DataReported, PacketReceived, PacketSent, RequestAnswered}
-use Rattle.journal_controls.specs.link_model.control_model.Control.{Control}
 use Rattle.journal_controls.specs.link_model.declared.state.Leaving.{Leaving}
+use Rattle.journal_controls.specs.link_model.keyed_control.Keyed.{Keyed}
+use Rattle.journal_controls.specs.link_model.keyed_control.declared.material.Response.{Response}
 use Rattle.journal_controls.specs.open_links.Data.{complete_in, link_reported}
 use Rattle.journal_controls.specs.open_links.OpenLinks.{Links, OpenLink, facts_in, link_after, link_at}
 use Rattle.journal_controls.specs.open_links.Turns.{enters_in}
@@ -30,33 +31,32 @@ use Rattle.journal_controls.proofs.journal_ends.run_laws.Agreed.{step_facts}
 use Rattle.journal_leaving.specs.Hearing.{leaving_hearing}
 use Rattle.journal_leaving.specs.Leaving.{leaving_sent_if}
 use Rattle.journal_leaving.specs.Said.{leaving_noted}
-use Rattle.journal_controls.proofs.link_model.Plain.{past_plain}
 use Rattle.journal_leaving.proofs.EndLeaving.{packet_leaves}
 use Rattle.journal_leaving.proofs.TurnLeaving.{begins_by, noted_both, sends_by}
 
 -- more happened to a link: the lines of it, and the packet that it sends then, make of what was what is
-pub record LeavesTo (side : Side) (number : ℕ) (withheld : Bool) (slot : ℕ) (base after : OpenLink) (sends : Bool) (from : Control) (was : Leaving) : Type 0 where
+pub record LeavesTo (side : Side) (number : ℕ) (withheld : Bool) (response : Response) (slot : ℕ) (base after : OpenLink) (sends : Bool) (from : Keyed) (was : Leaving) : Type 0 where
   pub setup_is : after.setup ≡ base.setup
   pub steps : List Step
   pub past_is : after.past ≡ base.past ++ steps
-  pub leaves : leaving_sent_if sends (leaving_noted side number withheld slot (notes_from base.setup (facts_in base) steps) from was) ≡ (facts_in after).leaving
+  pub leaves : leaving_sent_if sends (leaving_noted side number withheld response slot (notes_from base.setup (facts_in base) steps) from was) ≡ (facts_in after).leaving
 
 -- so it is of the link that was under a handle
-pub record HasLeft (side : Side) (number : ℕ) (withheld : Bool) (slot : ℕ) (links : Links) (handle : ℕ) (after : OpenLink) (sends : Bool) : Type 0 where
+pub record HasLeft (side : Side) (number : ℕ) (withheld : Bool) (response : Response) (slot : ℕ) (links : Links) (handle : ℕ) (after : OpenLink) (sends : Bool) : Type 0 where
   pub base : OpenLink
   pub was : link_at handle links ≡ Some base
-  pub is : (from : Control) → LeavesTo side number withheld slot base after sends from (facts_in base).leaving
+  pub is : (from : Keyed) → LeavesTo side number withheld response slot base after sends from (facts_in base).leaving
 
-module _ (side : Side) (number : ℕ) (withheld : Bool) (slot : ℕ) where
-  pub same_leaves : (link : OpenLink) (from : Control) → LeavesTo side number withheld slot link link false from (facts_in link).leaving
+module _ (side : Side) (number : ℕ) (withheld : Bool) (response : Response) (slot : ℕ) where
+  pub same_leaves : (link : OpenLink) (from : Keyed) → LeavesTo side number withheld response slot link link false from (facts_in link).leaving
   same_leaves link from = record { setup_is = refl; steps = []; past_is = sym (append-nil link.past); leaves = refl }
 
   -- ---- a turn ends
 
-  reported_leaves : (link : OpenLink) (from : Control) → LeavesTo side number withheld slot link (link_reported link) false from (facts_in link).leaving
+  reported_leaves : (link : OpenLink) (from : Keyed) → LeavesTo side number withheld response slot link (link_reported link) false from (facts_in link).leaving
   reported_leaves link from = by (nat_lt 0 (complete_in link))
     where
-      by : (reports : Bool) → LeavesTo side number withheld slot link (if reports then link_after DataReported link else link) false from (facts_in link).leaving
+      by : (reports : Bool) → LeavesTo side number withheld response slot link (if reports then link_after DataReported link else link) false from (facts_in link).leaving
       by true = record {
         setup_is = refl;
         steps = DataReported ∷ [];
@@ -66,18 +66,18 @@ module _ (side : Side) (number : ℕ) (withheld : Bool) (slot : ℕ) where
       by false = same_leaves link from
 
   pub end_leaves : (setup : Setup) (facts : Facts) (handle : ℕ) (after : OpenLink) → link_at handle (facts_after setup facts TurnEnds).links ≡ Some after
-      → HasLeft side number withheld slot facts.links handle after false
+      → HasLeft side number withheld response slot facts.links handle after false
   end_leaves setup facts handle after at =
       let has = ended_under setup facts handle after at in record {
         base = has.link;
         was = has.was;
-        is = λ from. subst (λ l. LeavesTo side number withheld slot has.link l false from (facts_in has.link).leaving) (sym has.is) (reported_leaves has.link from);
+        is = λ from. subst (λ l. LeavesTo side number withheld response slot has.link l false from (facts_in has.link).leaving) (sym has.is) (reported_leaves has.link from);
       }
 
   -- ---- a turn begins
 
   pub begin_leaves : (setup : Setup) (facts : Facts) (on : Bool) (handle : ℕ) (after : OpenLink) → link_at handle (facts_after setup facts (TurnBegins slot on)).links ≡ Some after
-      → HasLeft side number withheld slot facts.links handle after (sends_under handle (facts_after setup facts (TurnBegins slot on)).turn.doing)
+      → HasLeft side number withheld response slot facts.links handle after (sends_under handle (facts_after setup facts (TurnBegins slot on)).turn.doing)
   begin_leaves setup facts on handle after at =
       let has = turn_begun_under setup facts slot on handle after at in
       let doing = (facts_after setup facts (TurnBegins slot on)).turn.doing in
@@ -94,7 +94,7 @@ module _ (side : Side) (number : ℕ) (withheld : Bool) (slot : ℕ) where
           steps = steps;
           past_is = past;
           leaves = sym (ap (λ (f : EndFacts). f.leaving) (grown_facts base after steps has.setup_is past)
-              ∙ begins_by side number withheld slot base.setup enters fixes sends (facts_in base) from);
+              ∙ begins_by side number withheld response slot base.setup enters fixes sends (facts_in base) from);
         };
       }
 
@@ -116,7 +116,8 @@ taken_setup true false slot taken = refl
 taken_setup false true slot taken = refl
 taken_setup false false slot taken = refl
 
-module _ (side : Side) (number : ℕ) (withheld : Bool) (facts : Facts) (handle : ℕ) (room : Bool) (octets : List ℕ) (base : OpenLink) where
+module _ (side : Side) (number : ℕ) (withheld : Bool) (response : Response) (facts : Facts) (handle : ℕ) (room : Bool) (octets : List ℕ) (base : OpenLink)
+    (drawn : (facts_in base).encryption.response ≡ response) where
   abbrev slot : ℕ
   slot = facts.turn.slot
 
@@ -136,30 +137,34 @@ module _ (side : Side) (number : ℕ) (withheld : Bool) (facts : Facts) (handle 
   abbrev later : Bool → Bool → List Step
   later refuses sends = first_if refuses (RequestAnswered refusal) (first_if sends (PacketSent slot) [])
 
-  later_leaves : (refuses sends : Bool) (c : Control)
-      → (fold (end_after setup) now (later refuses sends)).leaving ≡ leaving_sent_if sends (leaving_noted side number withheld slot (notes_from setup now (later refuses sends)) c now.leaving)
-  later_leaves true sends c = sends_by side number withheld slot setup sends (end_after setup now (RequestAnswered refusal)) c
-  later_leaves false sends c = sends_by side number withheld slot setup sends now c
+  later_leaves : (refuses sends : Bool) (k : Keyed)
+      → (fold (end_after setup) now (later refuses sends)).leaving ≡ leaving_sent_if sends (leaving_noted side number withheld response slot (notes_from setup now (later refuses sends)) k now.leaving)
+  later_leaves true sends k = sends_by side number withheld response slot setup sends (end_after setup now (RequestAnswered refusal)) k
+  later_leaves false sends k = sends_by side number withheld response slot setup sends now k
 
-  abbrev from : Control
-  from = control_hearing setup.link.role slot (good_pdu setup end octets) end
+  abbrev from : Keyed
+  from = keyed_hearing setup.link.role slot (good_pdu setup end octets) end
 
   abbrev was : Leaving
   was = leaving_hearing setup.link.role slot (good_pdu setup end octets) end
 
+  left_here : now.leaving ≡ leaving_noted side number withheld response slot (notes_after setup end took) from was
+  left_here =
+      packet_leaves side number withheld slot room setup end octets ∙ ap (λ r. leaving_noted side number withheld r slot (notes_after setup end took) from was) drawn
+
   all_leaves : (refuses sends : Bool)
-      → leaving_sent_if sends (leaving_noted side number withheld slot (notes_from setup end (took ∷ later refuses sends)) from was)
+      → leaving_sent_if sends (leaving_noted side number withheld response slot (notes_from setup end (took ∷ later refuses sends)) from was)
       ≡ (fold (end_after setup) end (took ∷ later refuses sends)).leaving
   all_leaves refuses sends =
       let here = notes_after setup end took in
       let more = notes_from setup now (later refuses sends) in
-      let c = moved_by withheld slot (map (line_of side number) here) from in
-      ap (leaving_sent_if sends) (noted_both side number withheld slot here more from was)
-      ∙ ap (λ l. leaving_sent_if sends (leaving_noted side number withheld slot more c l)) (sym (packet_leaves side number withheld slot room setup end (past_plain base.setup base.past) octets))
-      ∙ sym (later_leaves refuses sends c)
+      let k = moved_by withheld response slot (map (line_of side number) here) from in
+      ap (leaving_sent_if sends) (noted_both side number withheld response slot here more from was)
+      ∙ ap (λ l. leaving_sent_if sends (leaving_noted side number withheld response slot more k l)) (sym left_here)
+      ∙ sym (later_leaves refuses sends k)
 
   pub taken_leaves : (sends : Bool) (after : OpenLink) → after ≡ sent_if sends slot (link_receiving handle room octets facts base)
-      → LeavesTo side number withheld slot base after sends from was
+      → LeavesTo side number withheld response slot base after sends from was
   taken_leaves sends after is =
       let refuses = refuses_at handle room octets facts in
       let setups = ap (λ (l : OpenLink). l.setup) is ∙ taken_setup refuses sends slot (link_after took base) in

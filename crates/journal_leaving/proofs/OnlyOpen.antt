@@ -1,6 +1,7 @@
--- By the journal of a run only an end whose link is open has a control part.
+-- By the journal of a run only an end whose link is open is there.
 use Rattle.std.proofs.Common.{◌≡◌, ℕ, ◌==◌, ◌&&◌, ◌||◌, Bool, true, false, Option, Some, None, List, [], ◌∷◌, ◌++◌, fold, map, refl, sym, ap, subst, ◌∙◌, append-nil, append_assoc}
 use Rattle.std.specs.Prelude.{All, is_some, ⊤, if◌then◌else◌}
+use Rattle.std.specs.Option.{option_map}
 use Rattle.std.proofs.lemmas.Bool.{eq-eqb, eqb-true, false_from_ne_true}
 use Rattle.std.proofs.lemmas.List.Elements.{All-from_recursion}
 use Rattle.ble_base.specs.declared.addresses.Address.{Address}
@@ -15,18 +16,20 @@ use Rattle.journal_controls.specs.controller_model.Facts.{Facts, Setup}
 use Rattle.journal_controls.specs.controller_model.Notes.{is_opening}
 use Rattle.journal_controls.specs.controller_model.Side.{facts_after, notes_after}
 use Rattle.journal_controls.specs.controller_model.Step.{Step as Call}
-use Rattle.journal_controls.specs.LineSteps.{control_after, control_begun, control_on}
+use Rattle.journal_controls.specs.KeyedLines.{drawn_by}
+use Rattle.journal_controls.specs.LineSteps.{control_on, keyed_begun, keyed_in_line, keyed_on}
 use Rattle.journal_controls.specs.journal_links.Begun.{link_numbered}
 use Rattle.journal_controls.specs.journal_packets.Belonging.{is_side}
 use Rattle.journal_controls.specs.link_model.control_model.Control.{Control}
+use Rattle.journal_controls.specs.link_model.keyed_control.Keyed.{Keyed}
 use Rattle.journal_controls.specs.open_links.OpenLinks.{OpenLink, link_at}
 use Rattle.journal_controls.specs.run_model.Due.{Each}
 use Rattle.journal_controls.specs.run_model.History.{Event, TurnBegan, HostFed, Called, Noted, Transmitted, past_of, steps_in}
 use Rattle.journal_controls.specs.run_model.Journal.{entries_of, entry_of, journal_of, side_of}
 use Rattle.journal_controls.specs.run_model.Links.{Links, links_noted, links_of}
 use Rattle.journal_controls.specs.run_model.Run.{Given, after_call, facts_at, history_of, run_of, setup_at}
-use Rattle.journal_controls.proofs.EventMoves.{air_line, control_at}
-use Rattle.journal_controls.proofs.LineFolds.{control_more}
+use Rattle.journal_controls.proofs.EventMoves.{air_line, keyed_at}
+use Rattle.journal_controls.proofs.LineFolds.{keyed_more}
 use Rattle.journal_controls.proofs.journal_acks.Counting.{facts_event}
 use Rattle.journal_controls.proofs.journal_acks.Exchanging.{event_number, number_at, number_called, number_other, number_quiet, number_sent}
 use Rattle.journal_controls.proofs.journal_acks.TwoStations.{same_number}
@@ -44,59 +47,59 @@ use Rattle.journal_data.proofs.NotedLines.{is_link}
 use Rattle.journal_data.proofs.Openness.{AreNot, IsNotedAs, all_of, is_open, note_open, opens_first, past_noted, shuts, stays}
 use Rattle.journal_leaving.proofs.OtherLines.{is_other, note_other}
 
--- ---- lines that open no link give no end a control part
+-- ---- lines that open no link give no end
 
 abbrev opens_line : Entry → Bool
 opens_line (Opened side link handle role) = true
 opens_line line = false
 
-record HasControl (found : Option Control) : Type 0 where
-  control : Control
-  is : found ≡ Some control
+pub record HasEnd (found : Option Keyed) : Type 0 where
+  pub keyed : Keyed
+  pub is : found ≡ Some keyed
 
-abbrev no_control : Option Control
-no_control = None
+abbrev no_end : Option Keyed
+no_end = None
 
-none_if : (test : Bool) → (if test then no_control else no_control) ≡ no_control
+none_if : (test : Bool) → (if test then no_end else no_end) ≡ no_end
 none_if true = refl
 none_if false = refl
 
-none_after : (side : Side) (number : ℕ) (front : List Entry) (line : Entry) → opens_line line ≡ false → control_after side number front None line ≡ None
+none_after : (side : Side) (number : ℕ) (front : List Entry) (line : Entry) → opens_line line ≡ false → keyed_in_line (drawn_by side) side number front None line ≡ None
 none_after side number front (Opened other link handle role) opens = absurd cc
 none_after side number front (Shut other link reason) opens = none_if (is_side other side && link == number)
 none_after side number front line opens = refl
 
-had_of : (before after : Option Control) (c : Control) → after ≡ Some c → (before ≡ None → after ≡ None) → HasControl before
-had_of None after c is none = absurd (let h : None ≡ Some c = sym (none refl) ∙ is in absurd cc)
-had_of (Some control) after c is none = record { control = control; is = refl }
+had_of : (before after : Option Keyed) (k : Keyed) → after ≡ Some k → (before ≡ None → after ≡ None) → HasEnd before
+had_of None after k is none = absurd (let h : None ≡ Some k = sym (none refl) ∙ is in absurd cc)
+had_of (Some keyed) after k is none = record { keyed = keyed; is = refl }
 
-line_had : (side : Side) (number : ℕ) (history after : List Event) (line : Entry) (c : Control) → journal_of after ≡ journal_of history ++ line ∷ [] → opens_line line ≡ false
-    → control_at number side after ≡ Some c → HasControl (control_at number side history)
-line_had side number history after line c journal opens is =
-    had_of (control_at number side history) (control_at number side after) c is
-    (λ none. ap (control_on side number) journal ∙ control_more side number (journal_of history) line
-    ∙ ap (λ before. control_after side number (journal_of history) before line) none ∙ none_after side number (journal_of history) line opens)
+line_had : (side : Side) (number : ℕ) (history after : List Event) (line : Entry) (k : Keyed) → journal_of after ≡ journal_of history ++ line ∷ [] → opens_line line ≡ false
+    → keyed_at number side after ≡ Some k → HasEnd (keyed_at number side history)
+line_had side number history after line k journal opens is =
+    had_of (keyed_at number side history) (keyed_at number side after) k is
+    (λ none. ap (keyed_on side number) journal ∙ keyed_more side number (journal_of history) line
+    ∙ ap (λ before. keyed_in_line (drawn_by side) side number (journal_of history) before line) none ∙ none_after side number (journal_of history) line opens)
 
 note_opens : (side : Side) (link_of : ℕ → ℕ) (last : ℕ) (note : Note) → is_opening note ≡ false → opens_line (entry_of side link_of last note) ≡ false
 note_opens side link_of last (OpenedNote handle role own peer) none = absurd cc
 note_opens side link_of last (UpNote packet) none = refl
 note_opens side link_of last note none = refl
 
-note_had : (side : Side) (number station : ℕ) (note : Note) (history : List Event) (c : Control) → is_opening note ≡ false
-    → control_at number side (history ++ Noted station note ∷ []) ≡ Some c → HasControl (control_at number side history)
-note_had side number station note history c none is =
+note_had : (side : Side) (number station : ℕ) (note : Note) (history : List Event) (k : Keyed) → is_opening note ≡ false
+    → keyed_at number side (history ++ Noted station note ∷ []) ≡ Some k → HasEnd (keyed_at number side history)
+note_had side number station note history k none is =
     let links = links_of history in
     let line = entry_of (side_of station) (links.link_of station) (links.last_of station) note in
-    line_had side number history (history ++ Noted station note ∷ []) line c (journal_event history (Noted station note))
+    line_had side number history (history ++ Noted station note ∷ []) line k (journal_event history (Noted station note))
     (note_opens (side_of station) (links.link_of station) (links.last_of station) note none) is
 
-notes_had : (side : Side) (number station : ℕ) (notes : List Note) (history : List Event) (c : Control) → AreNot is_opening notes
-    → control_at number side (history ++ map (Noted station) notes) ≡ Some c → HasControl (control_at number side history)
-notes_had side number station [] history c none is = record { control = c; is = ap (control_at number side) (sym (append-nil history)) ∙ is }
-notes_had side number station (note ∷ notes) history c none is =
+notes_had : (side : Side) (number station : ℕ) (notes : List Note) (history : List Event) (k : Keyed) → AreNot is_opening notes
+    → keyed_at number side (history ++ map (Noted station) notes) ≡ Some k → HasEnd (keyed_at number side history)
+notes_had side number station [] history k none is = record { keyed = k; is = ap (keyed_at number side) (sym (append-nil history)) ∙ is }
+notes_had side number station (note ∷ notes) history k none is =
     let next = history ++ Noted station note ∷ [] in
-    let rest = notes_had side number station notes next c none.1 (ap (control_at number side) (append_assoc history (Noted station note ∷ []) (map (Noted station) notes)) ∙ is) in
-    note_had side number station note history rest.control none.0 rest.is
+    let rest = notes_had side number station notes next k none.1 (ap (keyed_at number side) (append_assoc history (Noted station note ∷ []) (map (Noted station) notes)) ∙ is) in
+    note_had side number station note history rest.keyed none.0 rest.is
 
 -- ---- a link of which the end still has one was not shut
 
@@ -109,10 +112,10 @@ same_side : (one : Side) → is_side one one ≡ true
 same_side A = refl
 same_side B = refl
 
-still_noted : (station handle : ℕ) (note : Note) (history : List Event) (c : Control) → is_opening note ≡ false
-    → control_at (number_at station handle history) (side_of station) (history ++ Noted station note ∷ []) ≡ Some c → note_open handle true note ≡ true
-still_noted station handle (OpenedNote other role own peer) history c none is = absurd cc
-still_noted station handle (ShutNote other reason) history c none is = by (other == handle) refl
+still_noted : (station handle : ℕ) (note : Note) (history : List Event) (k : Keyed) → is_opening note ≡ false
+    → keyed_at (number_at station handle history) (side_of station) (history ++ Noted station note ∷ []) ≡ Some k → note_open handle true note ≡ true
+still_noted station handle (OpenedNote other role own peer) history k none is = absurd cc
+still_noted station handle (ShutNote other reason) history k none is = by (other == handle) refl
   where
     by : (same : Bool) → (other == handle) ≡ same → (if other == handle then false else true) ≡ true
     by false differs = ap (λ b. if b then false else true) differs
@@ -121,29 +124,38 @@ still_noted station handle (ShutNote other reason) history c none is = by (other
         let front = journal_of history in
         let number = number_at station handle history in
         let link_of = (links_of history).link_of station in
-        let gone : control_at number side (history ++ Noted station (ShutNote other reason) ∷ []) ≡ None =
-        ap (control_on side number) (journal_event history (Noted station (ShutNote other reason)))
-        ∙ control_more side number front (Shut side (link_of other) reason)
-        ∙ (λ i. if is_side side side && link_of (eqb-true other handle same i) == number then None else control_on side number front)
-        ∙ (λ i. if same_side side i && same_number number i then None else control_on side number front) in
-        absurd (let h : None ≡ Some c = sym gone ∙ is in absurd cc)
-still_noted station handle note history c none is = refl
+        let gone : keyed_at number side (history ++ Noted station (ShutNote other reason) ∷ []) ≡ None =
+        ap (keyed_on side number) (journal_event history (Noted station (ShutNote other reason)))
+        ∙ keyed_more side number front (Shut side (link_of other) reason)
+        ∙ (λ i. if is_side side side && link_of (eqb-true other handle same i) == number then None else keyed_on side number front)
+        ∙ (λ i. if same_side side i && same_number number i then None else keyed_on side number front) in
+        absurd (let h : None ≡ Some k = sym gone ∙ is in absurd cc)
+still_noted station handle note history k none is = refl
 
-still_open : (station handle : ℕ) (notes : List Note) (history : List Event) (c : Control) → AreNot is_opening notes
-    → control_at (number_at station handle history) (side_of station) (history ++ map (Noted station) notes) ≡ Some c → fold (note_open handle) true notes ≡ true
-still_open station handle [] history c none is = refl
-still_open station handle (note ∷ notes) history c none is =
+still_open : (station handle : ℕ) (notes : List Note) (history : List Event) (k : Keyed) → AreNot is_opening notes
+    → keyed_at (number_at station handle history) (side_of station) (history ++ map (Noted station) notes) ≡ Some k → fold (note_open handle) true notes ≡ true
+still_open station handle [] history k none is = refl
+still_open station handle (note ∷ notes) history k none is =
     let next = history ++ Noted station note ∷ [] in
     let side = side_of station in
     let number = number_at station handle history in
     let same : number_at station handle next ≡ number = event_number station handle history (Noted station note) (quiet_links station station handle note (links_of history) none.0) in
-    let later : control_at number side (next ++ map (Noted station) notes) ≡ Some c =
-    ap (control_at number side) (append_assoc history (Noted station note ∷ []) (map (Noted station) notes)) ∙ is in
-    let has = notes_had side number station notes next c none.1 later in
-    ap (λ b. fold (note_open handle) b notes) (still_noted station handle note history has.control none.0 has.is)
-    ∙ still_open station handle notes next c none.1 (ap (λ n. control_at n side (next ++ map (Noted station) notes)) same ∙ later)
+    let later : keyed_at number side (next ++ map (Noted station) notes) ≡ Some k =
+    ap (keyed_at number side) (append_assoc history (Noted station note ∷ []) (map (Noted station) notes)) ∙ is in
+    let has = notes_had side number station notes next k none.1 later in
+    ap (λ b. fold (note_open handle) b notes) (still_noted station handle note history has.keyed none.0 has.is)
+    ∙ still_open station handle notes next k none.1 (ap (λ n. keyed_at n side (next ++ map (Noted station) notes)) same ∙ later)
 
 -- ---- what is kept
+
+-- an end that has a control part is one
+pub has_end : (side : Side) (number : ℕ) (history : List Event) (c : Control) → control_on side number (journal_of history) ≡ Some c → HasEnd (keyed_at number side history)
+unfolding control_on
+has_end side number history c is = by (keyed_at number side history) refl
+  where
+    by : (found : Option Keyed) → keyed_on side number (journal_of history) ≡ found → HasEnd found
+    by None none = absurd (let h : None ≡ Some c = sym (ap (option_map (λ (k : Keyed). k.phased.control)) none) ∙ is in absurd cc)
+    by (Some keyed) found = record { keyed = keyed; is = refl }
 
 pub record IsOfOpen (given : Given) (history : List Event) (side : Side) (number : ℕ) : Type 0 where
   pub station : ℕ
@@ -155,16 +167,16 @@ pub record IsOfOpen (given : Given) (history : List Event) (side : Side) (number
   pub number_is : number_at station handle history ≡ number
 
 abbrev pub OnlyOpen : Given → List Event → Type 0
-OnlyOpen given history = (side : Side) (number : ℕ) (c : Control) → control_at number side history ≡ Some c → IsOfOpen given history side number
+OnlyOpen given history = (side : Side) (number : ℕ) (k : Keyed) → keyed_at number side history ≡ Some k → IsOfOpen given history side number
 
 -- an event of no call
 event_keeps : (given : Given) (history : List Event) (event : Event) → ((station : ℕ) → steps_in station event ≡ [])
     → ((station handle : ℕ) → number_at station handle (history ++ event ∷ []) ≡ number_at station handle history)
-    → ((side : Side) (number : ℕ) (c : Control) → control_at number side (history ++ event ∷ []) ≡ Some c → HasControl (control_at number side history))
+    → ((side : Side) (number : ℕ) (k : Keyed) → keyed_at number side (history ++ event ∷ []) ≡ Some k → HasEnd (keyed_at number side history))
     → OnlyOpen given history → OnlyOpen given (history ++ event ∷ [])
-event_keeps given history event none number had are = λ side n c is.
-    let has = had side n c is in
-    let was = are side n has.control has.is in record {
+event_keeps given history event none number had are = λ side n k is.
+    let has = had side n k is in
+    let was = are side n has.keyed has.is in record {
       station = was.station;
       in_it = was.in_it;
       side_is = was.side_is;
@@ -178,19 +190,19 @@ outside_keeps : (given : Given) (history : List Event) (event : Event) → is_ou
 outside_keeps given history (TurnBegan slot radios) outside are =
     let event = TurnBegan slot radios in
     event_keeps given history event (λ station. refl) (λ station handle. number_quiet station handle history event (λ links. refl))
-    (λ side number c is. line_had side number history (history ++ event ∷ []) _ c (journal_event history event) refl is) are
+    (λ side number k is. line_had side number history (history ++ event ∷ []) _ k (journal_event history event) refl is) are
 outside_keeps given history (HostFed other octets) outside are =
     let event = HostFed other octets in
     event_keeps given history event (λ station. refl) (λ station handle. number_quiet station handle history event (λ links. refl))
-    (λ side number c is. line_had side number history (history ++ event ∷ []) _ c (journal_event history event) refl is) are
+    (λ side number k is. line_had side number history (history ++ event ∷ []) _ k (journal_event history event) refl is) are
 outside_keeps given history (Transmitted sender channel octets []) outside are =
     let event = Transmitted sender channel octets [] in
     event_keeps given history event (λ station. refl) (λ station handle. number_sent station handle history sender channel octets [])
-    (λ side number c is. record { control = c; is = ap (control_on side number) (sym (journal_event history event ∙ append-nil (journal_of history))) ∙ is }) are
+    (λ side number k is. record { keyed = k; is = ap (keyed_on side number) (sym (journal_event history event ∙ append-nil (journal_of history))) ∙ is }) are
 outside_keeps given history (Transmitted sender channel octets (hearing ∷ hearings)) outside are =
     let event = Transmitted sender channel octets (hearing ∷ hearings) in
     event_keeps given history event (λ station. refl) (λ station handle. number_sent station handle history sender channel octets (hearing ∷ hearings))
-    (λ side number c is. line_had side number history (history ++ event ∷ []) (air_line sender channel octets hearing) c (journal_event history event) refl is) are
+    (λ side number k is. line_had side number history (history ++ event ∷ []) (air_line sender channel octets hearing) k (journal_event history event) refl is) are
 outside_keeps given history (Called station step) outside are = absurd cc
 outside_keeps given history (Noted station note) outside are = absurd cc
 
@@ -226,8 +238,8 @@ module _ (given : Given) (station : ℕ) (step : Call) (history : List Event) (i
   after_is : called ++ map (Noted station) notes ≡ after
   after_is = append_assoc history (Called station step ∷ []) (map (Noted station) notes)
 
-  called_same : (number : ℕ) (side : Side) → control_at number side called ≡ control_at number side history
-  called_same number side = ap (control_on side number) (journal_event history (Called station step) ∙ append-nil (journal_of history))
+  called_same : (number : ℕ) (side : Side) → keyed_at number side called ≡ keyed_at number side history
+  called_same number side = ap (keyed_on side number) (journal_event history (Called station step) ∙ append-nil (journal_of history))
 
   called_number : (handle : ℕ) → number_at station handle called ≡ number_at station handle history
   called_number handle = number_quiet station handle history (Called station step) (λ links. refl)
@@ -265,18 +277,18 @@ module _ (given : Given) (station : ℕ) (step : Call) (history : List Event) (i
           number_is = number_other given station step history was.station was.handle differs ∙ was.number_is;
         }
 
-    was_of : HasControl (control_at number side called) → IsOfOpen given history side number
-    was_of has = are side number has.control (sym (called_same number side) ∙ has.is)
+    was_of : HasEnd (keyed_at number side called) → IsOfOpen given history side number
+    was_of has = are side number has.keyed (sym (called_same number side) ∙ has.is)
 
-    module _ (c : Control) (is : control_at number side after ≡ Some c) where
-      is_then : control_at number side (called ++ map (Noted station) notes) ≡ Some c
-      is_then = ap (control_at number side) after_is ∙ is
+    module _ (k : Keyed) (is : keyed_at number side after ≡ Some k) where
+      is_then : keyed_at number side (called ++ map (Noted station) notes) ≡ Some k
+      is_then = ap (keyed_at number side) after_is ∙ is
 
       -- no link is opened
       none_opened : AreNot is_opening notes → ((was : IsOfOpen given history side number) → was.station ≡ station → is_open facts.links was.handle ≡ true → is_open facts_then.links was.handle ≡ true)
           → IsOfOpen given after side number
       none_opened none on =
-          let was = was_of (notes_had side number station notes called c none is_then) in
+          let was = was_of (notes_had side number station notes called k none is_then) in
           keep was (λ equal before. record {
             on = on was equal before;
             number = number_called given station step history was.handle (quiet_notes was.handle notes none);
@@ -284,8 +296,8 @@ module _ (given : Given) (station : ℕ) (step : Call) (history : List Event) (i
 
       not_shut : AreNot is_opening notes → (was : IsOfOpen given history side number) → was.station ≡ station → fold (note_open was.handle) true notes ≡ true
       not_shut none was equal =
-          still_open station was.handle notes called c none
-          ((λ i. control_at ((called_number was.handle ∙ ap (λ n. number_at n was.handle history) (sym equal) ∙ was.number_is) i) ((ap side_of (sym equal) ∙ was.side_is) i)
+          still_open station was.handle notes called k none
+          ((λ i. keyed_at ((called_number was.handle ∙ ap (λ n. number_at n was.handle history) (sym equal) ∙ was.number_is) i) ((ap side_of (sym equal) ∙ was.side_is) i)
           (called ++ map (Noted station) notes)) ∙ is_then)
 
       -- one is
@@ -298,16 +310,16 @@ module _ (given : Given) (station : ℕ) (step : Call) (history : List Event) (i
         abbrev last : ℕ
         last = (links_of called).last_of station
 
-        at_next : HasControl (control_at number side (called ++ Noted station first ∷ []))
+        at_next : HasEnd (keyed_at number side (called ++ Noted station first ∷ []))
         at_next =
-            notes_had side number station rest (called ++ Noted station first ∷ []) c none
-            (ap (control_at number side) (append_assoc called (Noted station first ∷ []) (map (Noted station) rest))
-            ∙ ap (λ all. control_at number side (called ++ map (Noted station) all)) (sym notes_are) ∙ is_then)
+            notes_had side number station rest (called ++ Noted station first ∷ []) k none
+            (ap (keyed_at number side) (append_assoc called (Noted station first ∷ []) (map (Noted station) rest))
+            ∙ ap (λ all. keyed_at number side (called ++ map (Noted station) all)) (sym notes_are) ∙ is_then)
 
-        next_is : control_at number side (called ++ Noted station first ∷ [])
-            ≡ (if is_side (side_of station) side && last == number then control_begun side (link_numbered number (journal_of called)) else control_at number side called)
+        next_is : keyed_at number side (called ++ Noted station first ∷ [])
+            ≡ (if is_side (side_of station) side && last == number then keyed_begun side (link_numbered number (journal_of called)) else keyed_at number side called)
         next_is =
-            ap (control_on side number) (journal_event called (Noted station first)) ∙ control_more side number (journal_of called) (Opened (side_of station) last handle role)
+            ap (keyed_on side number) (journal_event called (Noted station first)) ∙ keyed_more side number (journal_of called) (Opened (side_of station) last handle role)
 
         sides : (one other : Side) → is_side one other ≡ true → one ≡ other
         sides A A is = refl
@@ -346,8 +358,8 @@ module _ (given : Given) (station : ℕ) (step : Call) (history : List Event) (i
                   number_is = number_then ∙ eqb-true last number (right_of (is_side (side_of station) side) (last == number) test);
                 }
             by false test =
-                let before = sym (next_is ∙ ap (λ b. if b then control_begun side (link_numbered number (journal_of called)) else control_at number side called) test) ∙ at_next.is in
-                let was = was_of (record { control = at_next.control; is = before }) in
+                let before = sym (next_is ∙ ap (λ b. if b then keyed_begun side (link_numbered number (journal_of called)) else keyed_at number side called) test) ∙ at_next.is in
+                let was = was_of (record { keyed = at_next.keyed; is = before }) in
                 keep was (λ equal on.
                 let apart : (handle == was.handle) ≡ false = false_from_ne_true (handle == was.handle) (λ same.
                 let h : true ≡ false = sym on ∙ ap (is_open facts.links) (sym (eqb-true handle was.handle same)) ∙ free in absurd cc) in
@@ -368,7 +380,7 @@ module _ (given : Given) (station : ℕ) (step : Call) (history : List Event) (i
       by_notes (opens_first handle role own peer rest notes_are none shut reports free now others) = opened_one handle role own peer rest notes_are none free now others
 
   call_keeps : OnlyOpen given after
-  call_keeps = λ side number c is. by_notes side number c is (past_noted setup (past_of station history) step)
+  call_keeps = λ side number k is. by_notes side number k is (past_noted setup (past_of station history) step)
 
 -- ---- a run
 
@@ -411,8 +423,8 @@ only_stepped given = record {
 }
 
 none_only : (given : Given) → OnlyOpen given []
-unfolding control_on journal_of
-none_only given side number c is = absurd cc
+unfolding keyed_on journal_of
+none_only given side number k is = absurd cc
 
 run_only : (given : Given) → AreOnlyOpen given (history_of (run_of given))
 run_only given = run_stepped given (AreOnly given) (only_stepped given) (λ all. record { open_now = none_only given; each = tt }) (run_of_stations given)

@@ -13,15 +13,16 @@ use Rattle.journal_controls.specs.journal_acks.link_calls.Uses.{listens_under, s
 use Rattle.journal_controls.specs.journal_ends.Seen.{Says, seen_of}
 use Rattle.journal_controls.specs.journal_links.LinkLines.{line_of}
 use Rattle.journal_controls.specs.link_model.End.{facts_of}
-use Rattle.journal_controls.specs.link_model.Facts.{stays}
+use Rattle.journal_controls.specs.link_model.Facts.{keyed_of, stays}
 use Rattle.journal_controls.specs.open_links.OpenLinks.{OpenLink, facts_in, link_at}
 use Rattle.journal_controls.specs.run_model.History.{Event, packet_received, turns_begun}
 use Rattle.journal_controls.specs.run_model.Journal.{journal_of, side_of}
 use Rattle.journal_controls.specs.run_model.Run.{Given, after_call, facts_at, setup_at, step_of}
 use Rattle.journal_controls.specs.link_model.Packets.{good_pdu}
-use Rattle.journal_controls.specs.Hearing.{control_hearing}
-use Rattle.journal_controls.proofs.ControlledEnds.{AreControlledSo, control_taking, whole as control_whole}
-use Rattle.journal_controls.proofs.EventMoves.{turn_at, withholds_at}
+use Rattle.journal_controls.specs.Hearing.{keyed_hearing}
+use Rattle.journal_controls.proofs.ControlledEnds.{AreControlledSo, keyed_taking, whole as keyed_whole}
+use Rattle.journal_controls.proofs.EventMoves.{drawn_at, turn_at, withholds_at}
+use Rattle.journal_controls.proofs.Undrawn.{IsUndrawn}
 use Rattle.journal_controls.proofs.journal_acks.Exchanging.{number_at, number_called}
 use Rattle.journal_controls.proofs.journal_acks.Standing.{PhasedBy}
 use Rattle.journal_controls.proofs.journal_acks.link_calls.CallNotes.{OpensNone}
@@ -56,7 +57,8 @@ module _ (given : Given) (station : ℕ) (history : List Event) (phases : ℕ) (
     (seen : AreSeenSo given (after_call given station (step_of (packet_received station history)) history)
     (λ one. packet_received one (after_call given station (step_of (packet_received station history)) history)))
     (held : withholds_at (side_of station) history ≡ withholds_requests (view_masks (facts_at given station history).view))
-    (slot_is : turn_at history ≡ (facts_at given station history).turn.slot) (controls : AreControlledSo given history (λ one. packet_received one history))
+    (slot_is : turn_at history ≡ (facts_at given station history).turn.slot)
+    (undrawn : (handle : ℕ) (link : OpenLink) → link_at handle (facts_at given station history).links ≡ Some link → IsUndrawn link) (controls : AreControlledSo given history (λ one. packet_received one history))
     (unsent : ℕ → Bool) (sent : unsent station ≡ false) (are : AreLeftSo given history unsent (λ one. packet_received one history)) where
   abbrev received : Option (List ℕ)
   received = packet_received station history
@@ -107,10 +109,10 @@ module _ (given : Given) (station : ℕ) (history : List Event) (phases : ℕ) (
   passed handle link at number (IsNew end made opened off) = fresh handle link at (ap (λ (l : OpenLink). l.past) made)
   passed handle link at number (Stays was none nothing listened) =
       let own = number_at station handle history in
-      let c = (facts_in link).control in
-      leaves_own given station (step_of received) history in_it lined lined_after handle link at (packet_received station next) none_next number link was (phase_turn received) false c (facts_in link).leaving
-      (same_leaves side own (withholds_at side history) (turn_at history) link c) (doing_is handle ∙ none)
-      (control_whole received handle facts.turn link own side history nothing (controls station handle link in_it was))
+      let k = keyed_of (facts_in link) in
+      leaves_own given station (step_of received) history in_it lined lined_after handle link at (packet_received station next) none_next number link was (phase_turn received) false k (facts_in link).leaving
+      (same_leaves side own (withholds_at side history) (drawn_at side history) (turn_at history) link k) (doing_is handle ∙ none)
+      (keyed_whole received handle facts.turn link own side history nothing (controls station handle link in_it was))
       (whole (unsent station) received handle facts.turn link own side history (none_sent handle) nothing (are station handle link in_it was))
   passed handle link at number (Takes base octets was some on same) =
       let own = number_at station handle history in
@@ -119,14 +121,14 @@ module _ (given : Given) (station : ℕ) (history : List Event) (phases : ℕ) (
       let sends = sends_under handle (facts_after setup facts (step_of received)).turn.doing in
       let slot = facts.turn.slot in
       let may = good_pdu base.setup (facts_in base) octets in
-      let c = control_hearing base.setup.link.role slot may (facts_in base) in
+      let k = keyed_hearing base.setup.link.role slot may (facts_in base) in
       let l = leaving_hearing base.setup.link.role slot may (facts_in base) in
       let left = are station handle base in_it was in
-      let leaves = taken_leaves side own withheld facts handle room octets base sends link same in
-      leaves_own given station (step_of received) history in_it lined lined_after handle link at (packet_received station next) none_next number base was (phase_turn received) sends c l
-      (subst (λ w. LeavesTo side own w (turn_at history) base link sends c l) (sym held) (subst (λ n. LeavesTo side own withheld n base link sends c l) (sym slot_is) leaves))
+      let leaves = taken_leaves side own withheld (drawn_at side history) facts handle room octets base (undrawn handle base was) sends link same in
+      leaves_own given station (step_of received) history in_it lined lined_after handle link at (packet_received station next) none_next number base was (phase_turn received) sends k l
+      (subst (λ w. LeavesTo side own w (drawn_at side history) (turn_at history) base link sends k l) (sym held) (subst (λ n. LeavesTo side own withheld (drawn_at side history) n base link sends k l) (sym slot_is) leaves))
       (doing_is handle)
-      (controls station handle base in_it was ∙ (λ i. Some (control_taking (on i) (some i) slot base)))
+      ((controls station handle base in_it was).keyed ∙ (λ i. Some (keyed_taking (on i) (some i) slot base)))
       (left.on ∙ ap Some (ap (λ b. leaving_sent_if b left.leaving) (sym (none_sent handle)) ∙ left.is ∙ (λ i. left_taking (on i) (some i) slot base)))
 
   pub passes_own : (handle : ℕ) (link : OpenLink) → link_at handle (facts_at given station next).links ≡ Some link → IsNow handle link

@@ -5,6 +5,7 @@ use Rattle.ble_base.specs.declared.roles.Side.{Side}
 use Rattle.journal_controls.specs.controller_model.Step.{Step as Call, TurnBegins, TurnEnds}
 use Rattle.journal_controls.specs.journal_acks.Shut.{last_heard}
 use Rattle.journal_controls.specs.journal_ends.Seen.{last_slot}
+use Rattle.journal_controls.specs.link_model.Facts.{keyed_of}
 use Rattle.journal_controls.specs.link_model.Times.{due_of, ending_of}
 use Rattle.journal_controls.specs.link_model.declared.events.Reception.{Reception}
 use Rattle.journal_controls.specs.open_links.OpenLinks.{OpenLink, facts_in, link_at}
@@ -14,9 +15,9 @@ use Rattle.journal_controls.specs.run_model.History.{Event, Called, TurnBegan}
 use Rattle.journal_controls.specs.run_model.LinkEnds.{HaveAddresses}
 use Rattle.journal_controls.specs.run_model.Journal.{journal_of, side_of}
 use Rattle.journal_controls.specs.run_model.Run.{Given, GoesOn, facts_at, history_of, run_of}
-use Rattle.journal_controls.proofs.EventMoves.{control_at, turn_at}
+use Rattle.journal_controls.proofs.EventMoves.{keyed_at, turn_at}
 use Rattle.journal_controls.proofs.KeptControls.{AreControlled}
-use Rattle.journal_controls.proofs.RunControls.{control_at_end, control_before_call, control_before_turn}
+use Rattle.journal_controls.proofs.RunControls.{control_of, keyed_at_end, keyed_before_call, keyed_before_turn}
 use Rattle.journal_controls.proofs.journal_acks.GoodLinks.{slot_of}
 use Rattle.journal_controls.proofs.journal_ends.PastSeen.{past_slot}
 use Rattle.journal_controls.proofs.journal_ends.RunSeen.{seen_before_call}
@@ -45,15 +46,15 @@ NoneLeaves given history =
     (station : ℕ) → is_in station given.stations ≡ true → (handle : ℕ) (link : OpenLink) → link_at handle (facts_at given station history).links ≡ Some link
     → ending_on (side_of station) (number_at station handle history) (journal_of history) ≡ None
 
-pub ending_by_lines : (number : ℕ) (side : Side) (history : List Event) (link : OpenLink) → control_at number side history ≡ Some (facts_in link).control
+pub ending_by_lines : (number : ℕ) (side : Side) (history : List Event) (link : OpenLink) → keyed_at number side history ≡ Some (keyed_of (facts_in link))
     → leaving_at number side history ≡ Some (facts_in link).leaving → ending_on side number (journal_of history) ≡ ending_of (facts_in link)
 unfolding ending_on
-ending_by_lines number side history link control left = λ i. ending_with (control i) (left i)
+ending_by_lines number side history link keyed left = λ i. ending_with (control_of side number (journal_of history) (keyed_of (facts_in link)) keyed i) (left i)
 
 -- by what an end is due, as its lines tell it
 pub record TellsDue (number : ℕ) (side : Side) (station : ℕ) (history : List Event) (link : OpenLink) : Type 0 where
   pub begun : IsBegun history number station link.setup
-  pub control : control_at number side history ≡ Some (facts_in link).control
+  pub keyed : keyed_at number side history ≡ Some (keyed_of (facts_in link))
   pub left : leaving_at number side history ≡ Some (facts_in link).leaving
   pub heard : last_heard number side (journal_of history) ≡ option_map (λ (one : Reception). one.slot) (facts_in link).last_good
 
@@ -61,15 +62,15 @@ pub due_by_lines : (number : ℕ) (side : Side) (station : ℕ) (history : List 
     → due_on side number (journal_of history) ≡ due_of link.setup (facts_in link) slot
 unfolding due_on
 due_by_lines number side station history link slot told turn =
-    (λ i. due_with (told.begun.is_link i) (told.control i) (told.left i) (told.heard i) (turn i)) ∙ due_is told.begun.link link.setup (facts_in link) slot told.begun.slot
+    (λ i. due_with (told.begun.is_link i) (control_of side number (journal_of history) (keyed_of (facts_in link)) told.keyed i) (told.left i) (told.heard i) (turn i)) ∙ due_is told.begun.link link.setup (facts_in link) slot told.begun.slot
 
 slot_in : (good : Option Reception) → slot_of good ≡ option_map (λ (one : Reception). one.slot) good
 slot_in None = refl
 slot_in (Some good) = refl
 
-none_by : (number : ℕ) (side : Side) (history : List Event) (link : OpenLink) → control_at number side history ≡ Some (facts_in link).control
+none_by : (number : ℕ) (side : Side) (history : List Event) (link : OpenLink) → keyed_at number side history ≡ Some (keyed_of (facts_in link))
     → leaving_at number side history ≡ Some (facts_in link).leaving → ending_in link ≡ None → ending_on side number (journal_of history) ≡ None
-none_by number side history link control left stays = ending_by_lines number side history link control left ∙ none_ends (ending_of (facts_in link)) stays
+none_by number side history link keyed left stays = ending_by_lines number side history link keyed left ∙ none_ends (ending_of (facts_in link)) stays
 
 -- when it heard the last good packet
 pub heard_by_lines : (number : ℕ) (side : Side) (history : List Event) (link : OpenLink) → seen_at number side history ≡ seen_in_link number side link
@@ -105,7 +106,7 @@ module _ (heard_whole : IsHeardWhole) (understood : IsUnderstood) (taken : AreTa
       let both = before_call before rest station step at in
       let seen = seen_before_call understood taken nth apart given are_two six before rest station step at in_it handle link is_open ∙ append-nil (seen_in_link number side link) in record {
         begun = both.1 handle link is_open;
-        control = control_before_call heard_whole understood taken nth apart given are_two six before rest station step at in_it handle link is_open;
+        keyed = keyed_before_call heard_whole understood taken nth apart given are_two six before rest station step at in_it handle link is_open;
         left = both.0 in_it handle link is_open;
         heard = heard_by_lines number side before link seen;
       }
@@ -127,7 +128,7 @@ module _ (heard_whole : IsHeardWhole) (understood : IsUnderstood) (taken : AreTa
       → ending_on (side_of station) (number_at station handle before) (journal_of before) ≡ ending_of (facts_in link)
   ending_before_call before rest station at = λ in_it handle link is_open.
       ending_by_lines (number_at station handle before) (side_of station) before link
-      (control_before_call heard_whole understood taken nth apart given are_two six before rest station TurnEnds at in_it handle link is_open)
+      (keyed_before_call heard_whole understood taken nth apart given are_two six before rest station TurnEnds at in_it handle link is_open)
       ((before_call before rest station TurnEnds at).0 in_it handle link is_open)
 
   before_turn : (before rest : List Event) (slot : ℕ) (radios : List Bool) → history_of (run_of given) ≡ before ++ TurnBegan slot radios ∷ rest
@@ -143,7 +144,7 @@ module _ (heard_whole : IsHeardWhole) (understood : IsUnderstood) (taken : AreTa
   none_leaves_before_turn before rest slot radios at = λ station in_it handle link is_open.
       let both = before_turn before rest slot radios at in
       none_by (number_at station handle before) (side_of station) before link
-      (control_before_turn heard_whole understood taken nth apart given are_two six before rest slot radios at station in_it handle link is_open)
+      (keyed_before_turn heard_whole understood taken nth apart given are_two six before rest slot radios at station in_it handle link is_open)
       (both.0 station in_it handle link is_open) (both.1 station in_it handle link is_open)
 
   -- at the end of a whole run
@@ -154,5 +155,5 @@ module _ (heard_whole : IsHeardWhole) (understood : IsUnderstood) (taken : AreTa
   none_leaves_at_end history goes = λ station in_it handle link is_open.
       let last = (ends_whole (run_of given) (IsWhole given (AreLeftAt given)) (IsStopped given (AreLeftAt given)) history ends goes).is in
       none_by (number_at station handle history) (side_of station) history link
-      (subst (AreControlled given) (ap history_of goes) (control_at_end heard_whole understood taken nth apart given are_two six) station in_it handle link is_open)
+      (subst (AreControlled given) (ap history_of goes) (keyed_at_end heard_whole understood taken nth apart given are_two six) station in_it handle link is_open)
       (all_left given history last station in_it handle link is_open) (all_stay given history last station in_it handle link is_open)

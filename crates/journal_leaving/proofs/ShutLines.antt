@@ -21,9 +21,10 @@ use Rattle.journal_controls.proofs.host_answers.LineAnswers.{IsQuiet}
 use Rattle.journal_controls.specs.SaidLines.{NoneOpens, moved_by}
 use Rattle.journal_controls.specs.journal_links.Begun.{link_numbered}
 use Rattle.journal_controls.specs.journal_links.LinkLines.{line_of, lines_of}
+use Rattle.journal_controls.specs.link_model.Facts.{keyed_of}
 use Rattle.journal_controls.specs.link_model.Times.{ending_of}
-use Rattle.journal_controls.specs.link_model.control_model.Control.{Control}
 use Rattle.journal_controls.specs.link_model.declared.state.Leaving.{Leaving}
+use Rattle.journal_controls.specs.link_model.keyed_control.Keyed.{Keyed}
 use Rattle.journal_controls.specs.open_links.OpenLinks.{OpenLink, facts_in, link_at}
 use Rattle.journal_controls.specs.run_model.Feeding.{is_octet}
 use Rattle.journal_controls.specs.run_model.History.{Event, Called, Noted, noted_by, past_of}
@@ -32,8 +33,8 @@ use Rattle.journal_controls.specs.run_model.LinkEnds.{HaveAddresses}
 use Rattle.journal_controls.specs.run_model.NoteLines.{IsLineInCall, LinkLine, shut_line}
 use Rattle.journal_controls.specs.run_model.OnAir.{ends_phase}
 use Rattle.journal_controls.specs.run_model.Run.{Given, facts_at, history_of, run_of, setup_at}
-use Rattle.journal_controls.proofs.EventMoves.{control_at, turn_answers, turn_at, withholds_at}
-use Rattle.journal_controls.proofs.RunControls.{control_before_call}
+use Rattle.journal_controls.proofs.EventMoves.{drawn_at, keyed_at, turn_answers, turn_at, withholds_at}
+use Rattle.journal_controls.proofs.RunControls.{keyed_before_call}
 use Rattle.journal_controls.proofs.journal_acks.Exchanging.{number_at}
 use Rattle.journal_controls.proofs.journal_acks.HeardLines.{heard_in_call}
 use Rattle.journal_controls.proofs.journal_acks.ResetLines.{reset_completed}
@@ -142,9 +143,9 @@ module _ (understood : IsUnderstood) (taken : AreTaken) (given : Given) (are_two
   turn_then : turn_at then_on ≡ turn_at call.base
   turn_then = moving.turns
 
-  control_then : (c : Control) → control_at own own_side call.base ≡ Some c → control_at own own_side then_on ≡ Some c
-  control_then c is =
-      moving.control c (subst NoneOpens (sym none) tt) is ∙ ap (λ xs. Some (moved_by (withholds_at own_side call.base) (turn_at call.base) xs c)) none
+  keyed_then : (k : Keyed) → keyed_at own own_side call.base ≡ Some k → keyed_at own own_side then_on ≡ Some k
+  keyed_then k is =
+      moving.keyed k (subst NoneOpens (sym none) tt) is ∙ ap (λ xs. Some (moved_by (withholds_at own_side call.base) (drawn_at own_side call.base) (turn_at call.base) xs k)) none
 
   leaving_then : (l : Leaving) → leaving_at own own_side call.base ≡ Some l → leaving_at own own_side then_on ≡ Some l
   leaving_then l is = moving.still none ∙ is
@@ -159,7 +160,7 @@ module _ (understood : IsUnderstood) (taken : AreTaken) (given : Given) (are_two
       fields = told.begun.fields;
       slot = told.begun.slot;
     };
-    control = control_then (facts_in link).control told.control;
+    keyed = keyed_then (keyed_of (facts_in link)) told.keyed;
     left = leaving_then (facts_in link).leaving told.left;
     heard = heard_in_call own own_side call.station call.step call.base call.earlier ∙ told.heard;
   }
@@ -219,12 +220,12 @@ module _ (heard_whole : IsHeardWhole) (understood : IsUnderstood) (taken : AreTa
       let then_on = call.base ++ Called station call.step ∷ map (Noted station) call.earlier in
       let was = handed facts call.handle link is_open in
       let same = ap (λ l. ending_of (facts_in l)) was.is ∙ reported_ends was.link in
-      let control = control_before_call heard_whole understood taken nth apart given are_two six call.base call.after station TurnEnds at in_it call.handle was.link was.was in
+      let keyed = keyed_before_call heard_whole understood taken nth apart given are_two six call.base call.after station TurnEnds at in_it call.handle was.link was.was in
       let left = left_before_call heard_whole understood taken nth apart given are_two six call.base call.after station TurnEnds at in_it call.handle was.link was.was in
       at_line outside
       (leaving
       (ending_by_lines own (side_of station) then_on was.link
-      (control_then understood taken given are_two six front side number reason call in_it outside (ap is_octet ends) ascend was.link was.was (facts_in was.link).control control)
+      (keyed_then understood taken given are_two six front side number reason call in_it outside (ap is_octet ends) ascend was.link was.was (keyed_of (facts_in was.link)) keyed)
       (leaving_then understood taken given are_two six front side number reason call in_it outside (ap is_octet ends) ascend was.link was.was (facts_in was.link).leaving left)
       ∙ sym same ∙ some_code (ending_of (facts_in link)) reason (leaving_ends reason.0 link leaves)))
   by_cause (shut_reset link completed is_open code) = reset code (reset_completed given are_two front side number reason call completed)

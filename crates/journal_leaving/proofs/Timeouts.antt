@@ -26,7 +26,7 @@ use Rattle.journal_controls.specs.link_model.control_model.Supported.{read_suppo
 use Rattle.journal_controls.specs.link_model.End.{facts_of, notes_of}
 use Rattle.journal_controls.specs.link_model.Setup.{Setup, first_params}
 use Rattle.journal_controls.specs.link_model.Step.{Step}
-use Rattle.journal_controls.proofs.journal_acks.link_calls.open_links.Handed.{read_range}
+use Rattle.journal_controls.proofs.journal_acks.run_laws.ReadRanges.{read_range}
 
 -- ---- an indication that is read has one
 

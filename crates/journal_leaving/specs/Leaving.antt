@@ -6,22 +6,22 @@ use Rattle.std.specs.Option.{option_map}
 use Rattle.ble_base.specs.declared.roles.Side.{Side}
 use Rattle.journal.specs.declared.entries.Entry.{Entry}
 use Rattle.journal.specs.declared.entries.Entry.TheVariants.{Air, Opened, Shut, Took}
-use Rattle.journal_controls.specs.LineSteps.{control_on, is_more_acked, turn_now}
+use Rattle.journal_controls.specs.KeyedLines.{drawn_by, given_by}
+use Rattle.journal_controls.specs.LineSteps.{is_more_acked, keyed_on, turn_now}
 use Rattle.journal_controls.specs.journal_acks.Carried.{carried_of}
 use Rattle.journal_controls.specs.journal_acks.Exchange.{exchange_of}
 use Rattle.journal_controls.specs.journal_acks.Shut.{is_of_link}
 use Rattle.journal_controls.specs.journal_ends.Seen.{Asks, Hears, Says, Seen, seen_in_line}
 use Rattle.journal_controls.specs.journal_packets.Belonging.{is_side}
 use Rattle.journal_controls.specs.link_model.Acknowledgement.{Pdu}
-use Rattle.journal_controls.specs.link_model.Controls.{is_procedure_pdu, is_terminate, read_of}
+use Rattle.journal_controls.specs.link_model.Controls.{is_procedure_pdu, is_terminate}
 use Rattle.journal_controls.specs.link_model.Facts.{stays}
 use Rattle.journal_controls.specs.link_model.Receiving.{code_of, leaving_acked_if, leaving_by}
 use Rattle.journal_controls.specs.link_model.Sending.{leaving_sent}
 use Rattle.journal_controls.specs.link_model.Step.{Step, Disconnected}
-use Rattle.journal_controls.specs.link_model.control_end.Answers.{taken_of}
-use Rattle.journal_controls.specs.link_model.control_end.Held.{held_of}
-use Rattle.journal_controls.specs.link_model.control_model.Control.{Control}
 use Rattle.journal_controls.specs.link_model.declared.state.Leaving.{Leaving}
+use Rattle.journal_controls.specs.link_model.keyed_control.Keyed.{Keyed}
+use Rattle.journal_controls.specs.link_model.keyed_control.declared.material.Response.{Response}
 
 -- ---- it sends a packet
 
@@ -36,18 +36,17 @@ leaving_sent_if sends leaving = if sends then leaving_sent leaving else leaving
 
 -- ---- it says a line
 
--- a control PDU that is taken, with the control part as it is then: LL_TERMINATE_IND of the peer ends the link
-abbrev pub leaving_taking : ℕ → Pdu → Option Control → Leaving → Leaving
-leaving_taking slot pdu None leaving = leaving
-leaving_taking slot pdu (Some control) leaving =
-    if is_procedure_pdu pdu
-    then leaving_by (code_of (taken_of (read_of pdu) slot true (held_of control)).effect) leaving
-    else leaving
+-- a control PDU that is taken by an end that is like this then, where this would be drawn: LL_TERMINATE_IND of the peer
+-- ends the link
+abbrev pub leaving_taking : Response → ℕ → Pdu → Option Keyed → Leaving → Leaving
+leaving_taking response slot pdu None leaving = leaving
+leaving_taking response slot pdu (Some k) leaving =
+    if is_procedure_pdu pdu then leaving_by (code_of (given_by response slot k pdu).taken.effect) leaving else leaving
 
-abbrev pub leaving_saying : ℕ → Option Control → Leaving → Entry → Leaving
-leaving_saying slot control leaving (Took side link count llid body) =
-    leaving_taking slot (record { llid = llid; body = body }) control leaving
-leaving_saying slot control leaving line = leaving
+abbrev pub leaving_saying : Response → ℕ → Option Keyed → Leaving → Entry → Leaving
+leaving_saying response slot k leaving (Took side link count llid body) =
+    leaving_taking response slot (record { llid = llid; body = body }) k leaving
+leaving_saying response slot k leaving line = leaving
 
 -- ---- it hears a good packet of the other end
 
@@ -66,7 +65,7 @@ leaving_asking step leaving = leaving
 
 abbrev pub leaving_seen : Side → ℕ → List Entry → Entry → Leaving → Seen → Leaving
 leaving_seen side number front line leaving (Says own) =
-    leaving_saying (turn_now front) (control_on side number front) leaving own
+    leaving_saying (drawn_by side front) (turn_now front) (keyed_on side number front) leaving own
 leaving_seen side number front line leaving (Hears slot octets) =
     leaving_acked_if
     (acks_terminate (is_more_acked (exchange_of number front side) (exchange_of number (front ++ line ∷ []) side))

@@ -4,25 +4,27 @@ use Rattle.std.specs.Prelude.{ℕ, Bool, List, [], ◌∷◌, map, Option, Some,
 use Rattle.ble_base.specs.declared.notes.Note.{Note}
 use Rattle.ble_base.specs.declared.roles.Side.{Side}
 use Rattle.journal.specs.declared.entries.Entry.{Entry}
+use Rattle.journal_controls.specs.KeyedLines.{keyed_by_all}
 use Rattle.journal_controls.specs.LineSteps.{steps_said}
 use Rattle.journal_controls.specs.journal_links.LinkLines.{line_of}
 use Rattle.journal_controls.specs.link_model.Step.{Step}
-use Rattle.journal_controls.specs.link_model.control_model.Control.{Control, after_all}
 use Rattle.journal_controls.specs.link_model.declared.state.Leaving.{Leaving}
+use Rattle.journal_controls.specs.link_model.keyed_control.Keyed.{Keyed}
+use Rattle.journal_controls.specs.link_model.keyed_control.declared.material.Response.{Response}
 use Rattle.journal_leaving.specs.Leaving.{leaving_asking, leaving_saying}
 
--- how an end with this control part is to leave its link after these lines, in this turn, where requests are withheld from
--- its host or are not
-abbrev pub leaving_said : Bool → ℕ → List Entry → Control → Leaving → Leaving
-leaving_said withheld slot [] control leaving = leaving
-leaving_said withheld slot (line ∷ lines) control leaving =
-    leaving_said withheld slot lines (after_all (steps_said withheld slot control line) control)
-    (leaving_saying slot (Some control) leaving line)
+-- how an end that is like this is to leave its link after these lines, in this turn, where requests are withheld from its
+-- host or are not, and where this would be drawn
+abbrev pub leaving_said : Bool → Response → ℕ → List Entry → Keyed → Leaving → Leaving
+leaving_said withheld response slot [] k leaving = leaving
+leaving_said withheld response slot (line ∷ lines) k leaving =
+    leaving_said withheld response slot lines (keyed_by_all (steps_said withheld response slot k line) k)
+    (leaving_saying response slot (Some k) leaving line)
 
 -- the same by the lines of these notes
-abbrev pub leaving_noted : Side → ℕ → Bool → ℕ → List Note → Control → Leaving → Leaving
-leaving_noted side number withheld slot notes control leaving =
-    leaving_said withheld slot (map (line_of side number) notes) control leaving
+abbrev pub leaving_noted : Side → ℕ → Bool → Response → ℕ → List Note → Keyed → Leaving → Leaving
+leaving_noted side number withheld response slot notes k leaving =
+    leaving_said withheld response slot (map (line_of side number) notes) k leaving
 
 -- how it is to leave its link after what its host asks of it, if anything
 abbrev pub leaving_if_asked : Option Step → Leaving → Leaving

@@ -5,7 +5,8 @@ ghost use Rattle.ble_base.specs.declared.roles.Side.{Side};
 ghost use Rattle.journal_controls.specs.controller_model.Step.{Step as Call};
 ghost use Rattle.journal_controls.specs.host_answers.Calls.{call_lines};
 ghost use Rattle.journal.specs.declared.entries.Entry.{Entry};
-ghost use Rattle.journal_controls.specs.LineSteps.{control_on, turn_now, withholds};
+ghost use Rattle.journal_controls.specs.KeyedLines.{drawn_by};
+ghost use Rattle.journal_controls.specs.LineSteps.{keyed_on, turn_now, withholds};
 ghost use Rattle.journal_controls.specs.SaidLines.{NoneOpens};
 ghost use Rattle.journal_controls.specs.journal_ends.Seen.{asked_if, seen_from};
 ghost use Rattle.journal_controls.specs.journal_links.LinkLines.{lines_of};
@@ -13,7 +14,8 @@ ghost use Rattle.journal_controls.specs.link_model.End.{notes_after};
 ghost use Rattle.journal_controls.specs.link_model.Facts.{Facts};
 ghost use Rattle.journal_controls.specs.link_model.Setup.{Setup};
 ghost use Rattle.journal_controls.specs.link_model.Step.{EventEntered, PacketSent, Step};
-ghost use Rattle.journal_controls.specs.link_model.control_model.Control.{Control};
+ghost use Rattle.journal_controls.specs.link_model.keyed_control.Keyed.{Keyed};
+ghost use Rattle.journal_controls.specs.link_model.keyed_control.declared.material.Response.{Response};
 ghost use Rattle.journal_controls.specs.link_model.declared.state.Leaving.{Leaving};
 ghost use Rattle.journal_controls.specs.run_model.Feeding.{is_octet};
 ghost use Rattle.journal_controls.specs.run_model.History.{Event};
@@ -23,20 +25,20 @@ ghost use Rattle.journal_leaving.specs.Leaving.{leaving_on};
 ghost use Rattle.journal_leaving.specs.Said.{leaving_if_asked, leaving_noted, leaving_said};
 
 /// A call of a turn on a controller, after any history, moves an end by the lines that it adds for
-/// that end, in order, where none of them opens the link or shuts it. The control part of the end
-/// moves with it. A call in the lines of which nothing else is seen of an end than what its host
-/// asks moves it by that: a host that ends the link does so in this slot (Core 5.2, volume 6 part
-/// B, section 5.1.6).
+/// that end, in order, where none of them opens the link or shuts it. The control part of the end,
+/// its phase and its keys move with it. A call in the lines of which nothing else is seen of an end
+/// than what its host asks moves it by that: a host that ends the link does so in this slot (Core
+/// 5.2, volume 6 part B, section 5.1.6).
 pub fn a_call_moves_how_an_end_leaves_by_its_lines()
     ensures turn { (given : Given) (side : Side) (number station : ℕ) (call : Call)
-        (history : List Event) (more : List Entry) (control : Control) (leaving : Leaving)
+        (history : List Event) (more : List Entry) (k : Keyed) (leaving : Leaving)
         → is_octet call ≡ false → lines_of side number (journal_of (after_call given station call history))
         ≡ lines_of side number (journal_of history) ++ more
-        → NoneOpens more → control_on side number (journal_of history) ≡ Some control
+        → NoneOpens more → keyed_on side number (journal_of history) ≡ Some k
         → leaving_on side number (journal_of history) ≡ Some leaving
         → leaving_on side number (journal_of (after_call given station call history))
         ≡ Some (leaving_said (withholds side (journal_of history))
-        (turn_now (journal_of history)) more control leaving) }
+        (drawn_by side (journal_of history)) (turn_now (journal_of history)) more k leaving) }
     ensures asked { (given : Given) (side : Side) (number station : ℕ) (call : Call)
         (history : List Event) (asked : Option Step) (leaving : Leaving)
         → seen_from side number (journal_of history) (call_lines given station call history)
@@ -47,12 +49,12 @@ pub fn a_call_moves_how_an_end_leaves_by_its_lines()
 
 /// The lines that an end says as it enters an event, and as it sends a packet, leave it as it is.
 pub fn lines_that_take_nothing_leave_an_end_as_it_is()
-    ensures entered { (side : Side) (number slot : ℕ) (withheld : Bool) (setup : Setup) (facts : Facts)
-        (control : Control) (leaving : Leaving)
-        → leaving_noted side number withheld slot (notes_after setup facts (EventEntered slot)) control
-        leaving ≡ leaving }
-    ensures sent { (side : Side) (number slot : ℕ) (withheld : Bool) (setup : Setup) (facts : Facts)
-        (control : Control) (leaving : Leaving)
-        → leaving_noted side number withheld slot (notes_after setup facts (PacketSent slot)) control
-        leaving ≡ leaving }
+    ensures entered { (side : Side) (number slot : ℕ) (withheld : Bool) (response : Response)
+        (setup : Setup) (facts : Facts) (k : Keyed) (leaving : Leaving)
+        → leaving_noted side number withheld response slot
+        (notes_after setup facts (EventEntered slot)) k leaving ≡ leaving }
+    ensures sent { (side : Side) (number slot : ℕ) (withheld : Bool) (response : Response)
+        (setup : Setup) (facts : Facts) (k : Keyed) (leaving : Leaving)
+        → leaving_noted side number withheld response slot
+        (notes_after setup facts (PacketSent slot)) k leaving ≡ leaving }
 {}

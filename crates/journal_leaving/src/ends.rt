@@ -14,7 +14,7 @@ ghost use Rattle.journal_controls.specs.link_model.Receiving.{leaving_acked_if};
 ghost use Rattle.journal_controls.specs.link_model.Sending.{leaving_sent};
 ghost use Rattle.journal_controls.specs.link_model.Setup.{Setup};
 ghost use Rattle.journal_controls.specs.link_model.Step.{Step, PacketReceived, PacketSent};
-ghost use Rattle.journal_controls.specs.Hearing.{control_hearing};
+ghost use Rattle.journal_controls.specs.Hearing.{keyed_hearing};
 ghost use Rattle.journal_leaving.specs.Hearing.{leaving_hearing};
 ghost use Rattle.journal_leaving.specs.Leaving.{acks_terminate};
 ghost use Rattle.journal_leaving.specs.Said.{leaving_noted};
@@ -34,9 +34,9 @@ pub fn a_packet_moves_how_an_end_leaves_by_its_lines()
         (past : List Step) (octets : List ℕ)
         → let facts = facts_of setup past in let heard = good_pdu setup facts octets in
         (facts_after setup facts (PacketReceived slot octets room)).leaving
-        ≡ leaving_noted side number withheld slot
+        ≡ leaving_noted side number withheld facts.encryption.response slot
         (notes_after setup facts (PacketReceived slot octets room))
-        (control_hearing setup.link.role slot heard facts)
+        (keyed_hearing setup.link.role slot heard facts)
         (leaving_hearing setup.link.role slot heard facts) }
 {}
 

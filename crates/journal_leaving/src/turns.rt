@@ -7,22 +7,24 @@ ghost use Rattle.journal_controls.specs.link_model.Facts.{Facts};
 ghost use Rattle.journal_controls.specs.link_model.Packets.{good_pdu};
 ghost use Rattle.journal_controls.specs.link_model.Setup.{Setup};
 ghost use Rattle.journal_controls.specs.link_model.Step.{Step};
-ghost use Rattle.journal_controls.specs.link_model.control_model.Control.{Control};
-ghost use Rattle.journal_controls.specs.Hearing.{control_hearing};
+ghost use Rattle.journal_controls.specs.link_model.keyed_control.Keyed.{Keyed};
+ghost use Rattle.journal_controls.specs.link_model.keyed_control.declared.material.Response.{Response};
+ghost use Rattle.journal_controls.specs.Hearing.{keyed_hearing};
 ghost use Rattle.journal_leaving.specs.Hearing.{leaving_hearing};
 ghost use Rattle.journal_leaving.specs.Leaving.{leaving_sent_if};
 ghost use Rattle.journal_leaving.specs.Said.{leaving_noted};
 
 /// As a turn begins, an end may enter an event, fix its next PDU, and send: it moves by the lines
-/// that it says in these, with any control part, and then by its packet, if it sends one (Core 5.2,
-/// volume 6 part B, section 4.5.1).
+/// that it says in these, whatever its control part and its keys, and then by its packet, if it
+/// sends one (Core 5.2, volume 6 part B, section 4.5.1).
 pub fn a_turn_that_begins_moves_how_an_end_leaves_by_its_lines()
     ensures { (side : Side) (number slot : ℕ) (setup : Setup) (facts : Facts)
-        (withheld enters fixes sends : Bool) (control : Control)
+        (withheld enters fixes sends : Bool) (response : Response) (k : Keyed)
         → let steps = steps_begun enters fixes sends slot in
         (fold (facts_after setup) facts steps).leaving
         ≡ leaving_sent_if sends
-        (leaving_noted side number withheld slot (notes_from setup facts steps) control facts.leaving) }
+        (leaving_noted side number withheld response slot (notes_from setup facts steps) k
+        facts.leaving) }
 {}
 
 /// As a packet reaches an end, and it may answer it, it moves by the lines that it says, from what
@@ -35,7 +37,7 @@ pub fn a_packet_that_is_taken_moves_how_an_end_leaves_by_its_lines()
         let heard = good_pdu setup facts octets in
         (fold (facts_after setup) facts steps).leaving
         ≡ leaving_sent_if answers
-        (leaving_noted side number withheld slot (notes_from setup facts steps)
-        (control_hearing setup.link.role slot heard facts)
+        (leaving_noted side number withheld facts.encryption.response slot
+        (notes_from setup facts steps) (keyed_hearing setup.link.role slot heard facts)
         (leaving_hearing setup.link.role slot heard facts)) }
 {}

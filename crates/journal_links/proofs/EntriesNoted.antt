@@ -8,6 +8,7 @@ use Rattle.ble_base.specs.declared.notes.Note.{Note}
 use Rattle.ble_base.specs.declared.notes.Note.TheVariants.{Enter}
 use Rattle.chan_select.specs.Channel.{channel_of}
 use Rattle.instants.specs.Track.{TrackFacts, event_of, next_anchor_of, next_number, track_after_enter}
+use Rattle.run_laws.specs.link_model.Controls.{is_quiet_now}
 use Rattle.run_laws.specs.link_model.End.{notes_of as end_notes_of}
 use Rattle.run_laws.specs.link_model.Entering.{began_notes, done_notes}
 use Rattle.run_laws.specs.link_model.Events.{applied_notes}
@@ -62,7 +63,7 @@ module _ (setup : Setup) (past : List Step) (slot : ℕ) (on : Bool) (handle eve
   pub noted_after : (earlier later : List Note) → notes_after setup (facts_of setup past) (TurnBegins slot on) ≡ earlier ++ Enter handle (record { 0 = event }) channel ∷ later
       → IsNotedAfter handle event channel entered.link earlier
   noted_after earlier later notes_are =
-      let entry = entry_when link.setup slot (facts_in link).control true in
+      let entry = entry_when slot (is_quiet_now (facts_in link)) (facts_in link).control true in
       let after = done_notes own entry.done ++ began_notes own entry.began in
       let note = Enter own own_event own_channel in
       let entry_is = entry_are link.setup link.past slot (λ central. ranges) entered.is_on in

@@ -34,17 +34,18 @@ use crate::links::{
 /// order (`journal_hosts`); and data arrives in order
 /// (`journal_data::data_arrives_in_order_in_every_journal`). The packet at which damage ends a run
 /// is due as those before it are. Line by line (Core 5.2, volume 6 part B, sections 2.4, 4.5.6,
-/// 4.5.9, 4.5.10 and 5.1.6, and volume 4 part E, section 7.7.19):
+/// 4.5.9, 4.5.10, 5.1.3 and 5.1.6, and volume 4 part E, section 7.7.19):
 ///
 /// - each packet of a link has the channel, the access address, the CRCInit, SN and NESN that the
 ///   lines before it give, and carries the PDU that its side sent last, until that is acknowledged;
 /// - each line of a new PDU comes after all PDUs before it on its side are acknowledged;
-/// - each new PDU has the next number: it is the next control PDU where one waited as the PDU was
-///   fixed, else the next piece of one packet that the host of the side submitted on the link, of at
-///   most the effective length of that time; no data is sent after a Disconnect is accepted;
-/// - MD of each packet of a link says whether a control PDU or data of the host waits there, by the
-///   control part with which the PDU was fixed, so MD of an answer does not count what the packet
-///   before it queued; and a new empty PDU goes out only where neither may go;
+/// - each new PDU has the next number: it is the next control PDU where one that may go waited as
+///   the PDU was fixed, else the next piece of one packet that the host of the side submitted on the
+///   link, of at most the effective length of that time; no data is sent after a Disconnect is
+///   accepted, nor while the link is in a phase that is not Clear or Secure;
+/// - MD of each packet of a link says whether a control PDU or data of the host waits there, by its
+///   end as the PDU was fixed, so MD of an answer does not count what the packet before it queued;
+///   and a new empty PDU goes out only where neither may go;
 /// - the line of a new PDU is the last of its side before the packet that the PDU first goes out
 ///   in;
 /// - the next line of a side after the first good packet that brings a PDU is that it takes it, but

@@ -8,7 +8,7 @@ use Rattle.journal_leaving.specs.journal_data.Lines.{Lines, PduLine, data_on, pd
 use Rattle.journal_leaving.specs.link_model.Acknowledgement.{Pdu}
 use Rattle.journal_leaving.specs.link_model.Data.{data_in, data_of, is_empty, next_piece, numbered, sent_data, unsent_of}
 use Rattle.journal_leaving.specs.link_model.End.{facts_of}
-use Rattle.journal_leaving.specs.link_model.Facts.{Facts}
+use Rattle.journal_leaving.specs.link_model.Facts.{Facts, keyed_of}
 use Rattle.journal_leaving.specs.link_model.Fixing.{data_cut}
 use Rattle.journal_leaving.specs.link_model.Setup.{Setup}
 use Rattle.journal_leaving.specs.link_model.Step.{Step, PacketSent}
@@ -43,11 +43,11 @@ pub count_is : (number : ℕ) (lines : Lines) (facts : Facts) → IsOnLines numb
 count_is number lines facts is = ap length is.sent ∙ lines_length number 1 (nonempty is_empty facts.acknowledgement.sent)
 
 pub piece_is : (number : ℕ) (lines : Lines) (setup : Setup) (past : List Step) → let held = facts_of setup past in IsOnLines number lines held
-    → next_piece (data_cut held) ≡ piece_after (piece_limit held.control) (data_on number lines) (octets_sent number lines)
+    → next_piece (data_cut held) ≡ piece_after (piece_limit (keyed_of held)) (data_on number lines) (octets_sent number lines)
 piece_is number lines setup past is =
     let held = facts_of setup past in
-    piece_cut setup past (piece_limit held.control)
-    ∙ (λ i. piece_after (piece_limit held.control) (sym is.given i) (sym (octets_are number lines held is) i))
+    piece_cut setup past (piece_limit (keyed_of held))
+    ∙ (λ i. piece_after (piece_limit (keyed_of held)) (sym is.given i) (sym (octets_are number lines held is) i))
 
 -- ---- what waits
 

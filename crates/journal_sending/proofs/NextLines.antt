@@ -3,8 +3,6 @@ use Rattle.std.proofs.Common.{◌≡◌, ℕ, ◌+◌, Bool, true, false, Option
 use Rattle.std.specs.Prelude.{map, fold}
 use Rattle.ble_base.specs.declared.notes.Note.{Note}
 use Rattle.ble_base.specs.declared.notes.Note.TheVariants.{Up as UpNote, Sent as SentNote}
-use Rattle.ble_base.specs.declared.roles.Role.{Role}
-use Rattle.ble_base.specs.declared.roles.Role.TheVariants.{Central, Peripheral}
 use Rattle.ble_base.specs.declared.roles.Side.{Side}
 use Rattle.journal_leaving.specs.controller_model.Facts.{Facts}
 use Rattle.journal_leaving.specs.controller_model.Heard.{has_room, replies_in}
@@ -18,10 +16,8 @@ use Rattle.journal_leaving.specs.journal_acks.link_calls.Uses.{fixes_under, list
 use Rattle.journal_leaving.specs.link_model.Acknowledgement.{Pdu}
 use Rattle.journal_leaving.specs.link_model.Data.{next_piece, numbered}
 use Rattle.journal_leaving.specs.link_model.End.{facts_after as end_after, facts_of as end_facts}
-use Rattle.journal_leaving.specs.link_model.Facts.{Facts as EndFacts}
+use Rattle.journal_leaving.specs.link_model.Facts.{Facts as EndFacts, keyed_of}
 use Rattle.journal_leaving.specs.link_model.Fixing.{data_cut}
-use Rattle.journal_leaving.specs.link_model.Packets.{good_pdu}
-use Rattle.journal_leaving.specs.link_model.Receiving.{replies_by, replies_of}
 use Rattle.journal_leaving.specs.link_model.Setup.{Setup as EndSetup}
 use Rattle.journal_leaving.specs.link_model.Step.{Step as EndStep, EventEntered}
 use Rattle.journal_leaving.specs.journal_data.open_links.OpenLinks.{OpenLink, facts_in, link_at}
@@ -66,8 +62,8 @@ use Rattle.journal_fixing.specs.NextPdu.{pdu_next}
 use Rattle.journal_fixing.specs.OnLines.{control_fixing, control_going}
 use Rattle.journal_fixing.specs.PastFixing.{facts_fixing, past_fixing}
 use Rattle.journal_fixing.specs.journal_controls.TurnSteps.{first_if, steps_begun}
-use Rattle.journal_fixing.specs.link_model.control_model.Control.{Control}
-use Rattle.journal_fixing.proofs.AnsweredLines.{fixing_in_answer, pdu_in_answer}
+use Rattle.journal_fixing.specs.link_model.keyed_control.Keyed.{Keyed}
+use Rattle.journal_fixing.proofs.AnsweredLines.{fixing_in_answer, pdu_in_answer, replies_as}
 use Rattle.journal_fixing.proofs.BegunPdus.{fixing_in_begin, going_in_begin, pdu_in_begin}
 use Rattle.journal_fixing.proofs.FixedPasts.{facts_begun}
 use Rattle.journal_fixing.proofs.FixedSince.{since_in}
@@ -80,23 +76,6 @@ use Rattle.journal_sending.proofs.HeldOnLines.{IsOnLines, count_is, lines_by, pi
 use Rattle.journal_sending.proofs.SameData.{HasSameData, same_back, same_data, step_same}
 use Rattle.journal_sending.proofs.SendsNext.{same_fixed}
 use Rattle.journal_sending.proofs.SentNotes.{Answers, IsSentIn, IsSentLast, SendsFirst, begin_last, end_last, found_in, more_last, octet_last, phase_last}
-
--- ---- an end that replies is a peripheral, and the packet is good
-
-record IsReplying (setup : EndSetup) (facts : EndFacts) (octets : List ℕ) : Type 0 where
-  role : setup.link.role ≡ Peripheral
-  pdu : List ℕ
-  good : good_pdu setup facts octets ≡ Some pdu
-
-replying_by : (setup : EndSetup) (facts : EndFacts) (octets : List ℕ) (role : Role) (ended : Bool) (found : Option (List ℕ)) → setup.link.role ≡ role → good_pdu setup facts octets ≡ found
-    → replies_by role ended found ≡ true → IsReplying setup facts octets
-replying_by setup facts octets Central ended found role_is good is = absurd cc
-replying_by setup facts octets Peripheral ended None role_is good is = absurd cc
-replying_by setup facts octets Peripheral ended (Some pdu) role_is good is = record { role = role_is; pdu = pdu; good = good }
-
-replying : (setup : EndSetup) (facts : EndFacts) (slot : ℕ) (octets : List ℕ) (room : Bool) → replies_of setup facts slot octets room ≡ true → IsReplying setup facts octets
-unfolding replies_of
-replying setup facts slot octets room is = replying_by setup facts octets setup.link.role _ (good_pdu setup facts octets) refl refl is
 
 -- ---- as its turn begins an end fixes its next PDU with the data that it had before
 
@@ -157,18 +136,18 @@ module _ (heard_whole : IsHeardWhole) (understood : IsUnderstood) (taken : AreTa
       (lines_by (number_at station handle history) (lines_at station history) (facts_in old) held (data_waiting handle facts.received) booked same))
 
   next_by : (step : Step) (setup : EndSetup) (past : List EndStep) → let held = end_facts setup past in IsOnLines (number_at station handle (now step)) (lines_at station (now step)) held
-      → control_fixing (side_of station) (number_at station handle (now step)) (journal_of (now step)) ≡ Some held.control
-      → (going : Control) → control_going (side_of station) (number_at station handle (now step)) (journal_of (now step)) ≡ Some going
-      → pdu ≡ pdu_next held.control going (next_piece (data_cut held)) → count ≡ numbered held.acknowledgement.sent + 1 → NextAt step
+      → control_fixing (side_of station) (number_at station handle (now step)) (journal_of (now step)) ≡ Some (keyed_of held)
+      → (going : Keyed) → control_going (side_of station) (number_at station handle (now step)) (journal_of (now step)) ≡ Some going
+      → pdu ≡ pdu_next (keyed_of held) going (next_piece (data_cut held)) → count ≡ numbered held.acknowledgement.sent + 1 → NextAt step
   next_by step setup past lines fixing_is going going_is is numbered_is =
       let held = end_facts setup past in
       let number = number_at station handle (now step) in
       let all = lines_at station (now step) in record {
-        fixing = held.control;
+        fixing = keyed_of held;
         fixing_is = fixing_is;
         going = going;
         going_is = going_is;
-        next = is ∙ ap (pdu_next held.control going) (piece_is number all setup past lines);
+        next = is ∙ ap (pdu_next (keyed_of held) going) (piece_is number all setup past lines);
         numbered = numbered_is ∙ ap (λ n. n + 1) (sym (count_is number all held lines));
       }
 
@@ -194,9 +173,9 @@ module _ (heard_whole : IsHeardWhole) (understood : IsUnderstood) (taken : AreTa
       let fixing_is =
       fixing_in_begin heard_whole understood taken nth apart given are_two six history after station slot on handle count llid body earlier later link in_it called.at called.notes_are is_open in
       let going_is = going_in_begin heard_whole understood taken nth apart given are_two six history after station slot on handle count llid body earlier later link in_it called.at called.notes_are is_open in
-      next_by step link.setup (past_fixing link.past) (lines_now step called old was held of_old) fixing_is held.control going_is
+      next_by step link.setup (past_fixing link.past) (lines_now step called old was held of_old) fixing_is (keyed_of held) going_is
       (pdu_in_begin heard_whole understood taken nth apart given are_two six history after station slot on handle count llid body earlier later link in_it called.at called.notes_are is_open
-      held.control held.control fixing_is going_is)
+      (keyed_of held) (keyed_of held) fixing_is going_is)
       (numbered_is ∙ ap (λ (pdus : List Pdu). numbered pdus + 1) of_old.sent)
 
   answer_next : (octets : List ℕ) (link : OpenLink) → CalledAt (PacketHeard octets) → link_at handle facts.links ≡ Some link → listens_under handle facts.turn.doing ≡ true
@@ -206,7 +185,7 @@ module _ (heard_whole : IsHeardWhole) (understood : IsUnderstood) (taken : AreTa
       let step = PacketHeard octets in
       let slot = facts.turn.slot in
       let room = has_room (setup_at given station) facts in
-      let reply = replying link.setup (facts_in link) slot octets room (ap (λ found. replies_in slot room found octets) (sym is_open) ∙ replies) in
+      let reply = replies_as link.setup (facts_in link) slot octets room (ap (λ found. replies_in slot room found octets) (sym is_open) ∙ replies) in
       let held = facts_fixing link.setup link.past in
       let since = (since_in given history (Called station step ∷ (map (Noted station) earlier ++ rest)) station handle link distinct in_it called.at is_open).listens on reply.role in
       let same = subst (λ f. HasSameData f held) (sym since.1) (same_fixed link) in
@@ -216,7 +195,7 @@ module _ (heard_whole : IsHeardWhole) (understood : IsUnderstood) (taken : AreTa
       ∙ going_in_call heard_whole understood taken nth apart given are_two six history rest octets reply.pdu earlier station handle link in_it called.at is_open on reply.good in
       next_by step link.setup (past_fixing link.past) (lines_now step called link is_open held same) fixing_is going going_is
       (pdu_in_answer heard_whole understood taken nth apart given are_two six history rest octets station handle count llid body earlier later link in_it called.at called.notes_are is_open
-      held.control going fixing_is going_is)
+      (keyed_of held) going fixing_is going_is)
       (numbered_is ∙ ap (λ (pdus : List Pdu). numbered pdus + 1) same.sent)
 
   next_in : (step : Step) → CalledAt step → IsSentIn (setup_at given station) facts step handle count → NextAt step

@@ -25,16 +25,18 @@ use Rattle.journal_leaving.proofs.journal_acks.link_calls.RadioUses.{no_link}
 use Rattle.journal_leaving.proofs.journal_acks.link_calls.Refusals.{only_central_refuses}
 use Rattle.journal_leaving.proofs.journal_data.run_laws.Agreed.{step_facts}
 use Rattle.journal_leaving.proofs.journal_data.run_laws.TurnPlaces.{Between, IsTurned, Stage, stands_in_run, turned}
-use Rattle.journal_leaving.proofs.link_model.Plain.{past_plain}
+use Rattle.journal_leaving.specs.link_model.Packets.{good_pdu}
+use Rattle.journal_leaving.proofs.link_model.KnownEnds.{IsPast}
 use Rattle.journal_leaving.proofs.run_model.Stations.{is_in}
 use Rattle.journal_fixing.specs.PastFixing.{facts_fixing, past_fixing}
 use Rattle.journal_fixing.specs.journal_controls.TurnSteps.{first_if, steps_begun}
+use Rattle.journal_fixing.proofs.AnsweredLines.{replies_as}
 use Rattle.journal_fixing.proofs.FixedPasts.{begun_past as past_begun, facts_more, fixing_begun, same_before}
 use Rattle.journal_fixing.proofs.FixedSince.{AreSince, since_first, since_kept}
 use Rattle.journal_fixing.proofs.FixingLinks.{receiving_fixed, sends_uses, unrefused, user_fixes, uses_on}
 use Rattle.journal_fixing.proofs.GoingLinks.{receiving_setup}
 use Rattle.journal_fixing.proofs.journal_controls.CentralFixed.{IsFree}
-use Rattle.journal_fixing.proofs.journal_controls.FixedEnds.{begun_past}
+use Rattle.journal_fixing.proofs.journal_controls.FixedEnds.{begun_past, sends_replying}
 use Rattle.journal_sending.proofs.SameData.{HasSameData, received_same, same_then}
 use Rattle.journal_sending.proofs.SendsNext.{SendsNext, answer_sends, fixed_sends, same_fixed}
 
@@ -78,10 +80,13 @@ module _ (base link : OpenLink) (enters fixes sends : Bool) (slot : ℕ) (setup_
 
 -- ---- a peripheral that answers, in the phase in which it takes the packet
 
-module _ (setup : Setup) (facts : Facts) (received : Option (List ℕ)) (handle : ℕ) (link : OpenLink) (doing : Doing)
+module _ (setup : Setup) (facts : Facts) (received : Option (List ℕ)) (handle : ℕ) (link : OpenLink)
     (were : (base : OpenLink) → link_at handle facts.links ≡ Some base → listens_under handle facts.turn.doing ≡ true → base.setup.link.role ≡ Peripheral
     → let fixing = facts_fixing base.setup base.past in IsFree fixing × (facts_in base ≡ end_after base.setup fixing PduFixed))
-    (role : link.setup.link.role ≡ Peripheral) (on : sends_under handle doing ≡ true) where
+    (role : link.setup.link.role ≡ Peripheral) (on : sends_under handle (facts_after setup facts (step_of received)).turn.doing ≡ true) where
+  abbrev doing : Doing
+  doing = (facts_after setup facts (step_of received)).turn.doing
+
   abbrev room : Bool
   room = has_room setup facts
 
@@ -105,6 +110,9 @@ module _ (setup : Setup) (facts : Facts) (received : Option (List ℕ)) (handle 
       let held = facts_fixing base.setup base.past in
       let fixed = end_after base.setup held PduFixed in
       let was_fixed = were base was listening role_is in
+      let reply = replies_as base.setup (facts_in base) slot octets room (sym (sends_replying setup facts received handle base octets was some listening) ∙ on) in
+      let good = ap (λ f. good_pdu base.setup f octets) (sym was_fixed.1) ∙ reply.good in
+      let fixing_past : IsPast base.setup held = record { past = past_fixing base.past; is = refl } in
       let facts_heard : facts_in heard ≡ end_after base.setup fixed (PacketReceived slot octets room) =
       step_facts base (PacketReceived slot octets room) ∙ ap (λ f. end_after base.setup f (PacketReceived slot octets room)) was_fixed.1 in
       let facts_one : facts_in one ≡ end_after base.setup fixed (PacketReceived slot octets room) = (λ i. end_facts (setup_one i) (past i)) ∙ facts_heard in
@@ -113,7 +121,7 @@ module _ (setup : Setup) (facts : Facts) (received : Option (List ℕ)) (handle 
       let same_held : HasSameData (facts_in heard) held =
       same_then (facts_in heard) (facts_in base) held (received_same slot octets room base) (subst (λ f. HasSameData f held) (sym was_fixed.1) (same_fixed base)) in
       subst (λ f. SendsNext f (facts_in one)) (sym held_is)
-      (subst (SendsNext held) (sym facts_one) (answer_sends base.setup held (past_plain base.setup (past_fixing base.past)) was_fixed.0 role_is slot octets room (subst (λ f. HasSameData f held) facts_heard same_held)))
+      (subst (SendsNext held) (sym facts_one) (answer_sends base.setup held was_fixed.0 fixing_past role_is slot octets reply.pdu room good (subst (λ f. HasSameData f held) facts_heard same_held)))
 
 -- ---- each call
 
@@ -135,14 +143,14 @@ sending_kept setup = record {
             let facts_one = sent_then base link (enters_in begun base) (fixes_under handle doing) (sends_under handle doing) begun has.setup_is
             (has.past_is ∙ begun_past begun handle doing base) (user_fixes handle next.links doing phase (sends_uses handle doing sending)) sending one now is_one in
             subst (SendsNext (facts_fixing link.setup link.past)) (sym facts_one)
-            (fixed_sends link.setup (facts_fixing link.setup link.past) (past_plain link.setup (past_fixing link.past)) ((since.since handle link at).sends sending role).0 (same_fixed link));
+            (fixed_sends link.setup (facts_fixing link.setup link.past) ((since.since handle link at).sends sending role).0 (same_fixed link));
       };
   passes = λ phases begun received facts is.
       let since = (since_kept setup).passes phases begun received facts is.since in
       let next = facts_after setup facts (step_of received) in record {
         since = since;
         next = λ handle link at on one now is_one.
-            passed_sends setup facts received handle link next.turn.doing (λ base was listening role. (is.since.since handle base was).listens listening role)
+            passed_sends setup facts received handle link (λ base was listening role. (is.since.since handle base was).listens listening role)
             (late_role (suc phases) link (sender_role (suc phases) next.links next.turn.doing handle link since.fixed.phased.phase on at) refl) on
             (passes_under setup facts received handle link is.since.fixed.phased.uses.in_turn.listens at) one now is_one;
       };

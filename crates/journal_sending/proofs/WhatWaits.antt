@@ -18,10 +18,9 @@ use Rattle.journal_leaving.specs.link_model.Acknowledgement.{Pdu, is_acked}
 use Rattle.journal_leaving.specs.link_model.Controls.{pdu_fixed}
 use Rattle.journal_leaving.specs.link_model.Data.{data_in, data_of, is_empty, unsent_of}
 use Rattle.journal_leaving.specs.link_model.End.{facts_of as end_facts}
-use Rattle.journal_leaving.specs.link_model.Facts.{Facts as EndFacts}
+use Rattle.journal_leaving.specs.link_model.Facts.{Facts as EndFacts, keyed_of}
 use Rattle.journal_leaving.specs.link_model.Fixing.{data_cut}
 use Rattle.journal_leaving.specs.link_model.Packets.{more_sent, pdu_sent}
-use Rattle.journal_leaving.specs.link_model.Sending.{control_gone_if}
 use Rattle.journal_leaving.specs.link_model.Step.{PacketSent}
 use Rattle.journal_leaving.specs.journal_data.open_links.OpenLinks.{OpenLink, facts_in, link_after}
 use Rattle.journal_leaving.specs.run_model.Entries.{IsAired}
@@ -53,7 +52,7 @@ use Rattle.journal_leaving.proofs.run_model.Walk.{Place, AtPackets, IsKept, IsSt
 use Rattle.journal_fixing.specs.NextPdu.{data_waits, data_waits_after, more_with_new, more_with_old}
 use Rattle.journal_fixing.specs.OnLines.{control_fixing}
 use Rattle.journal_fixing.specs.PastFixing.{facts_fixing, past_fixing}
-use Rattle.journal_fixing.specs.journal_controls.LineSteps.{control_on}
+use Rattle.journal_fixing.specs.journal_controls.LineSteps.{keyed_on}
 use Rattle.journal_fixing.proofs.FixedPasts.{fixing_stays}
 use Rattle.journal_fixing.proofs.FixingLinks.{sends_uses}
 use Rattle.journal_fixing.proofs.RoomForPieces.{room_for_piece}
@@ -61,8 +60,9 @@ use Rattle.journal_fixing.proofs.FixedSince.{since_in}
 use Rattle.journal_fixing.proofs.KeptFixing.{AreFixing, AreFixingAt, AreKnownAtBegins, fixing_first, fixing_kept}
 use Rattle.journal_fixing.proofs.RunFixing.{fixing_before_packet}
 use Rattle.journal_fixing.proofs.TellingMore.{TellsMore}
+use Rattle.journal_fixing.proofs.ToldMore.{again_stays}
 use Rattle.journal_fixing.proofs.journal_controls.KeptControls.{AreControlled}
-use Rattle.journal_fixing.proofs.journal_controls.RunControls.{control_at_end, control_before_call, control_before_packet}
+use Rattle.journal_fixing.proofs.journal_controls.RunControls.{keyed_at_end, keyed_before_call, keyed_before_packet}
 use Rattle.journal_sending.specs.Outgoing.{octets_wait}
 use Rattle.journal_sending.specs.WhatWaits.{AllTellWhatWaits, TellsWhatWaits, has_payload_next, is_next_new, tells_more}
 use Rattle.journal_sending.proofs.HeldOnLines.{lines_wait, waits_with, waits_without}
@@ -113,11 +113,6 @@ module _ (whole : IsHeardWhole) (given : Given) (Q : Place → List Event → Ty
 empty_data : (pdu : Pdu) → is_empty pdu ≡ true → data_in pdu ≡ []
 empty_data pdu empty = sym (append-nil (data_in pdu)) ∙ sym (data_nonempty (pdu ∷ [])) ∙ ap (λ b. data_of (cond (not b) (pdu ∷ []) [])) empty
 
--- a PDU that is sent again leaves the control part as it is
-again_stays : (acked fixes : Bool) (slot : ℕ) (facts : EndFacts) → acked ≡ false → (control_gone_if (acked && fixes) slot facts).control ≡ facts.control
-again_stays true fixes slot facts is = absurd cc
-again_stays false fixes slot facts is = refl
-
 module _ (given : Given) (are_two : IsOfTwo given) (before rest : List Event) (station channel : ℕ) (octets : List ℕ) (at : history_of (run_of given) ≡ before ++ rest)
     (fixes : AreFixing given before) (controls : AreControlled given before) (seen : IsOfLines given before station channel octets) where
   abbrev sending : IsOfSendersLink given before station channel octets
@@ -162,12 +157,12 @@ module _ (given : Given) (are_two : IsOfTwo given) (before rest : List Event) (s
       subst (λ (f : EndFacts). 1 ≤ (data_cut f).limit) held_is
       (room_for_piece link (ranges_in given before rest station sending.handle link (are_distinct given are_two) seen.in_it at sending.is_open))
 
-  fixing_is : control_fixing side number front ≡ Some held.control
+  fixing_is : control_fixing side number front ≡ Some (keyed_of held)
   fixing_is =
       fixes station seen.in_it sending.handle link sending.is_open (sends_uses sending.handle (facts_at given station before).turn.doing seen.on)
-      ∙ ap (λ (f : EndFacts). Some f.control) held_is
+      ∙ ap (λ (f : EndFacts). Some (keyed_of f)) held_is
 
-  now_is : control_on side number front ≡ Some (facts_in link).control
+  now_is : keyed_on side number front ≡ Some (keyed_of (facts_in link))
   now_is = controls station seen.in_it sending.handle link sending.is_open
 
   -- what waits after a new PDU, and after one that is sent again
@@ -186,18 +181,17 @@ module _ (given : Given) (are_two : IsOfTwo given) (before rest : List Event) (s
       ap (λ b. if b then facts.acknowledgement.sent ++ pdu ∷ [] else facts.acknowledgement.sent) unacked ∙ next.same.sent in
       seen.waits ∙ (λ i. nat_lt (length (data_of (sent_is i))) (length (octets_of (next.same.given i)))) ∙ waits_without sending.link.setup (past_fixing sending.link.past)
 
-  tells_by : (acked : Bool) → is_acked facts.acknowledgement ≡ acked → more_sent facts ≡ tells_more acked held.control (facts_in link).control waiting
-  tells_by true acked = tells.new acked ∙ ap (more_with_new held.control) (sym (waits_new acked))
+  tells_by : (acked : Bool) → is_acked facts.acknowledgement ≡ acked → more_sent facts ≡ tells_more acked (keyed_of held) (keyed_of (facts_in link)) waiting
+  tells_by true acked = tells.new acked ∙ ap (more_with_new (keyed_of held)) (sym (waits_new acked))
   tells_by false unacked =
-      let stays = ap (λ (f : EndFacts). f.control) (step_facts sending.link (PacketSent sending.slot))
-      ∙ again_stays (is_acked facts.acknowledgement) facts.fixes_control sending.slot facts unacked in
-      tells.old room unacked ∙ (λ i. more_with_old held.control (sym stays i) (sym (waits_again unacked) i))
+      let stays = ap (λ (f : EndFacts). keyed_of f) (step_facts sending.link (PacketSent sending.slot)) ∙ again_stays sending.slot facts unacked in
+      tells.old room unacked ∙ (λ i. more_with_old (keyed_of held) (sym stays i) (sym (waits_again unacked) i))
 
   -- a new empty PDU
-  none_next : is_acked facts.acknowledgement ≡ true → is_empty (pdu_sent facts) ≡ true → has_payload_next held.control waiting ≡ false
+  none_next : is_acked facts.acknowledgement ≡ true → is_empty (pdu_sent facts) ≡ true → has_payload_next (keyed_of held) waiting ≡ false
   none_next acked empty =
       let left = unsent_of held.outgoing in
-      ap (has_payload_next held.control) (waits_new acked ∙ ap (λ (octets : List Marked). nat_lt (length octets) (length left)) (empty_data (pdu_sent facts) empty))
+      ap (has_payload_next (keyed_of held)) (waits_new acked ∙ ap (λ (octets : List Marked). nat_lt (length octets) (length left)) (empty_data (pdu_sent facts) empty))
       ∙ next.filled room acked empty
 
   pub tells_what_waits : TellsWhatWaits front side channel octets
@@ -205,14 +199,14 @@ module _ (given : Given) (are_two : IsOfTwo given) (before rest : List Event) (s
       let is = seen.packet.number_is in
       let new_is = ap (λ n. is_next_new n front side) is ∙ seen.is_new in record {
         packet = seen.packet.packet;
-        fixing = held.control;
+        fixing = keyed_of held;
         fixing_is = ap (λ n. control_fixing side n front) is ∙ fixing_is;
-        now = (facts_in link).control;
-        now_is = ap (λ n. control_on side n front) is ∙ now_is;
+        now = keyed_of (facts_in link);
+        now_is = ap (λ n. keyed_on side n front) is ∙ now_is;
         more = seen.packet.more_is ∙ tells_by (is_acked facts.acknowledgement) refl
-            ∙ (λ i. tells_more (sym new_is i) held.control (facts_in link).control (octets_wait (sym is i) (lines_at station before)));
+            ∙ (λ i. tells_more (sym new_is i) (keyed_of held) (keyed_of (facts_in link)) (octets_wait (sym is i) (lines_at station before)));
         empty_last = λ new empty.
-            ap (λ n. has_payload_next held.control (octets_wait n (lines_at station before))) is
+            ap (λ n. has_payload_next (keyed_of held) (octets_wait n (lines_at station before))) is
             ∙ none_next (sym new_is ∙ new) (ap is_empty (sym (ap (λ n. carried_of n front side) is ∙ seen.carried)) ∙ empty);
       }
 
@@ -259,13 +253,13 @@ module _ (whole : IsHeardWhole) (understood : IsUnderstood) (taken : AreTaken) (
       (subst (λ s. TellsWhatWaits (journal_of before) s channel octets) (sym aired.side_is)
       (tells_what_waits given are_two before (Transmitted station channel octets hearings ∷ aired.after) station channel octets aired.is_at
       (fixing_before_packet whole understood taken nth apart given are_two six before aired.after station channel octets hearings aired.is_at)
-      (control_before_packet whole understood taken nth apart given are_two six before aired.after station channel octets hearings aired.is_at) seen))
+      (keyed_before_packet whole understood taken nth apart given are_two six before aired.after station channel octets hearings aired.is_at) seen))
 
   -- ---- where damage stops it
 
   begins_known : AreKnownAtBegins given
   begins_known before rest station slot on handle link at in_it is_open =
-      control_before_call whole understood taken nth apart given are_two six before rest station (TurnBegins slot on) at in_it handle link is_open
+      keyed_before_call whole understood taken nth apart given are_two six before rest station (TurnBegins slot on) at in_it handle link is_open
 
   fixing_at_end : AreFixing given (history_of (run_of given))
   fixing_at_end =
@@ -281,4 +275,4 @@ module _ (whole : IsHeardWhole) (understood : IsUnderstood) (taken : AreTaken) (
       let seen = seen_stop given (IsToldAt given Q) keeps (λ history. Unit {0}) (IsOfLinesIf given) sees (told_first given) history stop stops off in
       tells_what_waits given are_two history [] stop.sender stop.channel stop.sent (is_last ∙ sym (append-nil history))
       (subst (AreFixing given) is_last fixing_at_end)
-      (subst (AreControlled given) is_last (control_at_end whole understood taken nth apart given are_two six)) seen
+      (subst (AreControlled given) is_last (keyed_at_end whole understood taken nth apart given are_two six)) seen

@@ -9,16 +9,16 @@ use Rattle.journal_leaving.specs.journal_data.Lines.{lines_of, pdus_on}
 use Rattle.journal_leaving.specs.link_model.Acknowledgement.{Pdu}
 use Rattle.journal_fixing.specs.NextPdu.{pdu_next, piece_limit}
 use Rattle.journal_fixing.specs.OnLines.{control_fixing, control_going}
-use Rattle.journal_fixing.specs.link_model.control_model.Control.{Control}
+use Rattle.journal_fixing.specs.link_model.keyed_control.Keyed.{Keyed}
 use Rattle.journal_sending.specs.Outgoing.{piece_by_lines}
 
--- a new PDU that a side sends after these entries is the one that is next, and has the next number: by the control
--- part of its end as the PDU was fixed, by that with which a control PDU leaves the queue, and by the next piece of
--- data, cut at the effective length with which the PDU was fixed
+-- a new PDU that a side sends after these entries is the one that is next, and has the next number: by its end as the
+-- PDU was fixed, by its end as a control PDU leaves the queue, and by the next piece of data, cut at the effective length
+-- with which the PDU was fixed
 pub record IsNextPdu (link : ℕ) (front : List Entry) (side : Side) (count : ℕ) (pdu : Pdu) : Type 0 where
-  pub fixing : Control
+  pub fixing : Keyed
   pub fixing_is : control_fixing side link front ≡ Some fixing
-  pub going : Control
+  pub going : Keyed
   pub going_is : control_going side link front ≡ Some going
   pub next : pdu ≡ pdu_next fixing going (piece_by_lines side link front (piece_limit fixing))
   pub numbered : count ≡ length (pdus_on link (lines_of host_buffers side front).sent) + 1

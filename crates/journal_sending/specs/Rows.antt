@@ -1,4 +1,4 @@
--- The journals and the control parts of worked examples.
+-- The journals and the ends of worked examples.
 use Rattle.std.specs.Prelude.{ℕ, true, List, [], ◌∷◌, ◌++◌}
 use Rattle.ble_base.specs.declared.roles.Role.TheVariants.{Peripheral}
 use Rattle.ble_base.specs.declared.roles.Side.TheVariants.{A}
@@ -9,15 +9,18 @@ use Rattle.journal.specs.declared.entries.Mark.TheVariants.{Pass as Passed}
 use Rattle.journal_leaving.specs.journal_acks.Rows.{data_pdu, host_packet}
 use Rattle.journal_leaving.specs.run_model.Rows.{turn_entry}
 use Rattle.journal_fixing.specs.Rows.{version_heard}
-use Rattle.journal_fixing.specs.journal_controls.Rows.{first_on, version_pdu}
+use Rattle.journal_fixing.specs.journal_controls.Rows.{begun_on, version_pdu}
 use Rattle.journal_fixing.specs.link_model.Controls.{read_of}
-use Rattle.journal_fixing.specs.link_model.control_model.Control.{Control, Enters, Takes, after_all}
+use Rattle.journal_fixing.specs.link_model.Facts.{no_response}
+use Rattle.journal_fixing.specs.link_model.keyed_control.Keyed.{Keyed}
+use Rattle.journal_fixing.specs.link_model.keyed_control.KeyedSteps.{Enters, Takes, keyed_after_all}
+use Rattle.journal_fixing.specs.link_model.phased_end.Taking.{drawn}
 use Rattle.journal_leaving.specs.Rows.{terminate_taken}
 
 -- the peripheral has taken LL_VERSION_IND in turn 3, and is to answer that with its own (Core 5.2, volume 6 part B,
 -- section 5.1.5)
-abbrev pub version_owed : Control
-version_owed = after_all (Enters 2 true ∷ Takes (read_of version_pdu) 3 true ∷ []) (first_on Peripheral)
+abbrev pub version_owed : Keyed
+version_owed = keyed_after_all (Enters 2 ∷ Takes (read_of version_pdu) 3 (drawn no_response) ∷ []) (begun_on Peripheral)
 
 -- its host gives a packet in the next turn
 abbrev pub data_too : List Entry

@@ -14,31 +14,32 @@ use Rattle.journal_leaving.specs.link_model.Data.{is_empty}
 use Rattle.journal_leaving.specs.run_model.Links.{is_advertising}
 use Rattle.journal_fixing.specs.NextPdu.{lets_data_go, more_with_new, more_with_old}
 use Rattle.journal_fixing.specs.OnLines.{control_fixing}
-use Rattle.journal_fixing.specs.journal_controls.LineSteps.{control_on, has_next}
-use Rattle.journal_fixing.specs.link_model.control_model.Control.{Control}
+use Rattle.journal_fixing.specs.journal_controls.KeyedLines.{has_next}
+use Rattle.journal_fixing.specs.journal_controls.LineSteps.{keyed_on}
+use Rattle.journal_fixing.specs.link_model.keyed_control.Keyed.{Keyed}
 use Rattle.journal_sending.specs.Outgoing.{octets_wait}
 
 -- all PDUs of a side before the one that it sends next are acknowledged, so that this one is new
 abbrev pub is_next_new : ℕ → List Entry → Side → Bool
 is_next_new link front side = (exchange_of link front side).acked == (exchange_of link front side).sent
 
--- MD with a new PDU, or with one that is sent again: by the control part with which the PDU was fixed and that of now,
--- and by whether octets of data wait
-abbrev pub tells_more : Bool → Control → Control → Bool → Bool
+-- MD with a new PDU, or with one that is sent again: by the end as it fixed the PDU and as it is now, and by whether
+-- octets of data wait
+abbrev pub tells_more : Bool → Keyed → Keyed → Bool → Bool
 tells_more is_new fixing now octets = if is_new then more_with_new fixing octets else more_with_old fixing now octets
 
 -- a new PDU is not empty: a control PDU waited as it was fixed, or octets of data that may go
-abbrev pub has_payload_next : Control → Bool → Bool
+abbrev pub has_payload_next : Keyed → Bool → Bool
 has_payload_next fixing octets = has_next fixing || (lets_data_go fixing && octets)
 
 -- MD in a packet that a side sends after these entries says whether more waits; and it carries an empty PDU as a new
 -- one only where nothing is to go
 pub record TellsWhatWaits (front : List Entry) (side : Side) (channel : ℕ) (octets : List ℕ) : Type 0 where
   pub packet : IsLinkPacket front side channel octets
-  pub fixing : Control
+  pub fixing : Keyed
   pub fixing_is : control_fixing side packet.number front ≡ Some fixing
-  pub now : Control
-  pub now_is : control_on side packet.number front ≡ Some now
+  pub now : Keyed
+  pub now_is : keyed_on side packet.number front ≡ Some now
   pub more : packet.md
       ≡ tells_more (is_next_new packet.number front side) fixing now
       (octets_wait packet.number (lines_of host_buffers side front))

@@ -1,11 +1,10 @@
 -- A link sends or listens only in the slot of the anchor of the event that it entered last, or where this event has a
 -- second exchange; and the slot of that event is the anchor that the link has.
-use Rattle.std.proofs.Common.{◌≡◌, ℕ, ◌≤◌, ◌==◌, ◌&&◌, ◌||◌, ◌⊎◌, inl, inr, Bool, true, false, not, Option, Some, None, List, [], ◌∷◌, ◌++◌, is_none, refl, sym, ap, subst, ◌∙◌, arith, if◌then◌else◌}
+use Rattle.std.proofs.Common.{◌≡◌, ℕ, ◌≤◌, ◌==◌, ◌&&◌, ◌||◌, ◌⊎◌, inl, inr, Bool, true, false, not, Option, Some, None, List, [], ◌∷◌, ◌++◌, refl, sym, ap, subst, ◌∙◌, arith, if◌then◌else◌}
 use Rattle.std.specs.Prelude.{Err}
 use Rattle.std.specs.List.{AllByRecursion}
 use Rattle.std.specs.Option.{option_map}
 use Rattle.std.proofs.lemmas.Bool.{and_parts, eqb-true}
-use Rattle.ble_base.specs.declared.error_codes.ErrCode.{ErrCode}
 use Rattle.ble_base.specs.declared.roles.Role.{Role}
 use Rattle.data_pdu.specs.Header.{header_in}
 use Rattle.instants.specs.Track.{TrackFacts, is_due, next_anchor_of, track_after_enter, track_changed, track_in_next, track_unchanged}
@@ -19,17 +18,15 @@ use Rattle.journal_acks.specs.link_model.End.{facts_after as end_facts_after, fa
 use Rattle.journal_acks.specs.link_model.Entering.{facts_entered_if}
 use Rattle.journal_acks.specs.link_model.Facts.{Facts as EndFacts}
 use Rattle.journal_acks.specs.link_model.Packets.{good_pdu, is_forged, more_sent}
-use Rattle.journal_acks.specs.link_model.Receiving.{facts_forged_if, facts_received}
+use Rattle.journal_acks.specs.link_model.Receiving.{facts_received}
 use Rattle.journal_acks.specs.link_model.Step.{Step as EndStep, DataGiven, DataReported, EventEntered, PacketReceived, PacketSent, PduFixed, ProcedureAsked, RequestAnswered}
 use Rattle.journal_acks.specs.link_model.Times.{has_second_exchange}
-use Rattle.journal_acks.specs.link_model.control_model.Control.{Control}
 use Rattle.journal_acks.specs.open_links.OpenLinks.{OpenLink, facts_in, in_event, link_after, link_at, new_link}
 use Rattle.journal_acks.specs.open_links.procedure_values.declared.asks.Ask.TheVariants.{Map}
 use Rattle.journal_acks.specs.open_links.Turns.{entered_if, enters_in, is_anchor, link_entered, wants_entering, wants_if}
-use Rattle.journal_acks.proofs.link_model.Plain.{entered_control_plain, past_plain}
-use Rattle.journal_acks.proofs.open_links.Anchors.{enters, stays_in_place}
+use Rattle.journal_acks.proofs.open_links.Anchors.{enters}
 use Rattle.journal_acks.proofs.open_links.Unmoved.{entered_setup}
-use Rattle.journal_acks.proofs.link_calls.control_model.Moving.{enters_track}
+use Rattle.journal_acks.proofs.EntryNotes.{stays_put}
 use Rattle.slot_plan.specs.Holding.{is_held_in, winner_of}
 use Rattle.slot_plan.specs.declared.Activity.{Activity}
 use Rattle.slot_plan.specs.declared.Activity.TheVariants.{Link, Advertise, Scan, Initiate}
@@ -43,6 +40,7 @@ use Rattle.journal_acks.specs.controller_model.Radio.{radio_served, scanner_chan
 use Rattle.journal_acks.specs.controller_model.Side.{facts_after}
 use Rattle.journal_acks.specs.controller_model.Step.{TurnBegins}
 use Rattle.journal_acks.proofs.controller_model.Always.{ending_is}
+use Rattle.journal_acks.proofs.controller_model.Entries.{entered_track as end_track}
 use Rattle.journal_acks.proofs.controller_model.Places.{link_receiving}
 use Rattle.journal_acks.proofs.controller_model.Asked.{IsAskedStep}
 use Rattle.journal_acks.specs.run_model.Run.{step_of}
@@ -52,7 +50,7 @@ use Rattle.journal_acks.proofs.run_laws.TurnPlaces.{Between, IsTurned, Stage}
 use Rattle.journal_acks.proofs.run_laws.TurnSteps.{begins_slot, phase_turn}
 use Rattle.journal_acks.proofs.link_calls.EnteredLinks.{open_in_event}
 use Rattle.journal_acks.proofs.link_calls.HostSteps.{asked_leaves}
-use Rattle.journal_acks.proofs.link_calls.HeardSteps.{fixed_same, received_same, sent_in}
+use Rattle.journal_acks.proofs.link_calls.HeardSteps.{fixed_same, forged_event, received_same, sent_in}
 use Rattle.journal_acks.specs.link_calls.Phases.{HasPassed, IsNew, Stays, Takes}
 use Rattle.journal_acks.proofs.link_calls.LinkCalls.{begins_under, passes_under, receiving_event}
 use Rattle.journal_acks.specs.link_calls.Turns.{fixed_if}
@@ -91,10 +89,6 @@ received_event : (role : Role) (slot : ℕ) (room : Bool) (found : Option (List 
     → (facts_received role slot room found facts).event ≡ event_received slot found facts.event
 received_event role slot room None facts = refl
 received_event role slot room (Some pdu) facts = (received_same role slot room pdu facts).event
-
-forged_event : (forged : Bool) (facts : EndFacts) → (facts_forged_if forged facts).event ≡ facts.event
-forged_event true facts = refl
-forged_event false facts = refl
 
 -- ---- it is in the same event later
 
@@ -197,7 +191,7 @@ track_stays : (link : OpenLink) (step : EndStep) → enters step ≡ false → (
     → IsOnTrack link → IsOnTrack (link_after step link)
 track_stays link step none slot map is =
     let same = step_facts link step in
-    let place = stays_in_place link.setup (facts_in link) step (past_plain link.setup link.past) none in record {
+    let place = stays_put link.setup (facts_in link) step (record { past = link.past; is = refl }) none in record {
       anchor = λ some.
           slot ∙ is.anchor (subst (λ n. 1 ≤ n) (ap (λ (f : EndFacts). f.control.track.entered) same ∙ place.entered) some)
           ∙ sym (ap (λ (f : EndFacts). f.control.track.anchor) same ∙ place.anchor);
@@ -264,10 +258,6 @@ anchor_entered t = by t.waits
     by None = refl
     by (Some change) = in_next change (is_due change t.entered)
 
-none_of : (ends : Option ErrCode) → is_none ends ≡ true → ends ≡ None
-none_of None is = refl
-none_of (Some code) is = absurd cc
-
 module _ (slot : ℕ) (link : OpenLink) (goes : goes_on (facts_in link) ≡ true) where
   entry_is : facts_in (link_after (EventEntered slot) link) ≡ facts_entered_if true link.setup slot (facts_in link)
   entry_is = step_facts link (EventEntered slot) ∙ ap (λ b. facts_entered_if b link.setup slot (facts_in link)) goes
@@ -277,11 +267,9 @@ module _ (slot : ℕ) (link : OpenLink) (goes : goes_on (facts_in link) ≡ true
 
   entry_anchor : (facts_in (link_after (EventEntered slot) link)).control.track.anchor ≡ next_anchor_of (facts_in link).control.track
   entry_anchor =
-      let control = (facts_in link).control in
       ap (λ (f : EndFacts). f.control.track.anchor) entry_is
-      ∙ ap (λ (c : Control). c.track.anchor) (entered_control_plain link.setup.link.role slot (facts_in link) (past_plain link.setup link.past))
-      ∙ ap (λ (t : TrackFacts). t.anchor) (enters_track control slot true (none_of control.ends goes))
-      ∙ anchor_entered control.track
+      ∙ ap (λ (t : TrackFacts). t.anchor) (end_track slot (facts_in link) goes)
+      ∙ anchor_entered (facts_in link).control.track
 
 entered_slot : (enters : Bool) (slot : ℕ) (link : OpenLink) → enters_in slot link ≡ enters → enters ≡ true → slot ≡ (facts_in (entered_if enters slot link)).event.slot
 entered_slot true slot link is enters = sym (entry_slot slot link (and_parts (goes_on (facts_in link)) (is_anchor slot link) is).0)

@@ -1,8 +1,9 @@
 -- What the event of an end holds of its packets was on the air.
-use Rattle.std.proofs.Common.{◌≡◌, ℕ, ◌==◌, ◌&&◌, ◌||◌, ◌⊎◌, inl, inr, Bool, true, false, Option, Some, None, List, ◌∷◌, ◌++◌, refl, sym, ap, subst, ◌∙◌, append_assoc}
-use Rattle.std.specs.Prelude.{take, if◌then◌else◌}
+use Rattle.std.proofs.Common.{◌≡◌, ℕ, ◌==◌, ◌&&◌, ◌||◌, ◌⊎◌, inl, inr, Bool, true, false, Option, Some, None, List, [], ◌∷◌, ◌++◌, refl, sym, ap, subst, ◌∙◌, append_assoc}
+use Rattle.std.specs.Prelude.{drop, not, take, if◌then◌else◌}
 use Rattle.std.specs.Str.{bytes_eq}
 use Rattle.std.proofs.lemmas.Bool.{eqb-true}
+use Rattle.std.proofs.lemmas.Option.{none-some, same_Some}
 use Rattle.ble_base.specs.Side.{other_side}
 use Rattle.ble_base.specs.declared.roles.Side.{Side}
 use Rattle.ble_base.specs.declared.verdicts.Verdict.TheVariants.{Good}
@@ -16,15 +17,15 @@ use Rattle.journal_acks.specs.link_model.declared.events.ConnectionEvent.{Connec
 use Rattle.journal_acks.specs.link_model.Controls.{goes_on}
 use Rattle.journal_acks.specs.link_model.Entering.{facts_entered_if}
 use Rattle.journal_acks.specs.link_model.Facts.{Facts as EndFacts}
-use Rattle.journal_acks.specs.link_model.Verdicts.{has_room_for, pdu_by, whole_in}
-use Rattle.journal_acks.specs.link_model.Packets.{good_pdu, more_sent, whole_pdu}
-use Rattle.journal_acks.specs.link_model.Payload.{opens_now}
-use Rattle.journal_acks.specs.link_model.Plain.{IsPlain}
+use Rattle.journal_acks.specs.link_model.Verdicts.{has_room_for, pdu_by, pdu_of, whole_in}
+use Rattle.journal_acks.specs.link_model.Data.{is_empty}
+use Rattle.journal_acks.specs.link_model.Packets.{counts_here, good_pdu, has_new_pdu, more_sent, pdu_read, pdu_read_in, whole_pdu}
+use Rattle.journal_acks.specs.link_model.Payload.{first_octet, opened_if, opens_now, read_pdu}
+use Rattle.journal_acks.specs.link_model.enc_phase.Sealing.{EncEnd, is_right, opened_body}
 use Rattle.journal_acks.specs.link_model.Setup.{Setup as EndSetup}
 use Rattle.journal_acks.specs.link_model.Step.{EventEntered, PacketReceived, PacketSent}
 use Rattle.journal_acks.specs.open_links.OpenLinks.{OpenLink, facts_in, link_after}
 use Rattle.journal_acks.specs.open_links.Turns.{entered_if, enters_in, link_entered}
-use Rattle.journal_acks.proofs.link_model.Plain.{good_plain, past_plain}
 use Rattle.journal_acks.proofs.open_links.Unmoved.{entered_setup}
 use Rattle.journal_acks.specs.controller_model.declared.doing.Doing.{Doing}
 use Rattle.journal_acks.specs.controller_model.declared.doing.Turn.{Turn}
@@ -187,13 +188,42 @@ whole_octets setup facts octets =
     by true false fits is = λ pdu found. absurd cc
     by false whole fits is = λ pdu found. absurd cc
 
--- an end that encrypts nothing reads the PDU as it was on the air
-good_octets : (setup : EndSetup) (facts : EndFacts) (octets : List ℕ) → IsPlain setup.link.role facts → IsPduIn (good_pdu setup facts octets) facts.event.channel octets
-good_octets setup facts octets plain = λ pdu found. whole_octets setup facts octets pdu (sym (good_plain setup facts octets plain) ∙ found)
+-- a payload that is opened leaves its header; a PDU that is opened is not empty, so it has one
+md_opened : (counts : Bool) (end : EncEnd) (pdu read : List ℕ) → (counts ≡ true → is_empty (pdu_of pdu) ≡ false) → read_pdu counts end pdu ≡ Some read
+    → (header_in read).md ≡ (header_in pdu).md
+md_opened false end pdu read some is = ap (λ (xs : List ℕ). (header_in xs).md) (sym (same_Some pdu read is))
+md_opened true end pdu read some is = by (is_right end (first_octet pdu) (drop 2 pdu)) pdu (some refl) is
+  where
+    by : (right : Bool) (pdu : List ℕ) → is_empty (pdu_of pdu) ≡ false → opened_if right end pdu ≡ Some read → (header_in read).md ≡ (header_in pdu).md
+    by false pdu some is = absurd (none-some read is)
+    by true [] some is = absurd (let no : true ≡ false = some in absurd cc)
+    by true (octet ∷ octets) some is =
+        ap (λ (xs : List ℕ). (header_in xs).md) (sym (same_Some (take 2 (octet ∷ octets) ++ opened_body end (drop 2 (octet ∷ octets))) read is))
+
+not_true : (b : Bool) → not b ≡ true → b ≡ false
+not_true true is = absurd cc
+not_true false is = refl
+
+md_read : (facts : EndFacts) (pdu read : List ℕ) → pdu_read facts pdu ≡ Some read → (header_in read).md ≡ (header_in pdu).md
+md_read facts pdu read is =
+    md_opened (counts_here facts pdu) facts.encryption.end pdu read
+    (λ counts. not_true (is_empty (pdu_of pdu)) (second_of_both (has_new_pdu facts (header_in pdu)) (not (is_empty (pdu_of pdu))) counts)) is
+
+-- the PDU that was found says that more waits where that on the air does
+abbrev SaysSameIn : Option (List ℕ) → ℕ → List ℕ → Type 0
+SaysSameIn found channel octets = (pdu : List ℕ) → found ≡ Some pdu → (header_in pdu).md ≡ (header_in (pdu_in channel octets)).md
+
+good_octets : (setup : EndSetup) (facts : EndFacts) (octets : List ℕ) → SaysSameIn (good_pdu setup facts octets) facts.event.channel octets
+unfolding good_pdu
+good_octets setup facts octets = by (whole_pdu setup facts octets) (whole_octets setup facts octets)
+  where
+    by : (whole : Option (List ℕ)) → IsPduIn whole facts.event.channel octets → SaysSameIn (pdu_read_in facts whole) facts.event.channel octets
+    by None is = λ pdu found. absurd (none-some pdu found)
+    by (Some air) is = λ pdu found. md_read facts air pdu found ∙ ap (λ (xs : List ℕ). (header_in xs).md) (is air refl)
 
 module _ (number : ℕ) (side : Side) (journal : List Entry) (slot : ℕ) (event : ConnectionEvent) (is : IsOnAir number side journal event) (heard : IsHeardIn number slot side journal)
     (channel : heard.packet.channel ≡ event.channel) where
-  received_by : (found : Option (List ℕ)) → IsPduIn found event.channel heard.packet.octets → IsOnAir number side journal (event_received slot found event)
+  received_by : (found : Option (List ℕ)) → SaysSameIn found event.channel heard.packet.octets → IsOnAir number side journal (event_received slot found event)
   received_by None pdu_is = is
   received_by (Some pdu) pdu_is = record {
     heard = λ now. first (either event.heard (slot == event.slot) now);
@@ -208,7 +238,7 @@ module _ (number : ℕ) (side : Side) (journal : List Entry) (slot : ℕ) (event
       by (inl before) = is.more before
       by (inr now) =
           subst (λ n. SaysMore number n side journal) (eqb-true slot event.slot (first_of_both (slot == event.slot) (header_in pdu).md now))
-          (InHeard heard (ap (λ n. has_more n heard.packet.octets) channel ∙ ap (λ xs. (header_in xs).md) (sym (pdu_is pdu refl))
+          (InHeard heard (ap (λ n. has_more n heard.packet.octets) channel ∙ sym (pdu_is pdu refl)
           ∙ second_of_both (slot == event.slot) (header_in pdu).md now))
 
 pub received_on_air : (number : ℕ) (side : Side) (journal : List Entry) (slot : ℕ) (room : Bool) (link : OpenLink) → IsOnAir number side journal (facts_in link).event
@@ -217,7 +247,7 @@ pub received_on_air : (number : ℕ) (side : Side) (journal : List Entry) (slot 
 received_on_air number side journal slot room link is heard channel =
     let octets = heard.packet.octets in
     subst (IsOnAir number side journal) (sym (event_after_receiving slot octets room link))
-    (received_by number side journal slot (facts_in link).event is heard channel (good_pdu link.setup (facts_in link) octets) (good_octets link.setup (facts_in link) octets (past_plain link.setup link.past)))
+    (received_by number side journal slot (facts_in link).event is heard channel (good_pdu link.setup (facts_in link) octets) (good_octets link.setup (facts_in link) octets))
 
 -- ---- one end
 

@@ -5,12 +5,12 @@ use Rattle.journal.specs.declared.entries.Entry.{Entry}
 use Rattle.air_frame.specs.Packet.{on_air}
 use Rattle.journal_pdus.specs.link_model.Acknowledgement.{Pdu}
 use Rattle.journal_pdus.specs.link_model.Data.{is_empty}
-use Rattle.journal_pdus.specs.link_model.control_model.Control.{Control}
+use Rattle.journal_pdus.specs.link_model.keyed_control.Keyed.{Keyed}
 use Rattle.journal_pdus.specs.journal_links.Begun.{LinkBegun, link_numbered}
 use Rattle.journal_pdus.specs.journal_packets.Belonging.{link_of_packet}
 use Rattle.journal_pdus.specs.journal_acks.Carried.{bits_of, carried_of, channel_entered, pdu_octets}
 use Rattle.journal_pdus.specs.journal_acks.Exchange.{exchange_of}
-use Rattle.journal_pdus.specs.journal_controls.LineSteps.{control_on}
+use Rattle.journal_pdus.specs.journal_controls.LineSteps.{keyed_on}
 use Rattle.journal_pdus.specs.journal_data.Delivered.{host_buffers}
 use Rattle.journal_pdus.specs.journal_data.Lines.{lines_of}
 use Rattle.journal_pdus.specs.journal_sending.NextPdus.{IsNextPdu}
@@ -28,11 +28,11 @@ octets_with number link front side channel md =
 pub some_is : {X : Type 0} (one other : X) → Some one ≡ Some other → one ≡ other
 some_is one other same = cc
 
--- a packet of this link has these octets, by the control part with which it was fixed and that of now
+-- a packet of this link has these octets, by its end as the PDU was fixed and as it is now
 pub octets_are : (front : List Entry) (side : Side) (channel : ℕ) (octets : List ℕ) (number : ℕ) (link : LinkBegun)
-    (fixing now : Control) (md : Bool)
+    (fixing now : Keyed) (md : Bool)
     → link_of_packet front side octets ≡ Some number → link_numbered number front ≡ Some link
-    → control_fixing side number front ≡ Some fixing → control_on side number front ≡ Some now
+    → control_fixing side number front ≡ Some fixing → keyed_on side number front ≡ Some now
     → tells_more (is_next_new number front side) fixing now (octets_wait number (lines_of host_buffers side front)) ≡ md
     → TellsWhatWaits front side channel octets
     → octets ≡ octets_with number link front side channel md
@@ -41,13 +41,13 @@ octets_are front side channel octets number link fixing now md belongs numbered 
     let same = some_is packet.number number (sym packet.belongs ∙ belongs) in
     let one = some_is packet.link link (sym packet.is_link ∙ ap (λ (n : ℕ). link_numbered n front) same ∙ numbered) in
     let fixed = some_is tells.fixing fixing (sym tells.fixing_is ∙ ap (λ (n : ℕ). control_fixing side n front) same ∙ is_fixing) in
-    let current = some_is tells.now now (sym tells.now_is ∙ ap (λ (n : ℕ). control_on side n front) same ∙ is_now) in
+    let current = some_is tells.now now (sym tells.now_is ∙ ap (λ (n : ℕ). keyed_on side n front) same ∙ is_now) in
     let waits : ℕ → Bool = λ n. octets_wait n (lines_of host_buffers side front) in
     let more =
     tells.more
     ∙ ap (λ (n : ℕ). tells_more (is_next_new n front side) tells.fixing tells.now (waits n)) same
-    ∙ ap (λ (c : Control). tells_more (is_next_new number front side) c tells.now (waits number)) fixed
-    ∙ ap (λ (c : Control). tells_more (is_next_new number front side) fixing c (waits number)) current
+    ∙ ap (λ (k : Keyed). tells_more (is_next_new number front side) k tells.now (waits number)) fixed
+    ∙ ap (λ (k : Keyed). tells_more (is_next_new number front side) fixing k (waits number)) current
     ∙ is_md in
     packet.carries
     ∙ ap (λ (n : ℕ). octets_with n packet.link front side channel packet.md) same
@@ -65,7 +65,7 @@ channel_is front side channel octets number belongs tells =
     ap (λ (n : ℕ). channel_entered n side front) (sym same) ∙ packet.in_event
 
 -- where a packet of this link has an empty PDU as a new one, nothing is to go
-pub none_waits : (front : List Entry) (side : Side) (channel : ℕ) (octets : List ℕ) (number : ℕ) (fixing : Control)
+pub none_waits : (front : List Entry) (side : Side) (channel : ℕ) (octets : List ℕ) (number : ℕ) (fixing : Keyed)
     → link_of_packet front side octets ≡ Some number → control_fixing side number front ≡ Some fixing
     → is_next_new number front side ≡ true → is_empty (carried_of number front side) ≡ true
     → TellsWhatWaits front side channel octets
@@ -75,14 +75,14 @@ none_waits front side channel octets number fixing belongs is_fixing new empty t
     let same : number ≡ packet.number = some_is number packet.number (sym belongs ∙ packet.belongs) in
     let fixed : fixing ≡ tells.fixing =
     some_is fixing tells.fixing (sym is_fixing ∙ ap (λ (n : ℕ). control_fixing side n front) same ∙ tells.fixing_is) in
-    ap (λ (c : Control). has_payload_next c (octets_wait number (lines_of host_buffers side front))) fixed
+    ap (λ (k : Keyed). has_payload_next k (octets_wait number (lines_of host_buffers side front))) fixed
     ∙ ap (λ (n : ℕ). has_payload_next tells.fixing (octets_wait n (lines_of host_buffers side front))) same
     ∙ tells.empty_last
     (subst (λ (n : ℕ). is_next_new n front side ≡ true) same new)
     (subst (λ (n : ℕ). is_empty (carried_of n front side) ≡ true) same empty)
 
--- a new PDU is the next one by the control parts with which it was fixed and went
-pub next_is : (link : ℕ) (front : List Entry) (side : Side) (count : ℕ) (pdu : Pdu) (fixing going : Control)
+-- a new PDU is the next one by its end as the PDU was fixed and as it went
+pub next_is : (link : ℕ) (front : List Entry) (side : Side) (count : ℕ) (pdu : Pdu) (fixing going : Keyed)
     → control_fixing side link front ≡ Some fixing → control_going side link front ≡ Some going
     → IsNextPdu link front side count pdu
     → pdu ≡ pdu_next fixing going (piece_by_lines side link front (piece_limit fixing))
@@ -90,5 +90,5 @@ next_is link front side count pdu fixing going is_fixing is_going next =
     let fixed = some_is next.fixing fixing (sym next.fixing_is ∙ is_fixing) in
     let gone = some_is next.going going (sym next.going_is ∙ is_going) in
     next.next
-    ∙ ap (λ (c : Control). pdu_next c next.going (piece_by_lines side link front (piece_limit c))) fixed
-    ∙ ap (λ (c : Control). pdu_next fixing c (piece_by_lines side link front (piece_limit fixing))) gone
+    ∙ ap (λ (k : Keyed). pdu_next k next.going (piece_by_lines side link front (piece_limit k))) fixed
+    ∙ ap (λ (k : Keyed). pdu_next fixing k (piece_by_lines side link front (piece_limit fixing))) gone

@@ -1,6 +1,6 @@
 -- Journals of a link whose host gives commands and data, and that differ in one thing from what is due (Core 5.2, volume
 -- 6 part B, sections 4.5.6, 4.5.9, 4.5.10 and 5.1).
-use Rattle.std.specs.Prelude.{ℕ, true, List, [], ◌∷◌, ◌++◌, replicate}
+use Rattle.std.specs.Prelude.{ℕ, List, [], ◌∷◌, ◌++◌, replicate}
 use Rattle.ble_base.specs.declared.procedure_kinds.Kind.TheVariants.{Update, Version}
 use Rattle.ble_base.specs.declared.roles.Role.TheVariants.{Central, Peripheral}
 use Rattle.ble_base.specs.declared.roles.Side.TheVariants.{A, B}
@@ -8,11 +8,13 @@ use Rattle.ble_base.specs.declared.verdicts.Verdict.TheVariants.{Good}
 use Rattle.journal.specs.declared.entries.Entry.{Entry}
 use Rattle.journal.specs.declared.entries.Entry.TheVariants.{Air, Began, Done, Enter, Fed, Sent, Took, Up}
 use Rattle.journal.specs.declared.entries.Mark.TheVariants.{Pass}
-use Rattle.journal_pdus.specs.journal_controls.Rows.{first_on, version_wanted}
+use Rattle.journal_pdus.specs.journal_controls.Rows.{begun_on}
 use Rattle.journal_pdus.specs.link_model.Acknowledgement.{Pdu}
 use Rattle.journal_pdus.specs.link_model.Controls.{read_of}
-use Rattle.journal_pdus.specs.link_model.control_model.Control.{Asks, Control, Disconnects, Enters, Takes, after}
-use Rattle.journal_pdus.specs.link_model.control_model.Control.{after_all}
+use Rattle.journal_pdus.specs.link_model.Facts.{no_response}
+use Rattle.journal_pdus.specs.link_model.keyed_control.Keyed.{Keyed}
+use Rattle.journal_pdus.specs.link_model.keyed_control.KeyedSteps.{Asks, Disconnects, Enters, Takes, keyed_after, keyed_after_all}
+use Rattle.journal_pdus.specs.link_model.phased_end.Taking.{drawn}
 use Rattle.journal_pdus.specs.link_model.procedure_values.declared.asks.Ask.TheVariants.{Update as ask_update}
 use Rattle.journal_pdus.specs.journal_acks.Rows.{data_heard, host_packet, more_packet, more_reply, second_slot}
 use Rattle.journal_pdus.specs.journal_leaving.Rows.{terminate_packet, terminate_pdu}
@@ -79,10 +81,6 @@ version_asked more = Fed B (read_version ++ more) ∷ Up B (accepted 0x1D 0x04) 
 abbrev pub version_with : List ℕ → List Entry
 version_with more = slot_after (version_asked more) (Began B 1 Version ∷ []) first_reply
 
--- the control part of the central
-abbrev pub version_going : Control
-version_going = after (Enters 2 true) version_wanted
-
 -- MD is 0 in the first packet of the central, though LL_VERSION_IND waits
 abbrev pub version_untold : List Entry
 version_untold = event_after (version_asked []) (Began B 1 Version ∷ []) ++ Air B 25 first_packet Pass Good ∷ []
@@ -106,12 +104,12 @@ version_to_answer =
     version_with [] ++ Sent B 1 1 own_version.llid own_version.body ∷ Air B 25 version_packet Pass Good
     ∷ Took A 1 1 own_version.llid own_version.body ∷ []
 
--- its control parts before that and after
-abbrev pub peripheral_entered : Control
-peripheral_entered = after (Enters 2 true) (first_on Peripheral)
+-- the peripheral before that and after
+abbrev pub peripheral_entered : Keyed
+peripheral_entered = keyed_after (Enters 2) (begun_on Peripheral)
 
-abbrev pub version_queued : Control
-version_queued = after (Takes (read_of own_version) 3 true) peripheral_entered
+abbrev pub version_queued : Keyed
+version_queued = keyed_after (Takes (read_of own_version) 3 (drawn no_response)) peripheral_entered
 
 -- its reply, an empty PDU with SN 1 and NESN 0, has MD 1 for the LL_VERSION_IND that it has queued just now
 abbrev pub reply_with_more : List ℕ
@@ -126,8 +124,8 @@ abbrev pub disconnecting_with : (more : List ℕ) (given : List Entry) (reply : 
 disconnecting_with more given reply =
     slot_after (given ++ Fed B (more ++ disconnect) ∷ Up B (accepted 0x06 0x04) ∷ []) [] reply
 
-abbrev pub disconnect_going : Control
-disconnect_going = after_all (Disconnects (record { 0 = 0x13 }) ∷ Enters 2 true ∷ []) (first_on Central)
+abbrev pub disconnect_going : Keyed
+disconnect_going = keyed_after_all (Disconnects (record { 0 = 0x13 }) ∷ Enters 2 ∷ []) (begun_on Central)
 
 -- data that the host gave before goes all the same
 abbrev pub data_after_disconnect : List Entry
@@ -159,8 +157,8 @@ abbrev pub update_given : List Entry
 update_given =
     slot_after (Fed B update_connection ∷ Up B (accepted 0x13 0x20) ∷ []) (Began B 1 Update ∷ []) first_reply
 
-abbrev pub update_going : Control
-update_going = after_all (Asks (ask_update 48 0 72) ∷ Enters 2 true ∷ []) (first_on Central)
+abbrev pub update_going : Keyed
+update_going = keyed_after_all (Asks (ask_update 48 0 72) ∷ Enters 2 ∷ []) (begun_on Central)
 
 -- this PDU is sent after these entries
 abbrev pub sent_after : List Entry → Pdu → List Entry

@@ -1,13 +1,14 @@
 -- Journals that differ in one thing from that of a link on which the central sends a PDU of data.
-use Rattle.std.specs.Prelude.{ℕ, true, List, [], ◌∷◌, ◌++◌}
+use Rattle.std.specs.Prelude.{ℕ, List, [], ◌∷◌, ◌++◌}
 use Rattle.ble_base.specs.declared.roles.Role.TheVariants.{Central}
 use Rattle.ble_base.specs.declared.roles.Side.TheVariants.{A, B}
 use Rattle.ble_base.specs.declared.verdicts.Verdict.TheVariants.{Good, Missed}
 use Rattle.journal.specs.declared.entries.Entry.{Entry}
 use Rattle.journal.specs.declared.entries.Entry.TheVariants.{Air, Fed, Sent, Took, Up}
 use Rattle.journal.specs.declared.entries.Mark.TheVariants.{Lost, Pass}
-use Rattle.journal_pdus.specs.journal_controls.Rows.{first_on}
-use Rattle.journal_pdus.specs.link_model.control_model.Control.{Control, Enters, after}
+use Rattle.journal_pdus.specs.journal_controls.Rows.{begun_on}
+use Rattle.journal_pdus.specs.link_model.keyed_control.Keyed.{Keyed}
+use Rattle.journal_pdus.specs.link_model.keyed_control.KeyedSteps.{Enters, keyed_after}
 use Rattle.run_model.specs.Rows.{one_event_journal, turn_entry}
 use Rattle.journal_pdus.specs.journal_acks.Rows.{central_says_more, data_heard, data_packet, data_sent, data_taken, host_packet, second_slot}
 use Rattle.journal_pdus.specs.journal_slots.Rows.{next_packet}
@@ -34,9 +35,9 @@ data_on_another = 0x29 ∷ 0x41 ∷ 0x76 ∷ 0x71 ∷ 0x96 ∷ 0x09 ∷ 0x8E ∷
 abbrev pub empty_with_more : List ℕ
 empty_with_more = 0x29 ∷ 0x41 ∷ 0x76 ∷ 0x71 ∷ 0x4C ∷ 0xFA ∷ 0xE7 ∷ 0xF5 ∷ 0x50 ∷ []
 
--- the control part of the central in event 0, which is in turn 2
-abbrev pub central_entered : Control
-central_entered = after (Enters 2 true) (first_on Central)
+-- the central in event 0, which is in turn 2
+abbrev pub central_entered : Keyed
+central_entered = keyed_after (Enters 2) (begun_on Central)
 
 -- ---- what is taken
 

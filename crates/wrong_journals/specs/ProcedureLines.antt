@@ -1,16 +1,19 @@
 -- Journals whose lines of control procedures are not those that are due (Core 5.2, volume 6 part B, sections 5.1 and
 -- 5.5).
-use Rattle.std.specs.Prelude.{ℕ, true, List, [], ◌∷◌, ◌++◌}
+use Rattle.std.specs.Prelude.{ℕ, List, [], ◌∷◌, ◌++◌}
 use Rattle.ble_base.specs.ErrorCodes.{unsupported_remote_feature}
 use Rattle.ble_base.specs.declared.procedure_kinds.Kind.TheVariants.{Features, Version}
 use Rattle.ble_base.specs.declared.roles.Role.TheVariants.{Central, Peripheral}
 use Rattle.ble_base.specs.declared.roles.Side.TheVariants.{A, B}
 use Rattle.journal.specs.declared.entries.Entry.{Entry}
 use Rattle.journal.specs.declared.entries.Entry.TheVariants.{Applied, Began, Done, Enter, Refused, Sent, Took}
-use Rattle.journal_pdus.specs.journal_controls.Rows.{first_on, version_sent, version_wanted}
+use Rattle.journal_pdus.specs.journal_controls.Rows.{begun_on, version_asked, version_sent}
 use Rattle.journal_pdus.specs.link_model.Acknowledgement.{Pdu}
 use Rattle.journal_pdus.specs.link_model.Controls.{read_of}
-use Rattle.journal_pdus.specs.link_model.control_model.Control.{Asks, Control, Enters, Sends, Takes, after_all}
+use Rattle.journal_pdus.specs.link_model.Facts.{no_response}
+use Rattle.journal_pdus.specs.link_model.keyed_control.Keyed.{Keyed}
+use Rattle.journal_pdus.specs.link_model.keyed_control.KeyedSteps.{Asks, Enters, Sends, Takes, keyed_after_all}
+use Rattle.journal_pdus.specs.link_model.phased_end.Taking.{drawn}
 use Rattle.journal_pdus.specs.link_model.procedure_values.declared.asks.Ask.TheVariants.{Features as ask_features}
 use Rattle.journal_pdus.specs.link_model.procedure_values.declared.asks.Ask.TheVariants.{Map as ask_map}
 use Rattle.journal_pdus.specs.journal_acks.Rows.{second_slot}
@@ -81,20 +84,20 @@ applied_never = at_instant ++ Enter A 1 6 23 ∷ []
 abbrev pub applied_unentered : List Entry
 applied_unentered = at_instant ++ Applied A 1 1 6 ∷ turn_entry 147 ∷ []
 
--- ---- control parts
+-- ---- ends
 
--- the control part of the peripheral in event 5, before the Instant
-abbrev pub map_awaited : Control
+-- the peripheral in event 5, before the Instant
+abbrev pub map_awaited : Keyed
 map_awaited =
-    after_all
-    (Enters 2 true ∷ Takes (read_of map_pdu) 3 true ∷ Enters 26 true ∷ Enters 50 true ∷ Enters 74 true ∷ Enters 98 true
-    ∷ Enters 122 true ∷ [])
-    (first_on Peripheral)
+    keyed_after_all
+    (Enters 2 ∷ Takes (read_of map_pdu) 3 (drawn no_response) ∷ Enters 26 ∷ Enters 50 ∷ Enters 74 ∷ Enters 98 ∷ Enters 122
+    ∷ [])
+    (begun_on Peripheral)
 
--- of the central that exchanges versions, and of which the host asks for the features of the peer
-abbrev pub version_running : Control
-version_running = after_all (Enters 2 true ∷ Sends 2 true ∷ Asks ask_features ∷ []) version_wanted
+-- the central that exchanges versions, and of which the host asks for the features of the peer
+abbrev pub version_running : Keyed
+version_running = keyed_after_all (Enters 2 ∷ Sends 2 ∷ Asks ask_features ∷ []) version_asked
 
--- and of the central that sends that map in event 0
-abbrev pub map_sent : Control
-map_sent = after_all (Asks (ask_map 0x0FFFFFFFFF) ∷ Enters 2 true ∷ Sends 2 true ∷ []) (first_on Central)
+-- and the central that sends that map in event 0
+abbrev pub map_sent : Keyed
+map_sent = keyed_after_all (Asks (ask_map 0x0FFFFFFFFF) ∷ Enters 2 ∷ Sends 2 ∷ []) (begun_on Central)

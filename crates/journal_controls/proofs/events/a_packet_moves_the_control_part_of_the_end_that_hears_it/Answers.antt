@@ -4,7 +4,7 @@ use Rattle.journal_controls.proofs.events.a_packet_moves_the_control_part_of_the
 
 pub returns : goal.returns
 returns c = record {
-  heard = λ side number station channel slot octets heard hearing history control is was.
-      heard_moves number side history station channel octets hearing slot heard control is was;
+  heard = λ side number station channel slot octets heard hearing history k is was.
+      heard_moves number side history station channel octets hearing slot heard k is was;
   unheard = λ side number station channel octets hearing history none. unheard_still number side history station channel octets hearing none;
 }

@@ -13,10 +13,10 @@ use Rattle.journal_ends.specs.journal_acks.Carried.{sent_line_of}
 use Rattle.journal_ends.specs.journal_acks.Exchange.{exchange_of}
 use Rattle.journal_ends.specs.journal_links.Begun.{links_begun}
 use Rattle.journal_ends.specs.journal_packets.Belonging.{is_answer, link_of_packet}
-use Rattle.journal_controls.specs.LineSteps.{control_on}
+use Rattle.journal_controls.specs.LineSteps.{control_on, keyed_on}
 use Rattle.journal_controls.specs.LinesDue.{lines_due}
 use Rattle.journal_controls.proofs.rows.worked_lines_due.Goals as goal
 
 pub returns : goal.returns
-unfolding control_on lines_due exchange_of sent_line_of link_of_packet is_answer links_begun pdu_heard heard_in read_of kept_bits crc crc_octets crc_of_bits remainder mask_of next_mask whitening_bit whitening_of little_endian frames command_of layout_of layouts
+unfolding control_on keyed_on lines_due exchange_of sent_line_of link_of_packet is_answer links_begun pdu_heard heard_in read_of kept_bits crc crc_octets crc_of_bits remainder mask_of next_mask whitening_bit whitening_of little_endian frames command_of layout_of layouts
 returns c = record { begins = refl; other = λ is. absurd cc; begun = refl; none = refl; no_indication = refl }

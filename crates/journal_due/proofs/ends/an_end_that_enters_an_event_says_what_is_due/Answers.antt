@@ -1,13 +1,12 @@
 -- Proof of `ends::an_end_that_enters_an_event_says_what_is_due`.
 use Rattle.journal_controls.specs.link_model.End.{facts_of}
-use Rattle.journal_controls.proofs.link_model.Plain.{past_plain}
 use Rattle.journal_due.proofs.DueEntries.{entering_told}
 use Rattle.journal_due.proofs.ends.an_end_that_enters_an_event_says_what_is_due.Goals as goal
 
 pub returns : goal.returns
 returns c = record {
   each = λ side number setup past journal is rests.
-      (entering_told side number setup (facts_of setup past) journal (past_plain setup past) is rests).each;
+      (entering_told side number setup (facts_of setup past) journal is rests).each;
   left = λ side number setup past journal is rests.
-      (entering_told side number setup (facts_of setup past) journal (past_plain setup past) is rests).left;
+      (entering_told side number setup (facts_of setup past) journal is rests).left;
 }

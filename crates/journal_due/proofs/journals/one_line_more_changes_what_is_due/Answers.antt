@@ -4,8 +4,8 @@ use Rattle.journal_due.proofs.journals.one_line_more_changes_what_is_due.Goals a
 
 pub returns : goal.returns
 returns c = record {
-  said = λ side number journal line control is said. said_due side number journal line control is said;
-  heard = λ side number slot octets journal line control is heard. heard_due side number slot octets journal line control is heard;
+  said = λ side number journal line k is said. said_due side number journal line k is said;
+  heard = λ side number slot octets journal line k is heard. heard_due side number slot octets journal line k is heard;
   stays = λ side number journal line none. quiet_due side number journal line none;
   shut = λ side number journal none. none_unopened side number journal none;
 }

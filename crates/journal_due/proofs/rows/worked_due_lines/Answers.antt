@@ -7,7 +7,7 @@ use Rattle.frame_bits.specs.Crc.{crc, crc_octets, crc_of_bits, remainder}
 use Rattle.frame_bits.specs.Whitening.{mask_of, next_mask, whitening_bit, whitening_of}
 use Rattle.journal_controls.specs.controller_model.Packets.{pdu_heard}
 use Rattle.wire_fields.specs.Field.{little_endian}
-use Rattle.journal_controls.specs.LineSteps.{control_on}
+use Rattle.journal_controls.specs.LineSteps.{keyed_on}
 use Rattle.journal_controls.specs.LinesDue.{lines_due}
 use Rattle.journal_controls.specs.journal_acks.Carried.{sent_line_of}
 use Rattle.journal_controls.specs.journal_acks.Exchange.{exchange_of}
@@ -17,5 +17,5 @@ use Rattle.journal_due.specs.ProcedureLines.{applied_last}
 use Rattle.journal_due.proofs.rows.worked_due_lines.Goals as goal
 
 pub returns : goal.returns
-unfolding control_on lines_due applied_last exchange_of sent_line_of link_of_packet is_answer links_begun pdu_heard heard_in read_of kept_bits crc crc_octets crc_of_bits remainder mask_of next_mask whitening_bit whitening_of little_endian
+unfolding keyed_on lines_due applied_last exchange_of sent_line_of link_of_packet is_answer links_begun pdu_heard heard_in read_of kept_bits crc crc_octets crc_of_bits remainder mask_of next_mask whitening_bit whitening_of little_endian
 returns c = record { event = refl; began = λ is. absurd cc; no_indication = refl; indication = λ is. absurd cc }

@@ -9,7 +9,7 @@ use Rattle.frame_bits.specs.Crc.{crc, crc_octets, crc_of_bits, remainder}
 use Rattle.frame_bits.specs.Whitening.{mask_of, next_mask, whitening_bit, whitening_of}
 use Rattle.journal_controls.specs.controller_model.Packets.{pdu_heard}
 use Rattle.wire_fields.specs.Field.{little_endian}
-use Rattle.journal_controls.specs.LineSteps.{control_on}
+use Rattle.journal_controls.specs.LineSteps.{keyed_on}
 use Rattle.journal_controls.specs.journal_acks.Carried.{sent_line_of}
 use Rattle.journal_controls.specs.journal_acks.Exchange.{exchange_of}
 use Rattle.journal_controls.specs.journal_links.Begun.{links_begun}
@@ -18,5 +18,5 @@ use Rattle.journal_fixing.specs.OnLines.{fixing_kept, going_kept}
 use Rattle.journal_fixing.proofs.rows.worked_fixing.Goals as goal
 
 pub returns : goal.returns
-unfolding fixing_kept going_kept control_on ctrl_of length_of makers exchange_of sent_line_of link_of_packet is_answer links_begun pdu_heard heard_in read_of kept_bits crc crc_octets crc_of_bits remainder mask_of next_mask whitening_bit whitening_of little_endian
+unfolding fixing_kept going_kept keyed_on ctrl_of length_of makers exchange_of sent_line_of link_of_packet is_answer links_begun pdu_heard heard_in read_of kept_bits crc crc_octets crc_of_bits remainder mask_of next_mask whitening_bit whitening_of little_endian
 returns c = record { fixes = refl; later = refl; fixed = refl; goes = refl; taken = refl }

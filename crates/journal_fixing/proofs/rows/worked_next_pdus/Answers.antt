@@ -18,4 +18,6 @@ returns c = record {
   ends = refl;
   ended = refl;
   no_data = λ is. let differs : 0 ≡ 27 = ap octets is in absurd cc;
+  held = refl;
+  held_back = refl;
 }

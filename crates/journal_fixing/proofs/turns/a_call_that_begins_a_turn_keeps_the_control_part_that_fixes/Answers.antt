@@ -1,9 +1,8 @@
 -- Proof of `turns::a_call_that_begins_a_turn_keeps_the_control_part_that_fixes`.
 use Rattle.journal_controls.specs.link_model.End.{facts_of}
-use Rattle.journal_controls.proofs.link_model.Plain.{past_plain}
 use Rattle.journal_fixing.proofs.TurnFixing.{begun_fixes}
 use Rattle.journal_fixing.proofs.turns.a_call_that_begins_a_turn_keeps_the_control_part_that_fixes.Goals as goal
 
 pub returns : goal.returns
 returns c = λ given side number station slot call history setup past enters fixes sends in_turn lines turn none was.
-    begun_fixes side number slot given station call history setup (facts_of setup past) (past_plain setup past) enters fixes sends in_turn lines turn none was
+    begun_fixes side number slot given station call history setup (facts_of setup past) enters fixes sends in_turn lines turn none was

@@ -6,7 +6,7 @@ use Rattle.journal_leaving.proofs.calls.a_call_moves_how_an_end_leaves_by_its_li
 
 pub returns : goal.returns
 returns c = record {
-  turn = λ given side number station call history more control leaving none lines opens was left.
-      call_moves given side number station call history more control leaving (turn_answers given side station call history none) lines opens was left;
+  turn = λ given side number station call history more k leaving none lines opens was left.
+      call_moves given side number station call history more k leaving (turn_answers given side station call history none) lines opens was left;
   asked = λ given side number station call history asked leaving seen was. call_asks given side number station call history asked leaving seen was;
 }

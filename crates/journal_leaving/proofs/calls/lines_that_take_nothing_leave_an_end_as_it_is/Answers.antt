@@ -4,6 +4,6 @@ use Rattle.journal_leaving.proofs.calls.lines_that_take_nothing_leave_an_end_as_
 
 pub returns : goal.returns
 returns c = record {
-  entered = λ side number slot withheld setup facts control leaving. entry_noted side number withheld slot setup facts leaving control;
-  sent = λ side number slot withheld setup facts control leaving. sent_noted side number withheld slot setup facts leaving control;
+  entered = λ side number slot withheld response setup facts k leaving. entry_noted side number withheld response slot setup facts leaving k;
+  sent = λ side number slot withheld response setup facts k leaving. sent_noted side number withheld response slot setup facts leaving k;
 }

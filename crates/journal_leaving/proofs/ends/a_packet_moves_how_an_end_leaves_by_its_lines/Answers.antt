@@ -1,8 +1,7 @@
 -- Proof of `ends::a_packet_moves_how_an_end_leaves_by_its_lines`.
-use Rattle.journal_controls.proofs.link_model.Plain.{past_plain}
 use Rattle.journal_controls.specs.link_model.End.{facts_of}
 use Rattle.journal_leaving.proofs.EndLeaving.{packet_leaves}
 use Rattle.journal_leaving.proofs.ends.a_packet_moves_how_an_end_leaves_by_its_lines.Goals as goal
 
 pub returns : goal.returns
-returns c = λ side number slot withheld room setup past octets. packet_leaves side number withheld slot room setup (facts_of setup past) (past_plain setup past) octets
+returns c = λ side number slot withheld room setup past octets. packet_leaves side number withheld slot room setup (facts_of setup past) octets

@@ -13,10 +13,10 @@ use Rattle.journal_controls.specs.journal_acks.Carried.{sent_line_of}
 use Rattle.journal_controls.specs.journal_acks.Exchange.{exchange_of}
 use Rattle.journal_controls.specs.journal_links.Begun.{links_begun}
 use Rattle.journal_controls.specs.journal_packets.Belonging.{is_answer, link_of_packet}
-use Rattle.journal_controls.specs.LineSteps.{control_on}
+use Rattle.journal_controls.specs.LineSteps.{keyed_on}
 use Rattle.journal_leaving.specs.Leaving.{leaving_on}
 use Rattle.journal_leaving.proofs.rows.worked_disconnects.Goals as goal
 
 pub returns : goal.returns
-unfolding leaving_on control_on exchange_of sent_line_of link_of_packet is_answer links_begun pdu_heard heard_in read_of kept_bits crc crc_octets crc_of_bits remainder mask_of next_mask whitening_bit whitening_of little_endian frames command_of layout_of layouts
+unfolding leaving_on keyed_on exchange_of sent_line_of link_of_packet is_answer links_begun pdu_heard heard_in read_of kept_bits crc crc_octets crc_of_bits remainder mask_of next_mask whitening_bit whitening_of little_endian frames command_of layout_of layouts
 returns c = record { ended = refl; asked = refl; peripheral = refl }

@@ -9,7 +9,7 @@ use Rattle.journal_controls.specs.controller_model.Packets.{pdu_heard}
 use Rattle.wire_fields.specs.Field.{little_endian}
 use Rattle.data_pdu.specs.Layouts.{makers}
 use Rattle.data_pdu.specs.Reading.{ctrl_of}
-use Rattle.journal_controls.specs.LineSteps.{control_on}
+use Rattle.journal_controls.specs.LineSteps.{keyed_on}
 use Rattle.journal_controls.specs.journal_acks.Carried.{sent_line_of}
 use Rattle.journal_controls.specs.journal_acks.Exchange.{exchange_of}
 use Rattle.journal_controls.specs.journal_links.Begun.{links_begun}
@@ -18,5 +18,5 @@ use Rattle.journal_leaving.specs.Leaving.{leaving_on}
 use Rattle.journal_leaving.proofs.rows.worked_leavings.Goals as goal
 
 pub returns : goal.returns
-unfolding leaving_on control_on exchange_of sent_line_of link_of_packet is_answer links_begun pdu_heard heard_in read_of kept_bits crc crc_octets crc_of_bits remainder mask_of next_mask whitening_bit whitening_of little_endian ctrl_of makers
+unfolding leaving_on keyed_on exchange_of sent_line_of link_of_packet is_answer links_begun pdu_heard heard_in read_of kept_bits crc crc_octets crc_of_bits remainder mask_of next_mask whitening_bit whitening_of little_endian ctrl_of makers
 returns c = record { peripheral_stays = refl; takes = refl; answers = refl; central_stays = refl; acknowledged = refl; other = refl }

@@ -10,7 +10,7 @@ use Rattle.wire_fields.specs.Field.{little_endian}
 use Rattle.data_pdu.specs.Layouts.{makers}
 use Rattle.data_pdu.specs.Reading.{ctrl_of}
 use Rattle.ble_base.specs.declared.roles.Side.TheVariants.{A, B}
-use Rattle.journal_controls.specs.LineSteps.{control_on}
+use Rattle.journal_controls.specs.LineSteps.{control_on, keyed_on}
 use Rattle.journal_controls.specs.journal_acks.Carried.{sent_line_of}
 use Rattle.journal_controls.specs.journal_acks.Exchange.{exchange_of}
 use Rattle.journal_controls.specs.journal_acks.Rows.{central_says_more}
@@ -24,7 +24,7 @@ use Rattle.journal_leaving.proofs.NotShut.{not_shut}
 use Rattle.journal_leaving.proofs.rows.worked_reasons.Goals as goal
 
 pub returns : goal.returns
-unfolding packets_passed ending_on due_on due_begun leaving_on control_on last_heard exchange_of sent_line_of link_of_packet is_answer links_begun pdu_heard heard_in read_of kept_bits crc crc_octets crc_of_bits remainder mask_of next_mask whitening_bit whitening_of little_endian ctrl_of makers
+unfolding packets_passed ending_on due_on due_begun leaving_on control_on keyed_on last_heard exchange_of sent_line_of link_of_packet is_answer links_begun pdu_heard heard_in read_of kept_bits crc crc_octets crc_of_bits remainder mask_of next_mask whitening_bit whitening_of little_endian ctrl_of makers
 returns c = record {
   by_peer = leaving refl;
   by_host = leaving refl;

@@ -1,8 +1,8 @@
 -- Proof of `turns::a_packet_that_is_taken_moves_how_an_end_leaves_by_its_lines`.
-use Rattle.journal_controls.proofs.link_model.Plain.{past_plain}
+use Rattle.std.proofs.Common.{refl}
 use Rattle.journal_controls.specs.link_model.End.{facts_of}
 use Rattle.journal_leaving.proofs.TurnLeaving.{taking_leaves}
 use Rattle.journal_leaving.proofs.turns.a_packet_that_is_taken_moves_how_an_end_leaves_by_its_lines.Goals as goal
 
 pub returns : goal.returns
-returns c = λ side number slot octets withheld room answers setup past. taking_leaves side number withheld slot setup octets room answers (facts_of setup past) (past_plain setup past)
+returns c = λ side number slot octets withheld room answers setup past. let facts = facts_of setup past in taking_leaves side number withheld facts.encryption.response slot setup octets room answers facts refl

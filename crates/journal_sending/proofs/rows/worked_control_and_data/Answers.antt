@@ -16,9 +16,9 @@ use Rattle.journal_leaving.specs.journal_packets.Belonging.{is_answer, link_of_p
 use Rattle.data_pdu.specs.Layouts.{makers}
 use Rattle.data_pdu.specs.Reading.{ctrl_of, length_of}
 use Rattle.journal_fixing.specs.OnLines.{fixing_kept}
-use Rattle.journal_fixing.specs.journal_controls.LineSteps.{control_on}
+use Rattle.journal_fixing.specs.journal_controls.LineSteps.{keyed_on}
 use Rattle.journal_sending.proofs.rows.worked_control_and_data.Goals as goal
 
 pub returns : goal.returns
-unfolding fixing_kept control_on ctrl_of length_of makers lines_of frames exchange_of sent_line_of link_of_packet is_answer links_begun pdu_heard heard_in read_of kept_bits crc crc_octets crc_of_bits remainder mask_of next_mask whitening_bit whitening_of little_endian
+unfolding fixing_kept keyed_on ctrl_of length_of makers lines_of frames exchange_of sent_line_of link_of_packet is_answer links_begun pdu_heard heard_in read_of kept_bits crc crc_octets crc_of_bits remainder mask_of next_mask whitening_bit whitening_of little_endian
 returns c = record { fixes = refl; waits = refl; control_first = refl; more = refl; not_last = λ wrong. absurd cc; alone = refl }

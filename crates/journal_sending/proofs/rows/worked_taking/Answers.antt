@@ -15,13 +15,13 @@ use Rattle.journal_leaving.specs.journal_links.Begun.{links_begun}
 use Rattle.journal_leaving.specs.journal_packets.Belonging.{is_answer, link_of_packet}
 use Rattle.data_pdu.specs.Layouts.{makers}
 use Rattle.data_pdu.specs.Reading.{ctrl_of, length_of}
-use Rattle.journal_fixing.specs.journal_controls.LineSteps.{control_on}
+use Rattle.journal_fixing.specs.journal_controls.LineSteps.{keyed_on}
 use Rattle.journal_leaving.specs.Leaving.{leaving_on}
 use Rattle.journal_sending.specs.Pending.{pending_pdu}
 use Rattle.journal_sending.proofs.rows.worked_taking.Goals as goal
 
 pub returns : goal.returns
-unfolding pending_pdu leaving_on control_on ctrl_of length_of makers lines_of frames exchange_of sent_line_of link_of_packet is_answer links_begun pdu_heard heard_in read_of kept_bits crc crc_octets crc_of_bits remainder mask_of next_mask whitening_bit whitening_of little_endian
+unfolding pending_pdu leaving_on keyed_on ctrl_of length_of makers lines_of frames exchange_of sent_line_of link_of_packet is_answer links_begun pdu_heard heard_in read_of kept_bits crc crc_octets crc_of_bits remainder mask_of next_mask whitening_bit whitening_of little_endian
 returns c = record {
   heard = refl;
   taken = refl;

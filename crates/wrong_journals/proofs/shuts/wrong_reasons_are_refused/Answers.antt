@@ -10,7 +10,7 @@ use Rattle.data_pdu.specs.Reading.{ctrl_of}
 use Rattle.frame_bits.specs.Crc.{crc, crc_octets, crc_of_bits, remainder}
 use Rattle.frame_bits.specs.Whitening.{mask_of, next_mask, whitening_bit, whitening_of}
 use Rattle.h4_frames.specs.Frames.{frames}
-use Rattle.journal_pdus.specs.journal_controls.LineSteps.{control_on}
+use Rattle.journal_pdus.specs.journal_controls.LineSteps.{control_on, keyed_on}
 use Rattle.journal_pdus.specs.controller_model.Packets.{pdu_heard}
 use Rattle.wire_fields.specs.Field.{little_endian}
 use Rattle.journal_pdus.specs.journal_acks.Carried.{sent_line_of}
@@ -29,11 +29,11 @@ use Rattle.wrong_journals.proofs.Shutting.{no_octets_yet, no_reason}
 use Rattle.wrong_journals.proofs.shuts.wrong_reasons_are_refused.Goals as goal
 
 pub returns-clause-failed : goal.returns-clause-failed
-unfolding packets_passed ending_on due_on leaving_on control_on last_heard exchange_of sent_line_of link_of_packet is_answer links_begun pdu_heard heard_in read_of kept_bits crc crc_octets crc_of_bits remainder mask_of next_mask whitening_bit whitening_of little_endian ctrl_of makers data_channels used_channels
+unfolding packets_passed ending_on due_on leaving_on control_on keyed_on last_heard exchange_of sent_line_of link_of_packet is_answer links_begun pdu_heard heard_in read_of kept_bits crc crc_octets crc_of_bits remainder mask_of next_mask whitening_bit whitening_of little_endian ctrl_of makers data_channels used_channels
 returns-clause-failed c = overdue refl refl
 
 pub returns-clause-timed_out : goal.returns-clause-timed_out
-unfolding packets_passed ending_on due_on leaving_on control_on last_heard exchange_of sent_line_of link_of_packet is_answer links_begun pdu_heard heard_in read_of kept_bits crc crc_octets crc_of_bits remainder mask_of next_mask whitening_bit whitening_of little_endian ctrl_of makers data_channels used_channels
+unfolding packets_passed ending_on due_on leaving_on control_on keyed_on last_heard exchange_of sent_line_of link_of_packet is_answer links_begun pdu_heard heard_in read_of kept_bits crc crc_octets crc_of_bits remainder mask_of next_mask whitening_bit whitening_of little_endian ctrl_of makers data_channels used_channels
 returns-clause-timed_out c = overdue refl refl
 
 pub returns-clause-completes : goal.returns-clause-completes
@@ -55,28 +55,28 @@ pub returns-clause-reset : goal.returns-clause-reset
 returns-clause-reset c = by_reset refl (returns-clause-completes c)
 
 pub returns-clause-fails_early : goal.returns-clause-fails_early
-unfolding packets_passed ending_on due_on leaving_on control_on last_heard exchange_of sent_line_of link_of_packet is_answer links_begun pdu_heard heard_in read_of kept_bits crc crc_octets crc_of_bits remainder mask_of next_mask whitening_bit whitening_of little_endian ctrl_of makers data_channels used_channels
+unfolding packets_passed ending_on due_on leaving_on control_on keyed_on last_heard exchange_of sent_line_of link_of_packet is_answer links_begun pdu_heard heard_in read_of kept_bits crc crc_octets crc_of_bits remainder mask_of next_mask whitening_bit whitening_of little_endian ctrl_of makers data_channels used_channels
 returns-clause-fails_early c = no_reason before_failing A 1 (record { 0 = 0x3E }) None (λ code. omega (arith, code)) refl (λ before same. absurd cc) refl
 
 pub returns-clause-times_out_early : goal.returns-clause-times_out_early
-unfolding packets_passed ending_on due_on leaving_on control_on last_heard exchange_of sent_line_of link_of_packet is_answer links_begun pdu_heard heard_in read_of kept_bits crc crc_octets crc_of_bits remainder mask_of next_mask whitening_bit whitening_of little_endian ctrl_of makers data_channels used_channels
+unfolding packets_passed ending_on due_on leaving_on control_on keyed_on last_heard exchange_of sent_line_of link_of_packet is_answer links_begun pdu_heard heard_in read_of kept_bits crc crc_octets crc_of_bits remainder mask_of next_mask whitening_bit whitening_of little_endian ctrl_of makers data_channels used_channels
 returns-clause-times_out_early c = no_reason before_silent A 1 (record { 0 = 0x08 }) None (λ code. omega (arith, code)) refl (λ before same. absurd cc) refl
 
 pub returns-clause-heard : goal.returns-clause-heard
-unfolding packets_passed ending_on due_on leaving_on control_on last_heard exchange_of sent_line_of link_of_packet is_answer links_begun pdu_heard heard_in read_of kept_bits crc crc_octets crc_of_bits remainder mask_of next_mask whitening_bit whitening_of little_endian ctrl_of makers data_channels used_channels
+unfolding packets_passed ending_on due_on leaving_on control_on keyed_on last_heard exchange_of sent_line_of link_of_packet is_answer links_begun pdu_heard heard_in read_of kept_bits crc crc_octets crc_of_bits remainder mask_of next_mask whitening_bit whitening_of little_endian ctrl_of makers data_channels used_channels
 returns-clause-heard c = no_reason heard_once A 1 (record { 0 = 0x3E }) None (λ code. omega (arith, code)) refl (λ before same. absurd cc) refl
 
 pub returns-clause-after_packet : goal.returns-clause-after_packet
-unfolding packets_passed ending_on due_on leaving_on control_on last_heard exchange_of sent_line_of link_of_packet is_answer links_begun pdu_heard heard_in read_of kept_bits crc crc_octets crc_of_bits remainder mask_of next_mask whitening_bit whitening_of little_endian ctrl_of makers data_channels used_channels
+unfolding packets_passed ending_on due_on leaving_on control_on keyed_on last_heard exchange_of sent_line_of link_of_packet is_answer links_begun pdu_heard heard_in read_of kept_bits crc crc_octets crc_of_bits remainder mask_of next_mask whitening_bit whitening_of little_endian ctrl_of makers data_channels used_channels
 returns-clause-after_packet c =
     no_reason failing_after_packet A 1 (record { 0 = 0x3E }) (Some 0x3E) (λ code. omega (arith, code)) refl (λ before same. truths_differ before) refl
 
 pub returns-clause-another_code : goal.returns-clause-another_code
-unfolding packets_passed ending_on due_on leaving_on control_on last_heard exchange_of sent_line_of link_of_packet is_answer links_begun pdu_heard heard_in read_of kept_bits crc crc_octets crc_of_bits remainder mask_of next_mask whitening_bit whitening_of little_endian ctrl_of makers data_channels used_channels
+unfolding packets_passed ending_on due_on leaving_on control_on keyed_on last_heard exchange_of sent_line_of link_of_packet is_answer links_begun pdu_heard heard_in read_of kept_bits crc crc_octets crc_of_bits remainder mask_of next_mask whitening_bit whitening_of little_endian ctrl_of makers data_channels used_channels
 returns-clause-another_code c =
     no_reason failing A 1 (record { 0 = 0x13 }) (Some 0x3E) (λ code. omega (arith, code)) refl (λ before same. numbers_differ 0x3E 0x13 refl (some_is 0x3E 0x13 same)) refl
 
 pub returns-clause-no_reset : goal.returns-clause-no_reset
-unfolding packets_passed ending_on due_on leaving_on control_on last_heard exchange_of sent_line_of link_of_packet is_answer links_begun pdu_heard heard_in read_of kept_bits crc crc_octets crc_of_bits remainder mask_of next_mask whitening_bit whitening_of little_endian ctrl_of makers data_channels used_channels
+unfolding packets_passed ending_on due_on leaving_on control_on keyed_on last_heard exchange_of sent_line_of link_of_packet is_answer links_begun pdu_heard heard_in read_of kept_bits crc crc_octets crc_of_bits remainder mask_of next_mask whitening_bit whitening_of little_endian ctrl_of makers data_channels used_channels
 returns-clause-no_reset c =
     no_reason failing A 1 (record { 0 = 0x00 }) (Some 0x3E) (λ code. no_octets_yet failing A refl) refl (λ before same. numbers_differ 0x3E 0x00 refl (some_is 0x3E 0x00 same)) refl
