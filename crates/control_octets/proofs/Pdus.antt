@@ -6,13 +6,13 @@ use Rattle.ble_base.specs.ChannelMap.{IsMap}
 use Rattle.data_pdu.specs.Layouts.{IsCtrl, written}
 use Rattle.data_pdu.specs.Ranges.{IsLength}
 use Rattle.data_pdu.specs.declared.ctrl.Ctrl.{Ctrl}
-use Rattle.data_pdu.specs.declared.ctrl.Ctrl.TheVariants.{ConnectionUpdateInd, StartEncReq}
+use Rattle.data_pdu.specs.declared.ctrl.Ctrl.TheVariants.{ConnectionUpdateInd, EncReq, StartEncReq}
 use Rattle.control_model.specs.procedure_values.Drafts.{ctrl_of_outgoing, instant_at, time_of}
 use Rattle.control_model.specs.procedure_values.Values.{IsParams, IsPayloadMax, ParamValues}
 use Rattle.control_model.specs.procedure_values.declared.drafts.Draft.TheVariants.{Update, Grant, Map, Request, PhyReq, PhyRsp, PhyInd, FeatureReq, PeripheralFeatureReq, FeatureRsp, VersionInd, LengthReq, LengthRsp, UnknownRsp, Cipher}
 use Rattle.control_model.specs.procedure_values.declared.drafts.Outgoing.{Outgoing}
 use Rattle.control_model.specs.procedure_values.declared.drafts.Outgoing.TheVariants.{Nothing, Rejection, Disconnect, Other}
-use Rattle.control_octets.specs.Fitting.{CodeFits, DraftFits, RejectionFits, RequestFits}
+use Rattle.control_octets.specs.Fitting.{CodeFits, DraftFits, EncryptFits, RejectionFits, RequestFits}
 
 -- ---- the PDUs of drafts
 
@@ -76,6 +76,20 @@ length_rsp_fits rx tx rx_is tx_is event skips =
 
 pub unknown_fits : (opcode : ℕ) → opcode < 256 → DraftFits (UnknownRsp opcode)
 unknown_fits opcode small event skips = record { fits = (omega arith, (small, tt)); six_offsets = tt; range = tt }
+
+-- LL_ENC_REQ of an encryption that the host asks for
+pub enc_req_fits : (rand ediv skd_m iv_m : ℕ) → EncryptFits rand ediv skd_m iv_m → IsCtrl (EncReq rand ediv skd_m iv_m)
+enc_req_fits rand ediv skd_m iv_m is =
+    record { fits = grind (arith, is.rand_fits, is.ediv_fits, is.skd_fits, is.iv_fits); six_offsets = tt; range = tt }
+
+pub enc_req_is : (rand ediv skd_m iv_m : ℕ) → IsCtrl (EncReq rand ediv skd_m iv_m) → EncryptFits rand ediv skd_m iv_m
+enc_req_is rand ediv skd_m iv_m is =
+    let fits = is.fits in
+    let rand_is = fits.1.0 in
+    let ediv_is = fits.1.1.0 in
+    let skd_is = fits.1.1.1.0 in
+    let iv_is = fits.1.1.1.1.0 in
+    record { rand_fits = omega (arith, rand_is); ediv_fits = omega (arith, ediv_is); skd_fits = omega (arith, skd_is); iv_fits = omega (arith, iv_is) }
 
 pub cipher_fits : (ctrl : Ctrl) → IsCtrl ctrl → DraftFits (Cipher ctrl)
 cipher_fits ctrl is event skips = is

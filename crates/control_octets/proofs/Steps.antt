@@ -119,6 +119,15 @@ first_fits role false lengths ask_version l is = version_fits
 first_fits role used lengths (ask_length tx) l is = length_req_fits lengths.own_rx lengths.own_tx l.own_rx l.own_tx
 first_fits role used lengths (ask_encrypt rand ediv ltk skd_m iv_m) l is = tt
 
+-- what begins is one of the asks that wait
+pub asked_fits : (wanted : List Ask) (place : Option ℕ) (ask : Option Ask) → ask_at place wanted ≡ ask → All AskFits wanted → IfSome ask AskFits
+asked_fits wanted None None is all = tt
+asked_fits wanted None (Some ask) is all = absurd (cc)
+asked_fits wanted (Some place) None is all = tt
+asked_fits wanted (Some place) (Some ask) is all =
+    subst AskFits (get_or_from_slice_get wanted place ask ask is)
+    (All-get_or AskFits wanted place ask (slice_get_within wanted place ask is) all)
+
 begins_at : (f : TableFacts) (slot : ℕ) (place : Option ℕ) (ask : Option Ask) → ask_at place f.wanted ≡ ask → TableFits f
     → TableFits (begin_at f slot place ask).0
 begins_at f slot None ask is t = t
@@ -126,15 +135,10 @@ begins_at f slot (Some place) None is t = t
 begins_at f slot (Some place) (Some ask) is t =
     record {
       queue = with_first_fits f.closing (first_draft f ask) f.queue t.queue
-          (first_fits (role_of f.progress) f.version_used f.lengths ask t.lengths ask_is);
+          (first_fits (role_of f.progress) f.version_used f.lengths ask t.lengths (asked_fits f.wanted (Some place) (Some ask) is t.wanted));
       wanted = wants_removed f.wanted place t.wanted;
       lengths = t.lengths;
     }
-  where
-    ask_is : AskFits ask
-    ask_is =
-        subst AskFits (get_or_from_slice_get f.wanted place ask ask is)
-        (All-get_or AskFits f.wanted place ask (slice_get_within f.wanted place ask is) t.wanted)
 
 begins : (f : TableFacts) (slot : ℕ) (quiet : Bool) → TableFits f → TableFits (begin_step f slot quiet).0
 begins f slot quiet t = begins_at f slot (place_to_begin f quiet) (ask_at (place_to_begin f quiet) f.wanted) refl t
@@ -156,7 +160,7 @@ next_fits (Some change) t is fits = by (is_due change t.entered)
     by true = record { params = params_fit t.params change.indication fits.params waiting; waits = tt }
     by false = record { params = fits.params; waits = fits.waits }
 
-holds : (f : TableFacts) (applied : Bool) → TableFits f → TableFits (entered_step f applied).0
+pub holds : (f : TableFacts) (applied : Bool) → TableFits f → TableFits (entered_step f applied).0
 holds f true t = record { queue = t.queue; wanted = t.wanted; lengths = t.lengths }
 holds f false t = t
 

@@ -16,7 +16,7 @@ use Rattle.control_model.specs.procedure_values.Drafts.{ctrl_of_draft}
 use Rattle.control_model.specs.procedure_values.Values.{IsPayloadMax}
 use Rattle.control_model.specs.procedure_values.Wants.{IsAsk}
 use Rattle.control_model.specs.procedure_values.declared.asks.Ask.{Ask}
-use Rattle.control_model.specs.procedure_values.declared.asks.Ask.TheVariants.{Request, Map}
+use Rattle.control_model.specs.procedure_values.declared.asks.Ask.TheVariants.{Request, Map, Encrypt}
 use Rattle.control_model.specs.procedure_values.declared.drafts.Draft.{Draft}
 use Rattle.control_model.specs.procedure_values.declared.drafts.Rejection.{Rejection}
 use Rattle.control_model.specs.procedure_values.declared.lengths.Lengths.{Lengths}
@@ -54,11 +54,19 @@ pub record RequestFits (min max latency timeout : ℕ) : Type 0 where
   pub latency_fits : latency < 2 ^ 16
   pub timeout_fits : timeout < 2 ^ 16
 
--- the values of an ask fit its first PDU; `IsAsk` says so of all but requests and maps (sections 2.4.2.1, 2.4.2.2,
--- 2.4.2.16 and 2.4.2.21)
+-- the numbers of LL_ENC_REQ have eight, two, eight and four octets; the long term key is in no PDU (section 2.4.2.4)
+pub record EncryptFits (rand ediv skd_m iv_m : ℕ) : Type 0 where
+  pub rand_fits : rand < 2 ^ 64
+  pub ediv_fits : ediv < 2 ^ 16
+  pub skd_fits : skd_m < 2 ^ 64
+  pub iv_fits : iv_m < 2 ^ 32
+
+-- the values of an ask fit its first PDU; `IsAsk` says so of all but requests, maps and encryption (sections 2.4.2.1,
+-- 2.4.2.2, 2.4.2.4, 2.4.2.16 and 2.4.2.21)
 abbrev pub AskFits : Ask → Type 0
 AskFits (Request min max latency timeout) = RequestFits min max latency timeout
 AskFits (Map map) = IsMap map
+AskFits (Encrypt rand ediv ltk skd_m iv_m) = EncryptFits rand ediv skd_m iv_m
 AskFits other = IsAsk other
 
 -- ---- the table and the parameters of an end

@@ -1,6 +1,6 @@
 //! The laws of the values that control PDUs carry, over any of the steps of an end.
 //! The bodies do nothing: the contracts are the laws.
-ghost use Rattle.std.specs.Prelude.{◌≡◌, ◌≤◌, ℕ, Bool, Some, length};
+ghost use Rattle.std.specs.Prelude.{◌≡◌, ◌≤◌, ℕ, Bool, Some, List, length};
 ghost use Rattle.ble_base.specs.declared.roles.Role.{Role};
 ghost use Rattle.data_pdu.specs.declared.ctrl.Ctrl.{Ctrl};
 ghost use Rattle.data_pdu.specs.declared.ctrl.CtrlRead.{CtrlRead};
@@ -9,9 +9,10 @@ ghost use Rattle.data_pdu.specs.Reading.{ctrl_of};
 ghost use Rattle.instants.specs.declared.indications.Params.{Params};
 ghost use Rattle.instants.specs.Track.{event_of};
 ghost use Rattle.control_model.specs.procedure_values.Values.{IsPayloadMax};
+ghost use Rattle.control_model.specs.procedure_values.declared.asks.Ask.{Ask};
 ghost use Rattle.control_model.specs.procedures.Sending.{next_ctrl_of};
 ghost use Rattle.control_model.specs.Control.{Control, Step, after, first_control};
-ghost use Rattle.control_octets.specs.Fitting.{FitsOctets, ParamsFit, StepFits};
+ghost use Rattle.control_octets.specs.Fitting.{AskFits, FitsOctets, ParamsFit, StepFits};
 
 /// The values that an end holds for its control PDUs are in their ranges as its link begins, and
 /// each step keeps them there. So the interval and the timeout of its parameters are at most 3,200,
@@ -40,6 +41,15 @@ pub fn what_is_sent_is_read()
     ensures at_any_time { (c : Control) (event skips : ℕ) (quiet : Bool) (ctrl : Ctrl)
         → FitsOctets c → next_ctrl_of c.table event skips quiet ≡ Some ctrl
         → IsCtrl ctrl × (ctrl_of (written ctrl) ≡ CtrlRead.Known ctrl) }
+{}
+
+/// The values with which a host asks for encryption are in their ranges exactly where LL_ENC_REQ
+/// has room for them; the long term key is in no PDU (Core 5.2, volume 6 part B, section 2.4.2.4).
+pub fn an_encryption_that_is_asked_for_fits()
+    ensures fits { (rand ediv : ℕ) (ltk : List ℕ) (skd_m iv_m : ℕ)
+        → AskFits (Ask.Encrypt rand ediv ltk skd_m iv_m) → IsCtrl (Ctrl.EncReq rand ediv skd_m iv_m) }
+    ensures exactly { (rand ediv : ℕ) (ltk : List ℕ) (skd_m iv_m : ℕ)
+        → IsCtrl (Ctrl.EncReq rand ediv skd_m iv_m) → AskFits (Ask.Encrypt rand ediv ltk skd_m iv_m) }
 {}
 
 /// A control PDU has at most 24 octets: LL_CONNECTION_PARAM_REQ and LL_CONNECTION_PARAM_RSP are the

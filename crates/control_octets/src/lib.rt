@@ -5,4 +5,7 @@
 
 mod laws;
 
-pub use crate::laws::{control_pdus_are_short, values_stay_in_their_ranges, what_is_sent_is_read};
+pub use crate::laws::{
+    an_encryption_that_is_asked_for_fits, control_pdus_are_short, values_stay_in_their_ranges,
+    what_is_sent_is_read,
+};

@@ -1,13 +1,13 @@
 -- The keys of both ends in each step of a joint run that may come.
-use Rattle.std.proofs.Common.{◌≡◌, Bool, true, false, ◌&&◌, List, ℕ, is_some, refl, sym, subst}
+use Rattle.std.proofs.Common.{◌≡◌, Bool, true, false, ◌&&◌, List, ℕ, is_some, sym, subst}
 use Rattle.std.proofs.lemmas.Bool.{and_parts}
 use Rattle.ble_base.specs.declared.roles.Role.TheVariants.{Central, Peripheral}
 use Rattle.enc_phase.specs.declared.facts.PhaseFacts.{PhaseFacts}
 use Rattle.enc_phase.specs.Phases.{opens}
-use Rattle.phased_control.specs.Taken.{Response, Sends, phased_after}
+use Rattle.phased_control.specs.Taken.{Response, Sends}
 use Rattle.joint_controls.specs.Joint.{Joint, JointStep, Way, CentralAcked, CentralEnters, CentralHost, CentralSends, CentralSendsData, CentralTakes, Clear, Fixed, OnAir, PeripheralAcked, PeripheralEnters, PeripheralFixes, PeripheralFixesData, PeripheralHost, PeripheralSends, PeripheralTakes, Shuts, Taken, act, central_takes, item_on_air, may_act, no_response, peripheral_takes}
 use Rattle.joint_phases.proofs.JointCentral.{Runs}
-use Rattle.joint_keys.specs.KeyedJoint.{KeyedJoint, Keys, central_keys_after, keys_taking, peripheral_keys_after}
+use Rattle.joint_keys.specs.KeyedJoint.{KeyedJoint, central_keys_after, keys_taking, peripheral_keys_after}
 use Rattle.joint_keys.proofs.EndChanges.{IsEnd}
 use Rattle.joint_keys.proofs.KeysGoing.{IsAt, KeysGo, changes_at, keys_acked, keys_enter, keys_host, keys_send, keys_stay, keys_take}
 

@@ -1,48 +1,43 @@
 -- The halves of the keys in each step of the central of a joint run.
-use Rattle.std.specs.Prelude.{⊤}
-use Rattle.std.specs.List.{AllByRecursion}
-use Rattle.std.proofs.Common.{◌≡◌, inl, inr, ℕ, Bool, true, false, not, ◌&&◌, if◌then◌else◌, List, [], ◌∷◌, Option, Some, None, is_some, refl, sym, ap, subst, ◌∙◌}
+use Rattle.std.proofs.Common.{◌≡◌, inr, ℕ, Bool, true, false, ◌&&◌, if◌then◌else◌, List, Option, Some, None, is_some, refl, sym, ap, subst, ◌∙◌}
 use Rattle.std.proofs.lemmas.Bool.{and_parts}
 use Rattle.ble_base.specs.declared.roles.Role.{Role}
-use Rattle.ble_base.specs.declared.roles.Role.TheVariants.{Central, Peripheral}
+use Rattle.ble_base.specs.declared.roles.Role.TheVariants.{Central}
 use Rattle.data_pdu.specs.declared.ctrl.Ctrl.{Ctrl}
-use Rattle.data_pdu.specs.declared.ctrl.Ctrl.TheVariants.{EncReq}
 use Rattle.data_pdu.specs.declared.ctrl.CtrlRead.TheVariants.{Known}
 use Rattle.enc_phase.specs.declared.facts.PhaseFacts.{PhaseFacts}
-use Rattle.enc_phase.specs.declared.facts.PhaseFacts.TheVariants.{Asked, Clear, HalfClear, HalfKeyed, Pausing, Secure}
+use Rattle.enc_phase.specs.declared.facts.PhaseFacts.TheVariants.{Clear, Secure}
 use Rattle.enc_phase.specs.declared.facts.Transition.TheVariants.{Ask}
 use Rattle.enc_phase.specs.Phases.{is_quiet, seals}
 use Rattle.enc_phase.specs.Taking.{allows, ctrl_class}
 use Rattle.phased_control.specs.PhaseChanges.{Change, Moves, Starts, Stays, change_of, changed, first_change, may_change, taken_change}
 use Rattle.phased_control.specs.Phased.{Phased, ask_begun, asks_again, is_encrypt, is_open_now, is_quiet_now, request_of, table_entered}
-use Rattle.phased_control.specs.Taken.{PhasedStep, Response, phased_after, role_now}
+use Rattle.phased_control.specs.Taken.{PhasedStep, phased_after, role_now}
 use Rattle.phased_control.specs.Taken.{Enters as phased_enters, SeesAcknowledged as phased_sees_acknowledged, Sends as phased_sends, Takes as phased_takes, TakesData as phased_takes_data}
 use Rattle.phased_control.specs.Steps.{control_steps}
 use Rattle.phased_control.specs.procedures.Beginning.{begin_step}
 use Rattle.phased_control.specs.procedure_values.declared.asks.Ask.{Ask as HostAsk}
 use Rattle.phased_control.specs.procedure_values.declared.asks.Ask.TheVariants.{Encrypt}
-use Rattle.phased_control.specs.procedure_values.declared.drafts.Outgoing.{Outgoing}
 use Rattle.phased_control.specs.procedure_values.declared.drafts.Outgoing.TheVariants.{Nothing}
-use Rattle.phase_pairs.specs.Agreement.{from_central}
 use Rattle.phase_pairs.specs.Counted.{counted_run}
 use Rattle.keyed_control.specs.declared.material.KeyMaterial.{KeyMaterial}
 use Rattle.keyed_control.specs.Keyed.{Keyed}
-use Rattle.keyed_control.specs.KeyedSteps.{KeyedStep, Enters, GivesKey, SeesAcknowledged, Sends, Takes, TakesData, keyed_after, keyed_moved, phased_step, with_asked, with_asked_if, with_key, with_read}
+use Rattle.keyed_control.specs.KeyedSteps.{KeyedStep, Enters, SeesAcknowledged, Sends, Takes, TakesData, keyed_moved, phased_step, with_asked, with_asked_if, with_key, with_read}
 use Rattle.keyed_control.proofs.Phases.{after_one, phased_once}
-use Rattle.joint_controls.specs.Joint.{AnswersRequest, AsksFor, Clear as clear_way, Control, Data, Ends, Fixed, HasKey, HasNoKey, HostStep, Item, Joint, OnAir, Taken, Way, central_takes, host_step, is_clear, is_taken, item_on_air, next_item, no_response, on_air, taking}
+use Rattle.joint_controls.specs.Joint.{AnswersRequest, AsksFor, Clear as clear_way, Control, Data, Ends, Fixed, HasKey, HasNoKey, HostStep, Item, OnAir, Taken, Way, central_takes, host_step, is_clear, is_taken, item_on_air, next_item, no_response, on_air, taking}
 use Rattle.joint_controls.specs.Ends.{outgoing_on}
 use Rattle.enc_phase.specs.declared.classes.PduClass.{PduClass}
 use Rattle.phase_pairs.specs.Agreement.{has_meaning}
 use Rattle.joint_phases.specs.Agreement.{is_allowed_right}
 use Rattle.joint_phases.specs.Classes.{item_class}
 use Rattle.joint_phases.specs.Pairs.{pair_of}
-use Rattle.joint_keys.specs.KeyedJoint.{KeyedJoint, Keys, host_keyed, item_keyed, keyed_with, keys_after, keys_opening, keys_sending, keys_taking}
+use Rattle.joint_keys.specs.KeyedJoint.{KeyedJoint, Keys, host_keyed, item_keyed, keyed_with, keys_after, keys_opening, keys_taking}
 use Rattle.joint_keys.proofs.Counting.{link_of_run}
 use Rattle.joint_keys.proofs.HalvesKept.{HalvesAt, asks_as_before, halves_next}
-use Rattle.joint_keys.proofs.KeysGoing.{IsAt, changes_at, may_at, open_keyed}
+use Rattle.joint_keys.proofs.KeysGoing.{changes_at, may_at, open_keyed}
 use Rattle.joint_keys.proofs.Materials.{IsReqOf, IsRspOf, by_peer, central_reads_first, req_first}
-use Rattle.joint_keys.proofs.Owed.{IsOptionFine, Lets, acked_owed, answer_no_req, enters_owed, host_owed, lets_req, taken_owed}
-use Rattle.joint_keys.proofs.PairFacts.{AllFine, fine_down, quiet_down}
+use Rattle.joint_keys.proofs.Owed.{IsOptionFine, acked_owed, answer_no_req, enters_owed, host_owed, lets_req, taken_owed}
+use Rattle.joint_keys.proofs.PairFacts.{fine_down, quiet_down}
 use Rattle.joint_keys.proofs.Queues.{AllWait, AreOwedFine, IsNextFine, IsWayFine, all_on, next_fine, waits_on, way_on}
 use Rattle.joint_keys.proofs.Standing.{Standing}
 use Rattle.joint_keys.proofs.Vectors.{CentralGoes, central_plain, central_rests, central_takes as takes_material}
@@ -85,8 +80,8 @@ begins_quiet Secure may = refl
 begins_quiet p may = absurd (cc)
 
 begins_material : (p : PhaseFacts) (m m' n : KeyMaterial) → may_change (first_change p) p ≡ true → CentralGoes p (changed (first_change p) p) m m' n
-begins_material Clear m m' n may = record { asked = λ is. inr refl; second = λ is. absurd (cc); starts = λ none is. absurd (cc) }
-begins_material Secure m m' n may = record { asked = λ is. absurd (cc); second = λ is. absurd (cc); starts = λ none is. absurd (cc) }
+begins_material Clear m m' n may = record { asked = λ is. inr refl; key = λ is. absurd (cc); second = λ is. absurd (cc); starts = λ none is. absurd (cc) }
+begins_material Secure m m' n may = record { asked = λ is. absurd (cc); key = λ is. absurd (cc); second = λ is. absurd (cc); starts = λ none is. absurd (cc) }
 begins_material p m m' n may = absurd (cc)
 
 pub clear_is : (w : Way) → is_clear w ≡ true → w ≡ clear_way
@@ -120,6 +115,22 @@ module _ (s : KeyedJoint) (here : Here s.joint) (st : Standing s) (has : Central
   may_now : (step : PhasedStep) → may_change (change_of step c) p ≡ true
   may_now step = may_at Central c here.central here.goes.central step
 
+  -- the material is this after a step
+  moves_with : (keys : Keys) (step : KeyedStep) (r : PhasedStep) (k : KeyMaterial) (down : Way) → HalvesAt c keys.material → phased_step step ≡ Some r
+      → (keyed_moved step (keyed_with c keys)).material ≡ k → CentralGoes p (changed (change_of r c) p) m k n → AreOwedFine (IsReqOf k) (control_steps r c)
+      → AllWait (IsReqOf k) c → IsWayFine (IsReqOf k) down → Next (phased_after r c) (keys_after step c keys).material down
+  moves_with keys step r k down halves at is goes owed waits way =
+      let same : (keys_after step c keys).material ≡ k = material_is (λ x. x ≡ k) c keys step here.goes.central is in
+      record {
+        goes = subst (λ (x : KeyMaterial). CentralGoes p (phased_after r c).phase m x n) (sym same) (goes_by r k goes);
+        has =
+            record {
+              waits = subst (λ (x : KeyMaterial). AllWait (IsReqOf x) (phased_after r c)) (sym same) (waits_on (IsReqOf k) (lets_req k).plain r c here.goes.central owed waits);
+              way = subst (λ (x : KeyMaterial). IsWayFine (IsReqOf x) down) (sym same) way;
+              halves = halves_of c keys step r at halves;
+            };
+      }
+
   -- ---- an event is entered
 
   abbrev begins : ℕ → Bool
@@ -146,39 +157,9 @@ module _ (s : KeyedJoint) (here : Here s.joint) (st : Standing s) (has : Central
   next_enters slot =
       let k = with_asked_if (begins slot) asked m in
       let before = before_entering (begins slot) (may_now (phased_enters slot)) in
-      record {
-        goes = material_is (λ x. CentralGoes p (phased_after (phased_enters slot) c).phase m x n) c s.central (Enters slot) here.goes.central (goes_by (phased_enters slot) k before.goes);
-        has =
-            record {
-              waits =
-                  material_is (λ x. AllWait (IsReqOf x) (phased_after (phased_enters slot) c)) c s.central (Enters slot) here.goes.central
-                  (waits_on (IsReqOf k) (lets_req k).plain (phased_enters slot) c here.goes.central
-                  (enters_owed (IsReqOf k) (lets_req k) slot c (λ is. subst (λ (b : Bool). IsOptionFine (IsReqOf (with_asked_if b asked m)) (request_of asked)) (sym is) (asked_fine asked m)))
-                  before.waits);
-              way = material_is (λ x. IsWayFine (IsReqOf x) s.joint.down) c s.central (Enters slot) here.goes.central before.way;
-              halves = halves_of c s.central (Enters slot) (phased_enters slot) refl has.halves;
-            };
-      }
-
-  -- ---- the material stays
-
-  stays_with : (keys : Keys) (step : KeyedStep) (q : PhasedStep) (down : Way) → HalvesAt c keys.material → phased_step step ≡ Some q → (keys_after step c keys).material ≡ m
-      → CentralGoes p (changed (change_of q c) p) m m n → AllWait (IsReqOf m) (phased_after q c) → IsWayFine (IsReqOf m) down
-      → Next (phased_after q c) (keys_after step c keys).material down
-  stays_with keys step q down halves is same goes waits way =
-      let k = (keys_after step c keys).material in
-      record {
-        goes = subst (λ (x : KeyMaterial). CentralGoes p (phased_after q c).phase m x n) (sym same) (goes_by q m goes);
-        has =
-            record {
-              waits = subst (λ (x : KeyMaterial). AllWait (IsReqOf x) (phased_after q c)) (sym same) waits;
-              way = subst (λ (x : KeyMaterial). IsWayFine (IsReqOf x) down) (sym same) way;
-              halves = halves_of c keys step q is halves;
-            };
-      }
-
-  waits_with : (q : PhasedStep) → AreOwedFine (IsReqOf m) (control_steps q c) → AllWait (IsReqOf m) (phased_after q c)
-  waits_with q owed = waits_on (IsReqOf m) (lets_req m).plain q c here.goes.central owed has.waits
+      moves_with s.central (Enters slot) (phased_enters slot) k s.joint.down has.halves refl refl before.goes
+      (enters_owed (IsReqOf k) (lets_req k) slot c (λ is. subst (λ (b : Bool). IsOptionFine (IsReqOf (with_asked_if b asked m)) (request_of asked)) (sym is) (asked_fine asked m)))
+      before.waits before.way
 
   -- ---- the host
 
@@ -196,13 +177,12 @@ module _ (s : KeyedJoint) (here : Here s.joint) (st : Standing s) (has : Central
   host_stays HasKey = given_none c.asks_key no_key Starts
   host_stays HasNoKey = given_none c.asks_key no_key _
 
-  host_material : (step : HostStep) (ltk : List ℕ) → (keys_after (host_keyed step ltk) c s.central).material ≡ m
-  host_material (AsksFor ask) ltk = material_is (λ x. x ≡ m) c s.central (host_keyed (AsksFor ask) ltk) here.goes.central refl
-  host_material (AnswersRequest answer) ltk = material_is (λ x. x ≡ m) c s.central (host_keyed (AnswersRequest answer) ltk) here.goes.central refl
-  host_material (Ends reason) ltk = material_is (λ x. x ≡ m) c s.central (host_keyed (Ends reason) ltk) here.goes.central refl
-  host_material HasKey ltk =
-      material_is (λ x. x ≡ m) c s.central (GivesKey ltk) here.goes.central (ap (λ (x : Change). with_key x ltk m) (host_stays HasKey))
-  host_material HasNoKey ltk = material_is (λ x. x ≡ m) c s.central (host_keyed HasNoKey ltk) here.goes.central refl
+  host_material : (step : HostStep) (ltk : List ℕ) → (keyed_moved (host_keyed step ltk) (keyed_with c s.central)).material ≡ m
+  host_material (AsksFor ask) ltk = refl
+  host_material (AnswersRequest answer) ltk = refl
+  host_material (Ends reason) ltk = refl
+  host_material HasKey ltk = ap (λ (x : Change). with_key x ltk m) (host_stays HasKey)
+  host_material HasNoKey ltk = refl
 
   host_is : (step : HostStep) (ltk : List ℕ) → phased_step (host_keyed step ltk) ≡ Some (host_step step)
   host_is (AsksFor ask) ltk = refl
@@ -213,9 +193,8 @@ module _ (s : KeyedJoint) (here : Here s.joint) (st : Standing s) (has : Central
 
   pub next_host : (step : HostStep) (ltk : List ℕ) → Next (phased_after (host_step step) c) (keys_after (host_keyed step ltk) c s.central).material s.joint.down
   next_host step ltk =
-      stays_with s.central (host_keyed step ltk) (host_step step) s.joint.down has.halves (host_is step ltk) (host_material step ltk)
-      (subst (λ (x : Change). CentralGoes p (changed x p) m m n) (sym (host_stays step)) (central_rests p m n))
-      (waits_with (host_step step) (host_owed (IsReqOf m) (lets_req m) step c)) has.way
+      moves_with s.central (host_keyed step ltk) (host_step step) m s.joint.down has.halves (host_is step ltk) (host_material step ltk)
+      (subst (λ (x : Change). CentralGoes p (changed x p) m m n) (sym (host_stays step)) (central_rests p m n)) (host_owed (IsReqOf m) (lets_req m) step c) has.waits has.way
 
   -- ---- a PDU is sent
 
@@ -231,7 +210,7 @@ module _ (s : KeyedJoint) (here : Here s.joint) (st : Standing s) (has : Central
         goes = goes_by (phased_sends slot) m (central_rests p m n);
         has =
             record {
-              waits = waits_with (phased_sends slot) (tt, tt);
+              waits = waits_on (IsReqOf m) (lets_req m).plain (phased_sends slot) c here.goes.central (tt, tt) has.waits;
               way = on_way (next_item c) (seals Central p) (next_fine (IsReqOf m) (lets_req m).plain c here.goes.central none some has.waits);
               halves =
                   subst (λ (x : KeyMaterial). HalvesAt (phased_after (phased_sends slot) c) x) (material_is (λ x. x ≡ m) c s.central (Sends slot) here.goes.central refl)
@@ -250,12 +229,10 @@ module _ (s : KeyedJoint) (here : Here s.joint) (st : Standing s) (has : Central
 
   pub next_acked : is_taken s.joint.down ≡ true → Next (phased_after phased_sees_acknowledged c) (keys_after SeesAcknowledged c s.central).material clear_way
   next_acked taken =
-      stays_with s.central SeesAcknowledged phased_sees_acknowledged clear_way has.halves refl (material_is (λ x. x ≡ m) c s.central SeesAcknowledged here.goes.central refl)
-      (acked_plain (asks_again c) (may_now phased_sees_acknowledged))
-      (waits_with phased_sees_acknowledged
+      moves_with s.central SeesAcknowledged phased_sees_acknowledged m clear_way has.halves refl refl (acked_plain (asks_again c) (may_now phased_sees_acknowledged))
       (acked_owed (IsReqOf m) (lets_req m) c
-      (λ asks. asks_as_before s.joint (counted_run st.events).link st.events (link_of_run st.events) st.shown here.facts m has.halves taken asks)))
-      tt
+      (λ asks. asks_as_before s.joint (counted_run st.events).link st.events (link_of_run st.events) st.shown here.facts m has.halves taken asks))
+      has.waits tt
 
   -- ---- a PDU of the peripheral is taken
 
@@ -282,25 +259,14 @@ module _ (s : KeyedJoint) (here : Here s.joint) (st : Standing s) (has : Central
       let req : (x : Ctrl) → IsReqOf m x → IsReqOf k x =
       subst (λ (r : Role). (x : Ctrl) → IsReqOf m x → IsReqOf (with_read r (Known ctrl) no_response change p m) x) (sym role)
       (req_first m (with_read Central (Known ctrl) no_response change p m) (central_reads_first no_response m ctrl change p)) in
-      let opened = keys_opening s.central in
-      record {
-        goes = material_is (λ x. CentralGoes p (phased_after step c).phase m x n) c opened keyed here.goes.central (goes_by step k goes);
-        has =
-            record {
-              waits =
-                  material_is (λ x. AllWait (IsReqOf x) (phased_after step c)) c opened keyed here.goes.central
-                  (waits_on (IsReqOf k) (lets_req k).plain step c here.goes.central
-                  (taken_owed (λ change. IsReqOf k) (Known ctrl) slot no_response c (answer_no_req k _ no_response (Known ctrl) _)) (all_on (IsReqOf m) (IsReqOf k) req _ has.waits));
-              way = material_is (λ x. IsWayFine (IsReqOf x) s.joint.down) c opened keyed here.goes.central (way_on (IsReqOf m) (IsReqOf k) req s.joint.down has.way);
-              halves = halves_of c opened keyed step refl has.halves;
-            };
-      }
+      moves_with (keys_opening s.central) keyed step k s.joint.down has.halves refl refl goes
+      (taken_owed (λ change. IsReqOf k) (Known ctrl) slot no_response c (answer_no_req k _ no_response (Known ctrl) _)) (all_on (IsReqOf m) (IsReqOf k) req _ has.waits)
+      (way_on (IsReqOf m) (IsReqOf k) req s.joint.down has.way)
 
   -- data
   data_taken : Next (phased_after phased_takes_data c) (keys_after TakesData c (keys_opening s.central)).material s.joint.down
   data_taken =
-      stays_with (keys_opening s.central) TakesData phased_takes_data s.joint.down has.halves refl
-      (material_is (λ x. x ≡ m) c (keys_opening s.central) TakesData here.goes.central refl) (central_rests p m n) (waits_with phased_takes_data tt) has.way
+      moves_with (keys_opening s.central) TakesData phased_takes_data m s.joint.down has.halves refl refl (central_rests p m n) tt has.waits has.way
 
   allowed_item : (class_of : Ctrl → PduClass) (item : Item) → is_allowed_right Central p class_of (Some item) ≡ true → Allowed item
   allowed_item class_of Data right = tt

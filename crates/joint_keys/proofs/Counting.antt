@@ -1,15 +1,14 @@
 -- The counters of the ends of a joint run are the numbers of the machine of phases. A peripheral numbers data in the machine
 -- as it is fixed, and here as it is sent.
-use Rattle.std.proofs.Common.{◌≡◌, ◌⊎◌, inl, inr, ℕ, ◌+◌, Bool, true, false, not, ◌&&◌, ◌||◌, if◌then◌else◌, List, [], ◌∷◌, ◌++◌, Option, Some, None, refl, sym, ap, subst, ◌∙◌, arith}
-use Rattle.ble_base.specs.declared.roles.Role.{Role}
+use Rattle.std.proofs.Common.{◌≡◌, ◌⊎◌, inl, inr, ℕ, ◌+◌, Bool, true, false, ◌&&◌, if◌then◌else◌, List, [], ◌∷◌, ◌++◌, Option, Some, None, refl, sym, ap, subst, ◌∙◌, arith}
 use Rattle.ble_base.specs.declared.roles.Role.TheVariants.{Central, Peripheral}
 use Rattle.enc_phase.specs.declared.facts.PhaseFacts.{PhaseFacts}
-use Rattle.enc_phase.specs.Phases.{opens, seals}
+use Rattle.enc_phase.specs.Phases.{opens}
 use Rattle.phased_control.specs.enc_phase.Sealing.{EncEnd}
-use Rattle.machines.specs.Machine.{run, run_from, step}
+use Rattle.machines.specs.Machine.{run, run_from}
 use Rattle.phase_pairs.specs.declared.joint.PhaseEvent.{PhaseEvent}
 use Rattle.phase_pairs.specs.declared.joint.PhaseLink.{PhaseLink}
-use Rattle.phase_pairs.specs.Counted.{Counted, Effect, FirstMore, FirstNone, Nothing, SecondMore, SecondNone, counted_between, counted_from, counted_run, counted_start, counted_step, effect_down, effect_up, first_after, is_beginning, is_by_central, is_sending, is_taking, receiving_effect, second_after, sending_effect}
+use Rattle.phase_pairs.specs.Counted.{Counted, Effect, FirstMore, FirstNone, Nothing, SecondMore, SecondNone, counted_between, counted_from, counted_run, counted_start, counted_step, effect_down, effect_up, first_after, is_sending, is_taking, receiving_effect, second_after, sending_effect}
 use Rattle.phase_pairs.specs.JointRun.{encryption, phases_act, phases_may}
 use Rattle.keyed_control.specs.declared.material.KeyMaterial.{KeyMaterial}
 use Rattle.joint_controls.specs.Joint.{Joint}

@@ -1,6 +1,6 @@
 -- What a change of the phase does to an end: its phase, its session and its counters, in the words of the counters of two
 -- ends.
-use Rattle.std.proofs.Common.{◌≡◌, ℕ, ◌+◌, Bool, true, false, not, ◌&&◌, ◌||◌, if◌then◌else◌, List, refl, sym, ap, subst, ◌∙◌}
+use Rattle.std.proofs.Common.{◌≡◌, ℕ, Bool, true, false, List, refl, sym, subst, ◌∙◌}
 use Rattle.ble_base.specs.declared.roles.Role.{Role}
 use Rattle.ble_base.specs.declared.roles.Role.TheVariants.{Central, Peripheral}
 use Rattle.enc_phase.specs.declared.classes.PduClass.{PduClass}
@@ -11,9 +11,9 @@ use Rattle.enc_phase.specs.declared.facts.Transition.TheVariants.{Ask, Confirm, 
 use Rattle.enc_phase.specs.Phases.{is_asked, opens, seals}
 use Rattle.enc_phase.specs.Taking.{phase_taking}
 use Rattle.enc_phase.proofs.Steps.{apart, has_session}
-use Rattle.phased_control.specs.enc_phase.Sealing.{EncEnd, after_opening, after_sending}
+use Rattle.phased_control.specs.enc_phase.Sealing.{EncEnd}
 use Rattle.phased_control.specs.PhaseChanges.{Change, Moves, Starts, Stays, Took, changed, may_change}
-use Rattle.phase_pairs.specs.Counted.{Effect, FirstMore, FirstNone, Nothing, SecondMore, SecondNone, first_after, is_beginning, is_half_keyed, receiving_effect, second_after, sending_effect}
+use Rattle.phase_pairs.specs.Counted.{first_after, receiving_effect, second_after, sending_effect}
 use Rattle.keyed_control.specs.declared.material.KeyMaterial.{KeyMaterial}
 use Rattle.keyed_control.specs.Keyed.{session_of}
 use Rattle.keyed_control.specs.KeyedSteps.{end_changed}

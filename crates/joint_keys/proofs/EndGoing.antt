@@ -6,7 +6,7 @@ use Rattle.enc_phase.specs.declared.facts.PhaseFacts.TheVariants.{Asked, Clear, 
 use Rattle.enc_phase.specs.Phases.{is_asked, opens, seals}
 use Rattle.enc_phase.proofs.Steps.{apart, has_session, seals_in_session}
 use Rattle.phased_control.specs.enc_phase.Sealing.{EncEnd, after_opening, after_sending}
-use Rattle.phase_pairs.specs.Counted.{Effect, FirstMore, FirstNone, Nothing, SecondMore, SecondNone, first_after, is_beginning, is_half_keyed, receiving_effect, second_after, sending_effect}
+use Rattle.phase_pairs.specs.Counted.{FirstMore, FirstNone, Nothing, SecondMore, SecondNone, first_after, is_beginning, is_half_keyed, receiving_effect, second_after, sending_effect}
 use Rattle.keyed_control.specs.declared.material.KeyMaterial.{KeyMaterial}
 use Rattle.joint_keys.proofs.EndChanges.{EndGoes, IsEnd}
 

@@ -1,5 +1,5 @@
 -- Which end the machine's event of a step is of, and which counters it changes.
-use Rattle.std.proofs.Common.{◌≡◌, ℕ, ◌+◌, Bool, true, false, not, ◌&&◌, ◌||◌, Option, Some, None, is_some, refl, ap, sym, ◌∙◌}
+use Rattle.std.proofs.Common.{◌≡◌, ℕ, Bool, true, false, not, ◌&&◌, Option, Some, None, is_some, refl, ap}
 use Rattle.std.proofs.lemmas.Bool.{and_parts}
 use Rattle.data_pdu.specs.declared.ctrl.Ctrl.{Ctrl}
 use Rattle.phased_control.specs.procedure_values.declared.drafts.Outgoing.{Outgoing}
@@ -7,15 +7,14 @@ use Rattle.phased_control.specs.procedure_values.Drafts.{ctrl_of_outgoing}
 use Rattle.phased_control.specs.Taken.{Response}
 use Rattle.phase_pairs.specs.declared.joint.PhaseEvent.{PhaseEvent}
 use Rattle.phase_pairs.specs.declared.joint.PhaseEvent.TheVariants.{CentralCloses, CentralEncrypts, KeyGiven, KeyRefused, PeripheralBegins, PeripheralCloses}
-use Rattle.phase_pairs.specs.declared.joint.PhaseLink.{PhaseLink}
 use Rattle.phase_pairs.specs.declared.joint.PhaseWay.{PhaseWay}
 use Rattle.phase_pairs.specs.Counted.{is_by_central, is_sending, is_taking}
 use Rattle.phase_pairs.specs.JointRun.{is_data}
-use Rattle.joint_controls.specs.Joint.{HostStep, Item, Joint, JointStep, Way, AnswersRequest, AsksFor, CentralAcked, CentralEnters, CentralHost, CentralSends, CentralSendsData, CentralTakes, Clear, Control, Data, Ends, Fixed, HasKey, HasNoKey, OnAir, PeripheralAcked, PeripheralEnters, PeripheralFixes, PeripheralFixesData, PeripheralHost, PeripheralSends, PeripheralTakes, Shuts, Taken, act, central_takes, event_now, is_fixed, is_last, is_running, item_by, item_on_air, latency_now, may_act, next_item, next_out, peripheral_takes}
+use Rattle.joint_controls.specs.Joint.{HostStep, Joint, JointStep, Way, AnswersRequest, AsksFor, CentralAcked, CentralEnters, CentralHost, CentralSends, CentralSendsData, CentralTakes, Clear, Control, Data, Ends, Fixed, HasKey, HasNoKey, OnAir, PeripheralAcked, PeripheralEnters, PeripheralFixes, PeripheralFixesData, PeripheralHost, PeripheralSends, PeripheralTakes, Taken, act, central_takes, event_now, is_fixed, is_last, is_running, item_by, item_on_air, latency_now, may_act, next_out, peripheral_takes}
 use Rattle.joint_controls.specs.phased_control.Phased.{is_open_now}
 use Rattle.joint_phases.specs.Classes.{class_up}
 use Rattle.joint_phases.specs.Events.{does_begin, does_encrypt, event_if, event_of_step, item_or_none, taken_down, taken_up}
-use Rattle.joint_phases.specs.Parts.{IsShown, way_up}
+use Rattle.joint_phases.specs.Parts.{way_up}
 use Rattle.joint_phases.proofs.JointPeripheral.{control_up}
 use Rattle.joint_keys.proofs.BothGoing.{sends_down, takes_down, takes_up}
 

@@ -1,6 +1,6 @@
 -- While the central of a joint run runs an encryption, its LL_ENC_REQ has the halves of its material.
 use Rattle.std.proofs.Common.{◌≡◌, ℕ, Bool, true, false, not, ◌&&◌, ◌||◌, if◌then◌else◌, List, [], ◌∷◌, ◌++◌, Option, Some, None, is_none, is_some, refl, sym, ap, subst, ◌∙◌}
-use Rattle.std.proofs.lemmas.Bool.{and_parts, or_from}
+use Rattle.std.proofs.lemmas.Bool.{and_parts}
 use Rattle.ble_base.specs.declared.roles.Role.TheVariants.{Central}
 use Rattle.data_pdu.specs.declared.ctrl.Ctrl.{Ctrl}
 use Rattle.data_pdu.specs.declared.ctrl.Ctrl.TheVariants.{EncReq}
@@ -13,7 +13,6 @@ use Rattle.phase_pairs.specs.declared.joint.PhaseLink.{PhaseLink}
 use Rattle.phase_pairs.specs.JointRun.{encryption, is_coming, is_pause_rsp as is_pause_rsp_class, is_pause_rsp_taken}
 use Rattle.phased_control.specs.enc_phase.Sealing.{EncEnd}
 use Rattle.phased_control.specs.Phased.{Phased, asks_again, is_open_now, is_pause_rsp}
-use Rattle.phased_control.specs.Taken.{phased_after}
 use Rattle.phased_control.specs.table_laws.Encrypting.{has_encryption}
 use Rattle.keyed_control.specs.declared.material.KeyMaterial.{KeyMaterial}
 use Rattle.keyed_control.specs.Halves.{IsRequestWith}
@@ -22,7 +21,7 @@ use Rattle.keyed_control.specs.KeyedSteps.{KeyedStep, Answers, Asks, Disconnects
 use Rattle.keyed_control.proofs.Halves.{halves_now}
 use Rattle.joint_controls.specs.Joint.{Joint, is_taken}
 use Rattle.joint_phases.specs.Facts.{Facts}
-use Rattle.joint_phases.specs.Parts.{IsShown, way_down}
+use Rattle.joint_phases.specs.Parts.{IsShown}
 use Rattle.joint_laws.specs.Pauses.{is_pausing_down, pauses_right}
 use Rattle.joint_laws.proofs.PausePlaces.{pausing}
 use Rattle.joint_keys.proofs.Materials.{IsReqOf}

@@ -1,6 +1,6 @@
--- A joint run with keys is a joint run.
-use Rattle.std.proofs.Common.{◌≡◌, Bool, true, false, if◌then◌else◌, List, [], ◌∷◌, refl, ap, ◌∙◌}
-use Rattle.joint_controls.specs.Joint.{Joint, JointStep, after, after_all, may}
+-- A joint run with keys is a joint run; one list of its steps after another.
+use Rattle.std.proofs.Common.{◌≡◌, Bool, true, false, if◌then◌else◌, List, [], ◌∷◌, ◌++◌, refl, ap, ◌∙◌}
+use Rattle.joint_controls.specs.Joint.{Joint, after, after_all, may}
 use Rattle.joint_keys.specs.KeyedJoint.{KeyedJoint, KeyedJointStep, keyed_act, keyed_joint_after, keyed_joint_after_all, steps_of}
 
 pub joint_once : (ks : KeyedJointStep) (s : KeyedJoint) → (keyed_joint_after ks s).joint ≡ after ks.step s.joint
@@ -14,3 +14,7 @@ pub joint_all : (steps : List KeyedJointStep) (s : KeyedJoint) → (keyed_joint_
 joint_all [] s = refl
 joint_all (ks ∷ steps) s =
     joint_all steps (keyed_joint_after ks s) ∙ ap (λ (t : Joint). after_all (steps_of steps) t) (joint_once ks s)
+
+pub runs_joined : (xs ys : List KeyedJointStep) (s : KeyedJoint) → keyed_joint_after_all (xs ++ ys) s ≡ keyed_joint_after_all ys (keyed_joint_after_all xs s)
+runs_joined [] ys s = refl
+runs_joined (x ∷ xs) ys s = runs_joined xs ys (keyed_joint_after x s)

@@ -1,13 +1,12 @@
 -- The keys of an end in each step of a joint run.
-use Rattle.std.proofs.Common.{◌≡◌, ℕ, Bool, true, false, ◌&&◌, ◌||◌, if◌then◌else◌, List, Option, Some, None, is_none, refl, sym, ap, subst, ◌∙◌}
+use Rattle.std.proofs.Common.{◌≡◌, ℕ, Bool, true, false, ◌||◌, if◌then◌else◌, List, Option, Some, None, is_none, is_some, refl, sym, ap, subst, ◌∙◌}
 use Rattle.ble_base.specs.declared.error_codes.ErrCode.{ErrCode}
 use Rattle.ble_base.specs.declared.roles.Role.{Role}
-use Rattle.ble_base.specs.declared.roles.Role.TheVariants.{Central, Peripheral}
 use Rattle.data_pdu.specs.declared.ctrl.CtrlRead.TheVariants.{Known}
 use Rattle.enc_phase.specs.declared.facts.PhaseFacts.{PhaseFacts}
 use Rattle.enc_phase.specs.Phases.{opens}
 use Rattle.instants.specs.declared.indications.Params.{Params}
-use Rattle.phased_control.specs.enc_phase.Sealing.{EncEnd}
+use Rattle.phased_control.specs.enc_phase.Sealing.{EncEnd, after_opening, is_right}
 use Rattle.phased_control.specs.PhaseChanges.{change_of, changed, may_change}
 use Rattle.phased_control.specs.Phased.{Phased, first_phased}
 use Rattle.phased_control.specs.Taken.{PhasedStep, Response, phased_after, phased_after_all}
@@ -16,10 +15,11 @@ use Rattle.phased_control.proofs.Changing.{may_change_now, phase_changes}
 use Rattle.keyed_control.specs.declared.material.KeyMaterial.{KeyMaterial}
 use Rattle.keyed_control.specs.Keyed.{Keyed}
 use Rattle.keyed_control.specs.KeyedSteps.{KeyedStep, Answers, Asks, Disconnects, Enters, GivesKey, LacksKey, Opens, Seals, SeesAcknowledged, Sends, Takes, TakesData, end_changed, is_of_session, keyed_after, keyed_moved, phased_step}
+use Rattle.keyed_control.proofs.Phases.{after_one, phased_once}
 use Rattle.joint_controls.specs.Joint.{Control, Data, HostStep, Item, AnswersRequest, AsksFor, Ends, HasKey, HasNoKey, host_step, taking}
 use Rattle.joint_keys.specs.KeyedJoint.{Keys, host_keyed, item_keyed, keyed_with, keys_after, keys_opening, keys_sending}
 use Rattle.joint_keys.proofs.EndChanges.{EndGoes, IsEnd, end_goes}
-use Rattle.joint_keys.proofs.EndGoing.{end_opening, end_sends, end_stays, end_takes}
+use Rattle.joint_keys.proofs.EndGoing.{end_kept, end_opening, end_sends, end_stays, end_takes}
 
 -- the keys of an end whose phase goes from one to another
 pub record KeysGo (role : Role) (sends takes : Bool) (p q : PhaseFacts) (k l : Keys) : Type 0 where
@@ -134,3 +134,26 @@ keys_stay role p k here = record { end_goes = end_stays role p k.material k.end 
 
 pub keys_send : (role : Role) (p : PhaseFacts) (k : Keys) → IsEnd role p k.end → KeysGo role true false p p k (keys_sending k)
 keys_send role p k here = record { end_goes = end_sends role p k.material k.end here; made_kept = λ none. absurd (cc); made_now = λ some. refl }
+
+-- ---- an end in its phase stays so in each step of its own
+
+module _ (role : Role) (k : Keyed) (at : IsAt role k.phased) (lasts : k.phased.control.ends ≡ None) (here : IsEnd role k.phased.phase k.end) where
+  opened_right : (b : Bool) → IsEnd role k.phased.phase (if b then after_opening k.end else k.end)
+  opened_right true = end_opening role k.phased.phase k.material k.end here
+  opened_right false = here
+
+  abbrev EndAfter : KeyedStep → Type 0
+  EndAfter step = IsEnd role (keyed_after step k).phased.phase (keyed_after step k).end
+
+  by_phased : (step : KeyedStep) (o : Option PhasedStep) → phased_step step ≡ o → is_some o ≡ true → is_of_session step ≡ false → EndAfter step
+  by_phased step None is some of = absurd (cc)
+  by_phased step (Some p) is some of =
+      subst (λ (s : Phased). IsEnd role s.phase (keyed_after step k).end) (sym (phased_once step k ∙ ap (λ (o : Option PhasedStep). after_one o k.phased) is))
+      (end_kept role false false k.phased.phase (phased_after p k.phased).phase _ k.end (keyed_after step k).end
+      (end_steps role k.phased at lasts step p (record { material = k.material; end = k.end; made = k.end }) of is here))
+
+  pub end_in_step : (step : KeyedStep) → EndAfter step
+  end_in_step (Seals header body) =
+      end_kept role true false k.phased.phase k.phased.phase k.material k.end _ (end_sends role k.phased.phase k.material k.end here)
+  end_in_step (Opens header payload) = opened_right (is_right k.end header payload)
+  end_in_step step = by_phased step _ refl refl refl

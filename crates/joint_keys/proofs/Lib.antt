@@ -1,6 +1,7 @@
 -- The lemmas of this crate.
 pub mod SealedWays
 pub mod JointRuns
+pub mod KeyedLinks
 pub mod EndChanges
 pub mod EndGoing
 pub mod KeysGoing
@@ -12,6 +13,7 @@ pub mod Standing
 pub mod Stepping
 pub mod Walking
 pub mod Opened
+pub mod NextPdus
 pub mod Queues
 pub mod PairFacts
 pub mod Materials
@@ -21,3 +23,10 @@ pub mod HalvesKept
 pub mod CentralVectors
 pub mod PeripheralVectors
 pub mod Vectored
+pub mod OneKeys
+pub mod EachSteps
+pub mod LinkKeys
+pub mod Terminating
+pub mod Closings
+pub mod Keyless
+pub mod PhasedRanges

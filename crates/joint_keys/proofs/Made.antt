@@ -1,6 +1,6 @@
 -- An end as its PDU on the air was first sent: its session goes on, and its counter is one less.
 use Rattle.std.specs.Prelude.{⊤}
-use Rattle.std.proofs.Common.{◌≡◌, ℕ, ◌+◌, Bool, true, false, not, ◌&&◌, ◌||◌, if◌then◌else◌, List, Option, Some, None, is_some, refl, sym, ap, subst, ◌∙◌, arith}
+use Rattle.std.proofs.Common.{◌≡◌, ℕ, ◌+◌, Bool, true, false, if◌then◌else◌, List, refl, sym, ap, subst, ◌∙◌}
 use Rattle.std.proofs.lemmas.Bool.{and_parts}
 use Rattle.ble_base.specs.declared.roles.Role.{Role}
 use Rattle.ble_base.specs.declared.roles.Role.TheVariants.{Central, Peripheral}
@@ -13,7 +13,7 @@ use Rattle.phase_pairs.specs.declared.joint.PhaseLink.{PhaseLink}
 use Rattle.phase_pairs.specs.Agreement.{is_equal}
 use Rattle.phase_pairs.specs.Counted.{first_after}
 use Rattle.phase_pairs.specs.JointRun.{encryption}
-use Rattle.joint_controls.specs.Joint.{Item, Joint, Way, Clear, Control, Data, Fixed, OnAir, Taken}
+use Rattle.joint_controls.specs.Joint.{Joint, Way, Clear, Control, Data, Fixed, OnAir, Taken}
 use Rattle.joint_phases.specs.Parts.{IsShown, way_down, way_up}
 use Rattle.joint_keys.specs.KeyedJoint.{Keys, keys_sending}
 use Rattle.joint_keys.proofs.EndChanges.{IsEnd}

@@ -1,23 +1,22 @@
 -- What a step of an end does to the material of its keys: which change a PDU of the other end is, and the halves that it
 -- brings.
 use Rattle.std.specs.Prelude.{⊤}
-use Rattle.std.proofs.Common.{◌≡◌, ◌⊎◌, inl, inr, ℕ, ◌==◌, Bool, true, false, not, ◌&&◌, ◌||◌, if◌then◌else◌, List, [], ◌∷◌, Option, Some, None, is_none, refl, sym, ap, subst, ◌∙◌}
+use Rattle.std.proofs.Common.{◌≡◌, ◌⊎◌, inl, inr, ℕ, Bool, true, false, if◌then◌else◌, is_none, refl, sym, ◌∙◌}
 use Rattle.ble_base.specs.declared.roles.Role.{Role}
 use Rattle.ble_base.specs.declared.roles.Role.TheVariants.{Central, Peripheral}
 use Rattle.data_pdu.specs.declared.ctrl.Ctrl.{Ctrl}
-use Rattle.data_pdu.specs.declared.ctrl.Ctrl.TheVariants.{EncReq, EncRsp, RejectExtInd, StartEncReq}
+use Rattle.data_pdu.specs.declared.ctrl.Ctrl.TheVariants.{EncReq, EncRsp}
 use Rattle.data_pdu.specs.declared.ctrl.CtrlRead.{CtrlRead}
 use Rattle.data_pdu.specs.declared.ctrl.CtrlRead.TheVariants.{Known}
 use Rattle.enc_phase.specs.declared.classes.PduClass.{PduClass}
-use Rattle.enc_phase.specs.declared.classes.PduClass.TheVariants.{EncReq as enc_req, EncRsp as enc_rsp, Other, PauseEncReq as pause_enc_req, PauseEncRsp as pause_enc_rsp, Refusal, Request, StartEncReq as start_enc_req, StartEncRsp as start_enc_rsp}
+use Rattle.enc_phase.specs.declared.classes.PduClass.TheVariants.{EncReq as enc_req, EncRsp as enc_rsp, PauseEncReq as pause_enc_req, PauseEncRsp as pause_enc_rsp, Refusal, Request, StartEncReq as start_enc_req, StartEncRsp as start_enc_rsp}
 use Rattle.enc_phase.specs.declared.facts.PhaseFacts.{PhaseFacts}
 use Rattle.enc_phase.specs.declared.facts.PhaseFacts.TheVariants.{Asked, Clear, HalfClear, HalfKeyed, Pausing, Secure}
 use Rattle.enc_phase.specs.declared.facts.Transition.{Transition}
 use Rattle.enc_phase.specs.declared.facts.Transition.TheVariants.{Ask, Confirm, Pause, Refuse, Unlock}
 use Rattle.enc_phase.specs.Phases.{is_asked, may_follow}
-use Rattle.enc_phase.specs.Taking.{ctrl_class, phase_taking}
 use Rattle.enc_phase.proofs.Steps.{apart, has_session, session_next, session_taking}
-use Rattle.phased_control.specs.PhaseChanges.{Change, Moves, Starts, Stays, Took, answer_change, central_change, changed, handed_change, may_change, moves_if, peripheral_change, taken_change}
+use Rattle.phased_control.specs.PhaseChanges.{Change, Moves, Starts, Stays, Took, answer_change, changed, may_change, moves_if, taken_change}
 use Rattle.phased_control.specs.Phased.{Phased}
 use Rattle.phased_control.specs.Steps.{seen_by_procedures}
 use Rattle.phased_control.specs.Taken.{Response, class_of_read, does_keep, is_allowed, lacks_room_now, role_now}

@@ -1,6 +1,6 @@
 -- What each step of an end queues of the encryption, where the requests and the answers are as they are to be.
 use Rattle.std.specs.Prelude.{⊤}
-use Rattle.std.proofs.Common.{◌≡◌, ℕ, Bool, true, false, ◌&&◌, if◌then◌else◌, List, [], ◌∷◌, ◌++◌, Option, Some, None, is_none, refl, sym, subst, ◌∙◌}
+use Rattle.std.proofs.Common.{◌≡◌, ℕ, Bool, true, false, ◌&&◌, if◌then◌else◌, [], ◌∷◌, Option, Some, None, is_none, refl}
 use Rattle.ble_base.specs.declared.roles.Role.{Role}
 use Rattle.ble_base.specs.declared.roles.Role.TheVariants.{Central, Peripheral}
 use Rattle.data_pdu.specs.declared.ctrl.Ctrl.{Ctrl}
@@ -14,10 +14,10 @@ use Rattle.enc_phase.specs.Phases.{is_asked, may_follow}
 use Rattle.enc_phase.specs.Taking.{ctrl_class, phase_taking}
 use Rattle.phased_control.specs.PhaseChanges.{Change, Moves, Stays, Took, answer_change, taken_change}
 use Rattle.phased_control.specs.Phased.{Phased, ask_begun, asks_again, is_encrypt, is_open_now, is_quiet_now, request_of, table_entered}
-use Rattle.phased_control.specs.Steps.{control_steps, ctrl_if, first_owed, first_owed_if, handed_steps, kept_steps, later_steps, owed_steps, owed_without_key, read_answer, seen_by_procedures, taken_steps}
-use Rattle.phased_control.specs.Taken.{PhasedStep, Response, Enters, SeesAcknowledged, Takes, ciphered, class_of_read, does_keep, is_allowed, lacks_room_now, response_ctrl, role_now, seen_as}
+use Rattle.phased_control.specs.Steps.{control_steps, ctrl_if, first_owed, first_owed_if, kept_steps, later_steps, owed_steps, owed_without_key, read_answer, seen_by_procedures, taken_steps}
+use Rattle.phased_control.specs.Taken.{Response, Enters, SeesAcknowledged, ciphered, class_of_read, does_keep, is_allowed, lacks_room_now, response_ctrl, role_now, seen_as}
 use Rattle.phased_control.specs.procedures.Beginning.{begin_step}
-use Rattle.phased_control.specs.control_model.Control.{Step, Takes as control_takes}
+use Rattle.phased_control.specs.control_model.Control.{Takes as control_takes}
 use Rattle.phased_control.specs.table_laws.Encrypting.{has_encryption}
 use Rattle.phased_control.proofs.control_model.Moving.{same_role}
 use Rattle.keyed_control.specs.declared.material.KeyMaterial.{KeyMaterial}

@@ -1,12 +1,11 @@
 -- What the pairs of phases of both ends say of the halves that are on their way: facts of the table of pairs.
-use Rattle.std.specs.Prelude.{⊤}
 use Rattle.std.specs.List.{AllByRecursion}
-use Rattle.std.proofs.Common.{◌≡◌, ℕ, Bool, true, false, not, ◌&&◌, ◌||◌, if◌then◌else◌, List, [], ◌∷◌, ◌++◌, Option, Some, None, refl, sym, ap, subst, ◌∙◌}
+use Rattle.std.proofs.Common.{◌≡◌, Bool, true, false, not, ◌&&◌, ◌||◌, if◌then◌else◌, List, [], ◌∷◌, ◌++◌, refl, sym, ap, subst, ◌∙◌}
 use Rattle.std.proofs.lemmas.Bool.{and_parts}
 use Rattle.data_pdu.specs.declared.ctrl.Ctrl.{Ctrl}
 use Rattle.data_pdu.specs.declared.ctrl.Ctrl.TheVariants.{EncReq, EncRsp, PauseEncReq, PauseEncRsp, StartEncReq, StartEncRsp}
 use Rattle.enc_phase.specs.declared.classes.PduClass.{PduClass}
-use Rattle.enc_phase.specs.declared.classes.PduClass.TheVariants.{EncReq as enc_req, Refusal, StartEncReq as start_enc_req}
+use Rattle.enc_phase.specs.declared.classes.PduClass.TheVariants.{EncReq as enc_req, Refusal}
 use Rattle.enc_phase.specs.declared.facts.PhaseFacts.{PhaseFacts}
 use Rattle.enc_phase.specs.declared.facts.PhaseFacts.TheVariants.{Asked, Clear, HalfClear, HalfKeyed, Pausing, Secure}
 use Rattle.enc_phase.specs.Phases.{is_asked, is_quiet}
@@ -20,7 +19,7 @@ use Rattle.phased_control.specs.procedure_values.declared.drafts.Draft.TheVarian
 use Rattle.joint_controls.specs.Joint.{Control, Clear as clear_way, Data, Fixed, Item, Joint, OnAir, Taken, Way}
 use Rattle.joint_phases.specs.Classes.{class_down, class_up, draft_down, draft_up, item_class}
 use Rattle.joint_phases.specs.Facts.{drafts_of}
-use Rattle.joint_phases.specs.Pairs.{are_phases_paired, encryption_waiting, first_of, pair_of, second_of}
+use Rattle.joint_phases.specs.Pairs.{encryption_waiting, first_of, pair_of, second_of}
 use Rattle.joint_phases.specs.Parts.{way_down, way_up}
 use Rattle.joint_keys.proofs.Queues.{IsItemFine, IsPlain, IsWayFine}
 
@@ -194,23 +193,20 @@ module _ (F : Ctrl → Type 0) (plain : IsPlain F) where
   no_item true pdu at none = absurd (one_waits pdu at none)
   no_item false pdu at none = refl
 
-  item_down : (knows : Bool) (item : Item) → encryption_pdu (item_class (class_down knows) item) ≡ [] → IsItemFine F item
-  item_down knows Data none = tt
-  item_down knows (Control outgoing ctrl) none = plain ctrl (tells_down knows ctrl (no_item _ (class_down knows ctrl) refl none))
+  item_by : (class_of : Ctrl → PduClass) → ((ctrl : Ctrl) → is_encryption (class_of ctrl) ≡ false → cipher_in ctrl ≡ []) → (item : Item)
+      → encryption_pdu (item_class class_of item) ≡ [] → IsItemFine F item
+  item_by class_of tells Data none = tt
+  item_by class_of tells (Control outgoing ctrl) none = plain ctrl (tells ctrl (no_item _ (class_of ctrl) refl none))
 
   pub none_down : (knows : Bool) (w : Way) → untaken_pdu (way_down knows w) ≡ [] → IsWayFine F w
-  none_down knows (OnAir item sealed) none = item_down knows item none
-  none_down knows (Fixed item sealed) none = item_down knows item none
+  none_down knows (OnAir item sealed) none = item_by (class_down knows) (tells_down knows) item none
+  none_down knows (Fixed item sealed) none = item_by (class_down knows) (tells_down knows) item none
   none_down knows clear_way none = tt
   none_down knows (Taken item) none = tt
 
-  item_up : (knows : Bool) (item : Item) → encryption_pdu (item_class (class_up knows) item) ≡ [] → IsItemFine F item
-  item_up knows Data none = tt
-  item_up knows (Control outgoing ctrl) none = plain ctrl (tells_up knows ctrl (no_item _ (class_up knows ctrl) refl none))
-
   pub none_up_way : (knows : Bool) (w : Way) → untaken_pdu (way_up knows w) ≡ [] → IsWayFine F w
-  none_up_way knows (OnAir item sealed) none = item_up knows item none
-  none_up_way knows (Fixed item sealed) none = item_up knows item none
+  none_up_way knows (OnAir item sealed) none = item_by (class_up knows) (tells_up knows) item none
+  none_up_way knows (Fixed item sealed) none = item_by (class_up knows) (tells_up knows) item none
   none_up_way knows clear_way none = tt
   none_up_way knows (Taken item) none = tt
 

@@ -1,7 +1,5 @@
 -- The halves of the keys in each step of the peripheral of a joint run.
-use Rattle.std.specs.Prelude.{⊤}
-use Rattle.std.proofs.Common.{◌≡◌, inl, inr, ℕ, ◌==◌, Bool, true, false, not, ◌&&◌, if◌then◌else◌, List, [], ◌∷◌, Option, Some, None, is_some, refl, sym, ap, subst, ◌∙◌}
-use Rattle.std.proofs.lemmas.Bool.{and_parts}
+use Rattle.std.proofs.Common.{◌≡◌, ℕ, ◌==◌, Bool, true, false, ◌&&◌, if◌then◌else◌, List, Option, Some, None, is_some, refl, sym, ap, subst, ◌∙◌}
 use Rattle.ble_base.specs.declared.roles.Role.{Role}
 use Rattle.ble_base.specs.declared.roles.Role.TheVariants.{Central, Peripheral}
 use Rattle.data_pdu.specs.declared.ctrl.Ctrl.{Ctrl}
@@ -10,34 +8,33 @@ use Rattle.data_pdu.specs.declared.ctrl.CtrlRead.TheVariants.{Known}
 use Rattle.enc_phase.specs.declared.classes.PduClass.{PduClass}
 use Rattle.enc_phase.specs.declared.classes.PduClass.TheVariants.{Other, Refusal}
 use Rattle.enc_phase.specs.declared.facts.PhaseFacts.{PhaseFacts}
-use Rattle.enc_phase.specs.declared.facts.PhaseFacts.TheVariants.{Asked, Clear, HalfClear, HalfKeyed, Pausing, Secure}
+use Rattle.enc_phase.specs.declared.facts.PhaseFacts.TheVariants.{Clear, HalfClear}
 use Rattle.enc_phase.specs.declared.facts.Transition.TheVariants.{Ask, Refuse}
 use Rattle.enc_phase.specs.Phases.{may_follow, seals}
 use Rattle.enc_phase.specs.Taking.{ctrl_class, phase_taking}
 use Rattle.phased_control.specs.PhaseChanges.{Change, Moves, Starts, Stays, answer_change, change_of, changed, first_change, may_change, taken_change}
-use Rattle.phased_control.specs.Phased.{Phased, ask_begun, asks_again, is_encrypt, is_open_now, is_pause_rsp, is_quiet_now, request_of, table_entered}
+use Rattle.phased_control.specs.Phased.{Phased, ask_begun, asks_again, is_encrypt, is_open_now, is_pause_rsp, is_quiet_now, table_entered}
 use Rattle.phased_control.specs.Steps.{control_steps, read_answer, seen_by_procedures}
 use Rattle.phased_control.specs.Taken.{PhasedStep, Response, phased_after, role_now}
 use Rattle.phased_control.specs.Taken.{Enters as phased_enters, GivesKey as phased_gives_key, LacksKey as phased_lacks_key, SeesAcknowledged as phased_sees_acknowledged, Sends as phased_sends, Takes as phased_takes, TakesData as phased_takes_data}
 use Rattle.phased_control.specs.procedures.Beginning.{begin_step}
 use Rattle.phased_control.specs.procedure_values.declared.drafts.Outgoing.{Outgoing}
-use Rattle.phased_control.specs.procedure_values.declared.drafts.Outgoing.TheVariants.{Nothing}
 use Rattle.phased_control.specs.table_laws.Encrypting.{has_encryption}
 use Rattle.phased_control.proofs.Requests.{role_entered}
 use Rattle.phased_control.proofs.Tables.{begins_encryption}
-use Rattle.phase_pairs.specs.Agreement.{from_central, from_peripheral, untaken_pdu}
+use Rattle.phase_pairs.specs.Agreement.{untaken_pdu}
 use Rattle.keyed_control.specs.declared.material.KeyMaterial.{KeyMaterial}
 use Rattle.keyed_control.specs.KeyedSteps.{KeyedStep, Enters, GivesKey, LacksKey, SeesAcknowledged, Takes, TakesData, keyed_moved, with_asked_if, with_key, with_read}
 use Rattle.joint_controls.specs.Ends.{outgoing_on}
-use Rattle.joint_controls.specs.Joint.{AnswersRequest, AsksFor, Clear as clear_way, Control, Data, Ends, Fixed, HasKey, HasNoKey, HostStep, Item, Joint, OnAir, Taken, Way, fixed, host_step, is_clear, is_fixed, item_on_air, next_item, peripheral_takes, sent_up, taking}
+use Rattle.joint_controls.specs.Joint.{AnswersRequest, AsksFor, Clear as clear_way, Control, Data, Ends, Fixed, HasKey, HasNoKey, HostStep, Item, OnAir, Taken, Way, fixed, host_step, is_clear, is_fixed, item_on_air, next_item, peripheral_takes, sent_up, taking}
 use Rattle.joint_phases.specs.Pairs.{pair_of}
 use Rattle.joint_phases.specs.Parts.{way_down}
-use Rattle.joint_keys.specs.KeyedJoint.{KeyedJoint, Keys, host_keyed, item_keyed, keys_after, keys_opening, keys_taking}
+use Rattle.joint_keys.specs.KeyedJoint.{KeyedJoint, Keys, host_keyed, item_keyed, keyed_with, keys_after, keys_opening, keys_taking}
 use Rattle.joint_keys.proofs.CentralVectors.{clear_is, material_is}
 use Rattle.joint_keys.proofs.KeysGoing.{changes_at, may_at}
-use Rattle.joint_keys.proofs.Materials.{ByPeer, HaveFirst, HaveSecond, IsReqOf, IsRspOf, by_peer, is_asking, is_req, moves, asks, peripheral_reads_same, rsp_second, same_first, same_second}
+use Rattle.joint_keys.proofs.Materials.{ByPeer, HaveSecond, IsReqOf, IsRspOf, by_peer, is_asking, is_req, moves, asks, peripheral_reads_same, rsp_second, same_second}
 use Rattle.joint_keys.proofs.Owed.{IsOptionFine, acked_owed, answer, answer_rsp, enters_owed, host_owed, lets_rsp, same_role_seen, taken_owed}
-use Rattle.joint_keys.proofs.PairFacts.{IsBefore, asked_alone, fine_up, front_none, has_rsp, may_ask, none_down}
+use Rattle.joint_keys.proofs.PairFacts.{IsBefore, asked_alone, fine_up, front_none, may_ask, none_down}
 use Rattle.joint_keys.proofs.Queues.{AllWait, AreOwedFine, IsNextFine, IsPlain, IsWayFine, all_on, next_fine, waits_on, way_on}
 use Rattle.joint_keys.proofs.Standing.{Standing}
 use Rattle.joint_keys.proofs.Vectors.{PeripheralGoes, peripheral_plain, peripheral_rests, peripheral_starts, peripheral_takes as takes_material}
@@ -120,7 +117,7 @@ module _ (s : KeyedJoint) (here : Here s.joint) (st : Standing s) (has : Periphe
   may_now step = may_at Peripheral c here.peripheral here.goes.peripheral step
 
   -- the material is this after a step
-  moves_with : (keys : Keys) (step : KeyedStep) (r : PhasedStep) (k : KeyMaterial) (up : Way) → (keyed_moved step (record { phased = c; material = keys.material; end = keys.end })).material ≡ k
+  moves_with : (keys : Keys) (step : KeyedStep) (r : PhasedStep) (k : KeyMaterial) (up : Way) → (keyed_moved step (keyed_with c keys)).material ≡ k
       → PeripheralGoes p q (changed (change_of r c) q) m n k → AreOwedFine (IsRspOf k) (control_steps r c) → AllWait (IsRspOf k) c → IsWayFine (IsRspOf k) up
       → Next (phased_after r c) (keys_after step c keys).material up
   moves_with keys step r k up is goes owed waits way =

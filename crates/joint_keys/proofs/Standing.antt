@@ -1,31 +1,20 @@
 -- How the ends of a joint run stand to each other: their counters and what is sealed on the air, kept by each step.
-use Rattle.std.proofs.Common.{◌≡◌, ◌⊎◌, inl, inr, ℕ, ◌+◌, Bool, true, false, not, ◌&&◌, if◌then◌else◌, List, [], ◌∷◌, ◌++◌, Option, Some, None, is_some, refl, sym, ap, subst, ◌∙◌, arith}
+use Rattle.std.proofs.Common.{◌≡◌, ℕ, Bool, true, false, ◌&&◌, if◌then◌else◌, List, Option, Some, None, is_some, refl, sym, subst}
 use Rattle.std.proofs.lemmas.Bool.{and_parts}
 use Rattle.ble_base.specs.declared.roles.Role.TheVariants.{Central, Peripheral}
 use Rattle.enc_phase.specs.declared.facts.PhaseFacts.{PhaseFacts}
 use Rattle.enc_phase.specs.Phases.{opens, seals}
 use Rattle.phased_control.specs.Taken.{Response}
-use Rattle.machines.specs.Machine.{run}
 use Rattle.phase_pairs.specs.declared.joint.PhaseEvent.{PhaseEvent}
-use Rattle.phase_pairs.specs.declared.joint.PhaseEvent.TheVariants.{PeripheralFixes as peripheral_fixes, PeripheralSends as peripheral_sends}
-use Rattle.phase_pairs.specs.enc_phase.declared.classes.PduClass.TheVariants.{Data as data_class}
-use Rattle.phase_pairs.specs.Counted.{Counted, Nothing, counted_run, counted_start, counted_step, first_after, sending_effect}
-use Rattle.phase_pairs.specs.JointRun.{encryption}
-use Rattle.joint_controls.specs.Joint.{HostStep, Item, Joint, JointStep, Way, CentralAcked, CentralEnters, CentralHost, CentralSends, CentralSendsData, CentralTakes, Clear, Control, Data, Fixed, OnAir, PeripheralAcked, PeripheralEnters, PeripheralFixes, PeripheralFixesData, PeripheralHost, PeripheralSends, PeripheralTakes, Shuts, Taken, act, central_takes, fixed, is_clear, is_fixed, is_running, is_taken, item_on_air, may_act, next_item, on_air, peripheral_takes, sent_up}
-use Rattle.joint_phases.specs.Events.{event_of_step}
-use Rattle.joint_phases.specs.Facts.{Facts}
-use Rattle.joint_phases.specs.Parts.{IsShown, way_up}
-use Rattle.joint_phases.proofs.JointCentral.{Goes, Runs, runs}
-use Rattle.joint_phases.proofs.MachineFacts.{settled}
-use Rattle.joint_phases.proofs.Steps.{Reached, each_step, right_in, settled_in}
-use Rattle.joint_keys.specs.KeyedJoint.{KeyedJoint, Keys, central_keys_after, keyed_act, keys_sending, peripheral_keys_after}
-use Rattle.joint_keys.proofs.BothGoing.{BothGo, both_go, sends_down, sends_up, takes_down, takes_up}
-use Rattle.joint_keys.proofs.Counting.{Counts, ahead_stays, central_counts, counted_with, link_of_run, one_more, peripheral_counts, peripheral_numbers, shown_with}
+use Rattle.phase_pairs.specs.Counted.{counted_run}
+use Rattle.joint_controls.specs.Joint.{Item, Joint, JointStep, Way, CentralAcked, CentralEnters, CentralHost, CentralSends, CentralSendsData, CentralTakes, Clear, Control, Data, Fixed, OnAir, PeripheralAcked, PeripheralEnters, PeripheralFixes, PeripheralFixesData, PeripheralHost, PeripheralSends, PeripheralTakes, Shuts, Taken, act, central_takes, fixed, is_fixed, item_on_air, may_act, next_item, on_air, peripheral_takes, sent_up}
+use Rattle.joint_phases.specs.Parts.{IsShown}
+use Rattle.joint_keys.specs.KeyedJoint.{KeyedJoint, Keys, central_keys_after, keys_sending, peripheral_keys_after}
+use Rattle.joint_keys.proofs.BothGoing.{BothGo, sends_down, sends_up, takes_down, takes_up}
+use Rattle.joint_keys.proofs.Counting.{Counts, link_of_run}
 use Rattle.joint_keys.proofs.EndChanges.{IsEnd}
-use Rattle.joint_keys.proofs.EndGoing.{end_kept, in_session, seals_on, sent_more, sent_stays}
-use Rattle.joint_keys.proofs.Fitting.{IsEvent, is_of_central, is_of_peripheral, numbers_up, of_central, of_peripheral}
-use Rattle.joint_keys.proofs.KeysGoing.{IsAt, KeysGo}
-use Rattle.joint_keys.proofs.Made.{IsMade, IsSealedAs, MadeOn, made_now, made_on, sealed_ways}
+use Rattle.joint_keys.proofs.KeysGoing.{KeysGo}
+use Rattle.joint_keys.proofs.Made.{IsSealedAs, MadeOn, made_now, made_on, sealed_ways}
 
 -- data of the peripheral that is fixed to be sealed
 abbrev pub data_ahead : Way → ℕ

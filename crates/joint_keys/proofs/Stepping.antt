@@ -1,22 +1,21 @@
 -- Each step of a joint run keeps how its ends stand to each other.
-use Rattle.std.proofs.Common.{◌≡◌, ◌⊎◌, inl, inr, ℕ, ◌+◌, Bool, true, false, ◌&&◌, if◌then◌else◌, List, [], ◌∷◌, ◌++◌, Option, Some, None, is_some, refl, sym, ap, subst, ◌∙◌, arith}
+use Rattle.std.proofs.Common.{◌≡◌, ◌⊎◌, inl, inr, ℕ, ◌+◌, Bool, true, false, if◌then◌else◌, List, [], ◌∷◌, ◌++◌, Option, Some, None, is_some, refl, sym, ap, subst, ◌∙◌, arith}
 use Rattle.std.proofs.lemmas.Bool.{and_parts}
 use Rattle.ble_base.specs.declared.roles.Role.TheVariants.{Central, Peripheral}
 use Rattle.enc_phase.specs.declared.facts.PhaseFacts.{PhaseFacts}
-use Rattle.enc_phase.specs.Phases.{opens, seals}
+use Rattle.enc_phase.specs.Phases.{seals}
 use Rattle.phase_pairs.specs.declared.joint.PhaseEvent.{PhaseEvent}
 use Rattle.phase_pairs.specs.declared.joint.PhaseEvent.TheVariants.{PeripheralFixes as peripheral_fixes, PeripheralSends as peripheral_sends}
-use Rattle.phase_pairs.specs.declared.joint.PhaseLink.{PhaseLink}
 use Rattle.phase_pairs.specs.declared.joint.PhaseWay.{PhaseWay}
 use Rattle.phase_pairs.specs.enc_phase.declared.classes.PduClass.TheVariants.{Data as data_class}
-use Rattle.phase_pairs.specs.Counted.{Counted, Nothing, counted_run, counted_start, counted_step, first_after, sending_effect}
+use Rattle.phase_pairs.specs.Counted.{Counted, Nothing, counted_run, counted_start, first_after, sending_effect}
 use Rattle.joint_controls.specs.Joint.{Item, Joint, JointStep, Way, CentralAcked, CentralEnters, CentralHost, CentralSends, CentralSendsData, CentralTakes, Clear, Control, Data, Fixed, OnAir, PeripheralAcked, PeripheralEnters, PeripheralFixes, PeripheralFixesData, PeripheralHost, PeripheralSends, PeripheralTakes, Shuts, Taken, act, central_takes, fixed, is_clear, is_fixed, is_running, is_taken, item_on_air, may_act, next_item, sent_up}
 use Rattle.joint_phases.specs.Events.{event_of_step}
 use Rattle.joint_phases.specs.Facts.{Facts}
 use Rattle.joint_phases.specs.Parts.{IsShown}
 use Rattle.joint_phases.proofs.JointCentral.{Goes, Runs}
 use Rattle.joint_phases.proofs.Steps.{Reached, each_step, right_in, settled_in}
-use Rattle.joint_keys.specs.KeyedJoint.{KeyedJoint, KeyedJointStep, Keys, central_keys_after, keyed_act, peripheral_keys_after}
+use Rattle.joint_keys.specs.KeyedJoint.{KeyedJoint, KeyedJointStep, central_keys_after, keyed_act, peripheral_keys_after}
 use Rattle.joint_keys.proofs.BothGoing.{BothGo, both_go, sends_up, takes_down}
 use Rattle.joint_keys.proofs.Counting.{Counts, ahead_stays, central_counts, counted_with, link_of_run, one_more, peripheral_counts, peripheral_numbers, shown_with}
 use Rattle.joint_keys.proofs.EndGoing.{end_kept, in_session, seals_on, sent_more, sent_stays}

@@ -1,34 +1,28 @@
 -- In each state of a joint run with keys both ends have one vector while both have a session.
-use Rattle.std.specs.Prelude.{⊤}
-use Rattle.std.proofs.Common.{◌≡◌, ℕ, Bool, true, false, ◌&&◌, List, [], Option, is_some, refl, sym, ap, subst, ◌∙◌}
+use Rattle.std.proofs.Common.{◌≡◌, ℕ, true, List, [], is_some, refl, sym, subst}
 use Rattle.std.proofs.lemmas.Bool.{and_from, and_parts}
-use Rattle.ble_base.specs.declared.roles.Role.TheVariants.{Central, Peripheral}
 use Rattle.enc_phase.specs.declared.facts.PhaseFacts.{PhaseFacts}
-use Rattle.enc_phase.specs.Phases.{seals}
 use Rattle.instants.specs.declared.indications.Params.{Params}
+use Rattle.phased_control.specs.enc_phase.Sealing.{EncEnd}
 use Rattle.phased_control.specs.Phased.{Phased}
 use Rattle.phased_control.specs.Taken.{Response}
-use Rattle.phase_pairs.specs.Counted.{counted_run}
 use Rattle.keyed_control.specs.declared.material.KeyMaterial.{KeyMaterial}
-use Rattle.keyed_control.specs.Keyed.{first_material}
-use Rattle.joint_controls.specs.Joint.{Control, Data, Item, Joint, JointStep, Way, CentralAcked, CentralEnters, CentralHost, CentralSends, CentralSendsData, CentralTakes, Clear, Fixed, OnAir, PeripheralAcked, PeripheralEnters, PeripheralFixes, PeripheralFixesData, PeripheralHost, PeripheralSends, PeripheralTakes, Shuts, Taken, act, beginning, central_takes, is_clear, is_fixed, is_free, is_running, is_same_event, is_taken, item_on_air, may_act, may_transmit, next_item, peripheral_takes}
-use Rattle.joint_phases.specs.Agreement.{is_allowed_right}
+use Rattle.joint_controls.specs.Joint.{Joint, JointStep, Way, CentralAcked, CentralEnters, CentralHost, CentralSends, CentralSendsData, CentralTakes, Clear, Fixed, OnAir, PeripheralAcked, PeripheralEnters, PeripheralFixes, PeripheralFixesData, PeripheralHost, PeripheralSends, PeripheralTakes, Shuts, Taken, act, central_takes, is_clear, is_fixed, is_free, is_running, is_taken, item_on_air, may_act, may_transmit, next_item, peripheral_takes}
 use Rattle.joint_phases.specs.Classes.{class_up}
 use Rattle.joint_phases.specs.Pairs.{pair_of}
 use Rattle.joint_phases.proofs.Steps.{shows_run}
 use Rattle.joint_laws.specs.Runs.{IsRun}
-use Rattle.joint_keys.specs.KeyedJoint.{KeyedJoint, KeyedJointStep, Keys, central_keys_after, keyed_act, keyed_beginning, keyed_joint_after_all, peripheral_keys_after, steps_of}
-use Rattle.joint_keys.proofs.BothGoing.{BothGo, both_go}
+use Rattle.joint_keys.specs.KeyedJoint.{KeyedJoint, KeyedJointStep, central_keys_after, keyed_act, keyed_beginning, keyed_joint_after_all, peripheral_keys_after, steps_of}
+use Rattle.joint_keys.proofs.BothGoing.{both_go}
 use Rattle.joint_keys.proofs.CentralVectors as central
 use Rattle.joint_keys.proofs.CentralVectors.{CentralHas, CentralNext}
-use Rattle.joint_keys.proofs.HalvesKept.{HalvesAt}
 use Rattle.joint_keys.proofs.Materials.{IsReqOf, IsRspOf}
 use Rattle.joint_keys.proofs.PeripheralVectors as peripheral
 use Rattle.joint_keys.proofs.PeripheralVectors.{PeripheralHas, PeripheralNext}
 use Rattle.joint_keys.proofs.Queues.{IsWayFine}
-use Rattle.joint_keys.proofs.Standing.{Standing, down_stays_up, up_stays_down}
+use Rattle.joint_keys.proofs.Standing.{Standing}
 use Rattle.joint_keys.proofs.Stepping.{standing_next}
-use Rattle.joint_keys.proofs.Vectors.{Agreed, agreed_central, agreed_peripheral, central_rests, peripheral_rests}
+use Rattle.joint_keys.proofs.Vectors.{Agreed, agreed_central, agreed_peripheral}
 use Rattle.joint_keys.proofs.Walking.{Here, always}
 
 pub record Vectored (s : KeyedJoint) : Type 0 where
@@ -41,7 +35,7 @@ pub record Vectored (s : KeyedJoint) : Type 0 where
 -- ---- what the other end has after a step
 
 -- what is taken leaves the rest
-rests_up : (w : Way) (slot : ℕ) (s : Joint) → (central_takes w slot s).peripheral ≡ s.peripheral
+pub rests_up : (w : Way) (slot : ℕ) (s : Joint) → (central_takes w slot s).peripheral ≡ s.peripheral
 rests_up (OnAir item sealed) slot s = refl
 rests_up Clear slot s = refl
 rests_up (Fixed item sealed) slot s = refl
@@ -65,6 +59,10 @@ module _ (s : KeyedJoint) (n : KeyMaterial) where
   fine_down_taken Clear slot response some = absurd (cc)
   fine_down_taken (Fixed item sealed) slot response some = absurd (cc)
   fine_down_taken (Taken item) slot response some = absurd (cc)
+
+-- a fact of the phases, the materials and the ends of both
+abbrev pub Ends : Type 1
+Ends = PhaseFacts → PhaseFacts → KeyMaterial → KeyMaterial → EncEnd → EncEnd → Type 0
 
 module _ (s : KeyedJoint) (here : Here s.joint) (v : Vectored s) (ltk : List ℕ) where
   abbrev j : Joint
@@ -100,7 +98,7 @@ module _ (s : KeyedJoint) (here : Here s.joint) (v : Vectored s) (ltk : List ℕ
   same_up : (t : Phased) (up : Way) → t ≡ j.peripheral → IsWayFine (IsRspOf n) up → PeripheralNext p q m n t n up
   same_up t up is fine = subst (λ (x : Phased). PeripheralNext p q m n x n up) (sym is) (rest_up up fine)
 
-  central_step : (step : JointStep) → may_act step j ≡ true → CentralStep step
+  pub central_step : (step : JointStep) → may_act step j ≡ true → CentralStep step
   central_step (CentralEnters slot) may = central.next_enters s here v.standing v.central slot
   central_step (CentralHost step) may = central.next_host s here v.standing v.central step ltk
   central_step (CentralSends slot) may =
@@ -122,7 +120,7 @@ module _ (s : KeyedJoint) (here : Here s.joint) (v : Vectored s) (ltk : List ℕ
       (fine_down_taken s m j.down slot response (and_parts (is_some (item_on_air j.down)) _ may).0)
   central_step Shuts may = rest_down j.down v.central.way
 
-  peripheral_step : (step : JointStep) → may_act step j ≡ true → PeripheralStep step
+  pub peripheral_step : (step : JointStep) → may_act step j ≡ true → PeripheralStep step
   peripheral_step (PeripheralEnters slot) may = peripheral.next_enters s here v.standing v.peripheral slot
   peripheral_step (PeripheralHost step) may = peripheral.next_host s here v.standing v.peripheral step ltk
   peripheral_step (PeripheralFixes slot) may =
@@ -142,57 +140,60 @@ module _ (s : KeyedJoint) (here : Here s.joint) (v : Vectored s) (ltk : List ℕ
       (fine_up_taken s n j.up slot (and_parts (is_some (item_on_air j.up)) _ may).0)
   peripheral_step Shuts may = rest_up j.up v.peripheral.way
 
-  -- ---- both agree
+  -- ---- what both ends have after a step of one of them
 
-  by_central : (step : JointStep) → may_act step j ≡ true → BothGo step ltk s
-      → Agreed (act step j).central.phase q (central_keys_after step ltk j s.central).material n (central_keys_after step ltk j s.central).end s.peripheral.end
-  by_central step may both =
-      agreed_central (pair_of j) p q here.paired m n s.central.end s.peripheral.end v.agreed _ _ (act step j).central.phase (central_keys_after step ltk j s.central).material
-      (central_keys_after step ltk j s.central).end both.central.end_goes (central_step step may).goes
+  abbrev pub ByCentral : Ends → JointStep → Type 0
+  ByCentral A step = A (act step j).central.phase q (central_keys_after step ltk j s.central).material n (central_keys_after step ltk j s.central).end s.peripheral.end
 
-  by_peripheral : (step : JointStep) → may_act step j ≡ true → BothGo step ltk s
-      → Agreed p (act step j).peripheral.phase m (peripheral_keys_after step ltk j s.peripheral).material s.central.end (peripheral_keys_after step ltk j s.peripheral).end
-  by_peripheral step may both =
-      agreed_peripheral (pair_of j) p q here.paired m n s.central.end s.peripheral.end v.agreed _ _ (act step j).peripheral.phase (peripheral_keys_after step ltk j s.peripheral).material
-      (peripheral_keys_after step ltk j s.peripheral).end both.peripheral.end_goes (peripheral_step step may).goes
+  abbrev pub ByPeripheral : Ends → JointStep → Type 0
+  ByPeripheral A step =
+      A p (act step j).peripheral.phase m (peripheral_keys_after step ltk j s.peripheral).material s.central.end (peripheral_keys_after step ltk j s.peripheral).end
 
-  abbrev AgreedAfter : JointStep → Type 0
-  AgreedAfter step =
-      Agreed (act step j).central.phase (act step j).peripheral.phase (central_keys_after step ltk j s.central).material (peripheral_keys_after step ltk j s.peripheral).material
+  -- one of them does nothing in it
+  pub both_next : (A : Ends) (step : JointStep) → ByCentral A step → ByPeripheral A step
+      → A (act step j).central.phase (act step j).peripheral.phase (central_keys_after step ltk j s.central).material (peripheral_keys_after step ltk j s.peripheral).material
       (central_keys_after step ltk j s.central).end (peripheral_keys_after step ltk j s.peripheral).end
-
-  agreed_next : (step : JointStep) → may_act step j ≡ true → BothGo step ltk s → AgreedAfter step
-  agreed_next (CentralEnters slot) may both = by_central (CentralEnters slot) may both
-  agreed_next (CentralHost step) may both = by_central (CentralHost step) may both
-  agreed_next (CentralSends slot) may both = by_central (CentralSends slot) may both
-  agreed_next CentralSendsData may both = by_central CentralSendsData may both
-  agreed_next CentralAcked may both = by_central CentralAcked may both
-  agreed_next (CentralTakes slot) may both =
+  both_next A (CentralEnters slot) central peripheral = central
+  both_next A (CentralHost step) central peripheral = central
+  both_next A (CentralSends slot) central peripheral = central
+  both_next A CentralSendsData central peripheral = central
+  both_next A CentralAcked central peripheral = central
+  both_next A (CentralTakes slot) central peripheral =
       subst
-      (λ (x : Phased). Agreed (act (CentralTakes slot) j).central.phase x.phase (central_keys_after (CentralTakes slot) ltk j s.central).material n
+      (λ (x : Phased). A (act (CentralTakes slot) j).central.phase x.phase (central_keys_after (CentralTakes slot) ltk j s.central).material n
       (central_keys_after (CentralTakes slot) ltk j s.central).end s.peripheral.end)
-      (sym (rests_up j.up slot j)) (by_central (CentralTakes slot) may both)
-  agreed_next (PeripheralEnters slot) may both = by_peripheral (PeripheralEnters slot) may both
-  agreed_next (PeripheralHost step) may both = by_peripheral (PeripheralHost step) may both
-  agreed_next (PeripheralFixes slot) may both = by_peripheral (PeripheralFixes slot) may both
-  agreed_next PeripheralFixesData may both = by_peripheral PeripheralFixesData may both
-  agreed_next PeripheralSends may both = by_peripheral PeripheralSends may both
-  agreed_next PeripheralAcked may both = by_peripheral PeripheralAcked may both
-  agreed_next (PeripheralTakes slot response) may both =
+      (sym (rests_up j.up slot j)) central
+  both_next A (PeripheralTakes slot response) central peripheral =
       subst
-      (λ (x : Phased). Agreed x.phase (act (PeripheralTakes slot response) j).peripheral.phase m (peripheral_keys_after (PeripheralTakes slot response) ltk j s.peripheral).material s.central.end
+      (λ (x : Phased). A x.phase (act (PeripheralTakes slot response) j).peripheral.phase m (peripheral_keys_after (PeripheralTakes slot response) ltk j s.peripheral).material s.central.end
       (peripheral_keys_after (PeripheralTakes slot response) ltk j s.peripheral).end)
-      (sym (rests_down j.down slot response j)) (by_peripheral (PeripheralTakes slot response) may both)
-  agreed_next Shuts may both = v.agreed
+      (sym (rests_down j.down slot response j)) peripheral
+  both_next A (PeripheralEnters slot) central peripheral = peripheral
+  both_next A (PeripheralHost step) central peripheral = peripheral
+  both_next A (PeripheralFixes slot) central peripheral = peripheral
+  both_next A PeripheralFixesData central peripheral = peripheral
+  both_next A PeripheralSends central peripheral = peripheral
+  both_next A PeripheralAcked central peripheral = peripheral
+  both_next A Shuts central peripheral = peripheral
 
-vectored_next : (s : KeyedJoint) (ks : KeyedJointStep) → Here s.joint → Vectored s → may_act ks.step s.joint ≡ true → is_running (act ks.step s.joint) ≡ true → Vectored (keyed_act ks s)
+pub vectored_next : (s : KeyedJoint) (ks : KeyedJointStep) → Here s.joint → Vectored s → may_act ks.step s.joint ≡ true → is_running (act ks.step s.joint) ≡ true → Vectored (keyed_act ks s)
 vectored_next s ks here v may running =
+    let j = s.joint in
+    let m = s.central.material in
+    let n = s.peripheral.material in
     let both = both_go s here.goes here.central here.peripheral v.standing.central v.standing.peripheral ks.step ks.ltk may in
+    let next = central_step s here v ks.ltk ks.step may in
+    let other = peripheral_step s here v ks.ltk ks.step may in
     record {
       standing = standing_next s here.goes here.facts here.central here.peripheral v.standing ks may running;
-      agreed = agreed_next s here v ks.ltk ks.step may both;
-      central = (central_step s here v ks.ltk ks.step may).has;
-      peripheral = (peripheral_step s here v ks.ltk ks.step may).has;
+      agreed =
+          both_next s here v ks.ltk Agreed ks.step
+          (agreed_central (pair_of j) j.central.phase j.peripheral.phase here.paired m n s.central.end s.peripheral.end v.agreed _ _ (act ks.step j).central.phase
+          (central_keys_after ks.step ks.ltk j s.central).material (central_keys_after ks.step ks.ltk j s.central).end both.central.end_goes next.goes)
+          (agreed_peripheral (pair_of j) j.central.phase j.peripheral.phase here.paired m n s.central.end s.peripheral.end v.agreed _ _ (act ks.step j).peripheral.phase
+          (peripheral_keys_after ks.step ks.ltk j s.peripheral).material (peripheral_keys_after ks.step ks.ltk j s.peripheral).end both.peripheral.end_goes other.goes);
+      central = next.has;
+      peripheral = other.has;
     }
 
 -- ---- all steps
@@ -201,7 +202,7 @@ module _ (central_rx peripheral_rx : ℕ) (first : Params) (slot : ℕ) where
   abbrev start : KeyedJoint
   start = keyed_beginning central_rx peripheral_rx first slot
 
-  first_vectored : Vectored start
+  pub first_vectored : Vectored start
   first_vectored =
       record {
         standing =

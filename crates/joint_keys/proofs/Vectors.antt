@@ -1,11 +1,10 @@
 -- The halves of the keys of both ends agree from LL_ENC_REQ on, and both sessions have one vector.
-use Rattle.std.specs.Prelude.{⊤}
-use Rattle.std.proofs.Common.{◌≡◌, ◌⊎◌, inl, inr, ℕ, ◌==◌, ◌++◌, Bool, true, false, not, ◌&&◌, if◌then◌else◌, List, refl, sym, ap, subst, ◌∙◌}
+use Rattle.std.proofs.Common.{◌≡◌, ◌⊎◌, inl, inr, ℕ, ◌==◌, ◌++◌, Bool, true, false, if◌then◌else◌, refl, sym, ap, subst, ◌∙◌}
 use Rattle.std.specs.Int.{to_le_bytes, w32}
 use Rattle.ble_base.specs.declared.roles.Role.TheVariants.{Central, Peripheral}
 use Rattle.ccm_link.specs.Payload.{session_key}
 use Rattle.data_pdu.specs.declared.ctrl.Ctrl.{Ctrl}
-use Rattle.data_pdu.specs.declared.ctrl.Ctrl.TheVariants.{EncReq, EncRsp, RejectExtInd, StartEncReq}
+use Rattle.data_pdu.specs.declared.ctrl.Ctrl.TheVariants.{EncReq, EncRsp, RejectExtInd}
 use Rattle.data_pdu.specs.declared.ctrl.CtrlRead.TheVariants.{Known}
 use Rattle.enc_phase.specs.declared.classes.PduClass.{PduClass}
 use Rattle.enc_phase.specs.declared.classes.PduClass.TheVariants.{Other, Refusal}
@@ -25,7 +24,7 @@ use Rattle.keyed_control.specs.Keyed.{session_of}
 use Rattle.keyed_control.specs.KeyedSteps.{with_read}
 use Rattle.joint_keys.specs.Opening.{HaveOneVector}
 use Rattle.joint_keys.proofs.EndChanges.{EndGoes}
-use Rattle.joint_keys.proofs.Materials.{ByPeer, HaveFirst, HaveSecond, IsReqOf, IsRspOf, asked_before, asks, central_reads_same, is_asking, is_req, is_rsp, is_start, is_starting, moves, peripheral_reads_same, rsp_before, same_first, same_second, starts, starts_from, stays, takes_rsp, took, took_before}
+use Rattle.joint_keys.proofs.Materials.{ByPeer, HaveFirst, HaveSecond, IsReqOf, IsRspOf, asked_before, asks, central_reads_same, is_asking, is_req, is_rsp, is_start, is_starting, moves, peripheral_reads_same, rsp_before, same_first, same_second, starts, starts_from, takes_rsp, took, took_before}
 use Rattle.joint_keys.proofs.PairFacts.{asked_took, has_rsp, may_ask, none_session, none_took, took_req}
 
 -- of a central in phase p and a peripheral in phase q, with their materials and their ends
@@ -41,6 +40,8 @@ pub record Agreed (p q : PhaseFacts) (m n : KeyMaterial) (e f : EncEnd) : Type 0
 
 pub record CentralGoes (p p' : PhaseFacts) (m m' n : KeyMaterial) : Type 0 where
   pub asked : is_asked p' ≡ true → ((is_asked p ≡ true) × HaveFirst m' m) ⊎ (may_ask p ≡ true)
+  -- the key of its host stays while it asks
+  pub key : is_asked p ≡ true → m'.ltk ≡ m.ltk
   pub second : has_rsp p' ≡ true → ((has_rsp p ≡ true) × HaveSecond m' m) ⊎ HaveSecond m' n
   pub starts : has_session p ≡ false → has_session p' ≡ true → (has_rsp p ≡ true) × (HaveFirst m' m × HaveSecond m' m)
 
@@ -48,6 +49,7 @@ pub central_rests : (p : PhaseFacts) (m n : KeyMaterial) → CentralGoes p p m m
 central_rests p m n =
     record {
       asked = λ is. inl (is, same_first m);
+      key = λ is. refl;
       second = λ is. inl (is, same_second m);
       starts = λ none is. absurd (apart is none);
     }
@@ -58,6 +60,7 @@ pub central_plain : (c : Change) (p : PhaseFacts) (m n : KeyMaterial) → may_ch
 central_plain c p m n may none nothing =
     record {
       asked = λ is. by (asked_before c p may is);
+      key = λ is. refl;
       second = λ is. inl (rsp_before c p may nothing is, same_second m);
       starts = λ no_one is. absurd (apart (starts_from c p may no_one is).0 none);
     }
@@ -84,6 +87,7 @@ module _ (response : Response) (m n : KeyMaterial) where
   rsp_taken skd_s iv_s (Asked a false c) allowed fine =
       record {
         asked = λ is. inl (refl, record { skd = refl; iv_too = refl });
+        key = λ is. refl;
         second = λ is. inr (record { skd = fine.0; iv_too = fine.1 });
         starts = λ none is. absurd (cc);
       }
@@ -108,6 +112,7 @@ module _ (response : Response) (m n : KeyMaterial) where
   start_taken PduClass.StartEncReq (Asked a rsp c) is allowed may =
       record {
         asked = λ h. absurd (cc);
+        key = λ h. refl;
         second = λ h. absurd (cc);
         starts = λ none h. (allowed, (same_first m, same_second m));
       }
@@ -199,12 +204,12 @@ sessions_meet m n e f one other begins has =
       iv = begins.1 ∙ (λ i. to_le_bytes w32 (one.iv_too i) ++ to_le_bytes w32 (other.iv_too i)) ∙ sym has.1;
     }
 
-session_or_not : {A : Type 0} (b : Bool) → (b ≡ true → A) → (b ≡ false → A) → A
+pub session_or_not : {A : Type 0} (b : Bool) → (b ≡ true → A) → (b ≡ false → A) → A
 session_or_not true one other = one refl
 session_or_not false one other = other refl
 
 -- an end that goes on with its key
-moved_one : (e e' f : EncEnd) → (e'.key ≡ e.key) × (e'.iv ≡ e.iv) → HaveOneVector e f → HaveOneVector e' f
+pub moved_one : (e e' f : EncEnd) → (e'.key ≡ e.key) × (e'.iv ≡ e.iv) → HaveOneVector e f → HaveOneVector e' f
 moved_one e e' f same v =
     record {
       skd_m = v.skd_m;
@@ -216,7 +221,7 @@ moved_one e e' f same v =
       iv = same.1 ∙ v.iv;
     }
 
-moved_other : (e f f' : EncEnd) → (f'.key ≡ f.key) × (f'.iv ≡ f.iv) → HaveOneVector e f → HaveOneVector e f'
+pub moved_other : (e f f' : EncEnd) → (f'.key ≡ f.key) × (f'.iv ≡ f.iv) → HaveOneVector e f → HaveOneVector e f'
 moved_other e f f' same v =
     record {
       skd_m = v.skd_m;
@@ -228,7 +233,7 @@ moved_other e f f' same v =
       iv = v.iv ∙ sym same.1;
     }
 
-rsp_asked : (p : PhaseFacts) → has_rsp p ≡ true → is_asked p ≡ true
+pub rsp_asked : (p : PhaseFacts) → has_rsp p ≡ true → is_asked p ≡ true
 rsp_asked (Asked a b c) is = refl
 rsp_asked p is = absurd (cc)
 

@@ -1,10 +1,11 @@
 -- What each step of a joint run with keys keeps holds after all steps, as long as the run goes on.
-use Rattle.std.proofs.Common.{◌≡◌, ℕ, Bool, true, false, ◌&&◌, if◌then◌else◌, List, [], ◌∷◌, ◌++◌, refl, sym, ap, subst, ◌∙◌}
+use Rattle.std.specs.Prelude.{⊤}
+use Rattle.std.proofs.Common.{◌≡◌, ℕ, Bool, true, false, if◌then◌else◌, List, [], ◌∷◌, ◌++◌, refl, sym, subst, append-nil, append_assoc}
 use Rattle.std.proofs.lemmas.Bool.{and_parts}
 use Rattle.ble_base.specs.declared.roles.Role.TheVariants.{Central, Peripheral}
 use Rattle.instants.specs.declared.indications.Params.{Params}
 use Rattle.joint_controls.specs.Ends.{AreStepsInRange, outgoing_on, steps_of_central, steps_of_peripheral}
-use Rattle.joint_controls.specs.Joint.{Joint, JointStep, act, after_all, beginning, is_running, may, may_act}
+use Rattle.joint_controls.specs.Joint.{Joint, JointStep, act, after_all, is_running, may, may_act}
 use Rattle.joint_controls.proofs.EndSteps.{central_runs, peripheral_runs}
 use Rattle.joint_controls.proofs.LastPdus.{first_tied, tied}
 use Rattle.joint_phases.specs.Agreement.{is_sealing_agreed, is_taken_right}
@@ -12,10 +13,10 @@ use Rattle.joint_phases.specs.Facts.{Facts}
 use Rattle.joint_phases.specs.Pairs.{are_phases_paired}
 use Rattle.joint_phases.proofs.JointCentral.{Runs, runs}
 use Rattle.joint_laws.specs.Runs.{IsRun}
-use Rattle.joint_laws.proofs.EachState.{Now}
 use Rattle.joint_laws.proofs.PhaseLaws.{now_of, pairs_now, sealing_now, taken_now}
 use Rattle.joint_keys.specs.KeyedJoint.{KeyedJoint, KeyedJointStep, keyed_act, keyed_beginning, keyed_joint_after, keyed_joint_after_all, steps_of}
-use Rattle.joint_keys.proofs.JointRuns.{joint_all}
+use Rattle.joint_keys.specs.OneKey.{EachStep}
+use Rattle.joint_keys.proofs.JointRuns.{joint_all, runs_joined}
 use Rattle.joint_keys.proofs.KeysGoing.{IsAt}
 
 -- what the laws of joint runs say of a state in which the run goes on
@@ -34,21 +35,14 @@ pub record Here (s : Joint) : Type 0 where
 
 -- ---- lists of steps
 
-nothing_more : (xs : List KeyedJointStep) → xs ++ [] ≡ xs
-nothing_more [] = refl
-nothing_more (x ∷ xs) = ap (λ (ys : List KeyedJointStep). x ∷ ys) (nothing_more xs)
-
-joined : (xs : List KeyedJointStep) (x : KeyedJointStep) (ys : List KeyedJointStep) → (xs ++ x ∷ []) ++ ys ≡ xs ++ x ∷ ys
-joined [] x ys = refl
-joined (y ∷ xs) x ys = ap (λ (zs : List KeyedJointStep). y ∷ zs) (joined xs x ys)
-
 range_before : (xs ys : List KeyedJointStep) → AreStepsInRange (steps_of (xs ++ ys)) → AreStepsInRange (steps_of xs)
 range_before [] ys range = tt
 range_before (x ∷ xs) ys range = (range.0, range_before xs ys range.1)
 
-one_more : (xs : List KeyedJointStep) (x : KeyedJointStep) (s : KeyedJoint) → keyed_joint_after_all (xs ++ x ∷ []) s ≡ keyed_joint_after x (keyed_joint_after_all xs s)
-one_more [] x s = refl
-one_more (y ∷ xs) x s = one_more xs x (keyed_joint_after y s)
+-- of which nothing is asked
+none_asked : (steps : List KeyedJointStep) (s : KeyedJoint) → EachStep (λ ks. λ t. ⊤) steps s
+none_asked [] s = tt
+none_asked (ks ∷ steps) s = (tt, none_asked steps (keyed_joint_after ks s))
 
 -- ---- the runs
 
@@ -97,27 +91,38 @@ module _ (central_rx peripheral_rx : ℕ) (first : Params) (slot : ℕ) where
     here_now is =
         subst (λ (j : Joint). is_running j ≡ true → Here j) (sym (joint_all steps start)) (here_joint is)
 
-  module _ (P : KeyedJoint → Type 0)
-      (next : (s : KeyedJoint) (ks : KeyedJointStep) → Here s.joint → P s → may_act ks.step s.joint ≡ true → is_running (act ks.step s.joint) ≡ true → P (keyed_act ks s)) where
-    one_step : (s : KeyedJoint) (ks : KeyedJointStep) → (is_running s.joint ≡ true → Here s.joint) → (is_running s.joint ≡ true → P s)
+  module _ (F : KeyedJointStep → KeyedJoint → Type 0) (P : KeyedJoint → Type 0)
+      (next : (s : KeyedJoint) (ks : KeyedJointStep) → Here s.joint → F ks s → P s → may_act ks.step s.joint ≡ true → is_running (act ks.step s.joint) ≡ true
+      → P (keyed_act ks s)) where
+    one_step : (s : KeyedJoint) (ks : KeyedJointStep) → (is_running s.joint ≡ true → Here s.joint) → F ks s → (is_running s.joint ≡ true → P s)
         → is_running (keyed_joint_after ks s).joint ≡ true → P (keyed_joint_after ks s)
-    one_step s ks here h = by (may ks.step s.joint) refl
+    one_step s ks here fact h = by (may ks.step s.joint) refl
       where
         by : (b : Bool) → may ks.step s.joint ≡ b → is_running (if b then keyed_act ks s else s).joint ≡ true → P (if b then keyed_act ks s else s)
         by false at goes = h goes
         by true at goes =
             let both = and_parts (is_running s.joint) (may_act ks.step s.joint) at in
-            next s ks (here both.0) (h both.0) both.1 goes
+            next s ks (here both.0) fact (h both.0) both.1 goes
 
-    walk : (front rest : List KeyedJointStep) → IsRun first (steps_of (front ++ rest)) → (is_running (state front).joint ≡ true → P (state front))
-        → is_running (state (front ++ rest)).joint ≡ true → P (state (front ++ rest))
-    walk front [] is h =
-        subst (λ (xs : List KeyedJointStep). is_running (state xs).joint ≡ true → P (state xs)) (sym (nothing_more front)) h
-    walk front (ks ∷ rest) is h =
+    walk : (front rest : List KeyedJointStep) → IsRun first (steps_of (front ++ rest)) → EachStep F rest (state front)
+        → (is_running (state front).joint ≡ true → P (state front)) → is_running (state (front ++ rest)).joint ≡ true → P (state (front ++ rest))
+    walk front [] is facts h =
+        subst (λ (xs : List KeyedJointStep). is_running (state xs).joint ≡ true → P (state xs)) (sym (append-nil front)) h
+    walk front (ks ∷ rest) is facts h =
         let before : IsRun first (steps_of front) = record { latency = is.latency; in_range = range_before front (ks ∷ rest) is.in_range } in
-        subst (λ (xs : List KeyedJointStep). is_running (state xs).joint ≡ true → P (state xs)) (joined front ks rest)
-        (walk (front ++ ks ∷ []) rest (subst (λ (xs : List KeyedJointStep). IsRun first (steps_of xs)) (sym (joined front ks rest)) is)
-        (subst (λ (t : KeyedJoint). is_running t.joint ≡ true → P t) (sym (one_more front ks start)) (one_step (state front) ks (here_now front before) h)))
+        let more = sym (runs_joined front (ks ∷ []) start) in
+        subst (λ (xs : List KeyedJointStep). is_running (state xs).joint ≡ true → P (state xs)) (append_assoc front (ks ∷ []) rest)
+        (walk (front ++ ks ∷ []) rest (subst (λ (xs : List KeyedJointStep). IsRun first (steps_of xs)) (sym (append_assoc front (ks ∷ []) rest)) is)
+        (subst (EachStep F rest) more facts.1)
+        (subst (λ (t : KeyedJoint). is_running t.joint ≡ true → P t) more (one_step (state front) ks (here_now front before) facts.0 h)))
 
-    pub always : P start → (steps : List KeyedJointStep) → IsRun first (steps_of steps) → is_running (state steps).joint ≡ true → P (state steps)
-    always first_of steps is = walk [] steps is (λ goes. first_of)
+    -- with a fact of each step
+    pub always_with : P start → (steps : List KeyedJointStep) → IsRun first (steps_of steps) → EachStep F steps start → is_running (state steps).joint ≡ true
+        → P (state steps)
+    always_with first_of steps is facts = walk [] steps is facts (λ goes. first_of)
+
+  pub always : (P : KeyedJoint → Type 0)
+      → ((s : KeyedJoint) (ks : KeyedJointStep) → Here s.joint → P s → may_act ks.step s.joint ≡ true → is_running (act ks.step s.joint) ≡ true → P (keyed_act ks s))
+      → P start → (steps : List KeyedJointStep) → IsRun first (steps_of steps) → is_running (state steps).joint ≡ true → P (state steps)
+  always P next first_of steps is =
+      always_with (λ ks. λ s. ⊤) P (λ s ks here fact h. next s ks here h) first_of steps is (none_asked steps start)

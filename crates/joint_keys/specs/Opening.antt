@@ -1,7 +1,6 @@
 -- What one end opens of what the other sealed, in a joint run with keys (Core 5.2, volume 6 part B, section 5.1.3, and part
 -- E, section 2).
-use Rattle.std.specs.Prelude.{◌≡◌, ◌++◌, ℕ, Bool, true, List}
-use Rattle.std.specs.Int.{to_le_bytes, w32}
+use Rattle.std.specs.Prelude.{◌≡◌, ℕ, true, List}
 use Rattle.ccm_link.specs.Payload.{session_key}
 use Rattle.phased_control.specs.enc_phase.Phases.{opens, seals}
 use Rattle.phased_control.specs.enc_phase.Sealing.{AreMatched, EncEnd}

@@ -11,9 +11,7 @@ use Rattle.instants.specs.declared.indications.Params.{Params}
 use Rattle.phased_control.specs.control_model.Control.{Enters as control_enters, SeesAcknowledged as control_sees_acknowledged}
 use Rattle.phased_control.specs.enc_phase.declared.classes.PduClass.TheVariants.{Data, EncRsp as enc_rsp}
 use Rattle.phased_control.specs.enc_phase.declared.facts.PhaseFacts.{PhaseFacts}
-use Rattle.phased_control.specs.enc_phase.declared.facts.PhaseFacts.TheVariants.{Asked, Clear}
-use Rattle.phased_control.specs.enc_phase.declared.facts.Transition.TheVariants.{Ask as AskTransition, Refuse}
-use Rattle.phased_control.specs.enc_phase.Phases.{may_follow, phase_after}
+use Rattle.phased_control.specs.enc_phase.declared.facts.PhaseFacts.TheVariants.{Asked}
 use Rattle.phased_control.specs.enc_phase.Taking.{allows}
 use Rattle.phased_control.specs.procedure_values.declared.asks.Ask.{Ask}
 use Rattle.phased_control.specs.procedure_values.declared.asks.Ask.TheVariants.{Encrypt}
@@ -21,14 +19,12 @@ use Rattle.phased_control.specs.procedures.Beginning.{begin_step}
 use Rattle.phased_control.specs.table_laws.Encrypting.{has_encryption}
 use Rattle.phased_control.specs.Ends.{IsRequest}
 use Rattle.phased_control.specs.PhaseChanges.{Change, Starts, Took, change_of}
-use Rattle.phased_control.specs.Phased.{Phased, ask_begun, asking_if, asks_again, encrypting, encrypting_if, entered, is_encrypt, is_open_now, is_quiet_now, key_given, key_lacking, refused_if, request_of, table_entered, with_owed_if, with_step}
-use Rattle.phased_control.specs.Steps.{seen_by_procedures}
-use Rattle.phased_control.specs.Taken.{PhasedStep, Response, answered_kept, ciphered, ended_with, role_now, took}
+use Rattle.phased_control.specs.Phased.{Phased, ask_begun, asks_again, encrypting_if, entered, is_encrypt, is_open_now, is_quiet_now, key_given, key_lacking, request_of, table_entered, with_step}
+use Rattle.phased_control.specs.Taken.{PhasedStep, Response, ended_with, role_now}
 use Rattle.phased_control.specs.Taken.{GivesKey as phased_gives_key, Takes as phased_takes}
-use Rattle.phased_control.proofs.Answering.{answers}
 use Rattle.phased_control.proofs.Moving.{keeps_role}
+use Rattle.phased_control.proofs.Requesting.{request_asking, request_encrypting, request_if, request_lacking, request_took}
 use Rattle.phased_control.proofs.Requests.{request_now}
-use Rattle.phased_control.proofs.Taking.{handed_ways, took_ways}
 use Rattle.keyed_control.specs.declared.material.KeyMaterial.{KeyMaterial}
 use Rattle.keyed_control.specs.Halves.{IsRequestWith}
 use Rattle.keyed_control.specs.Keyed.{Keyed, first_keyed}
@@ -39,44 +35,6 @@ use Rattle.keyed_control.proofs.Phases.{IsAfter, always, moves}
 abbrev IsHalved : KeyMaterial → Option Ctrl → Type 0
 IsHalved m (Some (EncReq rand ediv skd_m iv_m)) = (skd_m ≡ m.skd_m) × (iv_m ≡ m.iv_m)
 IsHalved m request = Unit {0}
-
--- ---- the request stays but as an event is entered
-
-request_owed : (request : Option Ctrl) (s : Phased) → (with_owed_if request s).request ≡ s.request
-request_owed None s = refl
-request_owed (Some ctrl) s = refl
-
-request_encrypting : (p : PhaseFacts) (s : Phased) → (encrypting p s).request ≡ s.request
-request_encrypting Clear s = request_owed s.request (record s { phase = phase_after AskTransition s.phase })
-request_encrypting p s = refl
-
-request_kept : (slot : ℕ) (kept : Option Ctrl) (s : Phased) → (answered_kept slot kept s).request ≡ s.request
-request_kept slot None s = refl
-request_kept slot (Some ctrl) s = refl
-
-request_took : (slot : ℕ) (response : Response) (read : CtrlRead) (s : Phased) → (took slot response read s).request ≡ s.request
-request_took slot response read s =
-    let t = seen_by_procedures read slot s in
-    let u = ciphered response read t in
-    let answered : u.request ≡ s.request = ap (λ (v : Phased). v.request) (answers t response read) in
-    took_ways (λ (v : Phased). v.request ≡ s.request) slot response read s (λ may. refl) (λ may. λ keeps. refl) (λ may. λ keeps. λ full. refl)
-    (λ may. λ keeps. λ full. handed_ways (λ (v : Phased). v.request ≡ s.request) slot response read s (λ code. λ over. refl) (λ lasts. λ loud. answered)
-    (λ lasts. λ quiet. request_kept slot u.kept u ∙ answered))
-
-request_asking : (b : Bool) (s : Phased) → (asking_if b s).request ≡ s.request
-request_asking true s = request_owed s.request (record s { phase = phase_after AskTransition s.phase })
-request_asking false s = refl
-
-request_if : (b : Bool) (s t : Phased) → t.request ≡ s.request → (if b then t else s).request ≡ s.request
-request_if true s t is = is
-request_if false s t is = refl
-
-request_lacking : (s : Phased) → (key_lacking s).request ≡ s.request
-request_lacking s = by (may_follow Refuse s.phase)
-  where
-    by : (b : Bool) → (refused_if b s).request ≡ s.request
-    by true = refl
-    by false = refl
 
 -- ---- the halves of the central stay but as an event is entered
 

@@ -14,6 +14,7 @@ pub mod Lawful
 pub mod LawfulTaking
 pub mod Moving
 pub mod PhaseFacts
+pub mod Requesting
 pub mod Requests
 pub mod Rooms
 pub mod Tables

@@ -10,8 +10,6 @@ use Rattle.data_pdu.specs.declared.ctrl.Ctrl.TheVariants.{RejectExtInd, StartEnc
 use Rattle.data_pdu.specs.declared.ctrl.CtrlRead.{CtrlRead}
 use Rattle.data_pdu.specs.declared.ctrl.CtrlRead.TheVariants.{Known}
 use Rattle.enc_phase.specs.declared.classes.PduClass.TheVariants.{Data}
-use Rattle.enc_phase.specs.declared.facts.PhaseFacts.{PhaseFacts}
-use Rattle.enc_phase.specs.declared.facts.PhaseFacts.TheVariants.{Clear}
 use Rattle.enc_phase.specs.declared.facts.Transition.TheVariants.{Ask as AskTransition, Refuse}
 use Rattle.enc_phase.specs.Phases.{may_follow, phase_after}
 use Rattle.enc_phase.specs.Taking.{allows}
@@ -31,13 +29,14 @@ use Rattle.table_laws.proofs.Encrypting.{begins_by}
 use Rattle.control_model.specs.Control.{Control, Step, after, after_all, moved}
 use Rattle.control_model.specs.Control.{Enters as control_enters, Owes, SeesAcknowledged as control_sees_acknowledged, Sends as control_sends, Takes as control_takes, Asks as control_asks, Answers as control_answers, Disconnects as control_disconnects}
 use Rattle.control_model.proofs.Calls.{held_over}
-use Rattle.phased_control.specs.Phased.{Phased, ask_begun, asking_if, asks_again, encrypting, encrypting_if, entered, first_phased, is_encrypt, is_open_now, is_quiet_now, key_given, key_lacking, refused_if, request_of, table_entered, with_owed_if, with_step}
+use Rattle.phased_control.specs.Phased.{Phased, ask_begun, asking_if, asks_again, encrypting_if, entered, first_phased, is_encrypt, is_open_now, is_quiet_now, key_given, key_lacking, refused_if, request_of, table_entered, with_owed_if, with_step}
 use Rattle.phased_control.specs.Taken.{PhasedStep, Response, Answers, Asks, Disconnects, Enters, GivesKey, LacksKey, SeesAcknowledged, Sends, Takes, TakesData, answered_kept, ciphered, ended_with, phased_after, phased_after_all, phased_moved, role_now, seen_as, took}
 use Rattle.phased_control.specs.Steps.{read_answer, owed_steps, seen_by_procedures}
 use Rattle.phased_control.specs.Ends.{IsRequest}
 use Rattle.phased_control.proofs.Answering.{answers}
 use Rattle.phased_control.proofs.Kept.{Tied, tied_after, tied_first}
 use Rattle.control_model.proofs.Moving.{same_role}
+use Rattle.phased_control.proofs.Requesting.{request_encrypting}
 use Rattle.phased_control.proofs.Tables.{begins_encryption, leaves_at_central, leaves_encryption, leaves_entering, takes_as}
 use Rattle.phased_control.proofs.Taking.{handed_ways, took_ways}
 
@@ -213,14 +212,6 @@ role_entered s = by (is_some (next_number s.control.track))
     by : (b : Bool) → role_of (entered_step s.control.table b).0.progress ≡ role_now s
     by true = (held_over s.control.table.progress).role
     by false = refl
-
-request_owed : (request : Option Ctrl) (s : Phased) → (with_owed_if request s).request ≡ s.request
-request_owed None s = refl
-request_owed (Some ctrl) s = refl
-
-request_encrypting : (p : PhaseFacts) (s : Phased) → (encrypting p s).request ≡ s.request
-request_encrypting Clear s = request_owed s.request (record s { phase = phase_after AskTransition s.phase })
-request_encrypting p s = refl
 
 requests_entered : (role : Role) (slot : ℕ) (s : Phased) → role_now s ≡ role → Requests role s → Requests role (entered slot s)
 requests_entered role slot s is requests = by (is_encrypt (begin_step (table_entered s) slot (is_quiet_now s)).1) refl

@@ -10,11 +10,11 @@ returns-clause-down c =
     λ central_rx peripheral_rx first slot steps item sealed is running at.
     let s : KeyedJoint = keyed_joint_after_all steps (keyed_beginning central_rx peripheral_rx first slot) in
     let v = vectored central_rx peripheral_rx first slot steps is running in
-    opens_down s (here_now central_rx peripheral_rx first slot steps is running) v.standing v.agreed.vector item sealed at
+    opens_down s (here_now central_rx peripheral_rx first slot steps is running) v.standing item sealed v.agreed.vector at
 
 pub returns-clause-up : goal.returns-clause-up
 returns-clause-up c =
     λ central_rx peripheral_rx first slot steps item sealed is running at.
     let s : KeyedJoint = keyed_joint_after_all steps (keyed_beginning central_rx peripheral_rx first slot) in
     let v = vectored central_rx peripheral_rx first slot steps is running in
-    opens_up s (here_now central_rx peripheral_rx first slot steps is running) v.standing v.agreed.vector item sealed at
+    opens_up s (here_now central_rx peripheral_rx first slot steps is running) v.standing item sealed v.agreed.vector at
