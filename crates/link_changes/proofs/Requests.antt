@@ -5,13 +5,10 @@ use Rattle.ble_base.specs.ErrorCodes.{mic_failure}
 use Rattle.ble_base.specs.declared.roles.Role.{Role}
 use Rattle.ble_base.specs.declared.roles.Role.TheVariants.{Peripheral}
 use Rattle.data_pdu.specs.declared.ctrl.Ctrl.{Ctrl}
-use Rattle.data_pdu.specs.declared.ctrl.CtrlRead.{CtrlRead}
 use Rattle.data_pdu.specs.declared.header.DataHeader.{DataHeader}
 use Rattle.link_model.specs.enc_phase.declared.classes.PduClass.TheVariants.{Data}
-use Rattle.link_model.specs.enc_phase.declared.facts.PhaseFacts.{PhaseFacts}
-use Rattle.link_model.specs.enc_phase.declared.facts.PhaseFacts.TheVariants.{Clear}
-use Rattle.link_model.specs.enc_phase.declared.facts.Transition.TheVariants.{Ask as ask_transition, Refuse}
-use Rattle.link_model.specs.enc_phase.Phases.{may_follow, phase_after}
+use Rattle.link_model.specs.enc_phase.declared.facts.Transition.TheVariants.{Ask as ask_transition}
+use Rattle.link_model.specs.enc_phase.Phases.{phase_after}
 use Rattle.link_model.specs.enc_phase.Taking.{allows}
 use Rattle.link_model.specs.procedure_values.declared.asks.Ask.{Ask}
 use Rattle.link_model.specs.procedure_values.declared.asks.Ask.TheVariants.{Encrypt}
@@ -19,9 +16,8 @@ use Rattle.link_model.specs.procedures.Beginning.{begin_step}
 use Rattle.link_model.specs.control_model.Control.{Enters as control_enters, SeesAcknowledged as control_sees_acknowledged, Sends as control_sends}
 use Rattle.link_model.specs.keyed_control.Keyed.{Keyed}
 use Rattle.link_model.specs.keyed_control.KeyedSteps.{SeesAcknowledged as KeyedSees, keyed_moved, phased_steps}
-use Rattle.link_model.specs.phased_control.Phased.{Phased, ask_begun, asking_if, asks_again, encrypting, encrypting_if, is_encrypt, is_open_now, is_quiet_now, key_given, key_lacking, refused_if, request_of, table_entered, with_owed_if, with_step}
-use Rattle.link_model.specs.phased_control.Steps.{seen_by_procedures}
-use Rattle.link_model.specs.phased_control.Taken.{PhasedStep, Response, Answers, Asks, Disconnects, Enters, GivesKey, LacksKey, SeesAcknowledged, Sends, Takes, TakesData, answered_kept, ciphered, ended_with, phased_after, phased_after_all, phased_moved, role_now, took}
+use Rattle.link_model.specs.phased_control.Phased.{Phased, ask_begun, asking_if, asks_again, encrypting_if, is_encrypt, is_open_now, is_quiet_now, key_given, key_lacking, request_of, table_entered, with_owed_if, with_step}
+use Rattle.link_model.specs.phased_control.Taken.{PhasedStep, Answers, Asks, Disconnects, Enters, GivesKey, LacksKey, SeesAcknowledged, Sends, Takes, TakesData, ended_with, phased_after, phased_after_all, phased_moved, role_now}
 use Rattle.link_model.specs.Acknowledgement.{Pdu}
 use Rattle.link_model.specs.Controls.{goes_on, is_quiet_now as facts_quiet}
 use Rattle.link_model.specs.End.{facts_of}
@@ -32,9 +28,8 @@ use Rattle.link_model.specs.Sending.{control_gone_if}
 use Rattle.link_model.specs.Setup.{Setup, first_anchor, first_params}
 use Rattle.link_model.specs.Step.{Step}
 use Rattle.link_model.proofs.phased_end.keyed_control.Phases.{moves}
-use Rattle.link_model.proofs.phased_end.keyed_control.phased_control.Answering.{answers}
 use Rattle.link_model.proofs.phased_end.keyed_control.phased_control.Kept.{tied_now}
-use Rattle.link_model.proofs.phased_end.keyed_control.phased_control.Taking.{handed_ways, took_ways}
+use Rattle.link_model.proofs.phased_end.keyed_control.phased_control.Requesting.{request_asking, request_encrypting, request_if, request_lacking, request_took}
 use Rattle.link_model.proofs.KeyedPasts.{past_goes}
 use Rattle.link_changes.proofs.Readable.{IsOwed}
 use Rattle.link_changes.proofs.Reached.{lasted}
@@ -48,44 +43,6 @@ AreOwed (Some ctrl) = IsOwed ctrl
 pub record IsOrderly (role : Role) (facts : Facts) : Type 0 where
   pub kept : role ≡ Peripheral → facts.encryption.kept ≡ None
   pub request : AreOwed facts.encryption.request
-
--- ---- the request stays but as an event is entered
-
-request_owed : (request : Option Ctrl) (s : Phased) → (with_owed_if request s).request ≡ s.request
-request_owed None s = refl
-request_owed (Some ctrl) s = refl
-
-request_encrypting : (p : PhaseFacts) (s : Phased) → (encrypting p s).request ≡ s.request
-request_encrypting Clear s = request_owed s.request (record s { phase = phase_after ask_transition s.phase })
-request_encrypting p s = refl
-
-request_kept : (slot : ℕ) (kept : Option Ctrl) (s : Phased) → (answered_kept slot kept s).request ≡ s.request
-request_kept slot None s = refl
-request_kept slot (Some ctrl) s = refl
-
-request_took : (slot : ℕ) (response : Response) (read : CtrlRead) (s : Phased) → (took slot response read s).request ≡ s.request
-request_took slot response read s =
-    let t = seen_by_procedures read slot s in
-    let u = ciphered response read t in
-    let answered : u.request ≡ s.request = ap (λ (v : Phased). v.request) (answers t response read) in
-    took_ways (λ (v : Phased). v.request ≡ s.request) slot response read s (λ may. refl) (λ may. λ keeps. refl) (λ may. λ keeps. λ full. refl)
-    (λ may. λ keeps. λ full. handed_ways (λ (v : Phased). v.request ≡ s.request) slot response read s (λ code. λ over. refl) (λ lasts. λ loud. answered)
-    (λ lasts. λ quiet. request_kept slot u.kept u ∙ answered))
-
-request_asking : (b : Bool) (s : Phased) → (asking_if b s).request ≡ s.request
-request_asking true s = request_owed s.request (record s { phase = phase_after ask_transition s.phase })
-request_asking false s = refl
-
-request_if : (b : Bool) (s t : Phased) → t.request ≡ s.request → (if b then t else s).request ≡ s.request
-request_if true s t is = is
-request_if false s t is = refl
-
-request_lacking : (s : Phased) → (key_lacking s).request ≡ s.request
-request_lacking s = by (may_follow Refuse s.phase)
-  where
-    by : (b : Bool) → (refused_if b s).request ≡ s.request
-    by true = refl
-    by false = refl
 
 -- ---- it is one of an encryption
 

@@ -1,6 +1,5 @@
 -- What an end holds, and whether it draws, as its procedures take a control PDU.
-use Rattle.std.proofs.Common.{◌≡◌, ◌∙◌, ℕ, Bool, true, false, ◌&&◌, Option, refl, sym, ap}
-use Rattle.data_pdu.specs.declared.ctrl.Ctrl.{Ctrl}
+use Rattle.std.proofs.Common.{◌≡◌, ◌∙◌, ℕ, Bool, true, false, ◌&&◌, refl, sym, ap}
 use Rattle.data_pdu.specs.declared.ctrl.CtrlRead.{CtrlRead}
 use Rattle.link_model.specs.phased_end.control_end.procedure_values.Limits.{rx_of, tx_of}
 use Rattle.link_model.specs.phased_end.declared.taking.TakenKeyed.{TakenKeyed}
@@ -11,7 +10,7 @@ use Rattle.link_model.specs.phased_end.keyed_control.KeyedSteps.{Takes}
 use Rattle.link_model.specs.Acknowledgement.{Pdu}
 use Rattle.link_model.specs.unencrypted_ends.Unencrypted.{is_enc_req}
 use Rattle.link_model.specs.Controls.{read_of}
-use Rattle.link_model.specs.Receiving.{code_of, kept_seen, leaving_by, lengths_reported, peer_from_if}
+use Rattle.link_model.specs.Receiving.{code_of, leaving_by, lengths_reported, peer_from_if}
 use Rattle.link_end.specs.Held.{Held}
 use Rattle.link_end.specs.Receiving.{draws_if, held_given_if, lengths_seen_from, may_answer}
 
@@ -36,16 +35,14 @@ draws pdu slot held now read sees answers drew after last same read_is sees_is a
     (is_handed (read_of pdu) held.control) (lasts (held_after (Takes (read_of pdu) slot (drawn held.response)) held.control))
     ∙ ap (λ (h : Held). draws_if true pdu slot h) same
 
-pub given : (pdu : Pdu) (slot : ℕ) (held first now : Held) (read : CtrlRead) (before : ℕ × ℕ) (kept : Option Ctrl) (sees : Bool)
+pub given : (pdu : Pdu) (slot : ℕ) (held first now : Held) (read : CtrlRead) (before : ℕ × ℕ)
     (gives : TakenKeyed) (after : HeldKeyed) → held ≡ first → read ≡ read_of pdu
     → before ≡ (rx_of held.control.control.table.lengths, tx_of held.control.control.table.lengths)
-    → kept ≡ held.control.kept → sees ≡ is_handed read held.control
     → after ≡ held_after (Takes read slot (drawn held.response)) held.control
     → gives ≡ taken_keyed slot held.response read held.control
     → now ≡ record held {
       control = after;
-      peer =
-          peer_from_if (lasts after) (kept_seen kept after.kept) (peer_from_if (lasts after && sees) read held.peer);
+      peer = peer_from_if (lasts after) read held.peer;
       lengths =
           lengths_reported gives.kept.effect
           (lengths_reported gives.taken.effect
@@ -53,8 +50,7 @@ pub given : (pdu : Pdu) (slot : ℕ) (held first now : Held) (read : CtrlRead) (
       leaving = leaving_by (code_of gives.taken.effect) held.leaving;
     }
     → now ≡ held_given_if true pdu slot first
-given pdu slot held first now read before kept sees gives after same read_is before_is kept_is sees_is after_is gives_is now_is =
-    let seen : sees ≡ is_handed (read_of pdu) held.control = sees_is ∙ (λ i. is_handed (read_is i) held.control) in
+given pdu slot held first now read before gives after same read_is before_is after_is gives_is now_is =
     let then_is : after ≡ held_after (Takes (read_of pdu) slot (drawn held.response)) held.control =
     after_is ∙ (λ i. held_after (Takes (read_is i) slot (drawn held.response)) held.control) in
     let taken : gives ≡ taken_keyed slot held.response (read_of pdu) held.control =
@@ -62,9 +58,7 @@ given pdu slot held first now read before kept sees gives after same read_is bef
     now_is
     ∙ (λ i. record held {
       control = then_is i;
-      peer =
-          peer_from_if (lasts (then_is i)) (kept_seen (kept_is i) (then_is i).kept)
-          (peer_from_if (lasts (then_is i) && seen i) (read_is i) held.peer);
+      peer = peer_from_if (lasts (then_is i)) (read_is i) held.peer;
       lengths =
           lengths_reported (taken i).kept.effect
           (lengths_reported (taken i).taken.effect

@@ -17,7 +17,6 @@ pub mod Reaching
 pub mod Received
 pub mod Receptions
 pub mod Refusing
-pub mod Reported
 pub mod Sent
 pub mod Tying
 -- what the crates above use of those below

@@ -7,6 +7,7 @@ use Rattle.ack_bit.specs.AckBits.{acknowledges, is_odd}
 use Rattle.ack_bit.proofs.Directions.{odd-next}
 use Rattle.data_pdu.specs.declared.header.DataHeader.{DataHeader}
 use Rattle.link_model.specs.phased_end.Held.{held_of as keyed_held}
+use Rattle.link_model.specs.phased_end.Moves.{lasts}
 use Rattle.link_model.specs.phased_end.Taking.{drawn}
 use Rattle.link_model.specs.phased_end.enc_phase.declared.facts.PhaseFacts.{PhaseFacts}
 use Rattle.link_model.specs.phased_end.enc_phase.declared.facts.PhaseFacts.TheVariants.{Clear, Asked, HalfKeyed, Secure, Pausing, HalfClear}
@@ -25,10 +26,10 @@ use Rattle.link_model.specs.Data.{Data, data_acked_if, is_control, is_data, is_e
 use Rattle.link_model.specs.Payload.{end_accepting}
 use Rattle.link_model.specs.Controls.{is_procedure_pdu, read_of}
 use Rattle.link_model.specs.Facts.{Facts, keyed_of, with_keyed}
-use Rattle.link_model.specs.Receiving.{accepted_if, acknowledged_if, acks_control, answers_with_control as facts_answer, data_taken_if, facts_before_taking, fixed_goes, has_acknowledged, heard_in_slot, keyed_acked_if, procedures_answer, procedures_take, procedures_take_if, taken_if}
+use Rattle.link_model.specs.Receiving.{accepted_if, acknowledged_if, acks_control, answers_with_control as facts_answer, data_taken_if, facts_before_taking, fixed_goes, has_acknowledged, heard_in_slot, keyed_acked_if, peer_from_if, procedures_answer, procedures_take, procedures_take_if, taken_if}
 use Rattle.link_model.specs.Sending.{control_gone_if, takes_leave}
 use Rattle.link_end.specs.Held.{Held, held_of}
-use Rattle.link_end.specs.Receiving.{answers_with_control, bits_received, control_acked_if, held_accepted_if, held_acked_if, held_before_taking, held_data_if, held_given_if, held_heard, held_taken_if, known_lengths, peer_known}
+use Rattle.link_end.specs.Receiving.{answers_with_control, bits_received, control_acked_if, held_accepted_if, held_acked_if, held_before_taking, held_data_if, held_given_if, held_heard, held_taken_if, known_lengths}
 use Rattle.link_end.specs.Sending.{held_gone_if}
 use Rattle.link_end.proofs.Counting.{acked_heard, counted}
 use Rattle.link_end.proofs.Phases.{Agrees, accepted_agrees, given_agrees, heard_agrees}
@@ -198,7 +199,7 @@ given_of true setup pdu slot facts agrees =
     let before = keyed_held (keyed_of facts) in
     λ i. record (held_of setup (procedures_take pdu slot facts)) {
       control = control i;
-      peer = peer_known (read_of pdu) before (control i) facts.peer;
+      peer = peer_from_if (lasts (control i)) (read_of pdu) facts.peer;
       lengths = known_lengths before (control i) (procedures_answer pdu slot facts) facts.lengths;
     }
 given_of false setup pdu slot facts agrees = refl

@@ -11,7 +11,7 @@ use Rattle.link_model.specs.phased_end.Moves.{awaits_key}
 use Rattle.link_model.specs.phased_end.enc_phase.declared.facts.Transition.TheVariants.{Refuse}
 use Rattle.link_model.specs.phased_end.enc_phase.Phases.{may_follow}
 use Rattle.link_model.specs.phased_end.keyed_control.KeyedSteps.{Answers, Asks, Disconnects}
-use Rattle.link_model.specs.Hosts.{key_step, leaving_from_if, map_queued, map_waiting, map_wanted, or_else}
+use Rattle.link_model.specs.Hosts.{first_slot, key_step, leaving_from_if, map_queued, map_waiting, map_wanted, or_else}
 use Rattle.link_model.specs.Receiving.{lengths_seen}
 use Rattle.link_end.specs.Held.{Held}
 
@@ -46,12 +46,12 @@ held_asked_unless is_to_come ask held = if is_to_come then held else held_asked 
 abbrev pub held_answered : Result Ask ErrCode → Held → Held
 held_answered answer held = record held { control = held_after (Answers answer) held.control }
 
--- it ends the link in this slot (section 5.1.6)
+-- it ends the link in this slot (section 5.1.6); the first slot in which the end was to end it stays
 abbrev pub held_disconnected : ErrCode → ℕ → Held → Held
 held_disconnected reason slot held =
     record held {
       control = held_after (Disconnects reason) held.control;
-      leaving = record held.leaving { disconnected = Some slot };
+      leaving = record held.leaving { disconnected = Some (first_slot held.leaving.disconnected slot) };
     }
 
 -- ---- the host of a peripheral has a key or none (sections 5.1.3.1 and 5.1.3.2)

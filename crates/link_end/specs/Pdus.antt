@@ -14,6 +14,6 @@ abbrev pub got_with : List ℕ → Bool → List ℕ → Got
 got_with pdu accepted body =
     record { header = header_in pdu; accepted = accepted; body = record { items = body } }
 
--- the PDU that was received, as far as it is taken
+-- the PDU that was received, with the body that is taken of it
 abbrev pub pdu_in : Got → Pdu
 pdu_in got = record { llid = got.header.llid; body = got.body.items }

@@ -9,7 +9,6 @@ use Rattle.arrayvec.specs.ArrayVec.{ArrayVec}
 use Rattle.ack_bit.specs.AckBits.{AckBits, acknowledges, is_new}
 use Rattle.acl_banks.specs.declared.pieces.Piece.{Piece}
 use Rattle.air_frame.specs.Hearing.{heard_in}
-use Rattle.data_pdu.specs.declared.ctrl.CtrlRead.{CtrlRead}
 use Rattle.data_pdu.specs.declared.header.DataHeader.{DataHeader}
 use Rattle.data_pdu.specs.Header.{header_in}
 use Rattle.control_end.specs.declared.answers.Taken.{Taken}
@@ -31,12 +30,11 @@ use Rattle.link_model.specs.Pieces.{kept_if}
 use Rattle.link_model.specs.declared.state.KnownLengths.{KnownLengths}
 use Rattle.link_model.specs.phased_end.control_end.procedure_values.declared.lengths.Lengths.{Lengths}
 use Rattle.link_model.specs.phased_end.control_end.procedure_values.Limits.{rx_of, tx_of}
-use Rattle.link_model.specs.declared.state.PeerFacts.{PeerFacts}
 use Rattle.link_model.specs.Verdicts.{whole_in}
 use Rattle.link_model.specs.Controls.{is_procedure_pdu, is_terminate, read_of}
 use Rattle.link_model.specs.Entering.{done_notes}
 use Rattle.link_model.specs.Payload.{end_accepting, first_octet, opens_now}
-use Rattle.link_model.specs.Receiving.{code_of, given_notes, kept_seen, leaving_acked_if, leaving_by, lengths_reported, lengths_seen, peer_from_if}
+use Rattle.link_model.specs.Receiving.{code_of, given_notes, leaving_acked_if, leaving_by, lengths_reported, lengths_seen, peer_from_if}
 use Rattle.link_end.specs.declared.pdus.Got.{Got}
 use Rattle.link_end.specs.Held.{Held, count_if}
 use Rattle.link_end.specs.Pdus.{got_with, pdu_in}
@@ -201,12 +199,6 @@ abbrev pub control_taken_if : Bool → Pdu → ℕ → Held → HeldKeyed
 control_taken_if takes pdu slot held =
     if takes then held_after (Takes (read_of pdu) slot (drawn held.response)) held.control else held.control
 
--- the features and the version of the peer are known from the PDUs that have them, also from one that was kept until then
-abbrev pub peer_known : CtrlRead → HeldKeyed → HeldKeyed → PeerFacts → PeerFacts
-peer_known read before after peer =
-    peer_from_if (lasts after) (kept_seen before.kept after.kept)
-    (peer_from_if (lasts after && is_handed read before) read peer)
-
 -- the lengths: whether one was changed, and those that the host knows
 abbrev pub known_lengths : HeldKeyed → HeldKeyed → TakenKeyed → KnownLengths → KnownLengths
 known_lengths before after given lengths =
@@ -228,7 +220,7 @@ held_given_if takes pdu slot held =
     let given = given_if takes pdu slot held in
     record held {
       control = control;
-      peer = (if takes then peer_known (read_of pdu) held.control control held.peer else held.peer);
+      peer = (if takes then peer_from_if (lasts control) (read_of pdu) held.peer else held.peer);
       lengths = (if takes then known_lengths held.control control given held.lengths else held.lengths);
       leaving = (if takes then leaving_by (code_of given.taken.effect) held.leaving else held.leaving);
     }

@@ -265,8 +265,8 @@ impl LinkEnd {
     /// The reason for which the link ends at the start of a turn in this slot: nothing good was
     /// received in six intervals since the CONNECT_IND, or in the supervision timeout since the
     /// last good packet (Core 5.2, volume 6 part B, section 4.5.2); the peer has not answered a
-    /// procedure in 40 s (section 5.2); or the supervision timeout has passed since the host's
-    /// Disconnect (section 5.1.6).
+    /// procedure in 40 s (section 5.2); or the supervision timeout has passed since this end was
+    /// first to end the link (section 5.1.6).
     pub fn due(&self, slot: SlotNo) -> Option<ErrCode>
         ensures { (setup : Setup) (past : List Step) → Knows setup self.now past
             → option_map (λ code. code.0) result ≡ due_of setup (facts_of setup past) slot.0 }

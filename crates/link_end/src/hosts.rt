@@ -1,9 +1,9 @@
 //! What the host of an end asks for, answers and ends.
-ghost use Rattle.std.specs.Prelude.{◌≡◌, ◌≤◌, ◌^◌, ◌==◌, ◌&&◌, ◌||◌, not};
+ghost use Rattle.std.specs.Prelude.{◌≡◌, ◌≤◌, ◌^◌, ◌==◌, ◌&&◌, ◌||◌, not, IfSome};
 ghost use Rattle.std.specs.Result.{ForOk};
 ghost use Rattle.procedures.specs.procedure_values.Wants.{IsAsk};
 ghost use Rattle.link_model.specs.Hosts.{map_indicated, map_queued, map_waiting, map_wanted};
-ghost use Rattle.link_model.specs.Hosts.{leaving_from_if, or_else};
+ghost use Rattle.link_model.specs.Hosts.{first_slot, leaving_from_if, or_else};
 ghost use Rattle.link_end.specs.Hosts.{held_answered, held_asked, held_asked_unless};
 ghost use Rattle.link_end.specs.Hosts.{ends_without_key, held_disconnected, held_key_answered};
 ghost use Rattle.link_end.specs.Hosts.{held_with_words, is_to_come, map_to_come};
@@ -121,6 +121,19 @@ fn ends_without_key(key: &Option<[u8; 16]>, control: &PhasedEnd) -> bool
     }
 }
 
+/// The first slot in which an end was to end the link, where it is to end it in this one.
+fn first_slot(since: Option<u64>, slot: u64) -> u64
+    requires slot { slot ≤ 2 ^ 32 }
+    requires since { IfSome since (λ first. first ≤ 2 ^ 32) }
+    ensures value { result ≡ first_slot since slot }
+    ensures bounded { result ≤ 2 ^ 32 }
+{
+    match since {
+        Some(first) => first,
+        None => slot,
+    }
+}
+
 /// How the link is to end where it ends from this slot on, or not.
 fn leaving_from_if(leaves: bool, slot: u64, leaving: Leaving) -> Leaving
     ensures { result ≡ leaving_from_if leaves slot leaving }
@@ -171,7 +184,7 @@ impl LinkEnd {
         answer(&mut self.control, answered);
     }
 
-    /// The host ends the link in this slot.
+    /// The host ends the link in this slot. Where the end was to end it before, that slot stays.
     pub(crate) fn disconnect(&mut self, reason: ErrCode, slot: u64)
         requires slot { slot ≤ 2 ^ 32 }
         ensures held { self.new ≡ held_disconnected reason slot self.old }
@@ -179,7 +192,7 @@ impl LinkEnd {
             → 1 ≤ self.new.control.control.track.entered }
     {
         disconnect(&mut self.control, reason);
-        self.leaving.disconnected = Some(slot);
+        self.leaving.disconnected = Some(first_slot(self.leaving.disconnected, slot));
     }
 
     /// The host of a peripheral answers in this slot that it has this key, or none.

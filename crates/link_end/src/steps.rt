@@ -45,8 +45,8 @@ fn reason(opened: u64, params: &Params, last_good: Option<Reception>, slot: u64)
     }
 }
 
-/// The reason for which a link ends at the start of a turn since the host's Disconnect was not
-/// acknowledged.
+/// The reason for which a link ends at the start of a turn since this end was to end it, and that
+/// was not acknowledged.
 fn termination(disconnected: Option<u64>, params: &Params, slot: u64) -> Option<ErrCode>
     requires { IfSome disconnected (λ since. since ≤ 2 ^ 32) }
     ensures { option_map (λ code. code.0) result ≡ termination_due disconnected params.now slot }

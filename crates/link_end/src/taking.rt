@@ -4,7 +4,7 @@ ghost use Rattle.control_end.specs.Answers.{nothing_taken};
 ghost use Rattle.link_model.specs.Receiving.{HasPayloadLengths};
 ghost use Rattle.link_model.specs.phased_end.Taking.{nothing_keyed};
 ghost use Rattle.link_model.specs.unencrypted_ends.Unencrypted.{is_enc_req};
-ghost use Rattle.link_model.specs.Receiving.{code_of, kept_seen, leaving_by};
+ghost use Rattle.link_model.specs.Receiving.{code_of, leaving_by};
 ghost use Rattle.link_model.specs.Receiving.{lengths_reported};
 ghost use Rattle.link_model.specs.Receiving.{peer_from, peer_from_if};
 ghost use Rattle.link_end.specs.Pdus.{pdu_in};
@@ -133,16 +133,6 @@ pub(crate) fn nothing_given() -> Given
     }
 }
 
-/// What a PDU is that was kept until now, and is answered now.
-fn kept_seen(before: Option<Ctrl>, after: Option<Ctrl>) -> CtrlRead
-    ensures { result ≡ kept_seen before after }
-{
-    match (before, after) {
-        (Some(ctrl), None) => CtrlRead::Known(ctrl),
-        _ => CtrlRead::Bare,
-    }
-}
-
 /// Whether this is LL_ENC_REQ.
 fn is_enc_req(read: &CtrlRead) -> bool
     ensures { result ≡ is_enc_req read.now }
@@ -186,11 +176,10 @@ impl LinkEnd {
     {
         let read = got.read();
         let before = self.control.lengths();
-        let kept = self.control.kept();
         let sees = self.control.would_see(&read);
         let answers = self.answers(&read, sees);
         let given = take(&mut self.control, &read, slot, self.response);
-        self.know(before, kept, sees, &read, &given);
+        self.know(before, &read, &given);
         Given {
             given,
             draws: self.draws(answers),
@@ -213,27 +202,17 @@ impl LinkEnd {
     }
 
     /// What it knows then of the peer, of its lengths, and of how the link is to end: `before` are
-    /// the lengths before, and `kept` is the PDU that was kept.
-    fn know(
-        &mut self,
-        before: (u16, u16),
-        kept: Option<Ctrl>,
-        sees: bool,
-        read: &CtrlRead,
-        given: &TakenKeyed,
-    )
+    /// the lengths before. A PDU that is kept is read at once.
+    fn know(&mut self, before: (u16, u16), read: &CtrlRead, given: &TakenKeyed)
         ensures { self.new ≡ record self.old {
-          peer = peer_from_if (lasts self.old.control) (kept_seen kept self.old.control.kept)
-              (peer_from_if (lasts self.old.control && sees) read.now self.old.peer);
+          peer = peer_from_if (lasts self.old.control) read.now self.old.peer;
           lengths = lengths_reported given.now.kept.effect
               (lengths_reported given.now.taken.effect (lengths_seen_from before
               self.old.control.control.table.lengths self.old.lengths));
           leaving = leaving_by (code_of given.now.taken.effect) self.old.leaving;
         } }
     {
-        let goes_on = self.control.ends().is_none();
-        let known = peer_from_if(goes_on && sees, read, self.peer);
-        self.peer = peer_from_if(goes_on, &kept_seen(kept, self.control.kept()), known);
+        self.peer = peer_from_if(self.control.ends().is_none(), read, self.peer);
         let seen = lengths_seen(before, self.control.lengths(), self.lengths);
         self.lengths = lengths_given(given, seen);
         self.leaving = leaving_by(code_of(&given.taken.effect), self.leaving);

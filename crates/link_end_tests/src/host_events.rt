@@ -4,12 +4,13 @@ ghost use Rattle.link_model.specs.Receiving.{HasPayloadLengths};
 use crate::calls::code_of;
 use crate::pairs::check;
 use ble_base::{ChannelMap, ErrCode, Kind};
+use data_pdu::Ctrl;
 use hci_evt::{Event, write};
 use instants::Params;
 use link_model::{PeerFacts, PeerVersion};
 use procedure_events::{
-    ReceptionEvents, event_known, event_of_done, event_of_effect, event_of_entry, event_of_refusal,
-    events_of_reception,
+    KeptEvents, ReceptionEvents, event_known, event_of_done, event_of_effect, event_of_entry,
+    event_of_refusal, events_of_kept, events_of_reception,
 };
 use procedures::Effect;
 use std::alloc::AllocError;
@@ -38,6 +39,12 @@ event effect long_rx = 043e0b0700001b004801fb004808
 # The peer requests 40 ms, no latency and 720 ms.
 event effect request = 043e0b0600002000200000004800
 event effect nothing = none
+# A peripheral takes the LL_ENC_REQ of the sample data of Core 5.2, volume 6 part C, section 1.
+# Encryption starts, for the first time and then anew; a pause makes no event.
+event effect key = 043e0d0500009078563412efcdab7424
+event effect start = 04080400000001
+event effect start again = 043003000000
+event effect pause = none
 # The host asks for what is known already.
 event known version = 040c080000000bffff0100
 event known features = 043e0c040000002f40000000000000
@@ -46,16 +53,23 @@ event known phy = none
 event reception full = 043e060c0000000101 043e0b070000fb0048081b004801 04080406000000 \
     040c080000000bffff0100
 event reception empty = none none none none
+# A PDU was kept until encryption started: a request of the peer, or its version.
+event kept request = 043e0b0600002000200000004800 none
+event kept version = none 040c080000000bffff0100
 ";
 
 /// Writes the octets of the events for what a procedure did.
 pub(crate) fn take(call: Call<'_>, told: &mut String) -> Result<(), AllocError> {
-    let first = call.words[0];
+    let (first, second) = (call.words[0], call.words[1]);
     match call.name {
         "done" => put_event(told, &event_of_done(0, &peer(), kind_named(first))),
         "refused" => put_refusal(told, call.words),
         "entry" => put_event(told, &event_of_entry(0, first == "updated", &params(100))),
-        "effect" => put_event(told, &event_of_effect(0, &effect_named(first))),
+        "effect" => put_event(
+            told,
+            &event_of_effect(0, second == "again", &effect_named(first)),
+        ),
+        "kept" => put_kept(told, &kept(first)),
         "known" => put_event(told, &event_known(0, &peer(), kind_named(first))),
         "reception" => put_events(told, &reception(first == "full")),
         _ => told.push_str(" which call?"),
@@ -107,6 +121,14 @@ fn effect_named(name: &str) -> Effect
             latency: 0,
             timeout: 72,
         },
+        "key" => Effect::Cipher(Ctrl::EncReq {
+            rand: 0xABCD_EF12_3456_7890,
+            ediv: 0x2474,
+            skd_m: 0xACBD_CEDF_E0F1_0213,
+            iv_m: 0xBADC_AB24,
+        }),
+        "start" => Effect::Cipher(Ctrl::StartEncRsp),
+        "pause" => Effect::Cipher(Ctrl::PauseEncReq),
         _ => Effect::Nothing,
     }
 }
@@ -116,12 +138,20 @@ fn effect_named(name: &str) -> Effect
 fn reception(is_full: bool) -> ReceptionEvents {
     let (params, peer) = (params(72), peer());
     if !is_full {
-        return events_of_reception(0, &params, &peer, None, &Effect::Nothing, None, None);
+        return events_of_reception(0, false, &params, &peer, None, &Effect::Nothing, None, None);
     }
     let effect = effect_named("long_tx");
     let refused = Some((Kind::Encrypt, ErrCode::PIN_OR_KEY_MISSING));
     let (acked, done) = (Some(Kind::Phy), Some(Kind::Version));
-    events_of_reception(0, &params, &peer, acked, &effect, refused, done)
+    events_of_reception(0, false, &params, &peer, acked, &effect, refused, done)
+}
+
+/// What a kept PDU does: it has this effect, or completes a procedure of this kind.
+fn kept(name: &str) -> KeptEvents {
+    match name {
+        "request" => events_of_kept(0, true, &peer(), &effect_named(name), None),
+        _ => events_of_kept(0, true, &peer(), &Effect::Nothing, Some(kind_named(name))),
+    }
 }
 
 /// Writes the event for a procedure that is refused with a code.
@@ -144,6 +174,12 @@ fn put_events(told: &mut String, events: &ReceptionEvents) -> Result<(), AllocEr
     put_event(told, &events.acked)?;
     put_event(told, &events.effect)?;
     put_event(told, &events.refused)?;
+    put_event(told, &events.done)
+}
+
+/// Writes the octets of the events for a kept PDU, in order.
+fn put_kept(told: &mut String, events: &KeptEvents) -> Result<(), AllocError> {
+    put_event(told, &events.effect)?;
     put_event(told, &events.done)
 }
 

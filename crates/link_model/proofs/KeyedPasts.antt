@@ -1,39 +1,29 @@
 -- An end goes by all the steps of its past, as long as it goes on.
-use Rattle.std.proofs.Common.{◌≡◌, ℕ, ◌&&◌, ◌||◌, not, Bool, true, false, List, [], ◌∷◌, ◌++◌, drop, fold, Option, Some, None, Result, Ok, Err, is_none, refl, ap, sym, subst, ◌∙◌, if◌then◌else◌}
+use Rattle.std.proofs.Common.{◌≡◌, ◌&&◌, ◌||◌, Bool, true, false, List, [], ◌∷◌, ◌++◌, fold, Option, Some, None, Ok, Err, is_none, refl, ap, sym, subst, ◌∙◌, if◌then◌else◌}
 use Rattle.std.specs.Prelude.{⊤}
-use Rattle.std.specs.List.{AllByRecursion}
 use Rattle.std.proofs.lemmas.List.{append-nil, append_assoc}
 use Rattle.ble_base.specs.declared.error_codes.ErrCode.{ErrCode}
-use Rattle.ble_base.specs.declared.roles.Role.{Role}
-use Rattle.data_pdu.specs.Header.{header_in}
-use Rattle.phased_end.specs.control_end.procedure_values.declared.asks.Ask.{Ask}
 use Rattle.phased_end.specs.control_end.procedure_stages.Kinds.{role_of}
 use Rattle.ble_base.specs.ErrorCodes.{mic_failure}
 use Rattle.phased_end.specs.control_end.control_model.Control.{Control, ended}
-use Rattle.phased_end.specs.Taking.{drawn}
+use Rattle.phased_end.specs.Reached.{AllMayCome, MayCome}
 use Rattle.phased_end.specs.enc_phase.Sealing.{after_opening, is_right}
 use Rattle.phased_end.specs.phased_control.Ends.{AllAskInRange, AsksInRange}
 use Rattle.phased_end.specs.phased_control.Phased.{Phased}
 use Rattle.phased_end.specs.phased_control.Taken.{PhasedStep, role_now}
 use Rattle.phased_end.specs.keyed_control.Keyed.{Keyed, first_keyed}
-use Rattle.phased_end.specs.keyed_control.KeyedSteps.{KeyedStep, Answers, Asks, Enters, Opens, Seals, SeesAcknowledged, Sends, Takes, TakesData, is_of_session, keyed_after, keyed_after_all, keyed_moved, phased_step, phased_steps, step_before}
+use Rattle.phased_end.specs.keyed_control.KeyedSteps.{KeyedStep, Answers, Asks, Enters, Opens, Seals, Sends, Takes, is_of_session, keyed_after, keyed_after_all, keyed_moved, phased_step, phased_steps, step_before}
 use Rattle.phased_end.proofs.keyed_control.Phases.{moves, phase_now}
 use Rattle.phased_end.proofs.keyed_control.phased_control.Kept.{tied_now}
 use Rattle.link_model.specs.Setup.{Setup, first_anchor, first_params}
-use Rattle.link_model.specs.Acknowledgement.{is_acked}
-use Rattle.link_model.specs.Data.{is_data}
-use Rattle.link_model.specs.Verdicts.{pdu_of}
-use Rattle.link_model.specs.Payload.{first_octet}
 use Rattle.link_model.specs.Facts.{Facts, first_facts, keyed_of}
-use Rattle.link_model.specs.Step.{Step, DataGiven, DataReported, Disconnected, EventEntered, KeyAnswered, PacketReceived, PacketSent, PduFixed, ProcedureAsked, RequestAnswered, WordsGiven}
-use Rattle.link_model.specs.Controls.{goes_on, is_procedure_pdu, pdu_fixed, read_of}
-use Rattle.link_model.specs.Hosts.{is_to_come, key_step}
-use Rattle.link_model.specs.Packets.{good_pdu, whole_pdu}
-use Rattle.link_model.specs.Sending.{seals_new, takes_leave}
-use Rattle.link_model.specs.Receiving.{accepts, acknowledged_if, acks_control, answers_with_control, counts_accepted, ended_by_forgery, facts_before_taking, has_acknowledged, heard_in_slot}
+use Rattle.link_model.specs.Step.{Step}
+use Rattle.link_model.specs.Controls.{goes_on}
+use Rattle.link_model.specs.Receiving.{ended_by_forgery}
 use Rattle.link_model.specs.End.{facts_after, facts_of}
-use Rattle.link_model.specs.ControlSteps.{AreAsksInRange, IsAskInRange}
-use Rattle.link_model.specs.KeyedSteps.{is_forged_in_step, keyed_steps_from, keyed_steps_in, keyed_steps_of, step_if, steps_received}
+use Rattle.link_model.specs.ControlSteps.{AreAsksInRange}
+use Rattle.link_model.specs.KeyedSteps.{is_forged_in_step, keyed_steps_from, keyed_steps_in, keyed_steps_of}
+use Rattle.link_model.proofs.Coming.{all_come}
 use Rattle.link_model.proofs.KeyedSteps.{forged_ends, joined, one_step}
 
 -- ---- an end that ended the link
@@ -224,83 +214,27 @@ abbrev AsksIn : Option PhasedStep → Type 0
 AsksIn None = ⊤
 AsksIn (Some step) = AsksInRange step
 
-abbrev IsFine : KeyedStep → Type 0
-IsFine step = AsksIn (phased_step step)
-
-abbrev AreFine : List KeyedStep → Type 0
-AreFine steps = AllByRecursion IsFine steps
-
-both : (steps more : List KeyedStep) → AreFine steps → AreFine more → AreFine (steps ++ more)
-both [] more here later = later
-both (step ∷ steps) more here later = (here.0, both steps more here.1 later)
-
-perhaps : (is_taken : Bool) (step : KeyedStep) → IsFine step → AreFine (step_if is_taken step)
-perhaps true step is = (is, tt)
-perhaps false step is = tt
-
-fine_received : (role : Role) (slot : ℕ) (room : Bool) (air octets : Option (List ℕ)) (facts : Facts)
-    → AreFine (steps_received role slot room air octets facts)
-fine_received role slot room None octets facts = tt
-fine_received role slot room (Some air) None facts = tt
-fine_received role slot room (Some air) (Some octets) facts =
-    let header = header_in octets in
-    let pdu = pdu_of octets in
-    let own = acknowledged_if (has_acknowledged facts header) (heard_in_slot slot header.md facts) in
-    let accepted = accepts room header pdu (facts_before_taking role slot header facts) in
-    both (step_if (acks_control (has_acknowledged facts header) facts) SeesAcknowledged) _
-    (perhaps (acks_control (has_acknowledged facts header) facts) SeesAcknowledged tt)
-    (both (step_if (answers_with_control role own) (Sends slot)) _
-    (perhaps (answers_with_control role own) (Sends slot) tt)
-    (both (step_if (counts_accepted accepted pdu) (Opens (first_octet air) (drop 2 air))) _
-    (perhaps (counts_accepted accepted pdu) (Opens (first_octet air) (drop 2 air)) tt)
-    (both (step_if (accepted && is_procedure_pdu pdu) (Takes (read_of pdu) slot (drawn facts.encryption.response))) _
-    (perhaps (accepted && is_procedure_pdu pdu) (Takes (read_of pdu) slot (drawn facts.encryption.response)) tt)
-    (perhaps (accepted && is_data pdu) TakesData tt))))
-
-fine_answer : (answer : Result Ask ErrCode) → IsAskInRange (RequestAnswered answer) → IsFine (Answers answer)
-fine_answer (Ok ask) is = is
-fine_answer (Err code) is = tt
-
-fine_key : (key : Option (List ℕ)) → IsFine (key_step key)
-fine_key None = tt
-fine_key (Some ltk) = tt
-
-fine_in : (setup : Setup) (facts : Facts) (step : Step) → IsAskInRange step → AreFine (keyed_steps_in setup facts step)
-fine_in setup facts (DataGiven start body) is = tt
-fine_in setup facts (ProcedureAsked ask) is = perhaps (not (is_to_come ask facts)) (Asks ask) is
-fine_in setup facts (RequestAnswered answer) is = (fine_answer answer is, tt)
-fine_in setup facts (KeyAnswered key slot) is = (fine_key key, tt)
-fine_in setup facts (Disconnected reason slot) is = (tt, tt)
-fine_in setup facts (EventEntered slot) is = perhaps (goes_on facts) (Enters slot) tt
-fine_in setup facts PduFixed is = tt
-fine_in setup facts (PacketSent slot) is =
-    let pdu = pdu_fixed facts in
-    let counts = seals_new (is_acked facts.acknowledgement) pdu in
-    both (step_if (takes_leave facts) (Sends slot)) _ (perhaps (takes_leave facts) (Sends slot) tt)
-    (perhaps counts (Seals pdu.llid pdu.body) tt)
-fine_in setup facts (WordsGiven skd_s iv_s) is = tt
-fine_in setup facts (PacketReceived slot octets room) is =
-    fine_received setup.link.role slot room (whole_pdu setup facts octets) (good_pdu setup facts octets) facts
-fine_in setup facts DataReported is = tt
-
-fine_from : (setup : Setup) (facts : Facts) (steps : List Step) → AreAsksInRange steps
-    → AreFine (keyed_steps_from setup facts steps)
-fine_from setup facts [] are = tt
-fine_from setup facts (step ∷ steps) are =
-    both (keyed_steps_in setup facts step) _ (fine_in setup facts step are.0)
-    (fine_from setup (facts_after setup facts step) steps are.1)
+asks_in : (step : KeyedStep) → MayCome step → AsksIn (phased_step step)
+asks_in (Asks ask) may = may
+asks_in (Answers (Ok ask)) may = may
+asks_in (Answers (Err code)) may = tt
+asks_in (Enters slot) may = tt
+asks_in (Sends slot) may = tt
+asks_in (Takes read slot response) may = tt
+asks_in step may = tt
 
 in_range_before : (step : Option PhasedStep) (steps : List PhasedStep) → AsksIn step → AllAskInRange steps
     → AllAskInRange (step_before step steps)
 in_range_before None steps here later = later
 in_range_before (Some step) steps here later = (here, later)
 
-ranges : (steps : List KeyedStep) → AreFine steps → AllAskInRange (phased_steps steps)
-ranges [] are = tt
-ranges (step ∷ steps) are = in_range_before (phased_step step) (phased_steps steps) are.0 (ranges steps are.1)
+ranges : (steps : List KeyedStep) → AllMayCome steps → AllAskInRange (phased_steps steps)
+ranges [] may = tt
+ranges (step ∷ steps) may =
+    in_range_before (phased_step step) (phased_steps steps) (asks_in step may.0) (ranges steps may.1)
 
 pub past_in_range : (setup : Setup) (past : List Step) → AreAsksInRange past
     → AllAskInRange (phased_steps (keyed_steps_of setup past))
 unfolding keyed_steps_of
 past_in_range setup past are =
-    ranges (keyed_steps_from setup (first_facts setup) past) (fine_from setup (first_facts setup) past are)
+    ranges (keyed_steps_from setup (first_facts setup) past) (all_come setup (first_facts setup) past are)

@@ -1,9 +1,12 @@
 -- The lemmas of this crate.
 pub mod KeyedSteps
-pub mod KeyedPasts
 pub mod Views
+pub mod ReadRanges
+pub mod Coming
+pub mod KeyedPasts
 pub mod KnownEnds
 pub mod Receptions
+pub mod Forging
 pub mod Choices
 pub mod Hearing
 pub mod Outgoing

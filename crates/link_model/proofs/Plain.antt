@@ -12,7 +12,7 @@ use Rattle.phased_end.specs.control_end.declared.answers.Taken.{Taken}
 use Rattle.phased_end.specs.control_end.procedure_stages.declared.steps.Effect.TheVariants.{Nothing}
 use Rattle.phased_end.specs.control_end.procedure_values.declared.asks.Ask.{Ask}
 use Rattle.phased_end.specs.control_end.procedure_values.declared.asks.Ask.TheVariants.{Encrypt}
-use Rattle.phased_end.specs.control_end.control_model.Control.{Answers, Asks, Control, Disconnects, Enters, SeesAcknowledged, Sends, Step as ControlStep, Takes, after, moved}
+use Rattle.phased_end.specs.control_end.control_model.Control.{Answers, Asks, Control, Disconnects, Enters, SeesAcknowledged, Sends}
 use Rattle.phased_end.specs.Taking.{drawn}
 use Rattle.phased_end.specs.enc_phase.Sealing.{EncEnd, clear_end}
 use Rattle.phased_end.specs.enc_phase.declared.facts.PhaseFacts.TheVariants.{Clear}
@@ -37,12 +37,10 @@ use Rattle.link_model.specs.Hosts.{asked_unless, ends_without_key, facts_key_ans
 use Rattle.link_model.specs.Packets.{counts_here, good_pdu, has_new_pdu, header_sent, is_forged, is_forged_in, payload_sent, pdu_read, pdu_read_in, pdu_sent, whole_pdu}
 use Rattle.link_model.specs.Payload.{end_accepting, end_sending, opens_now, payload_made, read_pdu}
 use Rattle.link_model.specs.Plain.{IsPlain, control_acked_if, plain_accepted_if, plain_acknowledged_if, plain_before_taking, plain_control_taken, plain_effect_hearing, plain_encryption, plain_entered, plain_entered_control, plain_entry_notes, plain_given_if, plain_gives, plain_hearing, plain_notes_hearing, plain_taken_if, plain_taken_notes, plain_takes, plain_takes_if, with_encryption}
-use Rattle.link_model.specs.Receiving.{accepted_if, accepts, acked_kind, acknowledged_if, acks_control, answers_with_control, code_of, control_taken, counts_accepted, data_taken, data_taken_if, effect_hearing, effect_unless_known, facts_before_taking, facts_forged_if, facts_hearing, facts_received, fixed_goes, given_if, given_notes, has_acknowledged, heard_in_slot, kept_effect_hearing, kept_give, kept_given_if, kept_seen, keyed_acked_if, keyed_taken, leaving_by, lengths_reported, lengths_seen, notes_hearing, peer_from_if, peer_taken, procedures_give, procedures_take, procedures_take_if, taken_if, taken_notes, took_notes_if}
+use Rattle.link_model.specs.Receiving.{accepted_if, accepts, acked_kind, acknowledged_if, acks_control, answers_with_control, code_of, control_taken, counts_accepted, data_taken, data_taken_if, effect_hearing, effect_unless_known, facts_before_taking, facts_forged_if, facts_hearing, facts_received, fixed_goes, given_if, given_notes, has_acknowledged, heard_in_slot, kept_effect_hearing, kept_give, kept_given_if, keyed_acked_if, keyed_taken, leaving_by, lengths_reported, lengths_seen, notes_hearing, peer_from_if, peer_taken, procedures_give, procedures_take, procedures_take_if, taken_if, taken_notes, took_notes_if}
 use Rattle.link_model.specs.Sending.{control_gone_if, fixed_sent, seals_new, takes_leave}
 use Rattle.link_model.specs.Step.{DataGiven, DataReported, Disconnected, EventEntered, KeyAnswered, PacketReceived, PacketSent, PduFixed, ProcedureAsked, RequestAnswered, Step, WordsGiven}
-use Rattle.data_pdu.specs.declared.ctrl.CtrlRead.TheVariants.{Bare}
-use Rattle.link_model.specs.declared.state.PeerFacts.{PeerFacts}
-use Rattle.link_model.proofs.PlainGives.{gives, is_handed_then, keeps_nothing}
+use Rattle.link_model.proofs.PlainGives.{gives, keeps_nothing}
 use Rattle.link_model.proofs.PlainPayloads.{IsBody, asked_same, body_stays, entered_same, fixed_same, forged_same, given_same, gone_same, received_body, sent_body}
 use Rattle.link_model.proofs.PlainSteps.{acknowledged, data_leaves, enters, key_leaves, no_key_leaves, none_requested, plain_keyed, supported_again, takes}
 
@@ -170,23 +168,6 @@ plain_before_stays role at slot header facts plain =
 -- ---- a PDU is taken: its procedures see it
 
 module _ (role : Role) (pdu : Pdu) (slot : ℕ) where
-  -- an end that goes on by a PDU went on before it
-  only_lasting : (step : ControlStep) (c : Control) → (is_none (after step c).ends && is_none c.ends) ≡ is_none (after step c).ends
-  only_lasting step c = by (is_none c.ends) refl
-    where
-      and_true : (b : Bool) → (b && true) ≡ b
-      and_true true = refl
-      and_true false = refl
-
-      by : (b : Bool) → is_none c.ends ≡ b
-          → (is_none (if b then moved step c else c).ends && b) ≡ is_none (if b then moved step c else c).ends
-      by true is = and_true (is_none (moved step c).ends)
-      by false is = ap (λ b. b && false) is ∙ sym is
-
-  bare_known : (goes : Bool) (peer : PeerFacts) → peer_from_if goes Bare peer ≡ peer
-  bare_known true peer = refl
-  bare_known false peer = refl
-
   -- with the encryption written out
   module _ (facts : Facts) (knows : Bool) (response : Response) where
     abbrev f : Facts
@@ -212,15 +193,7 @@ module _ (role : Role) (pdu : Pdu) (slot : ℕ) where
     kept_next = keeps_nothing role c knows (read_of pdu) slot response
 
     peer_next : peer_taken pdu slot f ≡ peer_from_if (is_none (plain_control_taken pdu slot facts).ends) (read_of pdu) facts.peer
-    peer_next =
-        let goes = is_none (plain_control_taken pdu slot facts).ends in
-        (λ i.
-        let now = keyed_next i in
-        let handed = is_handed_then role c knows (read_of pdu) slot response (none_requested (ctrl_of pdu.body)) i in
-        peer_from_if (is_none now.phased.control.ends) (kept_seen None now.phased.kept)
-        (peer_from_if (is_none now.phased.control.ends && handed) (read_of pdu) facts.peer))
-        ∙ bare_known goes (peer_from_if (goes && is_none c.ends) (read_of pdu) facts.peer)
-        ∙ ap (λ b. peer_from_if b (read_of pdu) facts.peer) (only_lasting (Takes (read_of pdu) slot true) c)
+    peer_next = λ i. peer_from_if (is_none (keyed_next i).phased.control.ends) (read_of pdu) facts.peer
 
     takes_next : procedures_take pdu slot f ≡ plain_takes pdu slot f
     takes_next =

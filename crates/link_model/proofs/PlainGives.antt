@@ -161,7 +161,7 @@ module _ (role : Role) (c : Control) (knows : Bool) (read : CtrlRead) (slot : �
   abbrev h : HeldKeyed
   h = keyed_held (plain_keyed role c knows)
 
-  pub is_handed_then : is_enc_req read ≡ false → is_handed read h ≡ is_none c.ends
+  is_handed_then : is_enc_req read ≡ false → is_handed read h ≡ is_none c.ends
   is_handed_then other =
       let open_now = is_open c.table.closing in
       let full = nat_le 16 (waiting_in c.table.queue) in

@@ -31,7 +31,7 @@ pub record Encryption : Type 0 where
   pub asks_key : Bool
   -- LL_ENC_REQ of the encryption that the central runs
   pub request : Option Ctrl
-  -- LL_VERSION_IND of the peer was taken
+  -- the procedures have seen LL_VERSION_IND of the peer: one that is kept they see later
   pub knows_version : Bool
   -- what the keys are made of
   pub material : KeyMaterial

@@ -76,11 +76,17 @@ facts_asked ask facts = asked_unless (is_to_come ask facts) ask facts
 abbrev pub facts_answered : Result Ask ErrCode → Facts → Facts
 facts_answered answer facts = record facts { control = after (Answers answer) facts.control }
 
+-- the time that an end has to end the link counts from the slot in which it was first to end: one without a key may end
+-- it before its host does
+abbrev pub first_slot : Option ℕ → ℕ → ℕ
+first_slot None slot = slot
+first_slot (Some first) slot = first
+
 abbrev pub facts_disconnected : ErrCode → ℕ → Facts → Facts
 facts_disconnected reason slot facts =
     record facts {
       control = after (Disconnects reason) facts.control;
-      leaving = record facts.leaving { disconnected = Some slot };
+      leaving = record facts.leaving { disconnected = Some (first_slot facts.leaving.disconnected slot) };
     }
 
 -- ---- the host of a peripheral has a key or none (sections 5.1.3.1 and 5.1.3.2)

@@ -1,7 +1,6 @@
 -- An end receives a packet (Core 5.2, volume 6 part B, sections 4.5.6, 4.5.9 and 5.1).
-use Rattle.std.specs.Prelude.{ℕ, ◌+◌, ◌≤◌, ◌==◌, ◌&&◌, ◌||◌, not, Bool, false, List, [], ◌∷◌, ◌++◌, Option, Some, None, is_none, is_some, ⊤, if◌then◌else◌}
+use Rattle.std.specs.Prelude.{ℕ, ◌+◌, ◌==◌, ◌&&◌, ◌||◌, not, Bool, false, List, [], ◌∷◌, ◌++◌, Option, Some, None, is_none, is_some, if◌then◌else◌}
 use Rattle.ble_base.specs.ErrorCodes.{mic_failure}
-use Rattle.ble_base.specs.Limits.{payload_octets}
 use Rattle.ble_base.specs.declared.error_codes.ErrCode.{ErrCode}
 use Rattle.ble_base.specs.declared.notes.Note.{Note}
 use Rattle.ble_base.specs.declared.notes.Note.TheVariants.{Refused, Took}
@@ -9,10 +8,9 @@ use Rattle.ble_base.specs.declared.procedure_kinds.Kind.{Kind}
 use Rattle.ble_base.specs.declared.roles.Role.{Role}
 use Rattle.ble_base.specs.declared.roles.Role.TheVariants.{Central, Peripheral}
 use Rattle.ack_bit.specs.AckBits.{acknowledges}
-use Rattle.data_pdu.specs.declared.ctrl.Ctrl.{Ctrl}
 use Rattle.data_pdu.specs.declared.ctrl.Ctrl.TheVariants.{FeatureReq, FeatureRsp, PeripheralFeatureReq, VersionInd}
 use Rattle.data_pdu.specs.declared.ctrl.CtrlRead.{CtrlRead}
-use Rattle.data_pdu.specs.declared.ctrl.CtrlRead.TheVariants.{Bare, Known}
+use Rattle.data_pdu.specs.declared.ctrl.CtrlRead.TheVariants.{Known}
 use Rattle.data_pdu.specs.declared.header.DataHeader.{DataHeader}
 use Rattle.data_pdu.specs.Header.{header_in}
 use Rattle.phased_end.specs.control_end.procedure_stages.declared.steps.Effect.{Effect}
@@ -21,6 +19,8 @@ use Rattle.phased_end.specs.control_end.procedure_values.declared.lengths.Length
 use Rattle.phased_end.specs.control_end.control_model.Control.{Control, ended}
 use Rattle.phased_end.specs.declared.taking.TakenKeyed.{TakenKeyed}
 use Rattle.phased_end.specs.Held.{held_of as keyed_held}
+-- the lengths that it gives are at most that of a payload
+pub use Rattle.phased_end.specs.Lengths.{HasPayloadLengths}
 use Rattle.phased_end.specs.Taking.{drawn, is_handed, taken_keyed}
 use Rattle.phased_end.specs.keyed_control.Keyed.{Keyed}
 use Rattle.phased_end.specs.keyed_control.KeyedSteps.{SeesAcknowledged, Takes, TakesData, keyed_after}
@@ -127,22 +127,14 @@ peer_from other peer = peer
 abbrev pub peer_from_if : Bool → CtrlRead → PeerFacts → PeerFacts
 peer_from_if goes_on read peer = if goes_on then peer_from read peer else peer
 
--- the procedures see a PDU as it is taken
+-- the procedures see a PDU as it is taken, if it is not kept and does not end the link
 abbrev pub is_seen : Pdu → Facts → Bool
 is_seen pdu facts = is_handed (read_of pdu) (keyed_held (keyed_of facts))
 
--- one that was kept is answered once the phase is Clear or Secure, and then nothing is kept
-abbrev pub kept_seen : Option Ctrl → Option Ctrl → CtrlRead
-kept_seen (Some ctrl) None = Known ctrl
-kept_seen before after = Bare
-
--- an end that ended the link by a PDU knows nothing of it
+-- a PDU is read as it is taken, also where it is kept and answered later; an end that ended the link by it knows nothing
+-- of it
 abbrev pub peer_taken : Pdu → ℕ → Facts → PeerFacts
-peer_taken pdu slot facts =
-    let now = keyed_taken pdu slot facts in
-    let goes_on = is_none now.phased.control.ends in
-    peer_from_if goes_on (kept_seen facts.encryption.kept now.phased.kept)
-    (peer_from_if (goes_on && is_seen pdu facts) (read_of pdu) facts.peer)
+peer_taken pdu slot facts = peer_from_if (is_none (control_taken pdu slot facts).ends) (read_of pdu) facts.peer
 
 abbrev pub lengths_seen : Lengths → Lengths → KnownLengths → KnownLengths
 lengths_seen before after lengths = record lengths { changed = lengths.changed || not (are_equal before after) }
@@ -297,11 +289,6 @@ kept_effect_received role slot room (Some pdu) facts =
 unfoldable pub kept_effect_of : Setup → Facts → ℕ → List ℕ → Bool → Effect
 kept_effect_of setup facts slot octets room =
     kept_effect_received setup.link.role slot room (good_pdu setup facts octets) facts
-
--- the lengths in an effect are at most that of a payload (section 4.5.10)
-abbrev pub HasPayloadLengths : Effect → Type 0
-HasPayloadLengths (new_lengths rx tx) = (rx ≤ payload_octets) × (tx ≤ payload_octets)
-HasPayloadLengths other = ⊤
 
 -- it ended the link by what it received: by its procedures, or as its own LL_TERMINATE_IND was acknowledged
 abbrev pub has_ended : Facts → Bool

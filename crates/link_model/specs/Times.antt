@@ -23,14 +23,14 @@ abbrev pub first_of : Option ℕ → Option ℕ → Option ℕ
 first_of None other = other
 first_of (Some code) other = Some code
 
--- the host has ended the link, and the supervision timeout has passed since (section 5.1.6)
+-- this end was to end the link, and the supervision timeout has passed since (section 5.1.6)
 abbrev pub termination_due : Option ℕ → Params → ℕ → Option ℕ
 termination_due None params slot = None
 termination_due (Some since) params slot =
     if has_timed_out since params.timeout slot then Some terminated_by_local_host else None
 
 -- the reason for which it ends then, if it does: nothing good was received for too long, the peer has not answered in
--- time, or the host's Disconnect was not acknowledged in time; of several reasons the first counts (our choice)
+-- time, or the own LL_TERMINATE_IND was not acknowledged in time; of several reasons the first counts (our choice)
 abbrev pub due_of : Setup → Facts → ℕ → Option ℕ
 due_of setup facts slot =
     first_of (reason_due setup.opened (params_of facts) facts.last_good slot)

@@ -8,7 +8,9 @@ ghost use Rattle.std.specs.Option.{option_map};
 ghost use Rattle.acl_banks.specs.Packets.{piece_of};
 ghost use Rattle.ble_base.specs.declared.roles.Role.{Role};
 ghost use Rattle.ble_base.specs.declared.roles.Role.TheVariants.{Central};
-ghost use Rattle.ble_base.specs.declared.verdicts.Verdict.TheVariants.{Good};
+ghost use Rattle.ble_base.specs.declared.verdicts.Verdict.TheVariants.{Forged, Good};
+ghost use Rattle.ble_base.specs.ErrorCodes.{mic_failure};
+ghost use Rattle.phased_end.specs.control_end.procedure_stages.declared.steps.Effect.TheVariants.{Nothing};
 ghost use Rattle.ack_bit.specs.Nonempty.{nonempty};
 ghost use Rattle.data_pdu.specs.declared.ctrl.Ctrl.{Ctrl};
 ghost use Rattle.data_pdu.specs.declared.header.DataHeader.{DataHeader};
@@ -44,9 +46,9 @@ ghost use Rattle.link_model.specs.Packets.{pdu_sent, verdict_of};
 ghost use Rattle.link_model.specs.Hearing.{IsOpened, IsUnderstood, is_on_air, pdu_heard};
 ghost use Rattle.link_model.specs.Hearing.{pdu_octets};
 ghost use Rattle.link_model.specs.Sending.{facts_sent};
-ghost use Rattle.link_model.specs.Receiving.{accepts, ended_by_forgery, facts_hearing};
-ghost use Rattle.link_model.specs.Receiving.{notes_hearing};
-ghost use Rattle.link_model.specs.Times.{has_second_exchange, wants_of};
+ghost use Rattle.link_model.specs.Receiving.{accepts, effect_of, ended_by_forgery};
+ghost use Rattle.link_model.specs.Receiving.{facts_hearing, notes_hearing, replies_of};
+ghost use Rattle.link_model.specs.Times.{ending_of, has_second_exchange, wants_of};
 ghost use Rattle.link_model.specs.KeyedSteps.{is_forged_in_step};
 ghost use Rattle.link_model.specs.KeyedSteps.{keyed_steps_in, keyed_steps_of};
 ghost use Rattle.link_model.specs.ControlSteps.{AreAsksInRange, control_steps_in};
@@ -331,6 +333,31 @@ pub fn lengths_hold_a_second_exchange()
         → has_second_exchange facts ≡ false }
     ensures short { (setup : Setup) (past : List Step) → let facts = facts_of setup past in
         has_second_exchange facts ≡ true → is_long facts.control.table.lengths ≡ false }
+{}
+
+/// A packet that has the verdict forged does nothing but end the link: nothing is noted of it, it is
+/// not answered, the procedures do nothing with it, and the link ends at the end of the turn with the
+/// reason that an integrity code was wrong, unless its own LL_TERMINATE_IND is acknowledged (Core
+/// 5.2, volume 6 part B, section 5.1.3.1).
+pub fn a_forged_packet_ends_the_link()
+    ensures facts { (setup : Setup) (facts : Facts) (slot : ℕ) (octets : List ℕ) (room : Bool)
+        → verdict_of setup facts octets ≡ Forged
+        → facts_after setup facts (PacketReceived slot octets room)
+        ≡ record facts { control = ended_by_forgery facts.control } }
+    ensures notes { (setup : Setup) (facts : Facts) (slot : ℕ) (octets : List ℕ) (room : Bool)
+        → verdict_of setup facts octets ≡ Forged
+        → notes_after setup facts (PacketReceived slot octets room) ≡ [] }
+    ensures reply { (setup : Setup) (facts : Facts) (slot : ℕ) (octets : List ℕ) (room : Bool)
+        → verdict_of setup facts octets ≡ Forged
+        → replies_of setup facts slot octets room ≡ false }
+    ensures effect { (setup : Setup) (facts : Facts) (slot : ℕ) (octets : List ℕ) (room : Bool)
+        → verdict_of setup facts octets ≡ Forged
+        → effect_of setup facts slot octets room ≡ Nothing }
+    ensures ending { (setup : Setup) (facts : Facts) (slot : ℕ) (octets : List ℕ) (room : Bool)
+        → verdict_of setup facts octets ≡ Forged → goes_on facts ≡ true
+        → facts.leaving.acknowledged ≡ false
+        → ending_of (facts_after setup facts (PacketReceived slot octets room))
+        ≡ Some (record { 0 = mic_failure }) }
 {}
 
 /// An end whose LL_TERMINATE_IND is acknowledged accepts no PDU that is not empty, and notes none,

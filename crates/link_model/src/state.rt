@@ -37,7 +37,8 @@ pub struct KnownLengths {
 /// How a link is to end (Core 5.2, volume 6 part B, section 5.1.6).
 #[derive(Clone, Copy, Debug, PartialEq, Eq, Default)]
 pub struct Leaving {
-    /// The slot in which the Disconnect of the host was accepted.
+    /// The first slot in which this end was to end the link: the Disconnect of its host was
+    /// accepted in it, or its host had no key after a pause.
     pub disconnected: Option<u64>,
     /// LL_TERMINATE_IND of this end is acknowledged.
     pub acknowledged: bool,

@@ -7,8 +7,8 @@ use Rattle.link_end.proofs.ends.LinkEnd.give.Goals as goal
 
 pub returns-clause-held : goal.returns-clause-held
 returns-clause-held c =
-    given (pdu_in c.args.got.now) c.args.slot _ _ _ _ _ _ _ _ _ c.self.view_is c.read-read.ensures.value c.lengths-before.ensures
-    c.kept-kept.ensures c.would_see-sees.ensures c.take-given.ensures.step c.take-given.ensures.taken c.know.ensures
+    given (pdu_in c.args.got.now) c.args.slot _ _ _ _ _ _ _ c.self.view_is c.read-read.ensures.value c.lengths-before.ensures
+    c.take-given.ensures.step c.take-given.ensures.taken c.know.ensures
 
 pub returns-clause-draws : goal.returns-clause-draws
 returns-clause-draws c =
